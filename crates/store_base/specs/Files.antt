@@ -1,0 +1,22 @@
+-- What is known of a file.
+use Rattle.std.specs.Prelude.{◌≡◌, ℕ, ◌≤◌, List, Bool}
+use Rattle.store_base.specs.Counts.{raised}
+
+-- a file in memory: what it holds, and how often it was read
+pub record Content : Type 0 where
+  pub content : List ℕ
+  pub reads : ℕ
+
+-- a part of a file: its bytes, whether reads give them, how often the file failed, and how often it was read
+pub record Part : Type 0 where
+  pub content : List ℕ
+  pub honest : Bool
+  pub failures : ℕ
+  pub reads : ℕ
+
+-- what one read leaves of a part
+pub record ReadsOnce (old new : Part) : Type 0 where
+  pub content : new.content ≡ old.content
+  pub honest : new.honest ≡ old.honest
+  pub reads : new.reads ≡ raised old.reads 1
+  pub failures : old.failures ≤ new.failures

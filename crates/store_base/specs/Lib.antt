@@ -1,0 +1,15 @@
+pub mod VInt
+pub mod Serialize
+pub mod Reading
+pub mod Numbers
+pub mod Counts
+pub mod Outputs
+pub mod Documents
+pub mod Laws
+pub mod VIntLemmas
+pub mod ReadingLemmas
+pub mod SerializeLemmas
+pub mod ReadLemmas
+pub mod NumbersLemmas
+pub mod Files
+pub mod AliveBitSet

@@ -1,0 +1,26 @@
+//! What a document store stands on: numbers as bytes, shared bytes, files, outputs, live sets and documents.
+#![tactic(auto)]
+
+pub mod alive_bitset;
+pub mod fault;
+pub mod file_slice;
+pub mod laws;
+pub mod mem_file;
+pub mod mem_sink;
+pub mod owned_bytes;
+pub mod serialize;
+pub mod vint;
+pub mod writer;
+
+pub use alive_bitset::AliveBitSet;
+pub use fault::{DecodeFault, DocFault, NoMemory, ReadFault, WriteFault};
+pub use file_slice::{FileHandle, FileSlice, HasLen};
+pub use mem_file::MemFile;
+pub use mem_sink::MemSink;
+pub use owned_bytes::OwnedBytes;
+pub use serialize::{BinarySerializable, FixedSize};
+pub use vint::{VInt, first_number, read_u32_vint};
+pub use writer::{CountingWriter, TerminatingWrite};
+
+/// The number of a document in its store: the first is 0.
+pub type DocId = u32;

@@ -1,0 +1,81 @@
+//! An output in memory.
+ghost use Rattle.std.specs.Prelude.{◌≡◌, ◌++◌, ◌≤◌, [], false, OnOk, OnErr};
+ghost use Rattle.store_base.specs.Counts.{HasRisen};
+
+use crate::fault::WriteFault;
+use crate::writer::TerminatingWrite;
+use std::alloc::Global;
+use std::marker::Model;
+
+/// An output in memory. A refused growth counts as its failure.
+#[derive(Drop)]
+pub struct MemSink {
+    bytes: Vec<u8>,
+    terminated: bool,
+    failures: u64,
+}
+
+impl Model for MemSink {
+    ghost use Rattle.store_base.specs.Outputs.{Output};
+
+    ghost Value = { Output };
+
+    ghost view = { λ s. record { content = s.bytes.items; terminated = s.terminated; failures = s.failures } };
+}
+
+impl MemSink {
+    pub fn new(alloc: Global) -> MemSink
+        ensures content { result.content ≡ [] }
+        ensures terminated { result.terminated ≡ false }
+        ensures failures { result.failures ≡ 0 }
+    {
+        MemSink {
+            bytes: Vec::new(alloc),
+            terminated: false,
+            failures: 0,
+        }
+    }
+
+    pub fn as_slice(&self) -> &[u8]
+        ensures { result.now ≡ self.now.content }
+    {
+        &self.bytes
+    }
+
+    pub fn into_bytes(self) -> Vec<u8>
+        ensures { result.items ≡ self.content }
+    {
+        let MemSink { bytes, .. } = self;
+        bytes
+    }
+}
+
+impl TerminatingWrite for MemSink {
+    ghost content = { λ s. s.content };
+
+    ghost terminated = { λ s. s.terminated };
+
+    ghost failures = { λ s. s.failures };
+
+    fn write_all(&mut self, bytes: &[u8]) -> Result<(), WriteFault>
+        ensures ok { OnOk result (self.new.content ≡ self.old.content ++ bytes.now) }
+        ensures terminated { self.new.terminated ≡ self.old.terminated }
+        ensures count { self.old.failures ≤ self.new.failures }
+        ensures fault { OnErr result (HasRisen self.old.failures self.new.failures) }
+        // A fault leaves what was written.
+        ensures kept { OnErr result (self.new.content ≡ self.old.content) }
+    {
+        match self.bytes.extend_from_slice(bytes) {
+            Ok(()) => Ok(()),
+            Err(_) => {
+                self.failures = self.failures.saturating_add(1);
+                Err(WriteFault)
+            }
+        }
+    }
+
+    fn terminate(&mut self) -> Result<(), WriteFault> {
+        self.terminated = true;
+        Ok(())
+    }
+}

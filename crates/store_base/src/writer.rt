@@ -1,0 +1,108 @@
+//! Outputs that are written at their end.
+
+ghost use Rattle.std.specs.Prelude.{◌≡◌, ◌++◌, ◌≤◌, ℕ, List, Bool, true, length, is_ok, if◌then◌else◌, OnOk, OnErr};
+ghost use Rattle.store_base.specs.Counts.{HasRisen, raised};
+
+use crate::fault::WriteFault;
+use std::marker::Model;
+
+/// An output that is written at its end, and terminated once.
+///
+/// Nothing is promised of what a write that failed left, nor of a `terminate` that failed.
+pub trait TerminatingWrite: Drop {
+    /// What was written.
+    ghost content: { Self → List ℕ };
+
+    /// Whether a `terminate` answered Ok.
+    ghost terminated: { Self → Bool };
+
+    /// How often a call failed. A count that stands at its greatest value is taken to have risen.
+    ghost failures: { Self → ℕ };
+
+    /// Writes the bytes at the end.
+    fn write_all(&mut self, bytes: &[u8]) -> Result<(), WriteFault>
+        ensures ok { OnOk result (content self.new ≡ content self.old ++ bytes.now) }
+        ensures terminated { terminated self.new ≡ terminated self.old }
+        ensures count { failures self.old ≤ failures self.new }
+        ensures fault { OnErr result (HasRisen (failures self.old) (failures self.new)) };
+
+    /// Ends the output: nothing will be written behind this.
+    fn terminate(&mut self) -> Result<(), WriteFault>
+        ensures terminated { terminated self.new ≡ (if is_ok result then true else terminated self.old) }
+        ensures content { OnOk result (content self.new ≡ content self.old) }
+        ensures count { failures self.old ≤ failures self.new }
+        ensures fault { OnErr result (HasRisen (failures self.old) (failures self.new)) };
+}
+
+/// An output that counts the bytes of its writes that answered Ok.
+#[derive(Drop)]
+pub struct CountingWriter<W: TerminatingWrite> {
+    output: W,
+    written: u64,
+}
+
+/// Clauses see the output and the count.
+impl<W: TerminatingWrite> Model for CountingWriter<W> {
+    ghost use Rattle.store_base.specs.Outputs.{Counted};
+
+    ghost Value = { Counted W };
+
+    ghost view = { λ c. record { output = c.output; written = c.written } };
+}
+
+impl<W: TerminatingWrite> CountingWriter<W> {
+    /// Counts from 0 on.
+    pub fn wrap(output: W) -> CountingWriter<W>
+        ensures output { result.output ≡ output }
+        ensures written { result.written ≡ 0 }
+    {
+        CountingWriter { output, written: 0 }
+    }
+
+    /// How many bytes were written, up to the greatest u64.
+    pub fn written_bytes(&self) -> u64
+        ensures { result ≡ self.now.written }
+    {
+        self.written
+    }
+
+    /// The output back.
+    pub fn finish(self) -> W
+        ensures { result ≡ self.output }
+    {
+        let CountingWriter { output, .. } = self;
+        output
+    }
+}
+
+impl<W: TerminatingWrite> TerminatingWrite for CountingWriter<W> {
+    ghost content = { λ c. W.content c.output };
+
+    ghost terminated = { λ c. W.terminated c.output };
+
+    ghost failures = { λ c. W.failures c.output };
+
+    fn write_all(&mut self, bytes: &[u8]) -> Result<(), WriteFault>
+        ensures ok { OnOk result (W.content self.new.output ≡ W.content self.old.output ++ bytes.now) }
+        ensures terminated { W.terminated self.new.output ≡ W.terminated self.old.output }
+        ensures count { W.failures self.old.output ≤ W.failures self.new.output }
+        ensures fault { OnErr result (HasRisen (W.failures self.old.output) (W.failures self.new.output)) }
+        ensures written { self.new.written
+            ≡ (if is_ok result then raised self.old.written (length bytes.now) else self.old.written) }
+    {
+        self.output.write_all(bytes)?;
+        self.written = self.written.saturating_add(bytes.len() as u64);
+        Ok(())
+    }
+
+    fn terminate(&mut self) -> Result<(), WriteFault>
+        ensures terminated { W.terminated self.new.output
+            ≡ (if is_ok result then true else W.terminated self.old.output) }
+        ensures content { OnOk result (W.content self.new.output ≡ W.content self.old.output) }
+        ensures count { W.failures self.old.output ≤ W.failures self.new.output }
+        ensures fault { OnErr result (HasRisen (W.failures self.old.output) (W.failures self.new.output)) }
+        ensures written { self.new.written ≡ self.old.written }
+    {
+        self.output.terminate()
+    }
+}
