@@ -5,3 +5,4 @@ pub mod Beginnings
 pub mod NumberLists
 pub mod Ranges
 pub mod BitsetLemmas
+pub mod RecordLoops

@@ -3,6 +3,7 @@ use Rattle.std.specs.Prelude.{◌≡◌, ℕ, ◌<◌, ◌^◌, List, ◌++◌, 
 use Rattle.std.specs.List.{AllByRecursion}
 use Rattle.store_base.specs.VInt.{number, number_at}
 use Rattle.store_base.specs.Serialize.{fixed}
+use Rattle.store_base.specs.Record.{Record, doc_bytes, reading, stored}
 
 -- No spelling of a number begins another, and each number has its own.
 abbrev pub NumbersAreApart : Type 0
@@ -19,3 +20,7 @@ NumbersAreRead = (n : ℕ) (rest : List ℕ) → number_at (number n ++ rest) �
 -- What is read as a number is its spelling.
 abbrev pub NumbersReadAreSpelled : Type 0
 NumbersReadAreSpelled = (bytes : List ℕ) (n : ℕ) (rest : List ℕ) → AllByRecursion (λ b. b < 256) bytes → number_at bytes ≡ Some (n, rest) → bytes ≡ number n ++ rest
+
+-- The bytes of a record are read as its stored form.
+abbrev pub RecordsAreRead : Type 0
+RecordsAreRead = (fields : Record) (schema : ℕ) (bytes : List ℕ) → doc_bytes fields schema ≡ Some bytes → reading 2 bytes ≡ Some (stored fields)

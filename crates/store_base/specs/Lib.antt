@@ -13,3 +13,5 @@ pub mod ReadLemmas
 pub mod NumbersLemmas
 pub mod Files
 pub mod AliveBitSet
+pub mod Record
+pub mod RecordLemmas

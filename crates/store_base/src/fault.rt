@@ -113,3 +113,25 @@ impl From<NoMemory> for DocFault {
         DocFault::Memory
     }
 }
+
+impl From<AllocError> for DocFault {
+    ghost use Rattle.std.specs.Prelude.{◌≡◌};
+    ghost use Rattle.store_base.specs.declared.fault.DocFault.TheVariants.{Memory};
+
+    ghost from_gives = { λ _ e. e ≡ Memory };
+
+    fn from(_: AllocError) -> DocFault {
+        DocFault::Memory
+    }
+}
+
+impl<T: Drop> From<AllocFailed<T>> for DocFault {
+    ghost use Rattle.std.specs.Prelude.{◌≡◌};
+    ghost use Rattle.store_base.specs.declared.fault.DocFault.TheVariants.{Memory};
+
+    ghost from_gives = { λ _ e. e ≡ Memory };
+
+    fn from(_: AllocFailed<T>) -> DocFault {
+        DocFault::Memory
+    }
+}

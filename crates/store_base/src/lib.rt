@@ -2,23 +2,31 @@
 #![tactic(auto)]
 
 pub mod alive_bitset;
+pub mod document;
 pub mod fault;
 pub mod file_slice;
 pub mod laws;
 pub mod mem_file;
 pub mod mem_sink;
 pub mod owned_bytes;
+pub mod record;
+pub mod schema;
 pub mod serialize;
+pub mod space_usage;
 pub mod vint;
 pub mod writer;
 
 pub use alive_bitset::AliveBitSet;
+pub use document::{Document, DocumentDeserialize, StoredDocument};
 pub use fault::{DecodeFault, DocFault, NoMemory, ReadFault, WriteFault};
 pub use file_slice::{FileHandle, FileSlice, HasLen};
 pub use mem_file::MemFile;
 pub use mem_sink::MemSink;
 pub use owned_bytes::OwnedBytes;
+pub use record::RecordDocument;
+pub use schema::{Field, Schema};
 pub use serialize::{BinarySerializable, FixedSize};
+pub use space_usage::StoreSpaceUsage;
 pub use vint::{VInt, first_number, read_u32_vint};
 pub use writer::{CountingWriter, TerminatingWrite};
 
