@@ -1,5 +1,6 @@
 //! An output in memory.
-ghost use Rattle.std.specs.Prelude.{◌≡◌, ◌++◌, ◌≤◌, [], false, OnOk, OnErr};
+
+ghost use Rattle.std.specs.Prelude.{◌≡◌, ◌++◌, ◌≤◌, [], true, false, is_ok, if◌then◌else◌, IsOk, OnOk, OnErr};
 ghost use Rattle.store_base.specs.Counts.{HasRisen};
 
 use crate::fault::WriteFault;
@@ -7,7 +8,7 @@ use crate::writer::TerminatingWrite;
 use std::alloc::Global;
 use std::marker::Model;
 
-/// An output in memory. A refused growth counts as its failure.
+/// An output in memory. A growth that is refused is its one failure, and leaves what was written.
 #[derive(Drop)]
 pub struct MemSink {
     bytes: Vec<u8>,
@@ -15,6 +16,7 @@ pub struct MemSink {
     failures: u64,
 }
 
+/// Clauses see what was written, whether it was terminated, and how often a write failed.
 impl Model for MemSink {
     ghost use Rattle.store_base.specs.Outputs.{Output};
 
@@ -24,6 +26,7 @@ impl Model for MemSink {
 }
 
 impl MemSink {
+    /// Nothing written. It takes no memory.
     pub fn new(alloc: Global) -> MemSink
         ensures content { result.content ≡ [] }
         ensures terminated { result.terminated ≡ false }
@@ -36,12 +39,14 @@ impl MemSink {
         }
     }
 
+    /// What was written.
     pub fn as_slice(&self) -> &[u8]
         ensures { result.now ≡ self.now.content }
     {
         &self.bytes
     }
 
+    /// What was written, which stays where it is.
     pub fn into_bytes(self) -> Vec<u8>
         ensures { result.items ≡ self.content }
     {
@@ -62,8 +67,10 @@ impl TerminatingWrite for MemSink {
         ensures terminated { self.new.terminated ≡ self.old.terminated }
         ensures count { self.old.failures ≤ self.new.failures }
         ensures fault { OnErr result (HasRisen self.old.failures self.new.failures) }
-        // A fault leaves what was written.
+
+        // Beside what every output promises: a fault leaves what was written, and nothing else is one.
         ensures kept { OnErr result (self.new.content ≡ self.old.content) }
+        ensures steady { OnOk result (self.new.failures ≡ self.old.failures) }
     {
         match self.bytes.extend_from_slice(bytes) {
             Ok(()) => Ok(()),
@@ -74,7 +81,16 @@ impl TerminatingWrite for MemSink {
         }
     }
 
-    fn terminate(&mut self) -> Result<(), WriteFault> {
+    fn terminate(&mut self) -> Result<(), WriteFault>
+        ensures terminated { self.new.terminated ≡ (if is_ok result then true else self.old.terminated) }
+        ensures content { OnOk result (self.new.content ≡ self.old.content) }
+        ensures count { self.old.failures ≤ self.new.failures }
+        ensures fault { OnErr result (HasRisen self.old.failures self.new.failures) }
+
+        // Beside these: it never fails.
+        ensures succeeds { IsOk result }
+        ensures steady { self.new.failures ≡ self.old.failures }
+    {
         self.terminated = true;
         Ok(())
     }
