@@ -6,7 +6,7 @@ use Rattle.std.proofs.lemmas.Grind.{get_or_default_zero}
 use Rattle.std.proofs.lemmas.List.Folds.{sum_by-replicate}
 use Rattle.std.proofs.lemmas.List.Sums.{sum_by-set}
 use Rattle.std.proofs.lemmas.Nat.Bits.{bit_at_clear_same, bit_at_clear_other, bit_at_ones}
-use Rattle.std.specs.Prelude.{replicate, bit_and, count_by}
+use Rattle.std.specs.Prelude.{replicate, bit_and, count_by, not}
 use Rattle.std.specs.Int.{w64, bit_at, bit_not}
 use Rattle.store_base.specs.AliveBitSet.{is_bit_set, flags_from}
 
@@ -100,6 +100,10 @@ count_less flags k within is =
     let e = sum_by-set value flags k false false within in
     let here : value (get_or flags k false) ≡ 1 = ap value is in
     omega (arith, e, here)
+
+pub not_dead : (alive : Bool) → not alive ≡ false → alive ≡ true
+not_dead true e = refl
+not_dead false e = absurd cc
 
 -- a document that is alive is below the end
 pub alive_within : (n id k : ℕ) (words : List ℕ) → get_or (flags_from n id words) k false ≡ true → k < n

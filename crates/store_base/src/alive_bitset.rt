@@ -50,7 +50,7 @@ impl AliveBitSet {
         ensures each { (k : ℕ) → is_alive_at self.new k
             ≡ (if k == id then false else is_alive_at self.old k) }
     {
-        if !self.is_alive(id) {
+        if self.is_deleted(id) {
             return;
         }
         let at = id as usize;

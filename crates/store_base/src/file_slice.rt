@@ -148,6 +148,6 @@ impl<H: FileHandle> HasLen for FileSlice<H> {
     ghost length_of = { λ part. length part.content };
 
     fn len(&self) -> u64 {
-        self.end - self.start
+        FileSlice::len(self)
     }
 }

@@ -73,6 +73,6 @@ impl HasLen for OwnedBytes {
     ghost length_of = { λ b. length b };
 
     fn len(&self) -> u64 {
-        self.bytes.len() as u64
+        OwnedBytes::len(self) as u64
     }
 }

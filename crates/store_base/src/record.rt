@@ -3,9 +3,9 @@
 //! Its bytes are the number of fields, and for each its number, the length of its bytes, and these. Version 2 spells
 //! the three kinds of number as [`VInt`]s, version 1 in four bytes each.
 
-ghost use Rattle.std.specs.Prelude.{◌≡◌, ◌≤◌, ◌++◌, ◌∷◌, [], true, OnOk, OnErr, IfSome, IsErrOf, vec_capacity};
+ghost use Rattle.std.specs.Prelude.{◌≡◌, ◌≤◌, ◌++◌, ◌∷◌, [], true, None, OnOk, OnErr, IfSome, IsErrOf, vec_capacity};
 ghost use Rattle.std.specs.Option.{option_map};
-ghost use Rattle.store_base.specs.Documents.{BeginsWith, Gives};
+ghost use Rattle.store_base.specs.Documents.{Appends, BeginsWith, Gives};
 ghost use Rattle.store_base.specs.Record.{fields_seen, field_bytes, has_spelling, spelling_of, field_at, fields_at, record_at, doc_bytes, reading};
 
 use crate::document::{Document, DocumentDeserialize, StoredDocument};
@@ -82,19 +82,41 @@ fn push_field(field: Field, bytes: &[u8], out: &mut Vec<u8>) -> Result<(), NoMem
     Ok(())
 }
 
+// Appends the record's bytes. A refusal may leave a part of them.
+fn push_record(record: &RecordDocument, schema: &Schema, out: &mut Vec<u8>) -> Result<(), DocFault>
+    ensures ok { OnOk result (Appends (doc_bytes record.now schema.now) out.old.items out.new.items) }
+    ensures refused { IsErrOf result DocFault.Refused → doc_bytes record.now schema.now ≡ None }
+    ensures kept { BeginsWith out.old.items out.new.items }
+    ensures capacity { vec_capacity out.old ≤ vec_capacity out.new }
+{
+    let fields = record.fields();
+    VInt(fields.len() as u64).serialize_into_vec(out)?;
+    for (field, bytes) in fields {
+        if !schema.has_field(*field) {
+            return Err(DocFault::Refused);
+        }
+        push_field(*field, bytes, out)?;
+    }
+    Ok(())
+}
+
 impl Document for RecordDocument {
     ghost doc_bytes = { doc_bytes };
 
-    fn serialize_doc(&self, schema: &Schema, out: &mut Vec<u8>) -> Result<(), DocFault> {
-        let fields = self.fields();
-        VInt(fields.len() as u64).serialize_into_vec(out)?;
-        for (field, bytes) in fields {
-            if !schema.has_field(*field) {
-                return Err(DocFault::Refused);
-            }
-            push_field(*field, bytes, out)?;
+    /// Appends the record's bytes. Unlike what every document promises, a refusal leaves nothing behind.
+    fn serialize_doc(&self, schema: &Schema, out: &mut Vec<u8>) -> Result<(), DocFault>
+        ensures ok { OnOk result (Appends (doc_bytes self.now schema.now) out.old.items out.new.items) }
+        ensures refused { IsErrOf result DocFault.Refused → doc_bytes self.now schema.now ≡ None }
+        ensures kept { BeginsWith out.old.items out.new.items }
+        ensures capacity { vec_capacity out.old ≤ vec_capacity out.new }
+        ensures err { OnErr result (out.new.items ≡ out.old.items) }
+    {
+        let start = out.len();
+        let pushed = push_record(self, schema, out);
+        if pushed.is_err() {
+            out.truncate(start);
         }
-        Ok(())
+        pushed
     }
 }
 

@@ -91,7 +91,7 @@ impl BinarySerializable for u8 {
 
     #[tactic(auto, unfolding(crate::specs::Serialize::fixed))]
     fn serialize<W: TerminatingWrite>(&self, output: &mut W) -> Result<(), WriteFault> {
-        output.write_all(&self.to_le_bytes())
+        output.write_all(&u8::to_le_bytes(*self))
     }
 
     fn deserialize(_alloc: Global, bytes: &mut &[u8]) -> Result<u8, DecodeFault>
@@ -149,7 +149,7 @@ impl BinarySerializable for u32 {
 
     #[tactic(auto, unfolding(crate::specs::Serialize::fixed))]
     fn serialize<W: TerminatingWrite>(&self, output: &mut W) -> Result<(), WriteFault> {
-        output.write_all(&self.to_le_bytes())
+        output.write_all(&u32::to_le_bytes(*self))
     }
 
     fn deserialize(_alloc: Global, bytes: &mut &[u8]) -> Result<u32, DecodeFault>
@@ -206,7 +206,7 @@ impl BinarySerializable for u64 {
 
     #[tactic(auto, unfolding(crate::specs::Serialize::fixed))]
     fn serialize<W: TerminatingWrite>(&self, output: &mut W) -> Result<(), WriteFault> {
-        output.write_all(&self.to_le_bytes())
+        output.write_all(&u64::to_le_bytes(*self))
     }
 
     fn deserialize(_alloc: Global, bytes: &mut &[u8]) -> Result<u64, DecodeFault>

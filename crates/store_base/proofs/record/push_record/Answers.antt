@@ -4,7 +4,7 @@ use Rattle.store_base.specs.VInt.{number}
 use Rattle.store_base.specs.Record.{fields_seen, field_bytes, doc_bytes}
 use Rattle.store_base.proofs.RecordLoops.{not_writable}
 use Rattle.store_base.proofs.Beginnings.{begins_before}
-use Rattle.store_base.proofs.record.RecordDocumentDocument.serialize_doc.Goals as goal
+use Rattle.store_base.proofs.record.push_record.Goals as goal
 
 pub returns-then-not-has_field-clause-refused : goal.returns-then-not-has_field-clause-refused
 returns-then-not-has_field-clause-refused c refused =

@@ -3,7 +3,7 @@ use Rattle.std.specs.List.{flat_map, list_all}
 use Rattle.std.specs.Prelude.{◌≤◌, vec_capacity}
 use Rattle.store_base.specs.VInt.{number}
 use Rattle.store_base.specs.Record.{fields_seen, field_bytes, is_writable}
-use Rattle.store_base.proofs.record.RecordDocumentDocument.serialize_doc.Given as goal
+use Rattle.store_base.proofs.record.push_record.Given as goal
 
 -- the count and the fields so far are written, and each of them has a text
 abbrev pub invariant-loop-field : goal.invariant-loop-field
