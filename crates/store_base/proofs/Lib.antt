@@ -6,3 +6,4 @@ pub mod NumberLists
 pub mod Ranges
 pub mod BitsetLemmas
 pub mod RecordLoops
+pub mod RecordTexts

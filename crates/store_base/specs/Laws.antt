@@ -1,9 +1,9 @@
 -- What the encodings promise to those who read them.
-use Rattle.std.specs.Prelude.{◌≡◌, ℕ, ◌<◌, ◌^◌, List, ◌++◌, Some}
+use Rattle.std.specs.Prelude.{◌≡◌, ℕ, ◌<◌, ◌^◌, List, ◌++◌, length, Some}
 use Rattle.std.specs.List.{AllByRecursion}
 use Rattle.store_base.specs.VInt.{number, number_at}
-use Rattle.store_base.specs.Serialize.{fixed}
-use Rattle.store_base.specs.Record.{Record, doc_bytes, reading, stored}
+use Rattle.store_base.specs.Serialize.{IsBytes, fixed}
+use Rattle.store_base.specs.Record.{Record, record_bytes, old_record_bytes, doc_bytes, reading, stored}
 
 -- No spelling of a number begins another, and each number has its own.
 abbrev pub NumbersAreApart : Type 0
@@ -24,3 +24,12 @@ NumbersReadAreSpelled = (bytes : List ℕ) (n : ℕ) (rest : List ℕ) → AllBy
 -- The bytes of a record are read as its stored form.
 abbrev pub RecordsAreRead : Type 0
 RecordsAreRead = (fields : Record) (schema : ℕ) (bytes : List ℕ) → doc_bytes fields schema ≡ Some bytes → reading 2 bytes ≡ Some (stored fields)
+
+-- The bytes of version 1 are read too, where its numbers have room in four bytes.
+abbrev pub OldRecordsAreRead : Type 0
+OldRecordsAreRead = (fields : Record) → length fields < 2 ^ 32 → AllByRecursion (λ f. (f.0 < 2 ^ 32) × (length f.1 < 2 ^ 32)) fields → reading 1 (old_record_bytes fields) ≡ Some fields
+
+-- What is read as a record is its bytes in that version, and nothing follows them.
+abbrev pub RecordsReadAreSpelled : Type 0
+RecordsReadAreSpelled = (bytes : List ℕ) (fields : Record) → IsBytes bytes
+    → (reading 2 bytes ≡ Some fields → bytes ≡ record_bytes fields) × (reading 1 bytes ≡ Some fields → bytes ≡ old_record_bytes fields)

@@ -4,7 +4,7 @@ use Rattle.std.specs.List.{flat_map, list_all}
 use Rattle.std.specs.Int.{w32}
 use Rattle.std.specs.declared.alloc.Global.{Global}
 use Rattle.store_base.specs.VInt.{number, ◌>>=◌, number_below}
-use Rattle.store_base.specs.Serialize.{fixed_at}
+use Rattle.store_base.specs.Serialize.{fixed, fixed_at}
 
 -- A field is its number and its bytes. A record is a list of fields, in the order added.
 abbrev pub Record : Type 0
@@ -17,12 +17,24 @@ field_seen f = (f.0, f.1.items)
 abbrev pub fields_seen : List (ℕ × Vec ℕ Global) → Record
 fields_seen fields = map field_seen fields
 
-abbrev pub field_bytes : ℕ × List ℕ → List ℕ
-field_bytes f = number f.0 ++ number (length f.1) ++ f.1
+-- a field's number, the length of its bytes, and these, where text spells a number
+abbrev pub field_bytes_in : (ℕ → List ℕ) → ℕ × List ℕ → List ℕ
+field_bytes_in text f = text f.0 ++ text (length f.1) ++ f.1
 
--- how many fields there are, and each with the length of its bytes
+-- how many fields there are, and each
+abbrev pub record_bytes_in : (ℕ → List ℕ) → Record → List ℕ
+record_bytes_in text fields = text (length fields) ++ flat_map (field_bytes_in text) fields
+
+-- what is written: the bytes of version 2
+abbrev pub field_bytes : ℕ × List ℕ → List ℕ
+field_bytes = field_bytes_in number
+
 abbrev pub record_bytes : Record → List ℕ
-record_bytes fields = number (length fields) ++ flat_map field_bytes fields
+record_bytes = record_bytes_in number
+
+-- the bytes of version 1, whose numbers have four bytes each
+abbrev pub old_record_bytes : Record → List ℕ
+old_record_bytes = record_bytes_in (fixed 4)
 
 -- whether its parts have a spelling
 abbrev pub has_spelling : ℕ × List ℕ → Bool
@@ -36,7 +48,7 @@ is_writable schema f = nat_lt f.0 schema && has_spelling f
 abbrev pub doc_bytes : Record → ℕ → Option (List ℕ)
 doc_bytes fields schema = if list_all (is_writable schema) fields && nat_lt (length fields) (2 ^ 64) then Some (record_bytes fields) else None
 
--- how a version spells the number of a field, and how a count or a length
+-- how a version reads the number of a field, and how a count or a length
 pub record Spelling : Type 0 where
   pub field : List ℕ → Option (ℕ × List ℕ)
   pub size : List ℕ → Option (ℕ × List ℕ)
