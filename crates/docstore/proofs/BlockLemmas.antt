@@ -3,7 +3,7 @@ use Rattle.std.proofs.Common.{◌≡◌, ℕ, ◌-◌, List, [], ◌∷◌, leng
 use Rattle.std.proofs.lemmas.List.{take-append-drop}
 use Rattle.docstore.specs.declared.index.Checkpoint.{Checkpoint}
 use Rattle.docstore.specs.Checkpoint.{docs_end, doc_interval, IsInLineFrom, IsInLine}
-use Rattle.docstore.proofs.RunLemmas.{in_line-split, in_line_somewhere, in_line_from}
+use Rattle.docstore.specs.LineLemmas.{in_line-split, in_line_somewhere, in_line_from}
 
 -- a front of a list in line is in line
 pub in_line_take : (n : ℕ) (cs : List Checkpoint) → IsInLine cs → IsInLine (take n cs)

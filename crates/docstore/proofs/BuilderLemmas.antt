@@ -13,7 +13,8 @@ use Rattle.docstore.specs.LayerReading.{items}
 use Rattle.docstore.specs.Building.{Layer, put, pointer_to, flushed, inserted, Takes, block_text, pointer_at, IsLayer, IsBuilt, list_of, IsBuilder}
 use Rattle.docstore.proofs.GroupLemmas.{groups_none}
 use Rattle.docstore.proofs.GrowthLemmas.{groups_one, groups-append, pointers-append}
-use Rattle.docstore.proofs.RunLemmas.{IsRun, in_line-split, in_line_somewhere, in_line_from}
+use Rattle.docstore.specs.LineLemmas.{in_line-split, in_line_somewhere, in_line_from}
+use Rattle.docstore.proofs.RunLemmas.{IsRun}
 use Rattle.docstore.proofs.IndexLemmas.{digit_count_zero, digit_count_more}
 use Rattle.docstore.proofs.LayerLemmas.{layer_above_is_in_line, length-pointers}
 use Rattle.docstore.proofs.CursorLemmas.{items_runs}

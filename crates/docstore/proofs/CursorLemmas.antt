@@ -12,7 +12,8 @@ use Rattle.docstore.specs.Layers.{groups, layer_text}
 use Rattle.docstore.specs.LayerReading.{next_in_block, next_at, items_within, items}
 use Rattle.docstore.proofs.BlockReadingLemmas.{step_again, heading_again}
 use Rattle.docstore.proofs.GroupLemmas.{groups_joined}
-use Rattle.docstore.proofs.RunLemmas.{IsRun, in_line_somewhere, groups_are_runs}
+use Rattle.docstore.specs.LineLemmas.{in_line_somewhere}
+use Rattle.docstore.proofs.RunLemmas.{IsRun, groups_are_runs}
 
 -- ---- what is read takes bytes
 

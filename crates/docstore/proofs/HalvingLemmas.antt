@@ -6,7 +6,7 @@ use Rattle.docstore.specs.declared.index.Checkpoint.{Checkpoint}
 use Rattle.docstore.specs.Checkpoint.{IsInLineFrom, IsInLine, first_past}
 use Rattle.docstore.specs.Layers.{digit_count}
 use Rattle.docstore.proofs.IndexLemmas.{digit_count-le, digit_count_more}
-use Rattle.docstore.proofs.RunLemmas.{in_line_somewhere}
+use Rattle.docstore.specs.LineLemmas.{in_line_somewhere}
 use Rattle.docstore.proofs.DigitLemmas.{below_digits}
 
 -- the answer is the first, if that ends past the target, and else that of the others

@@ -9,7 +9,8 @@ use Rattle.docstore.specs.Checkpoint.{doc_count, byte_len, docs_end, bytes_end, 
 use Rattle.docstore.specs.Layers.{groups, layer_text, docs_start, pointers, layer_above, digit_count, layers_from}
 use Rattle.docstore.specs.Laws.{LayerAboveIsInLine, LayersAreInLine}
 use Rattle.docstore.proofs.GroupLemmas.{groups_none, groups_more, groups_joined, by_runs}
-use Rattle.docstore.proofs.RunLemmas.{IsRun, in_line-split, in_line_from, in_line_somewhere, groups_are_runs}
+use Rattle.docstore.specs.LineLemmas.{in_line-split, in_line_from, in_line_somewhere}
+use Rattle.docstore.proofs.RunLemmas.{IsRun, groups_are_runs}
 use Rattle.docstore.proofs.IndexLemmas.{length-layers}
 
 -- ---- how long a block can be

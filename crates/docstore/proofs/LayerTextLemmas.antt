@@ -23,7 +23,8 @@ use Rattle.docstore.proofs.BlockReadingLemmas.{heading_again, heading_read, step
 use Rattle.docstore.proofs.CheckpointLemmas.{block_some}
 use Rattle.docstore.proofs.GroupLemmas.{groups_none, groups_more, by_runs}
 use Rattle.docstore.proofs.GrowthLemmas.{groups_one, groups-append}
-use Rattle.docstore.proofs.RunLemmas.{IsRun, in_line-split, in_line-join, in_line_from, in_line_somewhere, groups_are_runs}
+use Rattle.docstore.specs.LineLemmas.{in_line-split, in_line-join, in_line_from, in_line_somewhere}
+use Rattle.docstore.proofs.RunLemmas.{IsRun, groups_are_runs}
 use Rattle.docstore.proofs.WalkLemmas.{run_takes, plus, len_then, len_from_none, len_from_some, pointers_behind, pointers_next, pointers_end}
 
 -- ---- one run

@@ -24,4 +24,3 @@ pub mod BlockLemmas
 pub mod BuilderLemmas
 pub mod InsertionLemmas
 pub mod ClosingLemmas
-pub mod LineLemmas

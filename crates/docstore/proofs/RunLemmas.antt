@@ -3,30 +3,11 @@ use Rattle.std.proofs.Common.{◌≡◌, ℕ, zero, suc, ◌<◌, ◌≤◌, Lis
 use Rattle.std.proofs.lemmas.List.{take-append-drop, length-take}
 use Rattle.std.specs.List.{flat_map, AllByRecursion}
 use Rattle.docstore.specs.declared.index.Checkpoint.{Checkpoint}
-use Rattle.docstore.specs.Checkpoint.{IsWithinLimits, IsInLineFrom, IsInLine, docs_end, bytes_end, checkpoint_block}
+use Rattle.docstore.specs.Checkpoint.{IsWithinLimits, IsInLineFrom, IsInLine, checkpoint_block}
+use Rattle.docstore.specs.LineLemmas.{in_line-split, in_line_from, in_line_somewhere}
 use Rattle.docstore.specs.Layers.{groups, layer_text}
 use Rattle.docstore.proofs.GroupLemmas.{groups_none, groups_more, groups_joined, by_runs}
 use Rattle.docstore.proofs.CheckpointLemmas.{block_some, checkpoint_blocks_are_apart}
-
--- a list that goes on is a front and a rest that goes on from there
-pub in_line-split : (doc byte : ℕ) (xs ys : List Checkpoint) → IsInLineFrom doc byte (xs ++ ys) → IsInLineFrom doc byte xs × IsInLineFrom (docs_end doc xs) (bytes_end byte xs) ys
-in_line-split doc byte [] ys h = (tt, h)
-in_line-split doc byte (x ∷ xs) ys h =
-    let others = in_line-split x.doc_range.end x.byte_range.end xs ys h.3 in
-    ((h.0, h.1, h.2, others.0), others.1)
-
-pub in_line-join : (doc byte : ℕ) (xs ys : List Checkpoint) → IsInLineFrom doc byte xs → IsInLineFrom (docs_end doc xs) (bytes_end byte xs) ys → IsInLineFrom doc byte (xs ++ ys)
-in_line-join doc byte [] ys p q = q
-in_line-join doc byte (x ∷ xs) ys p q = (p.0, p.1, p.2, in_line-join x.doc_range.end x.byte_range.end xs ys p.3 q)
-
--- what goes on from somewhere is in line, and the other way round
-pub in_line_from : (doc byte : ℕ) (cs : List Checkpoint) → IsInLineFrom doc byte cs → IsInLine cs
-in_line_from doc byte [] h = tt
-in_line_from doc byte (c ∷ cs) h = (refl, refl, h.2, h.3)
-
-pub in_line_somewhere : (cs : List Checkpoint) → IsInLine cs → (doc : ℕ) × (byte : ℕ) × IsInLineFrom doc byte cs
-in_line_somewhere [] h = (0, 0, tt)
-in_line_somewhere (c ∷ cs) h = (c.doc_range.start, c.byte_range.start, h)
 
 -- a run of a layer
 pub record IsRun (period : ℕ) (run : List Checkpoint) : Type 0 where

@@ -1,4 +1,5 @@
 pub mod Checkpoint
+pub mod LineLemmas
 pub mod Layers
 pub mod BlockReading
 pub mod LayerReading

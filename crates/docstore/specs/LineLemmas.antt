@@ -1,8 +1,27 @@
--- For callers: a list in line that is known to end somewhere takes what begins there.
+-- Lists in line are cut and joined; and for callers: one that is known to end somewhere takes what begins there.
 use Rattle.std.proofs.Common.{◌≡◌, ℕ, ◌+◌, ◌^◌, ◌<◌, arith, List, [], ◌∷◌, ◌++◌, refl, sym, ◌∙◌}
 use Rattle.docstore.specs.declared.index.Checkpoint.{Checkpoint}
-use Rattle.docstore.specs.Checkpoint.{checkpoint, docs_end, bytes_end, IsWithinLimits, IsInLine, EndsAt}
-use Rattle.docstore.proofs.RunLemmas.{in_line-join, in_line_from}
+use Rattle.docstore.specs.Checkpoint.{checkpoint, docs_end, bytes_end, IsWithinLimits, IsInLineFrom, IsInLine, EndsAt}
+
+-- a list that goes on is a front and a rest that goes on from there
+pub in_line-split : (doc byte : ℕ) (xs ys : List Checkpoint) → IsInLineFrom doc byte (xs ++ ys) → IsInLineFrom doc byte xs × IsInLineFrom (docs_end doc xs) (bytes_end byte xs) ys
+in_line-split doc byte [] ys h = (tt, h)
+in_line-split doc byte (x ∷ xs) ys h =
+    let others = in_line-split x.doc_range.end x.byte_range.end xs ys h.3 in
+    ((h.0, h.1, h.2, others.0), others.1)
+
+pub in_line-join : (doc byte : ℕ) (xs ys : List Checkpoint) → IsInLineFrom doc byte xs → IsInLineFrom (docs_end doc xs) (bytes_end byte xs) ys → IsInLineFrom doc byte (xs ++ ys)
+in_line-join doc byte [] ys p q = q
+in_line-join doc byte (x ∷ xs) ys p q = (p.0, p.1, p.2, in_line-join x.doc_range.end x.byte_range.end xs ys p.3 q)
+
+-- what goes on from somewhere is in line, and the other way round
+pub in_line_from : (doc byte : ℕ) (cs : List Checkpoint) → IsInLineFrom doc byte cs → IsInLine cs
+in_line_from doc byte [] h = tt
+in_line_from doc byte (c ∷ cs) h = (refl, refl, h.2, h.3)
+
+pub in_line_somewhere : (cs : List Checkpoint) → IsInLine cs → (doc : ℕ) × (byte : ℕ) × IsInLineFrom doc byte cs
+in_line_somewhere [] h = (0, 0, tt)
+in_line_somewhere (c ∷ cs) h = (c.doc_range.start, c.byte_range.start, h)
 
 docs_end-put : (doc : ℕ) (cs : List Checkpoint) (c : Checkpoint) → docs_end doc (cs ++ c ∷ []) ≡ c.doc_range.end
 docs_end-put doc [] c = refl
