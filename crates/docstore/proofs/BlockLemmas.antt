@@ -1,15 +1,7 @@
 -- Lists in line, seen as a block of checkpoints.
-use Rattle.std.proofs.Common.{◌≡◌, ℕ, ◌-◌, List, [], ◌∷◌, length, take, drop, Some, slice_get, sym, ap, subst, arith}
-use Rattle.std.proofs.lemmas.List.{take-append-drop}
+use Rattle.std.proofs.Common.{◌≡◌, ℕ, ◌-◌, List, [], ◌∷◌, length, Some, slice_get, ap, subst, arith}
 use Rattle.docstore.specs.declared.index.Checkpoint.{Checkpoint}
-use Rattle.docstore.specs.Checkpoint.{docs_end, doc_interval, IsInLineFrom, IsInLine}
-use Rattle.docstore.specs.LineLemmas.{in_line-split, in_line_somewhere, in_line_from}
-
--- a front of a list in line is in line
-pub in_line_take : (n : ℕ) (cs : List Checkpoint) → IsInLine cs → IsInLine (take n cs)
-in_line_take n cs h =
-    let from = in_line_somewhere cs h in
-    in_line_from from.0 from.1 (take n cs) (in_line-split from.0 from.1 (take n cs) (drop n cs) (subst (IsInLineFrom from.0 from.1) (sym (take-append-drop n cs)) from.2)).0
+use Rattle.docstore.specs.Checkpoint.{docs_end, doc_interval}
 
 docs_end_last : (doc : ℕ) (c : Checkpoint) (cs : List Checkpoint) (last : Checkpoint) → slice_get (c ∷ cs) (length cs) ≡ Some last → docs_end doc (c ∷ cs) ≡ last.doc_range.end
 docs_end_last doc c [] last e = let same : c ≡ last = cc in ap (λ (x : Checkpoint). x.doc_range.end) same

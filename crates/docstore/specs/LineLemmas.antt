@@ -1,5 +1,6 @@
 -- Lists in line are cut and joined; and for callers: one that is known to end somewhere takes what begins there.
-use Rattle.std.proofs.Common.{◌≡◌, ℕ, ◌+◌, ◌^◌, ◌<◌, arith, List, [], ◌∷◌, ◌++◌, refl, sym, ◌∙◌}
+use Rattle.std.proofs.Common.{◌≡◌, ℕ, ◌+◌, ◌^◌, ◌<◌, List, [], ◌∷◌, ◌++◌, take, drop, refl, sym, ◌∙◌, subst, arith}
+use Rattle.std.proofs.lemmas.List.{take-append-drop}
 use Rattle.docstore.specs.declared.index.Checkpoint.{Checkpoint}
 use Rattle.docstore.specs.Checkpoint.{checkpoint, docs_end, bytes_end, IsWithinLimits, IsInLineFrom, IsInLine, EndsAt}
 
@@ -23,11 +24,18 @@ pub in_line_somewhere : (cs : List Checkpoint) → IsInLine cs → (doc : ℕ) �
 in_line_somewhere [] h = (0, 0, tt)
 in_line_somewhere (c ∷ cs) h = (c.doc_range.start, c.byte_range.start, h)
 
-docs_end-put : (doc : ℕ) (cs : List Checkpoint) (c : Checkpoint) → docs_end doc (cs ++ c ∷ []) ≡ c.doc_range.end
+-- a front of a list in line is in line
+pub in_line_take : (n : ℕ) (cs : List Checkpoint) → IsInLine cs → IsInLine (take n cs)
+in_line_take n cs h =
+    let from = in_line_somewhere cs h in
+    in_line_from from.0 from.1 (take n cs) (in_line-split from.0 from.1 (take n cs) (drop n cs) (subst (IsInLineFrom from.0 from.1) (sym (take-append-drop n cs)) from.2)).0
+
+-- the end of what one more was put behind
+pub docs_end-put : (doc : ℕ) (cs : List Checkpoint) (c : Checkpoint) → docs_end doc (cs ++ c ∷ []) ≡ c.doc_range.end
 docs_end-put doc [] c = refl
 docs_end-put doc (x ∷ xs) c = docs_end-put x.doc_range.end xs c
 
-bytes_end-put : (byte : ℕ) (cs : List Checkpoint) (c : Checkpoint) → bytes_end byte (cs ++ c ∷ []) ≡ c.byte_range.end
+pub bytes_end-put : (byte : ℕ) (cs : List Checkpoint) (c : Checkpoint) → bytes_end byte (cs ++ c ∷ []) ≡ c.byte_range.end
 bytes_end-put byte [] c = refl
 bytes_end-put byte (x ∷ xs) c = bytes_end-put x.byte_range.end xs c
 

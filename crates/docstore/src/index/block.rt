@@ -93,7 +93,8 @@ impl CheckpointBlock {
 
     /// The checkpoints in order.
     pub fn checkpoints(&self) -> &[Checkpoint]
-        ensures { result.now ≡ self.now }
+        ensures list { result.now ≡ self.now }
+        ensures in_line { IsInLine self.now }
     {
         &self.checkpoints
     }

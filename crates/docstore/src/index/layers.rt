@@ -142,10 +142,10 @@ fn walk_runs(
 ) -> Result<(), IndexFault>
     ensures { MatchResult result
         (λ _. IsSome (len_from period heading.doc heading.byte text.now)
-            × ArePointers above.entry (pointers_at 0 text.now)
-            × (with_ends ends.new [] ≡ with_ends ends.old (items 0 0 0 text.now)))
+        × ArePointers above.entry (pointers_at 0 text.now)
+        × (with_ends ends.new [] ≡ with_ends ends.old (items 0 0 0 text.now)))
         (FailsOnlyUnless (IsSome (len_from period heading.doc heading.byte text.now)
-            × ArePointers above.entry (pointers_at 0 text.now))) }
+        × ArePointers above.entry (pointers_at 0 text.now))) }
 {
     let mut rest = text;
     let mut place = 0;
@@ -180,7 +180,7 @@ fn walk_layer(
 ) -> Result<(), IndexFault>
     ensures { MatchResult result
         (λ _. IsLayerBelow period above.entry text.now
-            × (ends.new ≡ with_ends no_ends (items 0 0 0 text.now)))
+        × (ends.new ≡ with_ends no_ends (items 0 0 0 text.now)))
         (FailsOnlyUnless (IsLayerBelow period above.entry text.now)) }
 {
     let most = ends.len().saturating_mul(period).min(text.len() / 2);
@@ -200,7 +200,7 @@ pub(crate) fn walk_down(
 ) -> Result<(), IndexFault>
     ensures { MatchResult result
         (λ _. AreLayersBelow period None layers.now
-            × (ends.new ≡ last_ends ends.old layers.now))
+        × (ends.new ≡ last_ends ends.old layers.now))
         (FailsOnlyUnless (AreLayersBelow period None layers.now)) }
 {
     let mut above = None;

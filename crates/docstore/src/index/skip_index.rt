@@ -63,7 +63,7 @@ fn bottom_layer(
     requires few { period ≤ 64 }
     ensures { MatchResult result
         (λ x. IsIndexPart period source.now (items 0 0 0 x.0)
-            × (x.1 ≡ with_ends no_ends (items 0 0 0 x.0)))
+        × (x.1 ≡ with_ends no_ends (items 0 0 0 x.0)))
         (FailsOnlyUnless (HasIndex period source.now)) }
 {
     let layers = split(alloc, source, bytes)?;

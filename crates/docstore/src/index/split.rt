@@ -7,7 +7,7 @@ use crate::index::fault::IndexFault;
 use std::alloc::Global;
 use store_base::{OwnedBytes, first_number};
 
-/// No list has more layers: its length is below 2^64.
+// No list has more layers: its length is below 2^64.
 const MOST_LAYERS: u64 = 64;
 
 fn numbers_front(

@@ -66,8 +66,8 @@ impl Ends {
 
     pub fn push(&mut self, doc_end: DocId, byte_end: usize) -> Result<(), NoMemory>
         ensures { IfOk result (λ _. self.new ≡ record {
-            docs = self.old.docs ++ doc_end ∷ [];
-            bytes = self.old.bytes ++ byte_end ∷ [];
+          docs = self.old.docs ++ doc_end ∷ [];
+          bytes = self.old.bytes ++ byte_end ∷ [];
         }) }
     {
         self.docs.push(doc_end)?;

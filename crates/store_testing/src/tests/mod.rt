@@ -1,8 +1,10 @@
-//! The tests of store_base: outside vectors, printed texts, each call once, and reads and writes that fail.
+//! The tests of the crates below: outside vectors, printed texts, each call once, and reads and writes that fail.
 
 mod documents;
 mod files;
+mod index;
 mod live_sets;
 mod numbers;
 mod outputs;
+mod store_texts;
 mod texts;

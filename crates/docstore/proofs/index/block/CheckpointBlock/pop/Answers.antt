@@ -1,6 +1,6 @@
 use Rattle.std.proofs.Common.{sym, subst}
 use Rattle.docstore.specs.Checkpoint.{IsInLine}
-use Rattle.docstore.proofs.BlockLemmas.{in_line_take}
+use Rattle.docstore.specs.LineLemmas.{in_line_take}
 use Rattle.docstore.proofs.index.block.CheckpointBlock.pop.Goals as goal
 
 pub invariant_of-self : goal.invariant_of-self
