@@ -1,9 +1,14 @@
 -- What the formats promise.
-use Rattle.std.specs.Prelude.{◌≡◌, ℕ, ◌<◌, ◌≤◌, ◌^◌, List, ◌++◌, length}
+use Rattle.std.specs.Prelude.{◌≡◌, ℕ, ◌<◌, ◌≤◌, ◌^◌, List, [], ◌∷◌, ◌++◌, length, map}
 use Rattle.std.specs.List.{AllByRecursion}
 use Rattle.docstore.specs.declared.index.Checkpoint.{Checkpoint}
 use Rattle.docstore.specs.Checkpoint.{IsInLine, checkpoint_block}
 use Rattle.docstore.specs.Layers.{layer_text, layer_above, digit_count, layers, index_part}
+use Rattle.docstore.specs.Block.{Slot, doc, block}
+use Rattle.docstore.specs.Slots.{slots}
+use Rattle.docstore.specs.Trace.{block_of}
+use Rattle.docstore.specs.StoreFile.{StoreBlock, AreBlocks, file, IsStore}
+use Rattle.docstore.specs.Writer.{Writing, num_docs, flushed, with_document}
 
 -- No checkpoint block begins another, and each list in line has its own.
 abbrev pub CheckpointBlocksAreApart : Type 0
@@ -20,3 +25,35 @@ LayerAboveIsInLine = (period : ℕ) (cs : List Checkpoint) → 1 ≤ period → 
 -- All layers of a list in line are in line, if the list has fewer than 2^58 checkpoints; and there are as many as its length has digits.
 abbrev pub LayersAreInLine : Type 0
 LayersAreInLine = (period : ℕ) (cs : List Checkpoint) → 2 ≤ period → period ≤ 64 → IsInLine cs → length cs < 2 ^ 58 → AllByRecursion IsInLine (layers period cs) × (length (layers period cs) ≡ digit_count period (length cs))
+
+-- The file that is written for blocks is a store of them.
+abbrev pub FilesAreStores : Type 0
+FilesAreStores = (period : ℕ) (bs : List StoreBlock) → 2 ≤ period → period ≤ 64 → AreBlocks bs → IsStore period (file period 3 bs) 3 bs
+
+-- A file is a store of one version, one period and one list of blocks at most.
+abbrev pub StoresAreApart : Type 0
+StoresAreApart = (p q : ℕ) (bytes : List ℕ) (v w : ℕ) (bs cs : List StoreBlock) → IsStore p bytes v bs → IsStore q bytes w cs → (p ≡ q) × (v ≡ w) × (bs ≡ cs)
+
+-- The slots of a block that is made of documents are these documents.
+abbrev pub BlocksHoldDocuments : Type 0
+BlocksHoldDocuments = (docs : List (List ℕ)) → length (block docs) < 2 ^ 32 → slots (block_of docs ∷ []) ≡ map doc docs
+
+-- what a writer has taken: the slots of its finished blocks, and then the pending documents
+abbrev pub taken : Writing → List Slot
+taken w = slots w.output.finished ++ map doc w.pending
+
+-- the file that a close writes
+abbrev pub file_of : Writing → List ℕ
+file_of w = file w.output.period 3 (flushed w).output.finished
+
+-- Whatever store is found in the file of a close, its slots are what the writer had taken.
+abbrev pub WrittenDocumentsAreFound : Type 0
+WrittenDocumentsAreFound = (w : Writing) (period version : ℕ) (bs : List StoreBlock) → IsStore w.output.period (file_of w) 3 (flushed w).output.finished → IsStore period (file_of w) version bs → slots bs ≡ taken w
+
+-- One more document puts its slot behind, whether it fills a block or not.
+abbrev pub DocumentsAreTakenInOrder : Type 0
+DocumentsAreTakenInOrder = (w : Writing) (document : List ℕ) → length (block (w.pending ++ document ∷ [])) < 2 ^ 32 → taken (with_document w document) ≡ taken w ++ doc document ∷ []
+
+-- There is a slot for each document that was taken, so the next document's id is its place.
+abbrev pub IdsAreGivenInOrder : Type 0
+IdsAreGivenInOrder = (w : Writing) → length (taken w) ≡ num_docs w

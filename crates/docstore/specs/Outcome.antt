@@ -1,5 +1,6 @@
 -- Refusals.
 use Rattle.std.specs.Prelude.{ℕ}
+use Rattle.docstore.specs.declared.error.Cause.TheVariants.{Memory as OutOfMemory}
 use Rattle.docstore.specs.declared.error.StoreError.{StoreError}
 use Rattle.docstore.specs.declared.error.StoreError.TheVariants.{ShortFile, BadVersion, BadBlockKind, BadOffset, BadIndex, InvalidArgument, DamagedDocument, BadDocument, Read, Memory, OldVersion, Unserializable, BlockTooLarge, TooManyDocs, Failed, BadPeriod}
 
@@ -21,3 +22,8 @@ number_of BlockTooLarge = 13
 number_of TooManyDocs = 14
 number_of (Failed _) = 15
 number_of (BadPeriod _) = 16
+
+-- once bytes went out, want of memory is a failure
+abbrev pub behind_bytes : StoreError → StoreError
+behind_bytes Memory = Failed OutOfMemory
+behind_bytes e = e

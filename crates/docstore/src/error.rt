@@ -97,6 +97,17 @@ impl StoreError {
     }
 }
 
+impl From<Cause> for StoreError {
+    ghost use Rattle.std.specs.Prelude.{◌≡◌};
+    ghost use Rattle.docstore.specs.declared.error.StoreError.TheVariants.{Failed};
+
+    ghost from_gives = { λ cause e. e ≡ Failed cause };
+
+    fn from(cause: Cause) -> StoreError {
+        StoreError::Failed(cause)
+    }
+}
+
 impl From<NoMemory> for StoreError {
     ghost use Rattle.std.specs.Prelude.{◌≡◌};
     ghost use Rattle.docstore.specs.declared.error.StoreError.TheVariants.{Memory};

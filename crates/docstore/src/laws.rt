@@ -1,5 +1,5 @@
 //! Laws of the formats.
-ghost use Rattle.docstore.specs.Laws.{CheckpointBlocksAreApart, IndexPartsAreApart, LayerAboveIsInLine, LayersAreInLine};
+ghost use Rattle.docstore.specs.Laws.{CheckpointBlocksAreApart, IndexPartsAreApart, LayerAboveIsInLine, LayersAreInLine, FilesAreStores, StoresAreApart, BlocksHoldDocuments, WrittenDocumentsAreFound, DocumentsAreTakenInOrder, IdsAreGivenInOrder};
 
 /// No checkpoint block begins another, and each list in line has its own.
 pub fn checkpoint_blocks_are_apart()
@@ -19,4 +19,34 @@ pub fn layer_above_is_in_line()
 /// All layers of a list in line are in line.
 pub fn layers_are_in_line()
     ensures { LayersAreInLine }
+{}
+
+/// The file that is written for blocks is a store of them.
+pub fn files_are_stores()
+    ensures { FilesAreStores }
+{}
+
+/// A file is a store of one version, one period and one list of blocks at most.
+pub fn stores_are_apart()
+    ensures { StoresAreApart }
+{}
+
+/// The slots of a block that is made of documents are these documents.
+pub fn blocks_hold_documents()
+    ensures { BlocksHoldDocuments }
+{}
+
+/// Whatever store is found in the file of a close, its slots are what the writer had taken.
+pub fn written_documents_are_found()
+    ensures { WrittenDocumentsAreFound }
+{}
+
+/// One more document puts its slot behind, whether it fills a block or not.
+pub fn documents_are_taken_in_order()
+    ensures { DocumentsAreTakenInOrder }
+{}
+
+/// There is a slot for each document that was taken, so the next document's id is its place.
+pub fn ids_are_given_in_order()
+    ensures { IdsAreGivenInOrder }
 {}

@@ -281,6 +281,13 @@ impl SkipIndexBuilder {
         }
     }
 
+    // How many checkpoints its full blocks have.
+    pub(crate) fn period(&self) -> u8
+        ensures { result ≡ self.now.period }
+    {
+        self.period
+    }
+
     /// Adds a checkpoint at the end of the list. The layers above get their pointers at once.
     pub fn insert(&mut self, checkpoint: Checkpoint) -> Result<(), StoreError>
         requires { IsInLine (self.old.checkpoints ++ checkpoint ∷ []) }

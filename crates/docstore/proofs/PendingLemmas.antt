@@ -1,0 +1,152 @@
+-- Documents, their bytes and the places where they begin.
+use Rattle.std.proofs.Common.{◌≡◌, ℕ, suc, ◌+◌, ◌-◌, ◌*◌, ◌^◌, ◌<◌, ◌≤◌, List, [], ◌∷◌, ◌++◌, length, take, drop, refl, sym, ◌∙◌, ap, arith, append_assoc, length-append}
+use Rattle.std.proofs.lemmas.List.{append-nil}
+use Rattle.std.proofs.lemmas.List.Concat.{concat_is, length-flat_map}
+use Rattle.std.proofs.Math.Seq.{drop-append_seam, take-append_seam}
+use Rattle.std.specs.List.{flat_map, concat, sum_by}
+use Rattle.std.specs.Prelude.{slice_range}
+use Rattle.store_base.specs.Serialize.{fixed}
+use Rattle.store_base.specs.SerializeLemmas.{length-fixed}
+use Rattle.docstore.specs.Block.{starts_from, block}
+use Rattle.docstore.specs.Trace.{weight}
+use Rattle.docstore.specs.Pending.{first_or, documents_at, IsPending}
+
+-- ---- sizes
+
+pub length-fixeds : (ns : List ℕ) → length (flat_map (fixed 4) ns) ≡ 4 * length ns
+length-fixeds [] = refl
+length-fixeds (n ∷ ns) = omega (arith, length-append (fixed 4 n) (flat_map (fixed 4) ns), length-fixed 4 n, length-fixeds ns)
+
+pub length-starts_from : (place : ℕ) (docs : List (List ℕ)) → length (starts_from place docs) ≡ length docs
+length-starts_from place [] = refl
+length-starts_from place (d ∷ docs) = ap suc (length-starts_from (place + length d) docs)
+
+pub starts_from-append : (place : ℕ) (xs ys : List (List ℕ)) → starts_from place (xs ++ ys) ≡ starts_from place xs ++ starts_from (place + length (concat xs)) ys
+starts_from-append place [] ys = ap (λ (p : ℕ). starts_from p ys) (omega arith)
+starts_from-append place (x ∷ xs) ys =
+    let places : (place + length x) + length (concat xs) ≡ place + length (concat (x ∷ xs)) = omega (arith, length-append x (concat xs)) in
+    ap (λ (ps : List ℕ). place ∷ ps) (starts_from-append (place + length x) xs ys ∙ ap (λ (p : ℕ). starts_from (place + length x) xs ++ starts_from p ys) places)
+
+pub concat-append : (xs ys : List (List ℕ)) → concat (xs ++ ys) ≡ concat xs ++ concat ys
+concat-append [] ys = refl
+concat-append (x ∷ xs) ys = ap (λ (zs : List ℕ). x ++ zs) (concat-append xs ys) ∙ sym (append_assoc x (concat xs) (concat ys))
+
+pub length-block : (docs : List (List ℕ)) → length (block docs) ≡ length (concat docs) + 4 * length docs + 4
+length-block docs =
+    omega (arith, length-append (concat docs ++ flat_map (fixed 4) (starts_from 0 docs)) (fixed 4 (length docs)), length-fixed 4 (length docs), length-append (concat docs) (flat_map (fixed 4) (starts_from 0 docs)), length-fixeds (starts_from 0 docs), length-starts_from 0 docs)
+
+pub length-concat : (docs : List (List ℕ)) → length (concat docs) ≡ sum_by length docs
+length-concat docs = ap length (concat_is docs) ∙ length-flat_map (λ (x : List ℕ). x) docs
+
+-- ---- cutting
+
+pub length-documents_at : (starts bytes : List ℕ) → length (documents_at starts bytes) ≡ length starts
+unfolding documents_at
+length-documents_at [] bytes = refl
+length-documents_at (s ∷ starts) bytes = ap suc (length-documents_at starts bytes)
+
+first_of : (place end : ℕ) (docs : List (List ℕ)) → end ≡ place + length (concat docs) → first_or (starts_from place docs) end ≡ place
+first_of place end [] e = omega arith
+first_of place end (d ∷ docs) e = refl
+
+-- a document between a front and a back
+between : (front d back : List ℕ) (end : ℕ) → end ≡ length front + length d → slice_range (front ++ (d ++ back)) (length front) end ≡ d
+between front d back end e =
+    let size : end - length front ≡ length d = omega arith in
+    ap (λ (n : ℕ). take n (drop (length front) (front ++ (d ++ back)))) size
+    ∙ ap (take (length d)) (drop-append_seam front (d ++ back))
+    ∙ take-append_seam d back
+
+documents_behind : (front : List ℕ) (docs : List (List ℕ)) → documents_at (starts_from (length front) docs) (front ++ concat docs) ≡ docs
+unfolding documents_at
+documents_behind front [] = refl
+documents_behind front (d ∷ docs) =
+    let size : length (front ++ (d ++ concat docs)) ≡ (length front + length d) + length (concat docs) = omega (arith, length-append front (d ++ concat docs), length-append d (concat docs)) in
+    let end : first_or (starts_from (length front + length d) docs) (length (front ++ (d ++ concat docs))) ≡ length front + length d =
+    first_of (length front + length d) (length (front ++ (d ++ concat docs))) docs size in
+    let here = between front d (concat docs) (first_or (starts_from (length front + length d) docs) (length (front ++ (d ++ concat docs)))) end in
+    let others : documents_at (starts_from (length front + length d) docs) (front ++ (d ++ concat docs)) ≡ docs =
+    ap (λ (p : ℕ). documents_at (starts_from p docs) (front ++ (d ++ concat docs))) (sym (length-append front d))
+    ∙ ap (documents_at (starts_from (length (front ++ d)) docs)) (sym (append_assoc front d (concat docs)))
+    ∙ documents_behind (front ++ d) docs in
+    λ i. here i ∷ others i
+
+-- documents are told from their bytes and the places where they begin
+pub documents_back : (docs : List (List ℕ)) → documents_at (starts_from 0 docs) (concat docs) ≡ docs
+documents_back docs = documents_behind [] docs
+
+pub documents_from : (starts bytes : List ℕ) (docs : List (List ℕ)) → starts ≡ starts_from 0 docs → bytes ≡ concat docs → documents_at starts bytes ≡ docs
+documents_from starts bytes docs s b = (λ i. documents_at (s i) (b i)) ∙ documents_back docs
+
+-- ---- pending documents
+
+pub weight-pending : (starts bytes : List ℕ) (capacity : ℕ) → IsPending starts bytes capacity → weight (documents_at starts bytes) ≡ length bytes + 8 * length starts
+weight-pending starts bytes capacity h =
+    omega (arith, length-concat (documents_at starts bytes), ap length h.joined, length-documents_at starts bytes)
+
+pub length-concat-pending : (starts bytes : List ℕ) (capacity : ℕ) → IsPending starts bytes capacity → length (concat (documents_at starts bytes)) ≡ length bytes
+length-concat-pending starts bytes capacity h = ap length (sym h.joined)
+
+-- the length of the block with one more document
+pub length-block-pushed : (starts bytes : List ℕ) (capacity : ℕ) (d : List ℕ) → IsPending starts bytes capacity → length (block (documents_at starts bytes ++ d ∷ [])) ≡ length bytes + length d + 4 * (length starts + 2)
+length-block-pushed starts bytes capacity d h =
+    let docs = documents_at starts bytes in
+    omega (arith, length-block (docs ++ d ∷ []), ap length (concat-append docs (d ∷ [])), length-append (concat docs) (d ++ []), length-append d [], length-append docs (d ∷ []), ap length h.joined, length-documents_at starts bytes)
+
+pub documents_pushed : (starts bytes : List ℕ) (capacity : ℕ) (d : List ℕ) → IsPending starts bytes capacity → documents_at (starts ++ length bytes ∷ []) (bytes ++ d) ≡ documents_at starts bytes ++ d ∷ []
+documents_pushed starts bytes capacity d h =
+    let docs = documents_at starts bytes in
+    let place : 0 + length (concat docs) ≡ length bytes = omega (arith, ap length h.joined) in
+    let starts_is : starts ++ length bytes ∷ [] ≡ starts_from 0 (docs ++ d ∷ []) =
+    (λ i. h.places i ++ sym place i ∷ []) ∙ sym (starts_from-append 0 docs (d ∷ [])) in
+    let bytes_is : bytes ++ d ≡ concat (docs ++ d ∷ []) =
+    (λ i. h.joined i ++ sym (append-nil d) i) ∙ sym (concat-append docs (d ∷ [])) in
+    documents_from (starts ++ length bytes ∷ []) (bytes ++ d) (docs ++ d ∷ []) starts_is bytes_is
+
+-- one more document, where the bytes have room for it and the table
+pub pushed : (starts bytes : List ℕ) (capacity : ℕ) (d : List ℕ) (more : ℕ) → IsPending starts bytes capacity → length bytes + length d + 4 * (length starts + 2) < 2 ^ 32 → length bytes + length d + 4 * (length starts + 2) ≤ more → IsPending (starts ++ length bytes ∷ []) (bytes ++ d) more
+pushed starts bytes capacity d more h fits room =
+    let docs = documents_at starts bytes in
+    let place : 0 + length (concat docs) ≡ length bytes = omega (arith, ap length h.joined) in
+    let starts_is : starts ++ length bytes ∷ [] ≡ starts_from 0 (docs ++ d ∷ []) =
+    (λ i. h.places i ++ sym place i ∷ []) ∙ sym (starts_from-append 0 docs (d ∷ [])) in
+    let bytes_is : bytes ++ d ≡ concat (docs ++ d ∷ []) =
+    (λ i. h.joined i ++ sym (append-nil d) i) ∙ sym (concat-append docs (d ∷ [])) in
+    let same : docs ++ d ∷ [] ≡ documents_at (starts ++ length bytes ∷ []) (bytes ++ d) = sym (documents_pushed starts bytes capacity d h) in
+    let starts_len = length-append starts (length bytes ∷ []) in
+    let bytes_len = length-append bytes d in
+    record {
+      places = starts_is ∙ ap (starts_from 0) same;
+      joined = bytes_is ∙ ap concat same;
+      fits = omega arith;
+      room = λ some. omega arith;
+    }
+
+pub none_pending : (capacity : ℕ) → IsPending [] [] capacity
+unfolding documents_at
+none_pending capacity = record {
+  places = refl;
+  joined = refl;
+  fits = omega arith;
+  room = λ some. absurd (omega arith);
+}
+
+pub documents_none : (bytes : List ℕ) → documents_at [] bytes ≡ []
+unfolding documents_at
+documents_none bytes = refl
+
+-- the bytes with their table are the block
+pub block_is : (starts bytes : List ℕ) (capacity : ℕ) → IsPending starts bytes capacity → (bytes ++ flat_map (fixed 4) starts) ++ fixed 4 (length starts) ≡ block (documents_at starts bytes)
+block_is starts bytes capacity h =
+    let docs = documents_at starts bytes in
+    let count : length starts ≡ length docs = sym (length-documents_at starts bytes) in
+    λ i. (h.joined i ++ flat_map (fixed 4) (h.places i)) ++ fixed 4 (count i)
+
+pub length-block-pending : (starts bytes : List ℕ) (capacity : ℕ) → IsPending starts bytes capacity → length (block (documents_at starts bytes)) ≡ length bytes + 4 * length starts + 4
+length-block-pending starts bytes capacity h =
+    omega (arith, length-block (documents_at starts bytes), ap length h.joined, length-documents_at starts bytes)
+
+-- a document of which no block can be made weighs, with eight bytes, what the block size leaves to 2^32
+pub limit : (docs : List (List ℕ)) (doc : List ℕ) (size : ℕ) → weight docs ≤ size → 2 ^ 32 ≤ length (block (docs ++ doc ∷ [])) → 2 ^ 32 ≤ size + length doc + 8
+limit docs doc size light large =
+    omega (arith, length-block (docs ++ doc ∷ []), ap length (concat-append docs (doc ∷ [])), length-append (concat docs) (doc ++ []), length-append doc [], length-append docs (doc ∷ []), length-concat docs)

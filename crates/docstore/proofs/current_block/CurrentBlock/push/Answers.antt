@@ -1,0 +1,30 @@
+use Rattle.std.proofs.Common.{◌≡◌, ℕ, ◌+◌, ◌*◌, ◌^◌, ◌<◌, ◌≤◌, List, [], ◌∷◌, ◌++◌, length, ◌∙◌, ap, arith}
+use Rattle.std.specs.Prelude.{vec_capacity}
+use Rattle.std.proofs.lemmas.Grind.{common_steps}
+use Rattle.docstore.specs.Block.{block}
+use Rattle.docstore.specs.Pending.{documents_at}
+use Rattle.docstore.proofs.PendingLemmas.{length-block-pushed, documents_pushed, pushed}
+use Rattle.docstore.proofs.current_block.CurrentBlock.push.Goals as goal
+
+pub invariant_of-self-2 : goal.invariant_of-self-2
+invariant_of-self-2 c =
+    let starts = c.self.inside.starts.items in
+    let bytes = c.self.inside.bytes.items in
+    let d = c.args.document.now in
+    let starts_is : c.push.new.self.items ≡ starts ++ length bytes ∷ [] = grind (arith, common_steps) in
+    let bytes_is : c.extend_from_slice.new.self.items ≡ bytes ++ d = grind (arith, common_steps) in
+    let size : length (block (documents_at starts bytes ++ d ∷ [])) ≡ length (block (c.args.self.now ++ d ∷ [])) = ap (λ (docs : List (List ℕ)). length (block (docs ++ d ∷ []))) c.self.view_is in
+    let len = length-block-pushed starts bytes (vec_capacity c.self.inside.bytes) d c.self.invariant in
+    let fits : length bytes + length d + 4 * (length starts + 2) < 2 ^ 32 = omega (arith, size, len) in
+    let room : length bytes + length d + 4 * (length starts + 2) ≤ vec_capacity c.extend_from_slice.new.self = omega (arith, c.in_ok-reserve.ensures.ok, c.extend_from_slice.ensures.capacity) in
+    rw (starts_is, bytes_is) (pushed starts bytes (vec_capacity c.self.inside.bytes) d (vec_capacity c.extend_from_slice.new.self) c.self.invariant fits room)
+
+pub returns-clause-ok : goal.returns-clause-ok
+returns-clause-ok c =
+    let starts = c.self.inside.starts.items in
+    let bytes = c.self.inside.bytes.items in
+    let d = c.args.document.now in
+    let starts_is : c.push.new.self.items ≡ starts ++ length bytes ∷ [] = grind (arith, common_steps) in
+    let bytes_is : c.extend_from_slice.new.self.items ≡ bytes ++ d = grind (arith, common_steps) in
+    (λ i. documents_at (starts_is i) (bytes_is i)) ∙ documents_pushed starts bytes (vec_capacity c.self.inside.bytes) d c.self.invariant
+    ∙ ap (λ (docs : List (List ℕ)). docs ++ d ∷ []) c.self.view_is

@@ -1,0 +1,65 @@
+use Rattle.std.proofs.Common.{◌≤◌, ◌<◌, refl, sym, arith}
+use Rattle.docstore.specs.Reading.{num_docs}
+use Rattle.docstore.specs.Answering.{IsAnswered}
+use Rattle.docstore.specs.contracts.reader.StoreReader.{the_view}
+use denote.Param.{param}
+use Rattle.docstore.proofs.SeekLemmas.{IsWithin, within, none_past}
+use Rattle.docstore.proofs.AnsweringLemmas.{not_none_such, read_failed, answers_truly, none_truly}
+use Rattle.docstore.proofs.reader.StoreReader.get_document_bytes.Goals as goal
+
+-- where the document of a seek that found one lies
+place : (g : _) (c : goal.After-checkpoint-2-1 g) → IsWithin 0 0 c.self.inside.index.checkpoints c.args.doc_id c.in-Some.checkpoint
+place g c = within 0 0 c.self.inside.index.checkpoints c.args.doc_id c.in-Some.checkpoint (omega arith) c.self.invariant.covers.in_line (sym c.in-Some.ensures)
+
+-- no seek finds one: the id is at or past the count
+past : (g : _) (c : goal.In_default g) → num_docs c.args.self.now ≤ c.args.doc_id
+past g c = rw (← c.self.view_is) (none_past 0 0 c.self.inside.index.checkpoints c.args.doc_id c.self.invariant.covers.in_line (sym c.in_default.ensures) (omega arith))
+
+pub returns-in_default-clause-no_document : goal.returns-in_default-clause-no_document
+returns-in_default-clause-no_document g c = (λ _. past g c, λ _. refl)
+
+pub returns-in_default-clause-answered : goal.returns-in_default-clause-answered
+returns-in_default-clause-answered g c lt = let le = past g c in absurd (omega arith)
+
+pub read_document-requires-clause-from : goal.read_document-requires-clause-from
+read_document-requires-clause-from g c = (place g c).from
+
+pub read_document-requires-clause-order : goal.read_document-requires-clause-order
+read_document-requires-clause-order g c = (place g c).order
+
+pub read_document-requires-clause-within : goal.read_document-requires-clause-within
+read_document-requires-clause-within g c = let end = (place g c).end in omega (arith, c.self.invariant.covers.end)
+
+-- the document is below the count
+below : (g : _) (c : goal.After-read_document g) → c.args.doc_id < num_docs c.args.self.now
+below g c =
+    let w = within 0 0 c.self.inside.index.checkpoints c.args.doc_id c.in-Some.checkpoint (omega arith) c.self.invariant.covers.in_line (sym c.in-Some.ensures) in
+    rw (← c.self.view_is) (let to = w.to in let last = w.last in omega arith)
+
+answered : (g : _) (c : goal.After-read_document g) → IsAnswered c.args.self.now c.args.doc_id c.read_document.result (the_view (param 0 g.row.H) g.H.FileHandle (record { file = c.read_document.new.file; index = c.self.inside.index; version = c.self.inside.version; decompressor = c.self.inside.decompressor; cache_num_blocks = c.self.inside.cache_num_blocks }))
+answered g c = rw (← c.self.view_is) (record {
+  checkpoint = c.in-Some.checkpoint;
+  seeks = sym c.in-Some.ensures;
+  came = c.read_document.ensures.0;
+  reads = c.read_document.ensures.1;
+  stays = refl;
+  answer = c.read_document.ensures.2;
+})
+
+pub returns-in_default-clause-honest : goal.returns-in_default-clause-honest
+returns-in_default-clause-honest g c honest = none_truly c.args.self.now c.args.self.now c.args.doc_id (rw (← c.self.view_is) c.self.invariant.covers) (past g c)
+
+pub returns-clause-no_document : goal.returns-clause-no_document
+returns-clause-no_document g c = (λ e. absurd (not_none_such _ _ _ _ (answered g c) e), λ le. let lt = below g c in absurd (omega arith))
+
+pub returns-clause-no_read : goal.returns-clause-no_read
+returns-clause-no_read g c le = let lt = below g c in absurd (omega arith)
+
+pub returns-clause-answered : goal.returns-clause-answered
+returns-clause-answered g c lt = answered g c
+
+pub returns-clause-honest : goal.returns-clause-honest
+returns-clause-honest g c honest = answers_truly _ _ _ _ (rw (← c.self.view_is) c.self.invariant.covers) (answered g c) honest
+
+pub returns-clause-failed : goal.returns-clause-failed
+returns-clause-failed g c e = read_failed _ _ _ _ (answered g c) e

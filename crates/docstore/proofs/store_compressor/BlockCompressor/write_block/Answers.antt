@@ -1,0 +1,129 @@
+use Rattle.std.proofs.Common.{◌≡◌, ℕ, ◌+◌, List, [], ◌∷◌, ◌++◌, length, Option, None, sym, ◌∙◌, ap, subst, arith}
+use Rattle.std.proofs.lemmas.Grind.{common_steps}
+use Rattle.std.proofs.lemmas.List.{append-nil}
+use Rattle.store_base.specs.Counts.{raised}
+use Rattle.docstore.specs.declared.error.Cause.{Cause}
+use Rattle.docstore.specs.Checkpoint.{checkpoint}
+use Rattle.docstore.specs.Layers.{Index}
+use Rattle.docstore.specs.StoreFile.{StoreBlock, marks_from}
+use Rattle.docstore.specs.BlockOutput.{BlockOutput, IsCompressing, compressing}
+use Rattle.docstore.proofs.OutputLemmas.{AreAdded, sound, failed, block_added, seen_added}
+use Rattle.docstore.proofs.store_compressor.BlockCompressor.write_block.Given.{Over}
+use Rattle.docstore.proofs.store_compressor.BlockCompressor.write_block.Goals as goal
+
+pub returns-then-is_err-clause-sound : goal.returns-then-is_err-clause-sound
+returns-then-is_err-clause-sound g c = sound _ _ _ _ _ _ _ _ (failed _ _ _ _ _ _ _ _ _ c.self.invariant)
+
+pub overflow_add-checkpoint : goal.overflow_add-checkpoint
+overflow_add-checkpoint g c =
+    let content = g.W.TerminatingWrite.content c.self.inside.writer.output in
+    let written = c.self.inside.writer.written in
+    let first = c.self.inside.first_doc_in_block in
+    let period = c.self.inside.index.period in
+    let cs = c.self.inside.index.checkpoints in
+    let bytes = c.args.bytes.now in
+    let count = c.args.num_docs_in_block in
+    let bs : List StoreBlock = record { count = count; bytes = bytes } ∷ [] in
+    let a : AreAdded period first cs content written bs bytes count =
+    block_added c.self.inside.compressor period first cs content written (g.W.TerminatingWrite.failures c.self.inside.writer.output) c.self.inside.failure c.args.self.now count bytes c.self.view_is c.self.invariant c.requires.works c.requires.some_bytes c.requires.few_bytes c.requires.some_docs c.requires.few_docs in
+    omega (arith, a.ids)
+
+pub overflow_add-checkpoint-2 : goal.overflow_add-checkpoint-2
+overflow_add-checkpoint-2 g c =
+    let content = g.W.TerminatingWrite.content c.self.inside.writer.output in
+    let written = c.self.inside.writer.written in
+    let first = c.self.inside.first_doc_in_block in
+    let period = c.self.inside.index.period in
+    let cs = c.self.inside.index.checkpoints in
+    let bytes = c.args.bytes.now in
+    let count = c.args.num_docs_in_block in
+    let bs : List StoreBlock = record { count = count; bytes = bytes } ∷ [] in
+    let a : AreAdded period first cs content written bs bytes count =
+    block_added c.self.inside.compressor period first cs content written (g.W.TerminatingWrite.failures c.self.inside.writer.output) c.self.inside.failure c.args.self.now count bytes c.self.view_is c.self.invariant c.requires.works c.requires.some_bytes c.requires.few_bytes c.requires.some_docs c.requires.few_docs in
+    omega (arith, a.fits, c.written_bytes-start.ensures)
+
+pub insert-requires : goal.insert-requires
+insert-requires g c =
+    let content = g.W.TerminatingWrite.content c.self.inside.writer.output in
+    let written = c.self.inside.writer.written in
+    let first = c.self.inside.first_doc_in_block in
+    let period = c.self.inside.index.period in
+    let cs = c.self.inside.index.checkpoints in
+    let bytes = c.args.bytes.now in
+    let count = c.args.num_docs_in_block in
+    let bs : List StoreBlock = record { count = count; bytes = bytes } ∷ [] in
+    let a : AreAdded period first cs content written bs bytes count =
+    block_added c.self.inside.compressor period first cs content written (g.W.TerminatingWrite.failures c.self.inside.writer.output) c.self.inside.failure c.args.self.now count bytes c.self.view_is c.self.invariant c.requires.works c.requires.some_bytes c.requires.few_bytes c.requires.some_docs c.requires.few_docs in
+    rw c.written_bytes-start.ensures a.in_line
+
+pub returns-then-is_err-2-clause-sound : goal.returns-then-is_err-2-clause-sound
+returns-then-is_err-2-clause-sound g c =
+    let kept : c.insert.new.self ≡ c.self.inside.index = grind (arith, common_steps) in
+    rw kept (sound _ _ _ _ _ _ _ _ (failed _ _ _ _ _ _ _ _ _ c.self.invariant))
+
+pub overflow_add-self : goal.overflow_add-self
+overflow_add-self g c =
+    let content = g.W.TerminatingWrite.content c.self.inside.writer.output in
+    let written = c.self.inside.writer.written in
+    let first = c.self.inside.first_doc_in_block in
+    let period = c.self.inside.index.period in
+    let cs = c.self.inside.index.checkpoints in
+    let bytes = c.args.bytes.now in
+    let count = c.args.num_docs_in_block in
+    let bs : List StoreBlock = record { count = count; bytes = bytes } ∷ [] in
+    let a : AreAdded period first cs content written bs bytes count =
+    block_added c.self.inside.compressor period first cs content written (g.W.TerminatingWrite.failures c.self.inside.writer.output) c.self.inside.failure c.args.self.now count bytes c.self.view_is c.self.invariant c.requires.works c.requires.some_bytes c.requires.few_bytes c.requires.some_docs c.requires.few_docs in
+    omega (arith, a.ids)
+
+is_compressing : (g : Over) (c : goal.After-self-2-1 g) → IsCompressing c.insert.new.self.period (c.self.inside.first_doc_in_block + c.args.num_docs_in_block) c.insert.new.self.checkpoints (g.W.TerminatingWrite.content c.write_all.new.self.output) c.write_all.new.self.written c.self.inside.failure
+is_compressing g c =
+    let content = g.W.TerminatingWrite.content c.self.inside.writer.output in
+    let written = c.self.inside.writer.written in
+    let first = c.self.inside.first_doc_in_block in
+    let period = c.self.inside.index.period in
+    let cs = c.self.inside.index.checkpoints in
+    let bytes = c.args.bytes.now in
+    let count = c.args.num_docs_in_block in
+    let bs : List StoreBlock = record { count = count; bytes = bytes } ∷ [] in
+    let a : AreAdded period first cs content written bs bytes count =
+    block_added c.self.inside.compressor period first cs content written (g.W.TerminatingWrite.failures c.self.inside.writer.output) c.self.inside.failure c.args.self.now count bytes c.self.view_is c.self.invariant c.requires.works c.requires.some_bytes c.requires.few_bytes c.requires.some_docs c.requires.few_docs in
+    let content_is : g.W.TerminatingWrite.content c.write_all.new.self.output ≡ content ++ bytes = grind (arith, common_steps) in
+    let raised_is : c.write_all.new.self.written ≡ raised written (length bytes) = grind (arith, common_steps) in
+    let sum_is : raised written (length bytes) ≡ written + length bytes = omega (arith, a.fits) in
+    let written_is = raised_is ∙ sum_is in
+    let index_is : c.insert.new.self ≡ record { period = period; checkpoints = cs ++ checkpoint first (first + count) c.written_bytes-start.result (c.written_bytes-start.result + length bytes) ∷ [] } = grind (arith, common_steps) in
+    let cs_is : c.insert.new.self.checkpoints ≡ cs ++ marks_from first written bs =
+    ap (λ (index : Index). index.checkpoints) index_is ∙ ap (λ (n : ℕ). cs ++ checkpoint first (first + count) n (n + length bytes) ∷ []) c.written_bytes-start.ensures in
+    let period_is : c.insert.new.self.period ≡ period = ap (λ (index : Index). index.period) index_is in
+    let none : None ≡ c.self.inside.failure = sym (ap (λ (out : BlockOutput). out.failure) c.self.view_is ∙ c.requires.works) in
+    rw (period_is, cs_is, content_is, written_is) (subst (λ (f : Option Cause). IsCompressing period (first + count) (cs ++ marks_from first written bs) (content ++ bytes) (written + length bytes) f) none a.compressing)
+
+pub invariant_of-self-2 : goal.invariant_of-self-2
+invariant_of-self-2 g c = is_compressing g c
+
+pub returns-clause-written : goal.returns-clause-written
+returns-clause-written g c =
+    let content = g.W.TerminatingWrite.content c.self.inside.writer.output in
+    let written = c.self.inside.writer.written in
+    let first = c.self.inside.first_doc_in_block in
+    let period = c.self.inside.index.period in
+    let cs = c.self.inside.index.checkpoints in
+    let bytes = c.args.bytes.now in
+    let count = c.args.num_docs_in_block in
+    let bs : List StoreBlock = record { count = count; bytes = bytes } ∷ [] in
+    let a : AreAdded period first cs content written bs bytes count =
+    block_added c.self.inside.compressor period first cs content written (g.W.TerminatingWrite.failures c.self.inside.writer.output) c.self.inside.failure c.args.self.now count bytes c.self.view_is c.self.invariant c.requires.works c.requires.some_bytes c.requires.few_bytes c.requires.some_docs c.requires.few_docs in
+    let content_is : g.W.TerminatingWrite.content c.write_all.new.self.output ≡ content ++ bytes = grind (arith, common_steps) in
+    let raised_is : c.write_all.new.self.written ≡ raised written (length bytes) = grind (arith, common_steps) in
+    let sum_is : raised written (length bytes) ≡ written + length bytes = omega (arith, a.fits) in
+    let written_is = raised_is ∙ sum_is in
+    let index_is : c.insert.new.self ≡ record { period = period; checkpoints = cs ++ checkpoint first (first + count) c.written_bytes-start.result (c.written_bytes-start.result + length bytes) ∷ [] } = grind (arith, common_steps) in
+    let cs_is : c.insert.new.self.checkpoints ≡ cs ++ marks_from first written bs =
+    ap (λ (index : Index). index.checkpoints) index_is ∙ ap (λ (n : ℕ). cs ++ checkpoint first (first + count) n (n + length bytes) ∷ []) c.written_bytes-start.ensures in
+    let period_is : c.insert.new.self.period ≡ period = ap (λ (index : Index). index.period) index_is in
+    let risen = g.W.TerminatingWrite.failures c.write_all.new.self.output in
+    (λ i. compressing c.self.inside.compressor (period_is i) (cs_is i) (content_is i) (written_is i) risen c.self.inside.failure)
+    ∙ seen_added c.self.inside.compressor period first cs content written (g.W.TerminatingWrite.failures c.self.inside.writer.output) risen c.self.inside.failure c.args.self.now bs bytes count c.self.view_is a (sym (append-nil bytes))
+
+pub returns-clause-sound : goal.returns-clause-sound
+returns-clause-sound g c = sound _ _ _ _ _ _ _ _ (is_compressing g c)

@@ -1,0 +1,12 @@
+use Rattle.std.proofs.Common.{◌≡◌, ◌≤◌, ◌^◌, [], ◌∷◌, ◌++◌, length, ap, arith}
+use Rattle.std.proofs.lemmas.Grind.{common_steps}
+use Rattle.docstore.specs.Block.{block}
+use Rattle.docstore.specs.Writer.{Writing}
+use Rattle.docstore.proofs.PendingLemmas.{limit}
+use Rattle.docstore.proofs.writer.StoreWriter.store_bytes.Goals as goal
+
+pub returns-then-not-has_room-clause-limit : goal.returns-then-not-has_room-clause-limit
+returns-then-not-has_room-clause-limit g c = λ _.
+    let size : c.self.inside.block_size ≡ c.args.self.now.block_size = ap (λ (w : Writing). w.block_size) c.self.view_is in
+    let large : 2 ^ 32 ≤ length (block (c.self.inside.current_block ++ c.args.document.now ∷ [])) = grind (arith, common_steps) in
+    omega (arith, size, limit c.self.inside.current_block c.args.document.now c.self.inside.block_size c.self.invariant.light large)

@@ -1,0 +1,128 @@
+-- The finished blocks of a writer, and its output.
+use Rattle.std.specs.Prelude.{◌≡◌, ℕ, ◌-◌, ◌<◌, ◌≤◌, ◌^◌, ◌⊎◌, List, [], ◌∷◌, ◌++◌, length, take, drop, Option, Some, None}
+use Rattle.std.specs.List.{sum_by}
+use Rattle.store_base.specs.Counts.{HasRisen}
+use Rattle.docstore.specs.declared.compressors.Compressor.{Compressor}
+use Rattle.docstore.specs.declared.error.Cause.{Cause}
+use Rattle.docstore.specs.declared.error.Cause.TheVariants.{Write, Memory as OutOfMemory}
+use Rattle.docstore.specs.declared.error.StoreError.{StoreError}
+use Rattle.docstore.specs.declared.error.StoreError.TheVariants.{Memory, Failed}
+use Rattle.docstore.specs.declared.index.Checkpoint.{Checkpoint}
+use Rattle.docstore.specs.Checkpoint.{doc_count, byte_len}
+use Rattle.docstore.specs.StoreFile.{StoreBlock, AreBlocks, docs_in, data_of, marks}
+
+-- How blocks are packed and the index is grouped; the finished blocks; why the writer has failed, if it has; what the output held when it was handed in, what it holds, and how often it failed.
+pub record BlockOutput : Type 0 where
+  pub compressor : Compressor
+  pub period : ℕ
+  pub finished : List StoreBlock
+  pub failure : Option Cause
+  pub before : List ℕ
+  pub content : List ℕ
+  pub failures : ℕ
+
+-- these blocks behind the finished ones
+abbrev pub with_blocks : BlockOutput → List StoreBlock → BlockOutput
+with_blocks out bs = record out { finished = out.finished ++ bs; content = out.content ++ data_of bs }
+
+-- the same, but that the output has failed so often
+abbrev pub with_risen : ℕ → BlockOutput → BlockOutput
+with_risen n out = record out { failures = n }
+
+-- Behind what the output held at first it holds the texts of the blocks and nothing else.
+pub record HoldsBlocks (out : BlockOutput) : Type 0 where
+  pub written : out.content ≡ out.before ++ data_of out.finished
+  pub blocks : AreBlocks out.finished
+
+-- The index can be grouped and the documents numbered, and the output holds the blocks unless the writer has failed.
+pub record IsSound (out : BlockOutput) : Type 0 where
+  pub least : 2 ≤ out.period
+  pub most : out.period ≤ 64
+  pub ids : docs_in out.finished < 2 ^ 32
+  pub works : out.failure ≡ None → HoldsBlocks out
+
+-- The output has grown.
+pub record Grows (old new : List ℕ) : Type 0 where
+  pub more : List ℕ
+  pub some : 0 < length more
+  pub parts : new ≡ old ++ more
+
+-- A failed write is a failure of the output. For want of memory a writer fails only once bytes went out.
+abbrev pub HasCause : Cause → ℕ → ℕ → List ℕ → List ℕ → Type 0
+HasCause Write failures risen old new = HasRisen failures risen
+HasCause OutOfMemory failures risen old new = Grows old new
+
+-- From now on the writer has failed, and that is why.
+pub record FailsFor (cause : Cause) (old new : BlockOutput) : Type 0 where
+  pub worked : old.failure ≡ None
+  pub failure : new.failure ≡ Some cause
+  pub why : HasCause cause old.failures new.failures old.content new.content
+
+-- what a refused block leaves: a writer that had failed stays as it was
+abbrev pub AfterFailedBlock : Option Cause → Cause → BlockOutput → BlockOutput → Type 0
+AfterFailedBlock None cause old new = FailsFor cause old new
+AfterFailedBlock (Some first) cause old new = (cause ≡ first) × (new ≡ old)
+
+-- A block is refused by a failed writer alone.
+abbrev pub AfterBlock : BlockOutput → BlockOutput → StoreError → Type 0
+AfterBlock old new (Failed cause) = AfterFailedBlock old.failure cause old new
+AfterBlock old new _ = ⊥
+
+-- what a refused `close` leaves in the output
+abbrev pub AfterFailedClose : Option Cause → Cause → BlockOutput → List ℕ → ℕ → Type 0
+AfterFailedClose None cause old content failures = HasCause cause old.failures failures old.content content
+AfterFailedClose (Some first) cause old content failures = (cause ≡ first) × (content ≡ old.content) × (failures ≡ old.failures)
+
+-- For want of memory nothing went out; otherwise the writer had failed, or fails now.
+abbrev pub AfterClose : StoreError → BlockOutput → List ℕ → ℕ → Type 0
+AfterClose Memory old content failures = (old.failure ≡ None) × (content ≡ old.content) × (failures ≡ old.failures)
+AfterClose (Failed cause) old content failures = AfterFailedClose old.failure cause old content failures
+AfterClose _ old content failures = ⊥
+
+-- The end of a file was refused: for want of memory before anything was written, or as the output failed.
+abbrev pub IsEndRefusal : StoreError → List ℕ → List ℕ → ℕ → ℕ → Type 0
+IsEndRefusal e old new failures risen = ((e ≡ Memory) × (new ≡ old) × (risen ≡ failures)) ⊎ ((e ≡ Failed Write) × HasRisen failures risen)
+
+-- ---- how the blocks are told from the checkpoints and the output
+
+-- the blocks that these checkpoints cut from the bytes
+unfoldable pub blocks_at : List Checkpoint → List ℕ → List StoreBlock
+blocks_at [] bytes = []
+blocks_at (c ∷ cs) bytes = record { count = doc_count c; bytes = take (byte_len c) bytes } ∷ blocks_at cs (drop (byte_len c) bytes)
+
+-- of what the output holds, the part that was written, and the part before it
+abbrev pub data_in : List ℕ → ℕ → List ℕ
+data_in content written = drop (length content - written) content
+
+abbrev pub front_of : List ℕ → ℕ → List ℕ
+front_of content written = take (length content - written) content
+
+abbrev pub blocks_in : List Checkpoint → List ℕ → ℕ → List StoreBlock
+blocks_in cs content written = blocks_at cs (data_in content written)
+
+-- The checkpoints are those of the blocks, and the blocks are all that was written.
+pub record AreWritten (cs : List Checkpoint) (content : List ℕ) (written : ℕ) : Type 0 where
+  pub held : written ≤ length content
+  pub places : cs ≡ marks (blocks_in cs content written)
+  pub joined : data_in content written ≡ data_of (blocks_in cs content written)
+  pub blocks : AreBlocks (blocks_in cs content written)
+
+-- The ids are given up to the next one, and the checkpoints are right unless the writer has failed.
+pub record IsCompressing (period next_id : ℕ) (cs : List Checkpoint) (content : List ℕ) (written : ℕ) (failure : Option Cause) : Type 0 where
+  pub least : 2 ≤ period
+  pub most : period ≤ 64
+  pub ids : next_id ≡ sum_by doc_count cs
+  pub few_ids : next_id < 2 ^ 32
+  pub works : failure ≡ None → AreWritten cs content written
+
+-- what is seen of a writer with these checkpoints and this output
+abbrev pub compressing : Compressor → ℕ → List Checkpoint → List ℕ → ℕ → ℕ → Option Cause → BlockOutput
+compressing compressor period cs content written failures failure = record {
+  compressor = compressor;
+  period = period;
+  finished = blocks_in cs content written;
+  failure = failure;
+  before = front_of content written;
+  content = content;
+  failures = failures;
+}

@@ -1,0 +1,21 @@
+-- Documents that wait, in their bytes and the places where they begin.
+use Rattle.std.specs.Prelude.{◌≡◌, ℕ, ◌+◌, ◌*◌, ◌<◌, ◌≤◌, ◌^◌, List, [], ◌∷◌, length, slice_range}
+use Rattle.std.specs.List.{concat}
+use Rattle.docstore.specs.Block.{starts_from}
+
+-- where a document ends: where the next one begins, or at the end
+abbrev pub first_or : List ℕ → ℕ → ℕ
+first_or [] end = end
+first_or (start ∷ starts) end = start
+
+-- the documents that begin at these places of the bytes
+unfoldable pub documents_at : List ℕ → List ℕ → List (List ℕ)
+documents_at [] bytes = []
+documents_at (start ∷ starts) bytes = slice_range bytes start (first_or starts (length bytes)) ∷ documents_at starts bytes
+
+-- The places and the bytes are those of the documents, of which a block can be made, and there is room for the block's table.
+pub record IsPending (starts bytes : List ℕ) (capacity : ℕ) : Type 0 where
+  pub places : starts ≡ starts_from 0 (documents_at starts bytes)
+  pub joined : bytes ≡ concat (documents_at starts bytes)
+  pub fits : length bytes + 4 * length starts + 4 < 2 ^ 32
+  pub room : 0 < length starts → length bytes + 4 * length starts + 4 ≤ capacity

@@ -1,0 +1,69 @@
+-- A store that is written, and what its calls do.
+use Rattle.std.specs.Prelude.{◌≡◌, ℕ, ◌+◌, ◌-◌, ◌<◌, ◌≤◌, ◌^◌, nat_lt, if◌then◌else◌, List, [], ◌∷◌, ◌++◌, length, Option, Some, None}
+use Rattle.docstore.specs.declared.error.Cause.{Cause}
+use Rattle.docstore.specs.declared.error.StoreError.{StoreError}
+use Rattle.docstore.specs.declared.error.StoreError.TheVariants.{Memory, BlockTooLarge, TooManyDocs, Failed}
+use Rattle.docstore.specs.Block.{block}
+use Rattle.docstore.specs.StoreFile.{StoreBlock, docs_in}
+use Rattle.docstore.specs.Trace.{weight, block_of}
+use Rattle.docstore.specs.BlockOutput.{BlockOutput, with_blocks, IsSound, FailsFor}
+
+-- The block size, the pending documents, and the finished blocks with the output.
+pub record Writing : Type 0 where
+  pub block_size : ℕ
+  pub pending : List (List ℕ)
+  pub output : BlockOutput
+
+-- how many documents were taken
+abbrev pub num_docs : Writing → ℕ
+num_docs w = docs_in w.output.finished + length w.pending
+
+-- the block of these documents, if there are any
+abbrev pub blocks_of : List (List ℕ) → List StoreBlock
+blocks_of [] = []
+blocks_of (doc ∷ docs) = block_of (doc ∷ docs) ∷ []
+
+-- the pending documents as a block
+abbrev pub flushed : Writing → Writing
+flushed w = record w { pending = []; output = with_blocks w.output (blocks_of w.pending) }
+
+-- the same, if they weigh more than the block size
+abbrev pub flushed_if_full : Writing → Writing
+flushed_if_full w = if nat_lt w.block_size (weight w.pending) then flushed w else w
+
+-- one more document
+abbrev pub with_document : Writing → List ℕ → Writing
+with_document w document = flushed_if_full (record w { pending = w.pending ++ document ∷ [] })
+
+-- up to how often the output failed, new is w
+abbrev pub with_failures : ℕ → Writing → Writing
+with_failures n w = record w { output = record w.output { failures = n } }
+
+-- The documents can be numbered, the pending ones weigh no more than the block size, and the output holds the finished blocks unless the writer has failed.
+pub record IsStoreWriter (w : Writing) : Type 0 where
+  pub ids : num_docs w < 2 ^ 32
+  pub light : weight w.pending ≤ w.block_size
+  pub output : IsSound w.output
+
+-- The writer works, and there is an id for one more document.
+pub record HasIdLeft (w : Writing) : Type 0 where
+  pub works : w.output.failure ≡ None
+  pub left : num_docs w < 2 ^ 32 - 1
+
+-- The block of the pending documents with this one has no place in 32 bits.
+pub record IsTooLarge (w : Writing) (document : List ℕ) : Type 0 where
+  pub id : HasIdLeft w
+  pub large : 2 ^ 32 ≤ length (block (w.pending ++ document ∷ []))
+
+-- A failed writer answers its first cause again and stays as it was.
+abbrev pub AfterFailed : Option Cause → Cause → Writing → Writing → Type 0
+AfterFailed None cause old new = FailsFor cause old.output new.output
+AfterFailed (Some first) cause old new = (cause ≡ first) × (new ≡ old)
+
+-- what a refused document leaves
+abbrev pub AfterRefusal : Writing → Writing → StoreError → Type 0
+AfterRefusal old new Memory = (old.output.failure ≡ None) × (new ≡ old)
+AfterRefusal old new TooManyDocs = new ≡ old
+AfterRefusal old new BlockTooLarge = new ≡ old
+AfterRefusal old new (Failed cause) = AfterFailed old.output.failure cause old new
+AfterRefusal old new _ = ⊥

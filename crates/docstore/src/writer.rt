@@ -1,0 +1,221 @@
+//! Writes a store.
+
+ghost use Rattle.std.specs.Prelude.{◌≡◌, ◌+◌, ◌-◌, ◌*◌, ◌<◌, ◌≤◌, ◌↔◌, ◌^◌, [], ◌++◌, length, true, None, is_some, OnOk, IfOk, IfErr, IfSome, IsErrOf};
+ghost use Rattle.std.specs.List.{concat};
+ghost use Rattle.docstore.specs.StoreFile.{docs_in, file, IsStore};
+ghost use Rattle.docstore.specs.Trace.{weight};
+ghost use Rattle.docstore.specs.BlockOutput.{IsSound, FailsFor, AfterClose};
+ghost use Rattle.docstore.specs.Writer.{num_docs, flushed, flushed_if_full, with_document, with_failures, IsTooLarge, IsStoreWriter, AfterRefusal};
+
+use crate::close_error::CloseError;
+use crate::compressors::Compressor;
+use crate::current_block::CurrentBlock;
+use crate::error::{Cause, StoreError};
+use crate::index::CHECKPOINT_PERIOD;
+use crate::store_compressor::BlockCompressor;
+use std::alloc::Global;
+use std::marker::Model;
+use store_base::TerminatingWrite;
+
+/// Writes a store. Blocks go out while documents are added; the index stays in memory until `close`.
+#[derive(Drop)]
+pub struct StoreWriter<W: TerminatingWrite> {
+    block_size: usize,
+    current_block: CurrentBlock,
+    block_compressor: BlockCompressor<W>,
+}
+
+/// Clauses see the block size, the pending documents, and the finished blocks with the output.
+impl<W: TerminatingWrite> Model for StoreWriter<W> {
+    ghost use Rattle.docstore.specs.Writer.{Writing, IsStoreWriter};
+
+    ghost Value = { Writing };
+
+    ghost view = { λ s. record { block_size = s.block_size; pending = s.current_block; output = s.block_compressor } };
+
+    ghost invariant = { λ s. IsStoreWriter (record { block_size = s.block_size; pending = s.current_block; output = s.block_compressor }) };
+}
+
+impl<W: TerminatingWrite> StoreWriter<W> {
+    /// A writer of no documents yet, with an index of the usual period. It takes no memory.
+    pub fn new(
+        alloc: Global,
+        output: W,
+        compressor: Compressor,
+        block_size: usize,
+    ) -> StoreWriter<W>
+        ensures block_size { result.block_size ≡ block_size }
+        ensures pending { result.pending ≡ [] }
+        ensures compressor { result.output.compressor ≡ compressor }
+        ensures period { result.output.period ≡ CHECKPOINT_PERIOD }
+        ensures finished { result.output.finished ≡ [] }
+        ensures failure { result.output.failure ≡ None }
+        ensures before { result.output.before ≡ W.content output }
+        ensures content { result.output.content ≡ W.content output }
+        ensures failures { result.output.failures ≡ W.failures output }
+        ensures sound { IsStoreWriter result }
+    {
+        StoreWriter::with_period(
+            alloc,
+            output,
+            compressor,
+            block_size,
+            CHECKPOINT_PERIOD as u8,
+        )
+    }
+
+    /// The same with an index of this period.
+    pub fn with_period(
+        alloc: Global,
+        output: W,
+        compressor: Compressor,
+        block_size: usize,
+        period: u8,
+    ) -> StoreWriter<W>
+        requires least { 2 ≤ period }
+        requires most { period ≤ 64 }
+        ensures block_size { result.block_size ≡ block_size }
+        ensures pending { result.pending ≡ [] }
+        ensures compressor { result.output.compressor ≡ compressor }
+        ensures period { result.output.period ≡ period }
+        ensures finished { result.output.finished ≡ [] }
+        ensures failure { result.output.failure ≡ None }
+        ensures before { result.output.before ≡ W.content output }
+        ensures content { result.output.content ≡ W.content output }
+        ensures failures { result.output.failures ≡ W.failures output }
+        ensures sound { IsStoreWriter result }
+    {
+        StoreWriter {
+            block_size,
+            current_block: CurrentBlock::new(alloc),
+            block_compressor: BlockCompressor::with_period(alloc, compressor, output, period),
+        }
+    }
+
+    /// How blocks are packed.
+    pub fn compressor(&self) -> Compressor
+        ensures { result ≡ self.now.output.compressor }
+    {
+        self.block_compressor.compressor()
+    }
+
+    /// How many documents were taken.
+    pub fn num_docs(&self) -> u32
+        ensures { result ≡ num_docs self.now }
+    {
+        self.block_compressor.num_docs() + self.current_block.len()
+    }
+
+    /// Whether a call has failed for good.
+    pub fn has_failed(&self) -> bool
+        ensures { result ≡ is_some self.now.output.failure }
+    {
+        self.block_compressor.failure().is_some()
+    }
+
+    /// A lower bound of the memory that is taken, in bytes.
+    pub fn mem_usage(&self) -> usize
+        ensures { length (concat self.now.pending) + 4 * length self.now.pending ≤ result }
+    {
+        self.current_block.mem_usage()
+    }
+
+    /// Stores a document that is bytes already. Its id is `num_docs` before the call.
+    ///
+    /// The document waits in memory. Once the waiting documents weigh more than the block size, at
+    /// eight bytes for each beside its own, they go out as one block.
+    ///
+    /// After `Failed` the writer answers only `Failed`, and `close` hands the output back. Any other
+    /// error leaves it as it was.
+    pub fn store_bytes(&mut self, document: &[u8]) -> Result<(), StoreError>
+        ensures stored { OnOk result (self.new
+            ≡ with_failures self.new.output.failures (with_document self.old document.now)) }
+
+        // Each cause, where none above it holds.
+        ensures failed { IfSome self.old.output.failure (λ cause. IsErrOf result (StoreError.Failed cause)) }
+        ensures too_many { IsErrOf result StoreError.TooManyDocs
+            ↔ ((self.old.output.failure ≡ None) × (num_docs self.old ≡ 2 ^ 32 - 1)) }
+        ensures too_large { IsErrOf result StoreError.BlockTooLarge ↔ IsTooLarge self.old document.now }
+
+        // So a document of fewer bytes is never too large.
+        ensures limit { IsErrOf result StoreError.BlockTooLarge
+            → 2 ^ 32 ≤ self.old.block_size + length document.now + 8 }
+
+        // After an error: as it was, or failed for good.
+        ensures err { IfErr result (AfterRefusal self.old self.new) }
+
+        ensures count { self.old.output.failures ≤ self.new.output.failures }
+        ensures sound { IsStoreWriter self.new }
+    {
+        if let Some(cause) = self.block_compressor.failure() {
+            return Err(StoreError::Failed(cause));
+        }
+        if self.num_docs() == u32::MAX {
+            return Err(StoreError::TooManyDocs);
+        }
+        if !self.current_block.has_room(document) {
+            return Err(StoreError::BlockTooLarge);
+        }
+        self.current_block.push(document)?;
+        flush_if_full(
+            &mut self.current_block,
+            &mut self.block_compressor,
+            self.block_size,
+        )?;
+        Ok(())
+    }
+
+    /// Writes the pending documents, the index and the footer, and ends the output.
+    ///
+    /// `Memory` means that no byte of this call went out.
+    pub fn close(self) -> Result<W, CloseError<W>>
+        ensures file { IfOk result (λ output. W.content output
+            ≡ self.output.before ++ file self.output.period 3 (flushed self).output.finished) }
+        ensures store { OnOk result (IsStore self.output.period
+            (file self.output.period 3 (flushed self).output.finished) 3 (flushed self).output.finished) }
+        ensures terminated { IfOk result (λ output. W.terminated output ≡ true) }
+        ensures works { OnOk result (self.output.failure ≡ None) }
+        ensures err { IfErr result (λ e. AfterClose e.error self.output (W.content e.output) (W.failures e.output)) }
+    {
+        let StoreWriter {
+            mut current_block,
+            mut block_compressor,
+            ..
+        } = self;
+        if block_compressor.failure().is_some() || current_block.len() == 0 {
+            return block_compressor.close();
+        }
+        if current_block.flush_to(&mut block_compressor).is_err() {
+            return block_compressor.close();
+        }
+        match block_compressor.close() {
+            Ok(output) => Ok(output),
+            Err(refusal) => Err(refusal.behind_bytes()),
+        }
+    }
+}
+
+// Writes the documents as a block if they weigh more than the block size.
+fn flush_if_full<W: TerminatingWrite>(
+    documents: &mut CurrentBlock,
+    output: &mut BlockCompressor<W>,
+    block_size: usize,
+) -> Result<(), Cause>
+    requires works { output.old.failure ≡ None }
+    requires few { docs_in output.old.finished + length documents.old < 2 ^ 32 }
+    requires sound { IsSound output.old }
+    ensures flushed { OnOk result (record { block_size = block_size; pending = documents.new; output = output.new }
+        ≡ with_failures output.new.failures
+        (flushed_if_full (record { block_size = block_size; pending = documents.old; output = output.old }))) }
+    ensures err { IfErr result (λ cause. FailsFor cause output.old output.new) }
+    ensures light { weight documents.new ≤ block_size }
+    ensures few { docs_in output.new.finished + length documents.new < 2 ^ 32 }
+    ensures count { output.old.failures ≤ output.new.failures }
+    ensures sound { IsSound output.new }
+{
+    if documents.weight() > block_size {
+        documents.flush_to(output)
+    } else {
+        Ok(())
+    }
+}
