@@ -1,0 +1,49 @@
+//! What is printed of documents and refusals.
+use crate::fault::ToolFault;
+use docstore::{StoreError, StoreReader};
+use std::alloc::Global;
+use std::io::Write;
+use store_base::{FileHandle, OwnedBytes};
+
+/// Bytes as hexadecimal digits, `-` for none, on a line of their own.
+pub fn write_bytes<W: Write>(alloc: Global, output: &mut W, bytes: &[u8]) -> Result<(), ToolFault> {
+    if bytes.is_empty() {
+        writeln!(output, "-")?;
+        return Ok(());
+    }
+    let text = hex::encode(alloc, bytes)?;
+    writeln!(output, "{text}")?;
+    Ok(())
+}
+
+/// A refusal by its number.
+pub fn write_error<W: Write>(output: &mut W, error: StoreError) -> Result<(), ToolFault> {
+    writeln!(output, "error {}", error.number())?;
+    Ok(())
+}
+
+/// A document, or why there is none.
+pub fn write_document<W: Write>(
+    alloc: Global,
+    output: &mut W,
+    document: Result<OwnedBytes, StoreError>,
+) -> Result<(), ToolFault> {
+    match document {
+        Ok(bytes) => write_bytes(alloc, output, bytes.as_slice()),
+        Err(error) => write_error(output, error),
+    }
+}
+
+/// Each document with its number, and then `end`.
+pub fn write_documents<H: FileHandle, W: Write>(
+    alloc: Global,
+    output: &mut W,
+    reader: &mut StoreReader<H>,
+) -> Result<(), ToolFault> {
+    for doc_id in 0..reader.num_docs() {
+        write!(output, "{doc_id} ")?;
+        write_document(alloc, output, reader.get_document_bytes(alloc, doc_id))?;
+    }
+    writeln!(output, "end")?;
+    Ok(())
+}

@@ -1,0 +1,55 @@
+//! Whole runs.
+use crate::answer::{write_documents, write_error};
+use crate::fault::ToolFault;
+use crate::input::read_whole;
+use crate::store::open_bytes;
+use crate::tool::Tool;
+use std::alloc::Global;
+use std::io::{BufWriter, Read, Write};
+
+// Answers each line. A line ends with its byte 0a, which the last may lack.
+fn answer_lines<W: Write>(alloc: Global, script: &[u8], output: &mut W) -> Result<(), ToolFault> {
+    if script.is_empty() {
+        return Ok(());
+    }
+    let mut tool = Tool::new(alloc);
+    let lines = script.strip_suffix(b"\n").unwrap_or(script);
+    for line in lines.split(|byte| *byte == b'\n') {
+        tool.answer(line, output)?;
+    }
+    Ok(())
+}
+
+/// Answers a script, line by line. The input is read to its end before anything is written.
+pub fn run<R: Read, W: Write + Drop>(
+    alloc: Global,
+    input: &mut R,
+    output: W,
+) -> Result<(), ToolFault> {
+    let script = read_whole(alloc, input)?;
+    let mut output = BufWriter::new(alloc, output)?;
+    answer_lines(alloc, &script, &mut output)?;
+    output.flush()?;
+    Ok(())
+}
+
+fn dump_bytes<W: Write>(alloc: Global, bytes: Vec<u8>, output: &mut W) -> Result<(), ToolFault> {
+    match open_bytes(alloc, bytes)? {
+        Ok(mut reader) => write_documents(alloc, output, &mut reader),
+        Err(error) => write_error(output, error),
+    }
+}
+
+/// Writes each document of a store file, or the number of the file's refusal. The input is read to its end before
+/// anything is written.
+pub fn dump<R: Read, W: Write + Drop>(
+    alloc: Global,
+    input: &mut R,
+    output: W,
+) -> Result<(), ToolFault> {
+    let bytes = read_whole(alloc, input)?;
+    let mut output = BufWriter::new(alloc, output)?;
+    dump_bytes(alloc, bytes, &mut output)?;
+    output.flush()?;
+    Ok(())
+}
