@@ -1,0 +1,52 @@
+//! Stores in the making, and the calls whose refusal hands something back.
+
+use docstore::{Compressor, StoreError, StoreReader, StoreWriter};
+use std::alloc::Global;
+use store_base::{FileHandle, FileSlice, MemFile, MemSink, TerminatingWrite};
+
+/// Closes a writer, and answers its output.
+pub fn closed<W: TerminatingWrite>(writer: StoreWriter<W>) -> Result<W, StoreError> {
+    match writer.close() {
+        Ok(output) => Ok(output),
+        Err(refusal) => Err(refusal.error),
+    }
+}
+
+/// The file of these documents.
+pub fn written(
+    alloc: Global,
+    block_size: usize,
+    documents: &[&[u8]],
+) -> Result<Vec<u8>, StoreError> {
+    let mut writer = StoreWriter::new(alloc, MemSink::new(alloc), Compressor::None, block_size);
+    for document in documents {
+        writer.store_bytes(document)?;
+    }
+    Ok(closed(writer)?.into_bytes())
+}
+
+/// Opens a whole file.
+pub fn opened<H: FileHandle>(alloc: Global, file: H) -> Result<StoreReader<H>, StoreError> {
+    match StoreReader::open(alloc, FileSlice::new(file), 0) {
+        Ok(reader) => Ok(reader),
+        Err(refusal) => Err(refusal.error),
+    }
+}
+
+/// Opens a file of these bytes.
+pub fn opened_bytes(alloc: Global, bytes: Vec<u8>) -> Result<StoreReader<MemFile>, StoreError> {
+    opened(alloc, MemFile::new(alloc, bytes)?)
+}
+
+/// Whether a document is answered, and is this one.
+pub fn is_found<H: FileHandle>(
+    alloc: Global,
+    reader: &mut StoreReader<H>,
+    doc_id: u32,
+    document: &[u8],
+) -> bool {
+    match reader.get_document_bytes(alloc, doc_id) {
+        Ok(bytes) => bytes.as_slice() == document,
+        Err(_) => false,
+    }
+}
