@@ -41,3 +41,4 @@ pub mod HandedLemmas
 pub mod ApartLemmas
 pub mod DocumentLemmas
 pub mod TakenLemmas
+pub mod StackingLemmas

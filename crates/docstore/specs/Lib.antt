@@ -25,3 +25,4 @@ pub mod Covering
 pub mod Reading
 pub mod Answering
 pub mod Opening
+pub mod Stacking

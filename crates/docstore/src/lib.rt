@@ -13,6 +13,7 @@ pub mod laws;
 pub mod open_error;
 mod opening;
 pub mod reader;
+mod reader_data;
 pub mod slot;
 pub mod store_compressor;
 mod store_index;

@@ -29,7 +29,7 @@ use store_base::{DocId, FileHandle, FileSlice, OwnedBytes, StoreSpaceUsage};
 /// Reads the documents of a store.
 #[derive(Drop)]
 pub struct StoreReader<H: FileHandle> {
-    file: FileSlice<H>,
+    pub(crate) file: FileSlice<H>,
     index: StoreIndex,
     version: DocStoreVersion,
     decompressor: Decompressor,

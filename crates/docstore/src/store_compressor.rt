@@ -1,24 +1,31 @@
 //! Writes blocks one behind the other, and their index behind them.
 
-ghost use Rattle.std.specs.Prelude.{◌≡◌, ◌+◌, ◌<◌, ◌≤◌, ◌^◌, [], ◌∷◌, ◌++◌, length, true, None, OnOk, IfOk, IfErr, IfSome, IsErrOf};
+ghost use Rattle.std.specs.Prelude.{◌≡◌, ◌≢◌, ◌+◌, ◌<◌, ◌≤◌, ◌^◌, List, [], ◌∷◌, ◌++◌, length, map, true, None, OnOk, OnErr, IfOk, IfErr, IfSome, IsErrOf};
+ghost use Rattle.std.specs.List.{sum_by};
+ghost use Rattle.docstore.specs.Checkpoint.{doc_count, docs_end, IsInLineFrom, Covers};
 ghost use Rattle.docstore.specs.Footer.{footer, kind_of, unpacks};
 ghost use Rattle.docstore.specs.Layers.{index_part};
-ghost use Rattle.docstore.specs.StoreFile.{docs_in, file, reserved_of, IsStore};
-ghost use Rattle.docstore.specs.BlockOutput.{with_blocks, with_risen, IsSound, FailsFor, AfterBlock, AfterClose, IsEndRefusal};
+ghost use Rattle.docstore.specs.StoreFile.{StoreBlock, docs_in, file, reserved_of, IsStore};
+ghost use Rattle.docstore.specs.BlockOutput.{with_blocks, with_risen, blocks_at, IsSound, FailsFor, AfterBlock, AfterClose, IsEndRefusal};
+ghost use Rattle.docstore.specs.Reading.{num_docs as docs_of};
+ghost use Rattle.docstore.specs.Stacking.{AreRead, IsReadOnce, shifted, AfterStacking};
 
 use crate::close_error::CloseError;
 use crate::compressors::{Compressor, Decompressor};
 use crate::error::{Cause, StoreError};
-use crate::footer::{DOC_STORE_VERSION, DocStoreFooter};
+use crate::footer::{DOC_STORE_VERSION, DocStoreFooter, DocStoreVersion};
+use crate::index::layer_cursor::LayerCursor;
 use crate::index::skip_index_builder::SkipIndexBuilder;
 use crate::index::{CHECKPOINT_PERIOD, Checkpoint};
+use crate::reader::StoreReader;
 use std::alloc::Global;
 use std::marker::Model;
-use store_base::{BinarySerializable, CountingWriter, TerminatingWrite};
+use store_base::{BinarySerializable, CountingWriter, FileHandle, TerminatingWrite};
 
 /// Writes the blocks of a store to an output.
 #[derive(Drop)]
 pub struct BlockCompressor<W: TerminatingWrite> {
+    alloc: Global,
     compressor: Compressor,
     first_doc_in_block: u32,
     index: SkipIndexBuilder,
@@ -73,6 +80,7 @@ impl<W: TerminatingWrite> BlockCompressor<W> {
         ensures sound { IsSound result }
     {
         BlockCompressor {
+            alloc,
             compressor,
             first_doc_in_block: 0,
             index: SkipIndexBuilder::with_period(alloc, period),
@@ -163,6 +171,67 @@ impl<W: TerminatingWrite> BlockCompressor<W> {
         Ok(())
     }
 
+    /// Puts the blocks of a store behind the others as they come from its file, damaged ones too.
+    ///
+    /// The whole data is read before anything is written, so `Read` and `Memory` leave all as it was.
+    pub fn stack_reader<H: FileHandle>(
+        &mut self,
+        reader: &mut StoreReader<H>,
+    ) -> Result<(), StoreError>
+        requires version { reader.old.version ≢ DocStoreVersion.V1 }
+        requires few_docs { docs_in self.old.finished + docs_of reader.old < 2 ^ 32 }
+        ensures stacked { OnOk result ((bs : List StoreBlock) × AreRead reader.old bs
+            × (self.new ≡ with_risen self.new.failures (with_blocks self.old bs))) }
+        ensures works { OnOk result (self.old.failure ≡ None) }
+
+        // A failed writer answers its cause again and stays as it was, and the reader too.
+        ensures failed { IfSome self.old.failure (λ cause. IsErrOf result (StoreError.Failed cause)
+            × (self.new ≡ self.old) × (reader.new ≡ reader.old)) }
+        ensures err { IfErr result (AfterStacking reader.old reader.new self.old self.new) }
+
+        ensures read { self.old.failure ≡ None → IsReadOnce reader.old reader.new }
+        ensures count { self.old.failures ≤ self.new.failures }
+        ensures sound { IsSound self.new }
+    {
+        if let Some(cause) = self.failure {
+            return Err(StoreError::from(cause));
+        }
+        let data = reader.read_data(self.alloc)?;
+        self.write_blocks(data.as_slice(), reader.block_checkpoints())?;
+        Ok(())
+    }
+
+    // Puts the blocks that these checkpoints cut from the bytes behind the others.
+    fn write_blocks(&mut self, bytes: &[u8], checkpoints: LayerCursor<'_>) -> Result<(), Cause>
+        requires works { self.old.failure ≡ None }
+        requires covers { Covers checkpoints (length bytes.now) }
+        requires few_docs { docs_in self.old.finished + docs_end 0 checkpoints < 2 ^ 32 }
+        ensures written { OnOk result (self.new ≡ with_risen self.new.failures
+            (with_blocks self.old (blocks_at checkpoints.entry bytes.now))) }
+        ensures err { IfErr result (λ cause. FailsFor cause self.old self.new) }
+        ensures count { self.old.failures ≤ self.new.failures }
+        ensures sound { IsSound self.new }
+    {
+        let start = self.writer.written_bytes() as usize;
+        if self.writer.write_all(bytes).is_err() {
+            self.failure = Some(Cause::Write);
+            return Err(Cause::Write);
+        }
+        let docs = self.first_doc_in_block;
+        let registered = register_all(
+            &mut self.index,
+            &mut self.first_doc_in_block,
+            checkpoints,
+            docs,
+            start,
+        );
+        if registered.is_err() {
+            self.failure = Some(Cause::Memory);
+            return Err(Cause::Memory);
+        }
+        Ok(())
+    }
+
     /// Writes the index and the footer, and ends the output.
     ///
     /// `Memory` means that no byte of this call went out.
@@ -220,5 +289,34 @@ fn write_end<W: TerminatingWrite>(
     index.serialize_into(writer)?;
     footer.serialize(writer)?;
     writer.terminate()?;
+    Ok(())
+}
+
+// Adds the checkpoints, so many documents and bytes further on. A refusal leaves those before it added.
+fn register_all(
+    index: &mut SkipIndexBuilder,
+    next_id: &mut u32,
+    checkpoints: LayerCursor<'_>,
+    docs: u32,
+    bytes: usize,
+) -> Result<(), StoreError>
+    requires ids { next_id.old ≡ sum_by doc_count index.old.checkpoints }
+    requires few { next_id.old < 2 ^ 32 }
+    requires in_line { IsInLineFrom 0 0 (index.old.checkpoints ++ map (shifted docs bytes) checkpoints) }
+    ensures ok { OnOk result (index.new
+        ≡ record index.old { checkpoints = index.old.checkpoints ++ map (shifted docs bytes) checkpoints.entry }) }
+    ensures period { index.new.period ≡ index.old.period }
+    ensures ids { next_id.new ≡ sum_by doc_count index.new.checkpoints }
+    ensures few { next_id.new < 2 ^ 32 }
+    ensures some { OnErr result (0 < length checkpoints.entry) }
+{
+    for checkpoint in checkpoints {
+        let end = checkpoint.doc_range.end + docs;
+        index.insert(Checkpoint {
+            doc_range: checkpoint.doc_range.start + docs..end,
+            byte_range: checkpoint.byte_range.start + bytes..checkpoint.byte_range.end + bytes,
+        })?;
+        *next_id = end;
+    }
     Ok(())
 }

@@ -1,21 +1,24 @@
 //! Writes a store.
 
-ghost use Rattle.std.specs.Prelude.{◌≡◌, ◌+◌, ◌-◌, ◌*◌, ◌<◌, ◌≤◌, ◌↔◌, ◌^◌, [], ◌++◌, length, true, None, is_some, OnOk, IfOk, IfErr, IfSome, IsErrOf};
+ghost use Rattle.std.specs.Prelude.{◌≡◌, ◌+◌, ◌-◌, ◌*◌, ◌<◌, ◌≤◌, ◌↔◌, ◌^◌, List, [], ◌++◌, length, true, None, is_some, OnOk, IfOk, IfErr, IfSome, IsErrOf};
 ghost use Rattle.std.specs.List.{concat};
-ghost use Rattle.docstore.specs.StoreFile.{docs_in, file, IsStore};
+ghost use Rattle.docstore.specs.StoreFile.{StoreBlock, docs_in, file, IsStore};
 ghost use Rattle.docstore.specs.Trace.{weight};
-ghost use Rattle.docstore.specs.BlockOutput.{IsSound, FailsFor, AfterClose};
-ghost use Rattle.docstore.specs.Writer.{num_docs, flushed, flushed_if_full, with_document, with_failures, IsTooLarge, IsStoreWriter, AfterRefusal};
+ghost use Rattle.docstore.specs.BlockOutput.{with_blocks, with_risen, IsSound, FailsFor, AfterClose};
+ghost use Rattle.docstore.specs.Writer.{num_docs, blocks_of, flushed, flushed_if_full, with_document, with_failures, IsTooLarge, IsStoreWriter, AfterRefusal};
+ghost use Rattle.docstore.specs.Stacking.{AreRead, IsReadOnce, IsReadAtMostOnce, with_store, IsOld, HasTooMany, AfterStack};
 
 use crate::close_error::CloseError;
 use crate::compressors::Compressor;
 use crate::current_block::CurrentBlock;
 use crate::error::{Cause, StoreError};
+use crate::footer::DocStoreVersion;
 use crate::index::CHECKPOINT_PERIOD;
+use crate::reader::StoreReader;
 use crate::store_compressor::BlockCompressor;
 use std::alloc::Global;
 use std::marker::Model;
-use store_base::TerminatingWrite;
+use store_base::{FileHandle, TerminatingWrite};
 
 /// Writes a store. Blocks go out while documents are added; the index stays in memory until `close`.
 #[derive(Drop)]
@@ -165,6 +168,47 @@ impl<W: TerminatingWrite> StoreWriter<W> {
         Ok(())
     }
 
+    /// Puts the documents of a store behind those that were taken: its blocks as they come from its
+    /// file, damaged ones too.
+    ///
+    /// The pending documents go out first, as one block. The store's whole data is read before any of
+    /// it is written; `Read` and `Memory` leave the pending documents as a finished block. After
+    /// `Failed` the writer answers only `Failed`. Any other error leaves it as it was.
+    pub fn stack<H: FileHandle>(&mut self, reader: &mut StoreReader<H>) -> Result<(), StoreError>
+        ensures stacked { OnOk result ((bs : List StoreBlock) × AreRead reader.old bs
+            × (self.new ≡ with_failures self.new.output.failures (with_store self.old bs))) }
+        ensures works { OnOk result (self.old.output.failure ≡ None) }
+
+        // Each cause, where none above it holds.
+        ensures failed { IfSome self.old.output.failure (λ cause. IsErrOf result (StoreError.Failed cause)
+            × (reader.new ≡ reader.old)) }
+        ensures old_version { IsErrOf result StoreError.OldVersion ↔ IsOld self.old reader.old }
+        ensures too_many { IsErrOf result StoreError.TooManyDocs ↔ HasTooMany self.old reader.old }
+
+        // After an error: as it was, flushed, or failed for good.
+        ensures err { IfErr result (AfterStack reader.old reader.new self.old self.new) }
+
+        // The reader keeps its store.
+        ensures read { OnOk result (IsReadOnce reader.old reader.new) }
+        ensures kept { IsReadAtMostOnce reader.old reader.new }
+
+        ensures count { self.old.output.failures ≤ self.new.output.failures }
+        ensures sound { IsStoreWriter self.new }
+    {
+        if let Some(cause) = self.block_compressor.failure() {
+            return Err(StoreError::from(cause));
+        }
+        if reader.version() == DocStoreVersion::V1 {
+            return Err(StoreError::OldVersion);
+        }
+        if reader.num_docs() > u32::MAX - self.num_docs() {
+            return Err(StoreError::TooManyDocs);
+        }
+        flush(&mut self.current_block, &mut self.block_compressor)?;
+        self.block_compressor.stack_reader(reader)?;
+        Ok(())
+    }
+
     /// Writes the pending documents, the index and the footer, and ends the output.
     ///
     /// `Memory` means that no byte of this call went out.
@@ -218,4 +262,25 @@ fn flush_if_full<W: TerminatingWrite>(
     } else {
         Ok(())
     }
+}
+
+// Writes the documents as a block if there are any. Afterwards none waits, whatever the result.
+fn flush<W: TerminatingWrite>(
+    documents: &mut CurrentBlock,
+    output: &mut BlockCompressor<W>,
+) -> Result<(), Cause>
+    requires works { output.old.failure ≡ None }
+    requires few { docs_in output.old.finished + length documents.old < 2 ^ 32 }
+    requires sound { IsSound output.old }
+    ensures emptied { documents.new ≡ [] }
+    ensures written { OnOk result (output.new
+        ≡ with_risen output.new.failures (with_blocks output.old (blocks_of documents.old))) }
+    ensures err { IfErr result (λ cause. FailsFor cause output.old output.new) }
+    ensures count { output.old.failures ≤ output.new.failures }
+    ensures sound { IsSound output.new }
+{
+    if documents.len() == 0 {
+        return Ok(());
+    }
+    documents.flush_to(output)
 }

@@ -1,0 +1,101 @@
+-- Checkpoints that are put behind others, and the blocks that they cut from bytes.
+use Rattle.std.proofs.Common.{◌≡◌, ℕ, ◌+◌, ◌^◌, ◌<◌, List, [], ◌∷◌, ◌++◌, length, map, Option, None, refl, sym, ◌∙◌, ap, subst, arith}
+use Rattle.std.proofs.lemmas.List.Sums.{sum_by-cons}
+use Rattle.std.specs.List.{sum_by, AllByRecursion}
+use Rattle.docstore.specs.declared.compressors.Compressor.{Compressor}
+use Rattle.docstore.specs.declared.error.Cause.{Cause}
+use Rattle.docstore.specs.declared.index.Checkpoint.{Checkpoint}
+use Rattle.docstore.specs.Checkpoint.{checkpoint, doc_count, IsWithinLimits, IsInLineFrom, IsInLine, docs_end, Covers}
+use Rattle.docstore.specs.LineLemmas.{in_line-split, in_line-join, in_line_from}
+use Rattle.docstore.specs.StoreFile.{StoreBlock, IsStoreBlock, docs_in, data_of, marks_from, marks}
+use Rattle.docstore.specs.BlockOutput.{BlockOutput, IsCompressing, compressing, blocks_at}
+use Rattle.docstore.specs.Stacking.{shifted}
+use Rattle.docstore.proofs.StoreLemmas.{length-data_of-cons, docs_in-blocks_at}
+use Rattle.docstore.proofs.OutputLemmas.{AreAdded, are_added, docs_seen}
+use Rattle.docstore.proofs.SeenLemmas.{store_seen}
+
+-- ---- shifted checkpoints
+
+shifted-marks : (docs bytes id byte : ℕ) (bs : List StoreBlock) → map (shifted docs bytes) (marks_from id byte bs) ≡ marks_from (id + docs) (byte + bytes) bs
+shifted-marks docs bytes id byte [] = refl
+shifted-marks docs bytes id byte (b ∷ bs) =
+    let ids : (id + b.count) + docs ≡ (id + docs) + b.count = omega arith in
+    let places : (byte + length b.bytes) + bytes ≡ (byte + bytes) + length b.bytes = omega arith in
+    let others = shifted-marks docs bytes (id + b.count) (byte + length b.bytes) bs in
+    let moved : marks_from ((id + b.count) + docs) ((byte + length b.bytes) + bytes) bs ≡ marks_from ((id + docs) + b.count) ((byte + bytes) + length b.bytes) bs = λ i. marks_from (ids i) (places i) bs in
+    let rest = others ∙ moved in
+    λ i. checkpoint (id + docs) (ids i) (byte + bytes) (places i) ∷ rest i
+
+-- the checkpoints of a store behind other blocks
+shifted_behind : (docs bytes : ℕ) (cs : List Checkpoint) (bs : List StoreBlock) → cs ≡ marks bs → map (shifted docs bytes) cs ≡ marks_from docs bytes bs
+shifted_behind docs bytes cs bs is =
+    let id : 0 + docs ≡ docs = omega arith in
+    let place : 0 + bytes ≡ bytes = omega arith in
+    ap (map (shifted docs bytes)) is ∙ shifted-marks docs bytes 0 0 bs ∙ (λ i. marks_from (id i) (place i) bs)
+
+-- ---- the next of a list in line
+
+docs_up : (doc byte : ℕ) (cs : List Checkpoint) → IsInLineFrom doc byte cs → doc + sum_by doc_count cs ≡ docs_end doc cs
+docs_up doc byte [] h = omega arith
+docs_up doc byte (c ∷ cs) h = omega (arith, sum_by-cons doc_count c cs, docs_up c.doc_range.end c.byte_range.end cs h.3, h.0, h.2.doc_order)
+
+sum_by-snoc : (cs : List Checkpoint) (c : Checkpoint) → sum_by doc_count (cs ++ c ∷ []) ≡ sum_by doc_count cs + doc_count c
+sum_by-snoc [] c = omega (arith, sum_by-cons doc_count c [])
+sum_by-snoc (x ∷ cs) c = omega (arith, sum_by-cons doc_count x (cs ++ c ∷ []), sum_by-cons doc_count x cs, sum_by-snoc cs c)
+
+-- it can be put behind, and the ids go on where it ends
+pub record IsNext (xs : List Checkpoint) (c : Checkpoint) : Type 0 where
+  pub in_line : IsInLine (xs ++ c ∷ [])
+  pub ends : sum_by doc_count (xs ++ c ∷ []) ≡ c.doc_range.end
+  pub limits : IsWithinLimits c
+
+pub is_next : (xs : List Checkpoint) (c : Checkpoint) (rest : List Checkpoint) → IsInLineFrom 0 0 (xs ++ c ∷ rest) → IsNext xs c
+is_next xs c rest h =
+    let parts = in_line-split 0 0 xs (c ∷ rest) h in
+    let tail = parts.1 in
+    let sum = docs_up 0 0 xs parts.0 in
+    record {
+      in_line = in_line_from 0 0 (xs ++ c ∷ []) (in_line-join 0 0 xs (c ∷ []) parts.0 (tail.0, tail.1, tail.2, tt));
+      ends = omega (arith, sum_by-snoc xs c, sum, tail.0, tail.2.doc_order);
+      limits = tail.2;
+    }
+
+-- the next of those that are left
+pub next_left : (docs bytes : ℕ) (all index left more : List Checkpoint) (c : Checkpoint) → index ++ map (shifted docs bytes) left ≡ all → left ≡ c ∷ more → IsInLineFrom 0 0 all → IsNext index (shifted docs bytes c)
+next_left docs bytes all index left more c is first h =
+    let parts : all ≡ index ++ shifted docs bytes c ∷ map (shifted docs bytes) more = sym is ∙ ap (λ (xs : List Checkpoint). index ++ map (shifted docs bytes) xs) first in
+    is_next index (shifted docs bytes c) (map (shifted docs bytes) more) (subst (IsInLineFrom 0 0) parts h)
+
+-- ---- blocks that are put behind others
+
+-- the blocks have the documents of the checkpoints that cut them
+pub docs_cut : (cs : List Checkpoint) (bytes : List ℕ) → Covers cs (length bytes) → docs_in (blocks_at cs bytes) ≡ docs_end 0 cs
+docs_cut cs bytes covers = omega (arith, docs_in-blocks_at cs bytes, docs_up 0 0 cs covers.in_line)
+
+-- blocks have bytes
+some_data : (cs : List Checkpoint) (bs : List StoreBlock) → cs ≡ marks bs → AllByRecursion IsStoreBlock bs → 0 < length cs → 0 < length (data_of bs)
+some_data cs [] is each some = absurd (omega (arith, ap length is, some))
+some_data cs (b ∷ bs) is each some = omega (arith, length-data_of-cons b bs, each.0.some_bytes)
+
+-- what is known once the blocks that checkpoints cut from bytes are written behind the others
+pub record AreCut (period next_id : ℕ) (cs : List Checkpoint) (content : List ℕ) (written : ℕ) (more : List Checkpoint) (bytes : List ℕ) : Type 0 where
+  pub added : AreAdded period next_id cs content written (blocks_at more bytes) bytes (docs_in (blocks_at more bytes))
+  pub places : map (shifted next_id written) more ≡ marks_from next_id written (blocks_at more bytes)
+  pub joined : bytes ≡ data_of (blocks_at more bytes)
+  pub some : 0 < length more → 0 < length bytes
+
+pub are_cut : (compressor : Compressor) (period next_id : ℕ) (cs : List Checkpoint) (content : List ℕ) (written failures : ℕ) (failure : Option Cause) (now : BlockOutput) (more : List Checkpoint) (bytes : List ℕ) → compressing compressor period cs content written failures failure ≡ now → IsCompressing period next_id cs content written failure → now.failure ≡ None → Covers more (length bytes) → docs_in now.finished + docs_end 0 more < 2 ^ 32 → AreCut period next_id cs content written more bytes
+are_cut compressor period next_id cs content written failures failure now more bytes view_is h works covers few =
+    let bs = blocks_at more bytes in
+    let seen = store_seen bytes more covers in
+    let none : failure ≡ None = ap (λ (out : BlockOutput). out.failure) view_is ∙ works in
+    let inv : IsCompressing period next_id cs content written None = subst (IsCompressing period next_id cs content written) none h in
+    let docs : docs_in now.finished ≡ next_id = sym (ap (λ (out : BlockOutput). docs_in out.finished) view_is) ∙ docs_seen period next_id cs content written failure h in
+    let joined : bytes ≡ data_of bs = sym seen.data_is in
+    let all = are_added period next_id cs content written bs inv seen.blocks.each (omega (arith, docs, few, docs_cut more bytes covers)) in
+    record {
+      added = subst (λ (x : List ℕ). AreAdded period next_id cs content written bs x (docs_in bs)) (sym joined) all;
+      places = shifted_behind next_id written more bs (sym seen.marks_are);
+      joined = joined;
+      some = λ some. omega (arith, ap length joined, some_data more bs (sym seen.marks_are) seen.blocks.each some);
+    }

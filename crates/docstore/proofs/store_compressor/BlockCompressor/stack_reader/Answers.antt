@@ -1,0 +1,24 @@
+use Rattle.std.proofs.Common.{◌≡◌, ℕ, List, length, sym, ◌∙◌, ap, subst}
+use Rattle.docstore.specs.declared.index.Checkpoint.{Checkpoint}
+use Rattle.docstore.specs.Checkpoint.{Covers}
+use Rattle.docstore.specs.StoreFile.{StoreBlock, marks}
+use Rattle.docstore.specs.BlockOutput.{blocks_at}
+use Rattle.docstore.specs.Reading.{Reading}
+use Rattle.docstore.specs.Stacking.{AreRead}
+use Rattle.docstore.proofs.SeenLemmas.{store_seen}
+use Rattle.docstore.proofs.store_compressor.BlockCompressor.stack_reader.Goals as goal
+
+pub returns-clause-stacked : goal.returns-clause-stacked
+returns-clause-stacked g c =
+    let cs = c.args.reader.now.checkpoints in
+    let bytes = c.as_slice.result.now in
+    let bytes_are : bytes ≡ c.in_ok-data.data = c.as_slice.ensures in
+    let covers : Covers cs (length bytes) = subst (λ (x : List ℕ). Covers cs (length x)) (sym bytes_are) c.in_ok-data.ensures.covers in
+    let same : c.block_checkpoints.result ≡ cs = c.block_checkpoints.ensures.checkpoints ∙ ap (λ (r : Reading). r.checkpoints) c.in_ok-data.ensures.once.others in
+    let seen = store_seen bytes cs covers in
+    let cut : blocks_at c.block_checkpoints.result bytes ≡ blocks_at cs bytes = ap (λ (xs : List Checkpoint). blocks_at xs bytes) same in
+    let read : AreRead c.args.reader.now (blocks_at c.block_checkpoints.result bytes) = record {
+      places = ap (λ (bs : List StoreBlock). marks bs) cut ∙ seen.marks_are;
+      honest = λ honest. cut ∙ ap (blocks_at cs) (bytes_are ∙ c.in_ok-data.ensures.bytes honest);
+    } in
+    (blocks_at c.block_checkpoints.result bytes, read, c.in_ok-write_blocks.ensures.written)

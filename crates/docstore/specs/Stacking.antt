@@ -1,0 +1,66 @@
+-- Putting a store behind what a writer has.
+use Rattle.std.specs.Prelude.{◌≡◌, ◌≢◌, ℕ, ◌+◌, ◌≤◌, ◌^◌, ◌⊎◌, IsTrue, List, [], None}
+use Rattle.store_base.specs.Counts.{HasRisen}
+use Rattle.store_base.specs.Files.{ReadsOnce}
+use Rattle.docstore.specs.declared.error.StoreError.{StoreError}
+use Rattle.docstore.specs.declared.error.StoreError.TheVariants.{Read, Memory, OldVersion, TooManyDocs, Failed}
+use Rattle.docstore.specs.declared.footer.DocStoreVersion.TheVariants.{V1}
+use Rattle.docstore.specs.declared.index.Checkpoint.{Checkpoint}
+use Rattle.docstore.specs.Checkpoint.{checkpoint}
+use Rattle.docstore.specs.StoreFile.{StoreBlock, marks}
+use Rattle.docstore.specs.Reading.{Reading, num_docs as docs_of, with_file, store_of}
+use Rattle.docstore.specs.BlockOutput.{BlockOutput, with_blocks, AfterFailedBlock}
+use Rattle.docstore.specs.Writer.{Writing, num_docs, flushed, with_failures, AfterFailed}
+
+-- The blocks that came of a reader's file: at the places of its own, and its own if the file is honest.
+pub record AreRead (reader : Reading) (bs : List StoreBlock) : Type 0 where
+  pub places : marks bs ≡ reader.checkpoints
+  pub honest : IsTrue reader.file.honest → bs ≡ store_of reader
+
+-- What one read of its data leaves of a reader: all but the counts of its file.
+pub record IsReadOnce (old new : Reading) : Type 0 where
+  pub once : ReadsOnce old.file new.file
+  pub others : new ≡ with_file old new.file
+
+-- its data was read once, or not at all
+abbrev pub IsReadAtMostOnce : Reading → Reading → Type 0
+IsReadAtMostOnce old new = (new ≡ old) ⊎ IsReadOnce old new
+
+-- a checkpoint so many documents and bytes further on
+abbrev pub shifted : ℕ → ℕ → Checkpoint → Checkpoint
+shifted docs bytes c = checkpoint (c.doc_range.start + docs) (c.doc_range.end + docs) (c.byte_range.start + bytes) (c.byte_range.end + bytes)
+
+-- What a refused stacking of blocks leaves: where the reading is refused, the writer as it was.
+abbrev pub AfterStacking : Reading → Reading → BlockOutput → BlockOutput → StoreError → Type 0
+AfterStacking reader read old new Memory = (old.failure ≡ None) × (new ≡ old)
+AfterStacking reader read old new Read = (old.failure ≡ None) × (new ≡ old) × HasRisen reader.file.failures read.file.failures
+AfterStacking reader read old new (Failed cause) = AfterFailedBlock old.failure cause old new
+AfterStacking reader read old new _ = ⊥
+
+-- the pending documents as a block, and these blocks behind it
+abbrev pub with_store : Writing → List StoreBlock → Writing
+with_store w bs = record w { pending = []; output = with_blocks (flushed w).output bs }
+
+-- The writer works, and the store's documents may be in an older form.
+pub record IsOld (w : Writing) (reader : Reading) : Type 0 where
+  pub works : w.output.failure ≡ None
+  pub version : reader.version ≡ V1
+
+-- The writer works, the store can be stacked, and the documents of both can't be numbered.
+pub record HasTooMany (w : Writing) (reader : Reading) : Type 0 where
+  pub works : w.output.failure ≡ None
+  pub version : reader.version ≢ V1
+  pub many : 2 ^ 32 ≤ num_docs w + docs_of reader
+
+-- the pending documents were written as a block, if there were any
+abbrev pub IsFlushed : Writing → Writing → Type 0
+IsFlushed old new = (old.output.failure ≡ None) × (new ≡ with_failures new.output.failures (flushed old))
+
+-- What a refused stacking leaves. Only where its data is refused is the writer changed without having failed.
+abbrev pub AfterStack : Reading → Reading → Writing → Writing → StoreError → Type 0
+AfterStack reader read old new OldVersion = (new ≡ old) × (read ≡ reader)
+AfterStack reader read old new TooManyDocs = (new ≡ old) × (read ≡ reader)
+AfterStack reader read old new Memory = IsFlushed old new × IsReadOnce reader read
+AfterStack reader read old new Read = IsFlushed old new × IsReadOnce reader read × HasRisen reader.file.failures read.file.failures
+AfterStack reader read old new (Failed cause) = AfterFailed old.output.failure cause old new
+AfterStack reader read old new _ = ⊥
