@@ -1,15 +1,18 @@
 -- Documents, their bytes and the places where they begin.
-use Rattle.std.proofs.Common.{◌≡◌, ℕ, suc, ◌+◌, ◌-◌, ◌*◌, ◌^◌, ◌<◌, ◌≤◌, List, [], ◌∷◌, ◌++◌, length, take, drop, refl, sym, ◌∙◌, ap, arith, append_assoc, length-append}
+use Rattle.std.proofs.Common.{◌≡◌, ℕ, suc, ◌+◌, ◌-◌, ◌*◌, ◌^◌, ◌<◌, ◌≤◌, List, [], ◌∷◌, ◌++◌, length, take, drop, refl, sym, ◌∙◌, ap, arith, append_assoc, length-append, Option, Some, None, Result, Ok, Err, OnOk, IfSome, false, inl, inr}
 use Rattle.std.proofs.lemmas.List.{append-nil}
 use Rattle.std.proofs.lemmas.List.Concat.{concat_is, length-flat_map}
 use Rattle.std.proofs.Math.Seq.{drop-append_seam, take-append_seam}
 use Rattle.std.specs.List.{flat_map, concat, sum_by}
 use Rattle.std.specs.Prelude.{slice_range}
+use Rattle.std.specs.Result.{is_err}
 use Rattle.store_base.specs.Serialize.{fixed}
 use Rattle.store_base.specs.SerializeLemmas.{length-fixed}
 use Rattle.docstore.specs.Block.{starts_from, block}
 use Rattle.docstore.specs.Trace.{weight}
-use Rattle.docstore.specs.Pending.{first_or, documents_at, IsPending}
+use Rattle.docstore.specs.declared.error.StoreError.{StoreError}
+use Rattle.docstore.specs.declared.error.StoreError.TheVariants.{Memory, BlockTooLarge}
+use Rattle.docstore.specs.Pending.{first_or, documents_at, IsPending, IsDocumentRefusal}
 
 -- ---- sizes
 
@@ -150,3 +153,21 @@ length-block-pending starts bytes capacity h =
 pub limit : (docs : List (List ℕ)) (doc : List ℕ) (size : ℕ) → weight docs ≤ size → 2 ^ 32 ≤ length (block (docs ++ doc ∷ [])) → 2 ^ 32 ≤ size + length doc + 8
 limit docs doc size light large =
     omega (arith, length-block (docs ++ doc ∷ []), ap length (concat-append docs (doc ∷ [])), length-append (concat docs) (doc ++ []), length-append doc [], length-append docs (doc ∷ []), length-concat docs)
+
+-- what a clause says of an Ok, where the result is one
+pub from_ok : {T E P : Type 0} (r : Result T E) → is_err r ≡ false → OnOk r P → P
+from_ok (Ok x) e p = p
+from_ok (Err d) e p = absurd cc
+
+-- a refusal for a lesser cause
+pub refusal_weaker : (o : Option (List ℕ)) (P Q : List ℕ → Type 0) (e : StoreError) → ((d : List ℕ) → P d → Q d) → IsDocumentRefusal o P e → IsDocumentRefusal o Q e
+refusal_weaker None P Q e f h = h
+refusal_weaker (Some d) P Q e f h = elim h [ inl m ↦ inl m | inr l ↦ inr (l.0, f d l.1) ]
+
+-- the same limit for a document that may have no bytes
+pub limit_of : (o : Option (List ℕ)) (docs : List (List ℕ)) (size : ℕ) (e : StoreError) → weight docs ≤ size → IsDocumentRefusal o (λ d. 2 ^ 32 ≤ length (block (docs ++ d ∷ []))) e → IfSome o (λ bytes. e ≡ BlockTooLarge → 2 ^ 32 ≤ size + length bytes + 8)
+limit_of None docs size e light h = tt
+limit_of (Some d) docs size e light h = λ is. elim h [ inl m ↦ absurd (differ e m is) | inr l ↦ limit docs d size light l.1 ]
+  where
+    differ : (e : StoreError) → e ≡ Memory → e ≡ BlockTooLarge → ⊥
+    differ e m is = cc

@@ -1,6 +1,10 @@
 -- Documents that wait, in their bytes and the places where they begin.
-use Rattle.std.specs.Prelude.{◌≡◌, ℕ, ◌+◌, ◌*◌, ◌<◌, ◌≤◌, ◌^◌, List, [], ◌∷◌, length, slice_range}
+use Rattle.std.specs.Prelude.{◌≡◌, ◌⊎◌, ℕ, ◌+◌, ◌*◌, ◌<◌, ◌≤◌, ◌^◌, List, [], ◌∷◌, length, slice_range, Option, Some, None}
 use Rattle.std.specs.List.{concat}
+use Rattle.store_base.specs.declared.fault.DocFault.{DocFault}
+use Rattle.store_base.specs.declared.fault.DocFault.TheVariants as fault
+use Rattle.docstore.specs.declared.error.StoreError.{StoreError}
+use Rattle.docstore.specs.declared.error.StoreError.TheVariants.{Memory, Unserializable, BlockTooLarge}
 use Rattle.docstore.specs.Block.{starts_from}
 
 -- where a document ends: where the next one begins, or at the end
@@ -19,3 +23,13 @@ pub record IsPending (starts bytes : List ℕ) (capacity : ℕ) : Type 0 where
   pub joined : bytes ≡ concat (documents_at starts bytes)
   pub fits : length bytes + 4 * length starts + 4 < 2 ^ 32
   pub room : 0 < length starts → length bytes + 4 * length starts + 4 ≤ capacity
+
+-- the refusal of a document that wrote no bytes
+abbrev pub refusal_to_write : DocFault → StoreError
+refusal_to_write fault.Refused = Unserializable
+refusal_to_write fault.Memory = Memory
+
+-- Why a document with these bytes, or with none, was refused; its bytes may be too large.
+abbrev pub IsDocumentRefusal : Option (List ℕ) → (List ℕ → Type 0) → StoreError → Type 0
+IsDocumentRefusal None IsLarge e = (e ≡ Memory) ⊎ (e ≡ Unserializable)
+IsDocumentRefusal (Some doc) IsLarge e = (e ≡ Memory) ⊎ ((e ≡ BlockTooLarge) × IsLarge doc)

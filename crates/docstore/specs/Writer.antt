@@ -2,7 +2,7 @@
 use Rattle.std.specs.Prelude.{◌≡◌, ℕ, ◌+◌, ◌-◌, ◌<◌, ◌≤◌, ◌^◌, nat_lt, if◌then◌else◌, List, [], ◌∷◌, ◌++◌, length, Option, Some, None}
 use Rattle.docstore.specs.declared.error.Cause.{Cause}
 use Rattle.docstore.specs.declared.error.StoreError.{StoreError}
-use Rattle.docstore.specs.declared.error.StoreError.TheVariants.{Memory, BlockTooLarge, TooManyDocs, Failed}
+use Rattle.docstore.specs.declared.error.StoreError.TheVariants.{Memory, Unserializable, BlockTooLarge, TooManyDocs, Failed}
 use Rattle.docstore.specs.Block.{block}
 use Rattle.docstore.specs.StoreFile.{StoreBlock, docs_in}
 use Rattle.docstore.specs.Trace.{weight, block_of}
@@ -50,6 +50,12 @@ pub record HasIdLeft (w : Writing) : Type 0 where
   pub works : w.output.failure ≡ None
   pub left : num_docs w < 2 ^ 32 - 1
 
+-- The writer has failed, or there is none.
+abbrev pub HasNoIdLeft : Writing → StoreError → Type 0
+HasNoIdLeft w (Failed cause) = w.output.failure ≡ Some cause
+HasNoIdLeft w TooManyDocs = (w.output.failure ≡ None) × (num_docs w ≡ 2 ^ 32 - 1)
+HasNoIdLeft w _ = ⊥
+
 -- The block of the pending documents with this one has no place in 32 bits.
 pub record IsTooLarge (w : Writing) (document : List ℕ) : Type 0 where
   pub id : HasIdLeft w
@@ -67,3 +73,18 @@ AfterRefusal old new TooManyDocs = new ≡ old
 AfterRefusal old new BlockTooLarge = new ≡ old
 AfterRefusal old new (Failed cause) = AfterFailed old.output.failure cause old new
 AfterRefusal old new _ = ⊥
+
+-- A document with these bytes was taken, and it has some.
+abbrev pub Takes : Option (List ℕ) → Writing → Writing → Type 0
+Takes (Some bytes) old new = new ≡ with_failures new.output.failures (with_document old bytes)
+Takes None old new = ⊥
+
+-- The document has bytes, and its block no place.
+abbrev pub HasTooMuch : Writing → Option (List ℕ) → Type 0
+HasTooMuch w (Some bytes) = IsTooLarge w bytes
+HasTooMuch w None = ⊥
+
+-- what a refused document leaves that may have no bytes
+abbrev pub AfterDocument : Writing → Writing → StoreError → Type 0
+AfterDocument old new Unserializable = new ≡ old
+AfterDocument old new e = AfterRefusal old new e

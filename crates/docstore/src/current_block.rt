@@ -1,18 +1,20 @@
 //! The documents that wait for their block.
 
-ghost use Rattle.std.specs.Prelude.{◌≡◌, ◌+◌, ◌*◌, ◌<◌, ◌≤◌, ◌↔◌, ◌^◌, [], ◌∷◌, ◌++◌, length, IsTrue, None, OnOk, OnErr, IfErr, vec_len, vec_capacity};
+ghost use Rattle.std.specs.Prelude.{◌≡◌, ◌+◌, ◌*◌, ◌<◌, ◌≤◌, ◌↔◌, ◌^◌, ℕ, List, [], ◌∷◌, ◌++◌, length, IsTrue, Some, None, OnOk, OnErr, IfErr, vec_len, vec_capacity};
 ghost use Rattle.std.specs.List.{flat_map, concat};
+ghost use Rattle.store_base.specs.Documents.{BeginsWith};
 ghost use Rattle.store_base.specs.Serialize.{fixed};
 ghost use Rattle.docstore.specs.Block.{block};
+ghost use Rattle.docstore.specs.Pending.{refusal_to_write, IsDocumentRefusal};
 ghost use Rattle.docstore.specs.StoreFile.{docs_in};
 ghost use Rattle.docstore.specs.Trace.{weight, block_of};
 ghost use Rattle.docstore.specs.BlockOutput.{with_blocks, with_risen, IsSound, FailsFor};
 
-use crate::error::Cause;
+use crate::error::{Cause, StoreError};
 use crate::store_compressor::BlockCompressor;
 use std::alloc::{AllocError, Global};
 use std::marker::Model;
-use store_base::TerminatingWrite;
+use store_base::{DocFault, Document, Schema, TerminatingWrite};
 
 // A block is shorter than this.
 const BLOCK_LIMIT: usize = 0x1_0000_0000;
@@ -83,6 +85,27 @@ impl CurrentBlock {
         Ok(())
     }
 
+    /// Adds a document that has bytes in the schema at the end. `Err` leaves the documents as they were,
+    /// whatever the document did to the bytes behind them.
+    pub(crate) fn push_document<D: Document>(
+        &mut self,
+        document: &D,
+        schema: &Schema,
+    ) -> Result<(), StoreError>
+        ensures ok { OnOk result ((doc : List ℕ) × (D.doc_bytes document.now schema.now ≡ Some doc)
+            × (length (block (self.old ++ doc ∷ [])) < 2 ^ 32) × (self.new ≡ self.old ++ doc ∷ [])) }
+        ensures err { OnErr result (self.new ≡ self.old) }
+        ensures cause { IfErr result (λ e. IsDocumentRefusal (D.doc_bytes document.now schema.now)
+            (λ doc. 2 ^ 32 ≤ length (block (self.old ++ doc ∷ []))) e) }
+    {
+        let start = self.bytes.len();
+        let appended = append_document(&mut self.bytes, &mut self.starts, document, schema);
+        if appended.is_err() {
+            self.bytes.truncate(start);
+        }
+        appended
+    }
+
     /// Writes them as a block. Afterwards none waits, whatever the result.
     pub(crate) fn flush_to<W: TerminatingWrite>(
         &mut self,
@@ -127,4 +150,47 @@ fn append_table(bytes: &mut Vec<u8>, starts: &[u32])
     }
     let count = starts.len() as u32;
     bytes.extend_from_slice(&count.to_le_bytes()).unwrap();
+}
+
+// Why a document gave no bytes.
+fn no_bytes(fault: DocFault) -> StoreError
+    ensures { result ≡ refusal_to_write fault }
+{
+    match fault {
+        DocFault::Refused => StoreError::Unserializable,
+        DocFault::Memory => StoreError::Memory,
+    }
+}
+
+// Behind the other documents this one, and where it begins. A refusal may leave bytes behind the others.
+fn append_document<D: Document>(
+    bytes: &mut Vec<u8>,
+    starts: &mut Vec<u32>,
+    document: &D,
+    schema: &Schema,
+) -> Result<(), StoreError>
+    requires few_bytes { length bytes.old.items < 2 ^ 32 }
+    requires few_docs { length starts.old.items < 2 ^ 32 }
+    ensures ok { OnOk result ((doc : List ℕ) × (D.doc_bytes document.now schema.now ≡ Some doc)
+        × (bytes.new.items ≡ bytes.old.items ++ doc)
+        × (starts.new.items ≡ starts.old.items ++ length bytes.old.items ∷ [])
+        × (length bytes.old.items + length doc + 4 * (length starts.old.items + 2) < 2 ^ 32)
+        × (length bytes.old.items + length doc + 4 * (length starts.old.items + 2) ≤ vec_capacity bytes.new)) }
+    ensures begins { OnErr result (BeginsWith bytes.old.items bytes.new.items) }
+    ensures starts { OnErr result (starts.new.items ≡ starts.old.items) }
+    ensures capacity { vec_capacity bytes.old ≤ vec_capacity bytes.new }
+    ensures cause { IfErr result (λ e. IsDocumentRefusal (D.doc_bytes document.now schema.now)
+        (λ doc. 2 ^ 32 ≤ length bytes.old.items + length doc + 4 * (length starts.old.items + 2)) e) }
+{
+    let start = bytes.len() as u32;
+    if let Err(fault) = document.serialize_doc(schema, bytes) {
+        return Err(no_bytes(fault));
+    }
+    let table = 4 * (starts.len() + 2);
+    if bytes.len() + table >= BLOCK_LIMIT {
+        return Err(StoreError::BlockTooLarge);
+    }
+    bytes.reserve(table)?;
+    starts.push(start)?;
+    Ok(())
 }

@@ -1,11 +1,11 @@
 //! Writes a store.
 
-ghost use Rattle.std.specs.Prelude.{◌≡◌, ◌+◌, ◌-◌, ◌*◌, ◌<◌, ◌≤◌, ◌↔◌, ◌^◌, List, [], ◌++◌, length, true, None, is_some, OnOk, IfOk, IfErr, IfSome, IsErrOf};
+ghost use Rattle.std.specs.Prelude.{◌≡◌, ◌+◌, ◌-◌, ◌*◌, ◌<◌, ◌≤◌, ◌↔◌, ◌^◌, ◌⊎◌, List, [], ◌++◌, length, true, None, is_some, OnOk, IfOk, IfErr, IfSome, IsErrOf, MatchResult};
 ghost use Rattle.std.specs.List.{concat};
 ghost use Rattle.docstore.specs.StoreFile.{StoreBlock, docs_in, file, IsStore};
 ghost use Rattle.docstore.specs.Trace.{weight};
 ghost use Rattle.docstore.specs.BlockOutput.{with_blocks, with_risen, IsSound, FailsFor, AfterClose};
-ghost use Rattle.docstore.specs.Writer.{num_docs, blocks_of, flushed, flushed_if_full, with_document, with_failures, IsTooLarge, IsStoreWriter, AfterRefusal};
+ghost use Rattle.docstore.specs.Writer.{num_docs, blocks_of, flushed, flushed_if_full, with_document, with_failures, HasIdLeft, HasNoIdLeft, IsTooLarge, HasTooMuch, IsStoreWriter, Takes, AfterRefusal, AfterDocument};
 ghost use Rattle.docstore.specs.Stacking.{AreRead, IsReadOnce, IsReadAtMostOnce, with_store, IsOld, HasTooMany, AfterStack};
 
 use crate::close_error::CloseError;
@@ -18,7 +18,7 @@ use crate::reader::StoreReader;
 use crate::store_compressor::BlockCompressor;
 use std::alloc::Global;
 use std::marker::Model;
-use store_base::{FileHandle, TerminatingWrite};
+use store_base::{Document, FileHandle, Schema, TerminatingWrite};
 
 /// Writes a store. Blocks go out while documents are added; the index stays in memory until `close`.
 #[derive(Drop)]
@@ -123,6 +123,61 @@ impl<W: TerminatingWrite> StoreWriter<W> {
         self.current_block.mem_usage()
     }
 
+    // Refuses where the writer has failed, and where there is no id for one more document.
+    fn check_id_left(&self) -> Result<(), StoreError>
+        ensures { MatchResult result (λ _. HasIdLeft self.now) (HasNoIdLeft self.now) }
+    {
+        if let Some(cause) = self.block_compressor.failure() {
+            return Err(StoreError::Failed(cause));
+        }
+        if self.num_docs() == u32::MAX {
+            return Err(StoreError::TooManyDocs);
+        }
+        Ok(())
+    }
+
+    /// Stores a document. Its id is `num_docs` before the call.
+    ///
+    /// It is pending as the bytes that it writes, and goes out as in `store_bytes`. A document that is
+    /// refused leaves the writer as it was, whatever it had written.
+    pub fn store<D: Document>(&mut self, document: &D, schema: &Schema) -> Result<(), StoreError>
+        ensures stored { OnOk result (Takes (D.doc_bytes document.now schema.now) self.old self.new) }
+
+        // Each cause, where none above it holds.
+        ensures failed { IfSome self.old.output.failure (λ cause. IsErrOf result (StoreError.Failed cause)) }
+        ensures too_many { IsErrOf result StoreError.TooManyDocs
+            ↔ ((self.old.output.failure ≡ None) × (num_docs self.old ≡ 2 ^ 32 - 1)) }
+        ensures unserializable { IsErrOf result StoreError.Unserializable
+            → HasIdLeft self.old × (D.doc_bytes document.now schema.now ≡ None) }
+        ensures too_large { IsErrOf result StoreError.BlockTooLarge
+            → HasTooMuch self.old (D.doc_bytes document.now schema.now) }
+
+        // The last two come, unless memory runs out before.
+        ensures no_bytes { HasIdLeft self.old → D.doc_bytes document.now schema.now ≡ None
+            → IsErrOf result StoreError.Unserializable ⊎ IsErrOf result StoreError.Memory }
+        ensures too_much { HasTooMuch self.old (D.doc_bytes document.now schema.now)
+            → IsErrOf result StoreError.BlockTooLarge ⊎ IsErrOf result StoreError.Memory }
+
+        // So a document of fewer bytes is never too large.
+        ensures limit { IfSome (D.doc_bytes document.now schema.now) (λ bytes.
+            IsErrOf result StoreError.BlockTooLarge → 2 ^ 32 ≤ self.old.block_size + length bytes + 8) }
+
+        // After an error: as it was, or failed for good.
+        ensures err { IfErr result (AfterDocument self.old self.new) }
+
+        ensures count { self.old.output.failures ≤ self.new.output.failures }
+        ensures sound { IsStoreWriter self.new }
+    {
+        self.check_id_left()?;
+        self.current_block.push_document(document, schema)?;
+        flush_if_full(
+            &mut self.current_block,
+            &mut self.block_compressor,
+            self.block_size,
+        )?;
+        Ok(())
+    }
+
     /// Stores a document that is bytes already. Its id is `num_docs` before the call.
     ///
     /// The document waits in memory. Once the waiting documents weigh more than the block size, at
@@ -150,12 +205,7 @@ impl<W: TerminatingWrite> StoreWriter<W> {
         ensures count { self.old.output.failures ≤ self.new.output.failures }
         ensures sound { IsStoreWriter self.new }
     {
-        if let Some(cause) = self.block_compressor.failure() {
-            return Err(StoreError::Failed(cause));
-        }
-        if self.num_docs() == u32::MAX {
-            return Err(StoreError::TooManyDocs);
-        }
+        self.check_id_left()?;
         if !self.current_block.has_room(document) {
             return Err(StoreError::BlockTooLarge);
         }
