@@ -42,3 +42,4 @@ pub mod ApartLemmas
 pub mod DocumentLemmas
 pub mod TakenLemmas
 pub mod StackingLemmas
+pub mod StackedLemmas

@@ -39,6 +39,10 @@ all-append : (bs cs : List StoreBlock) → AllByRecursion IsStoreBlock bs → Al
 all-append [] cs p q = q
 all-append (b ∷ bs) cs p q = (p.0, all-append bs cs p.1 q)
 
+pub all-front : (bs cs : List StoreBlock) → AllByRecursion IsStoreBlock (bs ++ cs) → AllByRecursion IsStoreBlock bs
+all-front [] cs p = tt
+all-front (b ∷ bs) cs p = (p.0, all-front bs cs p.1)
+
 pub AreBlocks-append : (bs cs : List StoreBlock) → AreBlocks bs → AllByRecursion IsStoreBlock cs → docs_in bs + docs_in cs < 2 ^ 32 → AreBlocks (bs ++ cs)
 AreBlocks-append bs cs p q few = record {
   each = all-append bs cs p.each q;

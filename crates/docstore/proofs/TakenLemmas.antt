@@ -17,16 +17,16 @@ use Rattle.docstore.proofs.StoreSlotLemmas.{range_len, map_len}
 -- ---- flushing
 
 -- the slots of joined stores
-slots-append : (bs cs : List StoreBlock) → slots (bs ++ cs) ≡ slots bs ++ slots cs
+pub slots-append : (bs cs : List StoreBlock) → slots (bs ++ cs) ≡ slots bs ++ slots cs
 slots-append bs cs = flat_map-append (λ (b : StoreBlock). map (slot b.bytes) (range_with_len 0 b.count)) bs cs
 
 -- documents put behind as a block bring their slots
-slots_flushed : (bs : List StoreBlock) (docs : List (List ℕ)) → (0 < length docs → length (block docs) < 2 ^ 32) → slots (bs ++ blocks_of docs) ≡ slots bs ++ map doc docs
+pub slots_flushed : (bs : List StoreBlock) (docs : List (List ℕ)) → (0 < length docs → length (block docs) < 2 ^ 32) → slots (bs ++ blocks_of docs) ≡ slots bs ++ map doc docs
 slots_flushed bs [] fits = ap slots (append-nil bs) ∙ sym (append-nil (slots bs))
 slots_flushed bs (d ∷ docs) fits = slots-append bs (block_of (d ∷ docs) ∷ []) ∙ ap (λ (x : List Slot). slots bs ++ x) (blocks_hold_documents (d ∷ docs) (fits (omega arith)))
 
 -- the last of the blocks of a store has fewer than 2^32 bytes
-last_fits : (bs : List StoreBlock) (docs : List (List ℕ)) → AllByRecursion IsStoreBlock (bs ++ blocks_of docs) → 0 < length docs → length (block docs) < 2 ^ 32
+pub last_fits : (bs : List StoreBlock) (docs : List (List ℕ)) → AllByRecursion IsStoreBlock (bs ++ blocks_of docs) → 0 < length docs → length (block docs) < 2 ^ 32
 last_fits bs [] each some = absurd (omega (arith, some))
 last_fits [] (d ∷ docs) each some = each.0.few_bytes
 last_fits (b ∷ bs) (d ∷ docs) each some = last_fits bs (d ∷ docs) each.1 some
@@ -55,7 +55,7 @@ documents_are_taken_in_order w document fits =
 -- ---- ids
 
 -- each document has a slot
-length-slots : (bs : List StoreBlock) → length (slots bs) ≡ docs_in bs
+pub length-slots : (bs : List StoreBlock) → length (slots bs) ≡ docs_in bs
 length-slots [] = refl
 length-slots (b ∷ bs) =
     let here = map (slot b.bytes) (range_with_len 0 b.count) in

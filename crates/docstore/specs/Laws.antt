@@ -1,6 +1,6 @@
 -- What the formats promise.
 use Rattle.std.specs.Prelude.{◌≡◌, ℕ, ◌<◌, ◌≤◌, ◌^◌, List, [], ◌∷◌, ◌++◌, length, map}
-use Rattle.std.specs.List.{AllByRecursion}
+use Rattle.std.specs.List.{flat_map, AllByRecursion}
 use Rattle.docstore.specs.declared.index.Checkpoint.{Checkpoint}
 use Rattle.docstore.specs.Checkpoint.{IsInLine, checkpoint_block}
 use Rattle.docstore.specs.Layers.{layer_text, layer_above, digit_count, layers, index_part}
@@ -8,6 +8,8 @@ use Rattle.docstore.specs.Block.{Slot, doc, block}
 use Rattle.docstore.specs.Slots.{slots}
 use Rattle.docstore.specs.Trace.{block_of}
 use Rattle.docstore.specs.StoreFile.{StoreBlock, AreBlocks, file, IsStore}
+use Rattle.docstore.specs.Reading.{Reading, num_docs as docs_of}
+use Rattle.docstore.specs.Stacking.{AreRead, with_store}
 use Rattle.docstore.specs.Writer.{Writing, num_docs, flushed, with_document}
 
 -- No checkpoint block begins another, and each list in line has its own.
@@ -57,3 +59,28 @@ DocumentsAreTakenInOrder = (w : Writing) (document : List ℕ) → length (block
 -- There is a slot for each document that was taken, so the next document's id is its place.
 abbrev pub IdsAreGivenInOrder : Type 0
 IdsAreGivenInOrder = (w : Writing) → length (taken w) ≡ num_docs w
+
+-- Pending documents that are written as a block keep their slots.
+abbrev pub FlushesKeepSlots : Type 0
+FlushesKeepSlots = (w : Writing) → AreBlocks (flushed w).output.finished → taken (flushed w) ≡ taken w
+
+-- The slots of a store that is stacked are put behind.
+abbrev pub StoresAreStackedInOrder : Type 0
+StoresAreStackedInOrder = (w : Writing) (bs : List StoreBlock) → AreBlocks (with_store w bs).output.finished → taken (with_store w bs) ≡ taken w ++ slots bs
+
+-- Whatever came of a reader's file has as many slots as the reader has documents.
+abbrev pub StackedSlotsAreCounted : Type 0
+StackedSlotsAreCounted = (reader : Reading) (bs : List StoreBlock) → AreRead reader bs → length (slots bs) ≡ docs_of reader
+
+-- these stores stacked, one after the other
+abbrev pub stacked : Writing → List (List StoreBlock) → Writing
+stacked w [] = w
+stacked w (bs ∷ stores) = stacked (with_store w bs) stores
+
+-- Where nothing is pending, a close behind stackings writes the file of all their blocks, joined.
+abbrev pub StackedFilesAreJoined : Type 0
+StackedFilesAreJoined = (w : Writing) (stores : List (List StoreBlock)) → w.pending ≡ [] → file_of (stacked w stores) ≡ file w.output.period 3 (w.output.finished ++ flat_map (λ bs. bs) stores)
+
+-- So it doesn't matter which of three stores were stacked to one before.
+abbrev pub StackingIsAssociative : Type 0
+StackingIsAssociative = (w : Writing) (bs cs ds : List StoreBlock) → w.pending ≡ [] → file_of (stacked w ((bs ++ cs) ∷ ds ∷ [])) ≡ file_of (stacked w (bs ∷ (cs ++ ds) ∷ []))

@@ -1,5 +1,5 @@
 //! Laws of the formats.
-ghost use Rattle.docstore.specs.Laws.{CheckpointBlocksAreApart, IndexPartsAreApart, LayerAboveIsInLine, LayersAreInLine, FilesAreStores, StoresAreApart, BlocksHoldDocuments, WrittenDocumentsAreFound, DocumentsAreTakenInOrder, IdsAreGivenInOrder};
+ghost use Rattle.docstore.specs.Laws.{CheckpointBlocksAreApart, IndexPartsAreApart, LayerAboveIsInLine, LayersAreInLine, FilesAreStores, StoresAreApart, BlocksHoldDocuments, WrittenDocumentsAreFound, DocumentsAreTakenInOrder, IdsAreGivenInOrder, FlushesKeepSlots, StoresAreStackedInOrder, StackedSlotsAreCounted, StackedFilesAreJoined, StackingIsAssociative};
 
 /// No checkpoint block begins another, and each list in line has its own.
 pub fn checkpoint_blocks_are_apart()
@@ -49,4 +49,29 @@ pub fn documents_are_taken_in_order()
 /// There is a slot for each document that was taken, so the next document's id is its place.
 pub fn ids_are_given_in_order()
     ensures { IdsAreGivenInOrder }
+{}
+
+/// Pending documents that are written as a block keep their slots.
+pub fn flushes_keep_slots()
+    ensures { FlushesKeepSlots }
+{}
+
+/// The slots of a store that is stacked are put behind.
+pub fn stores_are_stacked_in_order()
+    ensures { StoresAreStackedInOrder }
+{}
+
+/// Whatever came of a reader's file has as many slots as the reader has documents.
+pub fn stacked_slots_are_counted()
+    ensures { StackedSlotsAreCounted }
+{}
+
+/// Where nothing is pending, a close behind stackings writes the file of all their blocks, joined.
+pub fn stacked_files_are_joined()
+    ensures { StackedFilesAreJoined }
+{}
+
+/// It doesn't matter which of three stores were stacked to one before.
+pub fn stacking_is_associative()
+    ensures { StackingIsAssociative }
 {}
