@@ -40,6 +40,14 @@ handed_from mid new (Ok f) e on = (reads_same mid new f (Err e) on).content
 pub handed_back : (old new : Part) (e : StoreError) → Opens old (Err e) new → new.content ≡ old.content
 handed_back old new e o = handed_from o.mid new o.footer e o.goes_on ∙ (extracts_same old o.mid o.footer o.reads).content
 
+accepted_from : (mid new : Part) (said : Result DocStoreFooter StoreError) (found : DocStoreFooter × Index) → OpensFrom mid said (Ok found) new → new.content ≡ mid.content
+accepted_from mid new (Err d) found on = absurd (let no = on.0 in cc)
+accepted_from mid new (Ok f) found on = (reads_same mid new f (Ok found.1) on.1).content
+
+-- So does a file that is accepted.
+pub accepted_handed : (old new : Part) (found : DocStoreFooter × Index) → Opens old (Ok found) new → new.content ≡ old.content
+accepted_handed old new found o = accepted_from o.mid new o.footer found o.goes_on ∙ (extracts_same old o.mid o.footer o.reads).content
+
 footer_failed : (old mid : Part) → ExtractsFooter old (Err Read) mid → HasRisen old.failures mid.failures
 footer_failed old mid r = (elim (nat_lt (length old.content) 28) as (λ y. nat_lt (length old.content) 28 ≡ y → HasRisen old.failures mid.failures) [
   | true ↦ λ t. let no = (r.short (ltb-true _ _ t)).0 in absurd cc

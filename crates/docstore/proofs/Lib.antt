@@ -32,6 +32,9 @@ pub mod FooterReadLemmas
 pub mod CoveringLemmas
 pub mod ExtractionLemmas
 pub mod SeekLemmas
+pub mod CacheSumLemmas
+pub mod KeptLemmas
+pub mod LookUpLemmas
 pub mod SeenLemmas
 pub mod StoreSlotLemmas
 pub mod AnsweringLemmas

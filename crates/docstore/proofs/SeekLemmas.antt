@@ -1,8 +1,9 @@
 -- What a seek finds in checkpoints that cover.
-use Rattle.std.proofs.Common.{◌≡◌, ℕ, ◌<◌, ◌≤◌, true, false, List, [], ◌∷◌, Some, None, nat_lt, refl, subst, arith}
+use Rattle.std.proofs.Common.{◌≡◌, ℕ, ◌<◌, ◌≤◌, true, false, List, [], ◌∷◌, Some, None, nat_lt, refl, sym, subst, arith}
+use Rattle.std.specs.List.{AllByRecursion}
 use Rattle.std.proofs.lemmas.Bool.{ltb-true, ltb-false}
 use Rattle.docstore.specs.declared.index.Checkpoint.{Checkpoint}
-use Rattle.docstore.specs.Checkpoint.{IsInLineFrom, docs_end, bytes_end, first_past}
+use Rattle.docstore.specs.Checkpoint.{IsInLineFrom, IsFilled, docs_end, bytes_end, first_past}
 
 -- what a seek finds, in checkpoints that go on from a document and a byte
 pub record IsWithin (doc byte : ℕ) (cs : List Checkpoint) (target : ℕ) (c : Checkpoint) : Type 0 where
@@ -37,3 +38,33 @@ none_past doc byte (x ∷ cs) target r e le = (elim (nat_lt target x.doc_range.e
   | true ↦ λ t. let e' = rw t at e in absurd cc
   | false ↦ λ t. none_past x.doc_range.end x.byte_range.end cs target r.3 (rw t at e) (ltb-false _ _ t)
 ]) refl
+
+-- P of each checkpoint holds of one that is found
+pub All-found : (P : Checkpoint → Type 0) (cs : List Checkpoint) (target : ℕ) (c : Checkpoint) → first_past cs target ≡ Some c → AllByRecursion P cs → P c
+All-found P [] target c e a = absurd cc
+All-found P (x ∷ cs) target c e a = (elim (nat_lt target x.doc_range.end) as (λ y. nat_lt target x.doc_range.end ≡ y → P c) [
+  | true ↦ λ t. let e' = rw t at e in let same : x ≡ c = cc in subst P same a.0
+  | false ↦ λ t. All-found P cs target c (rw t at e) a.1
+]) refl
+
+starts_from : (doc byte : ℕ) (cs : List Checkpoint) → IsInLineFrom doc byte cs → AllByRecursion (λ c. byte ≤ c.byte_range.start) cs
+starts_from doc byte [] r = tt
+starts_from doc byte (c ∷ cs) r = (omega (arith, r.1), lower c.byte_range.end byte cs (omega (arith, r.1, r.2.byte_order)) (starts_from c.doc_range.end c.byte_range.end cs r.3))
+  where
+    lower : (m n : ℕ) (cs : List Checkpoint) → n ≤ m → AllByRecursion (λ c. m ≤ c.byte_range.start) cs → AllByRecursion (λ c. n ≤ c.byte_range.start) cs
+    lower m n [] le a = tt
+    lower m n (c ∷ cs) le a = (omega (arith, a.0), lower m n cs le a.1)
+
+-- no two checkpoints begin at one byte, where none is empty
+pub one_start : (doc byte : ℕ) (cs : List Checkpoint) (target : ℕ) (c : Checkpoint) → IsInLineFrom doc byte cs → AllByRecursion IsFilled cs → first_past cs target ≡ Some c → AllByRecursion (λ x. x.byte_range.start ≡ c.byte_range.start → c ≡ x) cs
+one_start doc byte [] target c r f e = tt
+one_start doc byte (x ∷ cs) target c r f e = (elim (nat_lt target x.doc_range.end) as (λ y. nat_lt target x.doc_range.end ≡ y → AllByRecursion (λ x. x.byte_range.start ≡ c.byte_range.start → c ≡ x) (x ∷ cs)) [
+  | true ↦ λ t. let e' = rw t at e in let same : x ≡ c = cc in (λ _. sym same, apart cs (starts_from x.doc_range.end x.byte_range.end cs r.3) (subst (λ (y : Checkpoint). y.byte_range.start < x.byte_range.end) same (omega (arith, f.0.1))))
+  | false ↦ λ t. let found = rw t at e in
+      let past = All-found (λ y. x.byte_range.end ≤ y.byte_range.start) cs target c found (starts_from x.doc_range.end x.byte_range.end cs r.3) in
+      (λ same. absurd (omega (arith, past, f.0.1)), one_start x.doc_range.end x.byte_range.end cs target c r.3 f.1 found)
+]) refl
+  where
+    apart : (ys : List Checkpoint) → AllByRecursion (λ y. x.byte_range.end ≤ y.byte_range.start) ys → c.byte_range.start < x.byte_range.end → AllByRecursion (λ y. y.byte_range.start ≡ c.byte_range.start → c ≡ y) ys
+    apart [] a lt = tt
+    apart (y ∷ ys) a lt = (λ same. absurd (omega (arith, a.0)), apart ys a.1 lt)

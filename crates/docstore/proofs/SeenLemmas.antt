@@ -8,12 +8,9 @@ use Rattle.docstore.specs.declared.index.Checkpoint.{Checkpoint}
 use Rattle.docstore.specs.Checkpoint.{IsInLineFrom, docs_end, bytes_end, doc_count, IsFilled, Covers}
 use Rattle.docstore.specs.StoreFile.{StoreBlock, IsStoreBlock, AreBlocks, docs_in, data_of, marks_from, marks}
 use Rattle.docstore.specs.BlockOutput.{blocks_at}
+use Rattle.docstore.specs.Reading.{part_of}
 use Rattle.docstore.proofs.SeekLemmas.{bytes_go_on}
 use Rattle.docstore.proofs.StoreLemmas.{docs_in-cons, blocks_from}
-
--- the bytes that data has for a block
-abbrev pub part_of : List ℕ → Checkpoint → List ℕ
-part_of content c = slice_range content c.byte_range.start c.byte_range.end
 
 -- the blocks that checkpoints have in data, by their ranges
 abbrev pub blocks_of : List ℕ → List Checkpoint → List StoreBlock

@@ -7,7 +7,8 @@ use Rattle.docstore.specs.declared.index.Checkpoint.{Checkpoint}
 use Rattle.docstore.specs.Checkpoint.{IsInLineFrom, docs_end, doc_count, first_past}
 use Rattle.docstore.specs.Block.{Slot, slot}
 use Rattle.docstore.specs.Slots.{slots}
-use Rattle.docstore.proofs.SeenLemmas.{part_of, blocks_of}
+use Rattle.docstore.specs.Reading.{part_of}
+use Rattle.docstore.proofs.SeenLemmas.{blocks_of}
 
 -- the slots of one block
 slots_in : List ℕ → Checkpoint → List Slot

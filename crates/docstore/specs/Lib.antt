@@ -20,6 +20,10 @@ pub mod Refusal
 pub mod Outcome
 pub mod Laws
 pub mod FileReading
+pub mod Cache
+pub mod Kept
+pub mod CacheSums
+pub mod LookingUp
 pub mod Extraction
 pub mod Covering
 pub mod Reading

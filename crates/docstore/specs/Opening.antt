@@ -8,6 +8,7 @@ use Rattle.docstore.specs.Layers.{Index}
 use Rattle.docstore.specs.Covering.{IsIndexOf, HasIndexOf}
 use Rattle.docstore.specs.Extraction.{ExtractsFooter, narrowed}
 use Rattle.docstore.specs.FileReading.{Comes}
+use Rattle.docstore.specs.Kept.{no_blocks}
 use Rattle.docstore.specs.Reading.{Reading}
 use Rattle.docstore.specs.Refusal.{RefusesOnlyUnless}
 use Rattle.docstore.specs.StoreFile.{StoreBlock, IsStore}
@@ -44,7 +45,7 @@ pub record Opens (old : Part) (result : Result (DocStoreFooter × Index) StoreEr
 abbrev pub index_of : Reading → Index
 index_of r = record { period = r.period; checkpoints = r.checkpoints }
 
--- The reader has what the footer and the index say.
+-- The reader has what the footer and the index say. Its cache has kept nothing and counted nothing.
 pub record IsOpened (old : Part) (capacity : ℕ) (reader : Reading) : Type 0 where
   pub footer : DocStoreFooter
   pub after : Part
@@ -52,7 +53,15 @@ pub record IsOpened (old : Part) (capacity : ℕ) (reader : Reading) : Type 0 wh
   pub part : reader.file ≡ narrowed after (slice_range after.content 0 footer.offset)
   pub version : reader.version ≡ footer.doc_store_version
   pub decompressor : reader.decompressor ≡ footer.decompressor
-  pub capacity_is : reader.capacity ≡ capacity
+  pub cache : reader.cache ≡ no_blocks capacity
+
+-- the footer and the index of a file that is accepted
+abbrev pub OpensSome : Part → Part → Type 0
+OpensSome old new = (found : DocStoreFooter × Index) × Opens old (Ok found) new
+
+-- The footer or the index is refused; or memory for the cache of a file that is accepted.
+abbrev pub IsRefused : Part → StoreError → Part → Type 0
+IsRefused old e new = Opens old (Err e) new ⊎ ((e ≡ Memory) × OpensSome old new)
 
 -- these bytes are the file of some store
 pub record IsSomeStore (bytes : List ℕ) : Type 0 where

@@ -1,40 +1,55 @@
 -- What a reader of a store is seen as.
-use Rattle.std.specs.Prelude.{◌≡◌, ℕ, ◌≤◌, List, length}
+use Rattle.std.specs.Prelude.{◌≡◌, ℕ, ◌≤◌, IsTrue, List, length, slice_range}
+use Rattle.std.specs.List.{AllByRecursion}
 use Rattle.store_base.specs.Files.{Part}
 use Rattle.docstore.specs.declared.compressors.Decompressor.{Decompressor}
 use Rattle.docstore.specs.declared.footer.DocStoreVersion.{DocStoreVersion}
 use Rattle.docstore.specs.declared.index.Checkpoint.{Checkpoint}
 use Rattle.docstore.specs.Checkpoint.{docs_end, Covers}
 use Rattle.docstore.specs.BlockOutput.{blocks_at}
+use Rattle.docstore.specs.Kept.{Blocks}
 use Rattle.docstore.specs.StoreFile.{StoreBlock, AreBlocks, data_of, marks}
 
 -- the data, the checkpoints of its blocks and the period of their index, how documents are spelled, how blocks are unpacked, and
--- how many blocks a cache may keep
+-- the blocks that are kept
 pub record Reading : Type 0 where
   pub file : Part
   pub checkpoints : List Checkpoint
   pub period : ℕ
   pub version : DocStoreVersion
   pub decompressor : Decompressor
-  pub capacity : ℕ
+  pub cache : Blocks
 
 -- how many documents there are
 abbrev pub num_docs : Reading → ℕ
 num_docs r = docs_end 0 r.checkpoints
 
+-- the same reader after its data was read and its cache was used
+abbrev pub with_parts : Reading → Part → Blocks → Reading
+with_parts r file cache = record { file = file; checkpoints = r.checkpoints; period = r.period; version = r.version; decompressor = r.decompressor; cache = cache }
+
 -- the same reader after its data was read
 abbrev pub with_file : Reading → Part → Reading
-with_file r file = record { file = file; checkpoints = r.checkpoints; period = r.period; version = r.version; decompressor = r.decompressor; capacity = r.capacity }
+with_file r file = with_parts r file r.cache
+
+-- the bytes that data has for a block
+abbrev pub part_of : List ℕ → Checkpoint → List ℕ
+part_of content c = slice_range content c.byte_range.start c.byte_range.end
+
+-- A kept block has the bytes of the checkpoint that begins at its key.
+abbrev pub HasPart : List ℕ → List Checkpoint → ℕ × List ℕ → Type 0
+HasPart content cs entry = AllByRecursion (λ c. c.byte_range.start ≡ entry.0 → entry.1 ≡ part_of content c) cs
 
 -- the store of a reader
 abbrev pub store_of : Reading → List StoreBlock
 store_of r = blocks_at r.checkpoints r.file.content
 
--- what always holds: the checkpoints cover the data
-pub record IsReader (file : Part) (cs : List Checkpoint) (period : ℕ) : Type 0 where
+-- what always holds: the checkpoints cover the data; where reads give what is there, so do the kept blocks
+pub record IsReader (file : Part) (cs : List Checkpoint) (period : ℕ) (cache : Blocks) : Type 0 where
   pub covers : Covers cs (length file.content)
   pub two : 2 ≤ period
   pub few : period ≤ 64
+  pub holds : IsTrue file.honest → AllByRecursion (HasPart file.content cs) cache.kept
 
 -- the store of a reader is one: its checkpoints are the reader's, and its data is the data
 pub record IsSeen (r : Reading) : Type 0 where

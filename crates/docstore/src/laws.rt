@@ -1,4 +1,5 @@
 //! Laws of the formats.
+ghost use Rattle.docstore.specs.CacheSums.{StatsAreAdded};
 ghost use Rattle.docstore.specs.Laws.{CheckpointBlocksAreApart, IndexPartsAreApart, LayerAboveIsInLine, LayersAreInLine, FilesAreStores, StoresAreApart, BlocksHoldDocuments, WrittenDocumentsAreFound, DocumentsAreTakenInOrder, IdsAreGivenInOrder, FlushesKeepSlots, StoresAreStackedInOrder, StackedSlotsAreCounted, StackedFilesAreJoined, StackingIsAssociative};
 
 /// No checkpoint block begins another, and each list in line has its own.
@@ -74,4 +75,9 @@ pub fn stacked_files_are_joined()
 /// It doesn't matter which of three stores were stacked to one before.
 pub fn stacking_is_associative()
     ensures { StackingIsAssociative }
+{}
+
+/// What two caches did adds to the same in either order, and what three did in either grouping.
+pub fn stats_are_added()
+    ensures { StatsAreAdded }
 {}

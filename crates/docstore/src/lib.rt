@@ -1,6 +1,8 @@
 //! A document store with a layered skip index.
 #![tactic(auto)]
 
+mod cache;
+pub mod cache_stats;
 pub mod close_error;
 pub mod compressors;
 mod current_block;
@@ -10,6 +12,7 @@ pub mod footer;
 mod footer_reading;
 pub mod index;
 pub mod laws;
+mod look_up;
 pub mod open_error;
 mod opening;
 pub mod reader;
@@ -19,6 +22,7 @@ pub mod store_compressor;
 mod store_index;
 pub mod writer;
 
+pub use cache_stats::CacheStats;
 pub use close_error::CloseError;
 pub use compressors::{Compressor, Decompressor};
 pub use error::{Cause, StoreError};
@@ -30,7 +34,7 @@ pub use index::skip_index::SkipIndex;
 pub use index::skip_index_builder::SkipIndexBuilder;
 pub use index::{CHECKPOINT_PERIOD, Checkpoint};
 pub use open_error::OpenError;
-pub use reader::StoreReader;
+pub use reader::{DOCSTORE_CACHE_CAPACITY, StoreReader};
 pub use slot::block_read_index;
 pub use store_compressor::BlockCompressor;
 pub use writer::StoreWriter;

@@ -1,30 +1,31 @@
 //! The reader of a store.
-ghost use Rattle.std.specs.Prelude.{◌≡◌, ◌<◌, ◌≤◌, ◌-◌, ℕ, List, Result, Err, IsTrue, IfOk, IfErr, IsErrOf, MatchResult, ◌↔◌, length, slice_get};
+ghost use Rattle.std.specs.Prelude.{◌≡◌, ◌<◌, ◌≤◌, IsTrue, IfOk, IfErr, IsErrOf, MatchResult, ◌↔◌, length, slice_get};
 ghost use Rattle.store_base.specs.Counts.{HasRisen};
-ghost use Rattle.docstore.specs.declared.error.StoreError.{StoreError as StoreErrorOf};
-ghost use Rattle.docstore.specs.Answering.{Answers, AnswersFrom, IsAnswered, AnswersTruly};
-ghost use Rattle.docstore.specs.Block.{slot};
-ghost use Rattle.docstore.specs.FileReading.{Comes};
+ghost use Rattle.docstore.specs.Answering.{IsAnswered, AnswersTruly};
 ghost use Rattle.docstore.specs.Footer.{version_number};
+ghost use Rattle.docstore.specs.Kept.{last_key};
 ghost use Rattle.docstore.specs.Layers.{index_part};
-ghost use Rattle.docstore.specs.Opening.{IsOpened, Opens, RefusesNoStore};
+ghost use Rattle.docstore.specs.Opening.{IsOpened, IsRefused, RefusesNoStore};
 ghost use Rattle.docstore.specs.Reading.{IsSeen, num_docs, store_of};
 ghost use Rattle.docstore.specs.Slots.{slots};
 ghost use Rattle.docstore.specs.StoreFile.{IsStore};
 
+use crate::cache::BlockCache;
+use crate::cache_stats::CacheStats;
 use crate::compressors::Decompressor;
 use crate::error::StoreError;
-use crate::file_reading::read_part;
 use crate::footer::DocStoreVersion;
-use crate::index::Checkpoint;
 use crate::index::layer_cursor::LayerCursor;
+use crate::look_up::look_up_document;
 use crate::open_error::OpenError;
 use crate::opening::read_store;
-use crate::slot::block_read_index;
 use crate::store_index::StoreIndex;
 use std::alloc::Global;
 use std::marker::Model;
 use store_base::{DocId, FileHandle, FileSlice, OwnedBytes, StoreSpaceUsage};
+
+/// How many blocks a reader's cache may keep where its user has no number of its own.
+pub const DOCSTORE_CACHE_CAPACITY: usize = 100;
 
 /// Reads the documents of a store.
 #[derive(Drop)]
@@ -33,7 +34,7 @@ pub struct StoreReader<H: FileHandle> {
     index: StoreIndex,
     version: DocStoreVersion,
     decompressor: Decompressor,
-    cache_num_blocks: usize,
+    cache: BlockCache,
 }
 
 impl<H: FileHandle> Model for StoreReader<H> {
@@ -47,55 +48,24 @@ impl<H: FileHandle> Model for StoreReader<H> {
       period = r.index.period;
       version = r.version;
       decompressor = r.decompressor;
-      capacity = r.cache_num_blocks;
+      cache = r.cache;
     } };
 
-    ghost invariant = { λ r. IsReader r.file r.index.checkpoints r.index.period };
-}
-
-// The document at a position of a block.
-fn document_in(block: &OwnedBytes, doc_id: DocId, doc_pos: u32) -> Result<OwnedBytes, StoreError>
-    ensures { Answers doc_id (slot block.now doc_pos) result }
-{
-    match block_read_index(block.as_slice(), doc_pos) {
-        Some(range) => Ok(block.slice(range)?),
-        None => Err(StoreError::DamagedDocument(doc_id)),
-    }
-}
-
-// Reads the block of a checkpoint, for the bytes of one of its documents.
-fn read_document<H: FileHandle>(
-    file: &mut FileSlice<H>,
-    alloc: Global,
-    checkpoint: &Checkpoint,
-    doc_id: DocId,
-) -> Result<OwnedBytes, StoreError>
-    requires order { checkpoint.now.byte_range.start ≤ checkpoint.now.byte_range.end }
-    requires within { checkpoint.now.byte_range.end ≤ length file.old.content }
-    requires from { checkpoint.now.doc_range.start ≤ doc_id }
-    ensures { (came : Result (List ℕ) StoreErrorOf)
-        × Comes file.old checkpoint.now.byte_range.start checkpoint.now.byte_range.end came file.new
-        × AnswersFrom doc_id (doc_id - checkpoint.now.doc_range.start) came result }
-{
-    let range = checkpoint.byte_range.start as u64..checkpoint.byte_range.end as u64;
-    match read_part(file, alloc, range) {
-        Ok(block) => document_in(&block, doc_id, doc_id - checkpoint.doc_range.start),
-        Err(error) => Err(error),
-    }
+    ghost invariant = { λ r. IsReader r.file r.index.checkpoints r.index.period r.cache };
 }
 
 impl<H: FileHandle> StoreReader<H> {
     /// Opens a store, with a cache of at most so many blocks. The first refusal counts: those of
     /// `DocStoreFooter::extract_footer`, then an offset past the bytes before the footer, then a
     /// failed read, a want of memory, and bytes that are not the index of checkpoints that cover the
-    /// data. It hands the file back.
+    /// data. The cache is made last. A refusal hands the file back.
     pub fn open(
         alloc: Global,
         mut file: FileSlice<H>,
         cache_num_blocks: usize,
     ) -> Result<StoreReader<H>, OpenError<H>>
         ensures opened { IfOk result (λ r. IsOpened file cache_num_blocks r) }
-        ensures refused { IfErr result (λ e. Opens file (Err e.error) e.file) }
+        ensures refused { IfErr result (λ e. IsRefused file e.error e.file) }
 
         // What follows.
         ensures honest { IsTrue file.honest → MatchResult result
@@ -104,19 +74,27 @@ impl<H: FileHandle> StoreReader<H> {
         ensures handed_back { IfErr result (λ e. e.file.content ≡ file.content) }
         ensures failed { IfErr result (λ e. e.error ≡ StoreError.Read → HasRisen file.failures e.file.failures) }
     {
-        match read_store(&mut file, alloc) {
-            Ok((footer, index)) => Ok(StoreReader {
-                file: file.narrow(0..footer.offset),
-                index,
-                version: footer.doc_store_version,
-                decompressor: footer.decompressor,
-                cache_num_blocks,
-            }),
-            Err(error) => Err(OpenError { error, file }),
-        }
+        let (footer, index) = match read_store(&mut file, alloc) {
+            Ok(found) => found,
+            Err(error) => return Err(OpenError { error, file }),
+        };
+        let cache = match BlockCache::new(alloc, cache_num_blocks) {
+            Ok(cache) => cache,
+            Err(error) => {
+                let error = StoreError::from(error);
+                return Err(OpenError { error, file });
+            }
+        };
+        Ok(StoreReader {
+            file: file.narrow(0..footer.offset),
+            index,
+            version: footer.doc_store_version,
+            decompressor: footer.decompressor,
+            cache,
+        })
     }
 
-    /// The bytes of a document. Its block is read.
+    /// The bytes of a document. Its block is looked up by its first byte, and read where it is not kept.
     pub fn get_document_bytes(
         &mut self,
         alloc: Global,
@@ -135,7 +113,14 @@ impl<H: FileHandle> StoreReader<H> {
         let Some(checkpoint) = self.index.seek(doc_id) else {
             return Err(StoreError::InvalidArgument(doc_id));
         };
-        read_document(&mut self.file, alloc, &checkpoint, doc_id)
+        look_up_document(
+            &mut self.file,
+            &mut self.cache,
+            alloc,
+            &checkpoint,
+            doc_id,
+            doc_id - checkpoint.doc_range.start,
+        )
     }
 
     /// How many documents the store has.
@@ -160,6 +145,27 @@ impl<H: FileHandle> StoreReader<H> {
         ensures few { result ≤ 64 }
     {
         self.index.period()
+    }
+
+    /// What the cache did so far.
+    pub fn cache_stats(&self) -> CacheStats
+        ensures entries { result.num_entries ≡ length self.now.cache.kept }
+        ensures hits { result.cache_hits ≡ self.now.cache.hits }
+        ensures misses { result.cache_misses ≡ self.now.cache.misses }
+        ensures few { result.num_entries ≤ self.now.cache.capacity }
+    {
+        CacheStats {
+            num_entries: self.cache.len(),
+            cache_hits: self.cache.hits(),
+            cache_misses: self.cache.misses(),
+        }
+    }
+
+    /// The first byte of the kept block that was not used for the longest time.
+    pub fn peek_lru(&self) -> Option<usize>
+        ensures { result ≡ last_key self.now.cache }
+    {
+        self.cache.peek_lru()
     }
 
     /// How the store's blocks are unpacked.

@@ -1,8 +1,11 @@
 //! Where a document lies in its block.
 ghost use Rattle.std.specs.Prelude.{◌≡◌, ◌≤◌, ◌+◌, length, slice_range, MatchOption, IfSome};
+ghost use Rattle.docstore.specs.Answering.{Answers};
 ghost use Rattle.docstore.specs.Block.{slot, doc, damaged, u32_at as u32_in};
 
+use crate::error::StoreError;
 use std::ops::Range;
+use store_base::{DocId, OwnedBytes};
 
 // The number of four bytes at a place.
 #[tactic(auto, unfolding(crate::specs::Block::u32_at))]
@@ -41,5 +44,19 @@ pub fn block_read_index(block: &[u8], doc_pos: u32) -> Option<Range<usize>>
         Some(start..end)
     } else {
         None
+    }
+}
+
+// The document at a position of a block, whose bytes it shares.
+pub(crate) fn document_in(
+    block: &OwnedBytes,
+    doc_id: DocId,
+    doc_pos: u32,
+) -> Result<OwnedBytes, StoreError>
+    ensures { Answers doc_id (slot block.now doc_pos) result }
+{
+    match block_read_index(block.as_slice(), doc_pos) {
+        Some(range) => Ok(block.slice(range)?),
+        None => Err(StoreError::DamagedDocument(doc_id)),
     }
 }
