@@ -28,5 +28,6 @@ pub mod Extraction
 pub mod Covering
 pub mod Reading
 pub mod Answering
+pub mod Documents
 pub mod Opening
 pub mod Stacking

@@ -6,6 +6,7 @@ pub mod cache_stats;
 pub mod close_error;
 pub mod compressors;
 mod current_block;
+mod documents;
 pub mod error;
 mod file_reading;
 pub mod footer;

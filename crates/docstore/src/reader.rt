@@ -2,6 +2,7 @@
 ghost use Rattle.std.specs.Prelude.{◌≡◌, ◌<◌, ◌≤◌, IsTrue, IfOk, IfErr, IsErrOf, MatchResult, ◌↔◌, length, slice_get};
 ghost use Rattle.store_base.specs.Counts.{HasRisen};
 ghost use Rattle.docstore.specs.Answering.{IsAnswered, AnswersTruly};
+ghost use Rattle.docstore.specs.Documents.{document_version, IsGot, ReadsTruly};
 ghost use Rattle.docstore.specs.Footer.{version_number};
 ghost use Rattle.docstore.specs.Kept.{last_key};
 ghost use Rattle.docstore.specs.Layers.{index_part};
@@ -13,6 +14,7 @@ ghost use Rattle.docstore.specs.StoreFile.{IsStore};
 use crate::cache::BlockCache;
 use crate::cache_stats::CacheStats;
 use crate::compressors::Decompressor;
+use crate::documents::read_document;
 use crate::error::StoreError;
 use crate::footer::DocStoreVersion;
 use crate::index::layer_cursor::LayerCursor;
@@ -22,7 +24,7 @@ use crate::opening::read_store;
 use crate::store_index::StoreIndex;
 use std::alloc::Global;
 use std::marker::Model;
-use store_base::{DocId, FileHandle, FileSlice, OwnedBytes, StoreSpaceUsage};
+use store_base::{DocId, DocumentDeserialize, FileHandle, FileSlice, OwnedBytes, StoreSpaceUsage};
 
 /// How many blocks a reader's cache may keep where its user has no number of its own.
 pub const DOCSTORE_CACHE_CAPACITY: usize = 100;
@@ -121,6 +123,27 @@ impl<H: FileHandle> StoreReader<H> {
             doc_id,
             doc_id - checkpoint.doc_range.start,
         )
+    }
+
+    /// A document, read from its bytes. Those of version 3 are read as version 2.
+    pub fn get<D: DocumentDeserialize>(
+        &mut self,
+        alloc: Global,
+        doc_id: DocId,
+    ) -> Result<D, StoreError>
+        ensures no_document { IsErrOf result (StoreError.InvalidArgument doc_id) ↔ (num_docs self.old ≤ doc_id) }
+        ensures no_read { num_docs self.old ≤ doc_id → self.new ≡ self.old }
+        ensures got { doc_id < num_docs self.old
+            → IsGot (D.reading (document_version self.old.version)) self.old doc_id result self.new }
+
+        // What follows.
+        ensures honest { IsTrue self.old.file.honest → ReadsTruly (D.reading (document_version self.old.version))
+            doc_id (slice_get (slots (store_of self.old)) doc_id) result }
+        ensures failed { IsErrOf result StoreError.Read
+            → HasRisen self.old.file.failures self.new.file.failures }
+    {
+        let bytes = self.get_document_bytes(alloc, doc_id);
+        read_document(alloc, self.version, bytes)
     }
 
     /// How many documents the store has.
