@@ -6,7 +6,7 @@ use Rattle.docstore.specs.declared.index.Checkpoint.{Checkpoint}
 use Rattle.docstore.specs.declared.error.StoreError.{StoreError}
 use Rattle.docstore.specs.declared.error.StoreError.TheVariants.{InvalidArgument, Read, Memory}
 use Rattle.docstore.specs.Block.{Slot, slot}
-use Rattle.docstore.specs.Checkpoint.{Covers}
+use Rattle.docstore.specs.Checkpoint.{Covers, first_past}
 use Rattle.docstore.specs.Slots.{slots}
 use Rattle.docstore.specs.StoreFile.{StoreBlock}
 use Rattle.docstore.specs.Reading.{Reading, num_docs, part_of, store_of}
@@ -27,6 +27,15 @@ has_failed old new id c looked = elim looked.looks_up.cause [
   | inl hit ↦ let given = hit.given in absurd cc
   | inr miss ↦ miss.read.failed refl
 ]
+
+-- the slot of a document is that of its place in the block that a seek finds
+pub slot_at : (r : Reading) (id : ℕ) (c : Checkpoint) → Covers r.checkpoints (length r.file.content) → first_past r.checkpoints id ≡ Some c → slice_get (slots (store_of r)) id ≡ Some (slot (part_of r.file.content c) (id - c.doc_range.start))
+slot_at r id c covers seeks =
+    let whole : id - 0 ≡ id = omega arith in
+    let same : store_of r ≡ blocks_of r.file.content r.checkpoints = store_is r.file.content r.checkpoints covers in
+    ap (λ (bs : List StoreBlock). slice_get (slots bs) id) same
+    ∙ ap (slice_get (slots (blocks_of r.file.content r.checkpoints))) (sym whole)
+    ∙ slot_sought r.file.content 0 0 r.checkpoints id c covers.in_line (omega arith) seeks
 
 module _ (old new : Reading) (id : ℕ) where
   none_such : (c : Checkpoint) (came result : Result (List ℕ) StoreError) → IsLookedUp old id c came new → AnswersFrom id (id - c.doc_range.start) came result → result ≡ Err (InvalidArgument id) → ⊥
@@ -60,12 +69,7 @@ module _ (old new : Reading) (id : ℕ) where
   -- in an honest file the slot answers
   pub answers_truly : (result : Result (List ℕ) StoreError) → Covers old.checkpoints (length old.file.content) → IsAnswered old id result new → IsTrue old.file.honest → AnswersTruly id (slice_get (slots (store_of old)) id) result
   answers_truly result covers a honest =
-      let whole : id - 0 ≡ id = omega arith in
-      let at = slot_sought old.file.content 0 0 old.checkpoints id a.checkpoint covers.in_line (omega arith) a.looked.seeks in
-      let same : store_of old ≡ blocks_of old.file.content old.checkpoints = store_is old.file.content old.checkpoints covers in
-      let is : slice_get (slots (store_of old)) id ≡ Some (slot (part_of old.file.content a.checkpoint) (id - a.checkpoint.doc_range.start)) =
-      ap (λ (bs : List StoreBlock). slice_get (slots bs) id) same ∙ ap (slice_get (slots (blocks_of old.file.content old.checkpoints))) (sym whole) ∙ at in
-      subst (λ (o : Option Slot). AnswersTruly id o result) (sym is) (truly a.checkpoint a.came result a.looked (a.looked.honest honest) a.answer)
+      subst (λ (o : Option Slot). AnswersTruly id o result) (sym (slot_at old id a.checkpoint covers a.looked.seeks)) (truly a.checkpoint a.came result a.looked (a.looked.honest honest) a.answer)
 
   -- where there is no document
   pub none_truly : Covers old.checkpoints (length old.file.content) → num_docs old ≤ id → AnswersTruly id (slice_get (slots (store_of old)) id) (Err (InvalidArgument id))

@@ -38,6 +38,7 @@ pub mod LookUpLemmas
 pub mod SeenLemmas
 pub mod StoreSlotLemmas
 pub mod AnsweringLemmas
+pub mod WalkingLemmas
 pub mod OpenedLemmas
 pub mod RefusedLemmas
 pub mod HandedLemmas

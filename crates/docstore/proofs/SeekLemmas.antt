@@ -1,7 +1,8 @@
 -- What a seek finds in checkpoints that cover.
-use Rattle.std.proofs.Common.{◌≡◌, ℕ, ◌<◌, ◌≤◌, true, false, List, [], ◌∷◌, Some, None, nat_lt, refl, sym, subst, arith}
+use Rattle.std.proofs.Common.{◌≡◌, ℕ, zero, suc, ◌+◌, ◌<◌, ◌≤◌, true, false, List, [], ◌∷◌, length, take, Some, None, IsSome, nat_lt, refl, sym, ap, subst, arith, add-one}
+use Rattle.std.specs.Prelude.{slice_get}
 use Rattle.std.specs.List.{AllByRecursion}
-use Rattle.std.proofs.lemmas.Bool.{ltb-true, ltb-false}
+use Rattle.std.proofs.lemmas.Bool.{ltb-true, ltb-false, lt-ltb, le-ltb}
 use Rattle.docstore.specs.declared.index.Checkpoint.{Checkpoint}
 use Rattle.docstore.specs.Checkpoint.{IsInLineFrom, IsFilled, docs_end, bytes_end, first_past}
 
@@ -68,3 +69,42 @@ one_start doc byte (x ∷ cs) target c r f e = (elim (nat_lt target x.doc_range.
     apart : (ys : List Checkpoint) → AllByRecursion (λ y. x.byte_range.end ≤ y.byte_range.start) ys → c.byte_range.start < x.byte_range.end → AllByRecursion (λ y. y.byte_range.start ≡ c.byte_range.start → c ≡ y) ys
     apart [] a lt = tt
     apart (y ∷ ys) a lt = (λ same. absurd (omega (arith, a.0)), apart ys a.1 lt)
+
+-- below the count a seek finds one
+pub some_below : (doc byte : ℕ) (cs : List Checkpoint) (target : ℕ) → IsInLineFrom doc byte cs → doc ≤ target → target < docs_end doc cs → IsSome (first_past cs target)
+some_below doc byte cs target r le lt = (elim (first_past cs target) as (λ o. first_past cs target ≡ o → IsSome o) [
+  | Some c ↦ λ e. refl
+  | None ↦ λ e. let past = none_past doc byte cs target r e le in absurd (omega arith)
+]) refl
+
+-- the document behind so many blocks is the first of the next one
+pub next_block : (doc byte : ℕ) (cs : List Checkpoint) (n : ℕ) → IsInLineFrom doc byte cs → AllByRecursion IsFilled cs → n < length cs → first_past cs (docs_end doc (take n cs)) ≡ slice_get cs n
+next_block doc byte [] n r f lt = absurd (omega arith)
+next_block doc byte (c ∷ cs) zero r f lt = rw (lt-ltb doc c.doc_range.end (omega (arith, r.0, f.0.0))) refl
+next_block doc byte (c ∷ cs) (suc n) r f lt =
+    let on = docs_of c.doc_range.end c.byte_range.end cs n r.3 in
+    rw (le-ltb (docs_end c.doc_range.end (take n cs)) c.doc_range.end on) (next_block c.doc_range.end c.byte_range.end cs n r.3 f.1 (omega arith))
+  where
+    docs_of : (doc byte : ℕ) (cs : List Checkpoint) (n : ℕ) → IsInLineFrom doc byte cs → doc ≤ docs_end doc (take n cs)
+    docs_of doc byte cs zero r = omega arith
+    docs_of doc byte [] (suc n) r = omega arith
+    docs_of doc byte (c ∷ cs) (suc n) r = omega (arith, docs_of c.doc_range.end c.byte_range.end cs n r.3, r.0, r.2.doc_order)
+
+-- its end is that of one block more
+pub docs_end-take_more : (doc : ℕ) (cs : List Checkpoint) (n : ℕ) (c : Checkpoint) → slice_get cs n ≡ Some c → docs_end doc (take (n + 1) cs) ≡ c.doc_range.end
+docs_end-take_more doc [] n c e = absurd cc
+docs_end-take_more doc (x ∷ cs) zero c e = let same : x ≡ c = cc in ap (λ (y : Checkpoint). y.doc_range.end) same
+docs_end-take_more doc (x ∷ cs) (suc n) c e = let on = docs_end-take_more x.doc_range.end cs n c e in rw (add-one) (rw (add-one) at on)
+
+-- a document below the count stands behind fewer blocks than all
+pub not_all : (doc : ℕ) (cs : List Checkpoint) (n : ℕ) → docs_end doc (take n cs) < docs_end doc cs → n < length cs
+not_all doc [] zero lt = absurd (omega arith)
+not_all doc [] (suc n) lt = absurd (omega arith)
+not_all doc (c ∷ cs) zero lt = omega arith
+not_all doc (c ∷ cs) (suc n) lt = omega (arith, not_all c.doc_range.end cs n lt)
+
+-- each block has a document
+pub docs_grow : (doc byte : ℕ) (cs : List Checkpoint) (n : ℕ) → IsInLineFrom doc byte cs → AllByRecursion IsFilled cs → n ≤ length cs → doc + n ≤ docs_end doc (take n cs)
+docs_grow doc byte cs zero r f le = omega arith
+docs_grow doc byte [] (suc n) r f le = absurd (omega arith)
+docs_grow doc byte (c ∷ cs) (suc n) r f le = let on = docs_grow c.doc_range.end c.byte_range.end cs n r.3 f.1 (omega arith) in omega (arith, on, r.0, f.0.0)

@@ -29,5 +29,7 @@ pub mod Covering
 pub mod Reading
 pub mod Answering
 pub mod Documents
+pub mod Iteration
+pub mod Walking
 pub mod Opening
 pub mod Stacking

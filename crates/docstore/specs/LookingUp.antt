@@ -38,3 +38,8 @@ pub record LooksUp (c : Checkpoint) (file : Part) (cache : Blocks) (came : Resul
 abbrev pub IsCopy : List ℕ → Result (List ℕ) StoreError → Type 0
 IsCopy block (Ok copy) = copy ≡ block
 IsCopy block (Err e) = e ≡ Memory
+
+-- what came, or no memory for a share of it
+abbrev pub Takes : Result (List ℕ) StoreError → Result (List ℕ) StoreError → Type 0
+Takes came (Ok block) = came ≡ Ok block
+Takes came (Err e) = (came ≡ Err e) ⊎ (e ≡ Memory)

@@ -4,7 +4,7 @@ ghost use Rattle.std.specs.Prelude.{◌≤◌, ℕ, List, Result, length};
 ghost use Rattle.docstore.specs.declared.error.StoreError.{StoreError as StoreErrorOf};
 ghost use Rattle.docstore.specs.Answering.{AnswersFrom};
 ghost use Rattle.docstore.specs.FileReading.{Comes};
-ghost use Rattle.docstore.specs.LookingUp.{LooksUp};
+ghost use Rattle.docstore.specs.LookingUp.{LooksUp, Takes};
 
 use crate::cache::BlockCache;
 use crate::error::StoreError;
@@ -54,4 +54,37 @@ pub(crate) fn look_up_document<H: FileHandle>(
     let answer = document_in(&block, doc_id, doc_pos);
     cache.put(key, block);
     answer
+}
+
+// The ids of a block's documents, and its bytes, or why they did not come.
+#[derive(Drop)]
+pub(crate) struct Entered {
+    pub(crate) first: DocId,
+    pub(crate) end: DocId,
+    pub(crate) block: Result<OwnedBytes, StoreError>,
+}
+
+// Looks the block of a checkpoint up, for all of its documents.
+pub(crate) fn look_up_block<H: FileHandle>(
+    file: &mut FileSlice<H>,
+    cache: &mut BlockCache,
+    alloc: Global,
+    checkpoint: &Checkpoint,
+) -> Result<OwnedBytes, StoreError>
+    requires order { checkpoint.now.byte_range.start ≤ checkpoint.now.byte_range.end }
+    requires within { checkpoint.now.byte_range.end ≤ length file.old.content }
+    ensures { (came : Result (List ℕ) StoreErrorOf)
+        × LooksUp checkpoint.now file.old cache.old came file.new cache.new
+        × Takes came result }
+{
+    let key = checkpoint.byte_range.start;
+    if let Some(answer) = cache.block(key) {
+        return answer;
+    }
+    let block = match read_block(file, alloc, checkpoint) {
+        Ok(block) => block,
+        Err(error) => return Err(error),
+    };
+    cache.put_copy(key, &block);
+    Ok(block)
 }

@@ -1,7 +1,8 @@
 //! The reader of a store.
-ghost use Rattle.std.specs.Prelude.{◌≡◌, ◌<◌, ◌≤◌, IsTrue, IfOk, IfErr, IsErrOf, MatchResult, ◌↔◌, length, slice_get};
+ghost use Rattle.std.specs.Prelude.{◌≡◌, ◌<◌, ◌≤◌, Err, IsTrue, IfOk, IfErr, IfSome, IsErrOf, MatchResult, ◌↔◌, length, slice_get, take};
 ghost use Rattle.store_base.specs.Counts.{HasRisen};
 ghost use Rattle.docstore.specs.Answering.{IsAnswered, AnswersTruly};
+ghost use Rattle.docstore.specs.Checkpoint.{Covers};
 ghost use Rattle.docstore.specs.Documents.{document_version, IsGot, ReadsTruly};
 ghost use Rattle.docstore.specs.Footer.{version_number};
 ghost use Rattle.docstore.specs.Kept.{last_key};
@@ -10,6 +11,7 @@ ghost use Rattle.docstore.specs.Opening.{IsOpened, IsRefused, RefusesNoStore};
 ghost use Rattle.docstore.specs.Reading.{IsSeen, num_docs, store_of};
 ghost use Rattle.docstore.specs.Slots.{slots};
 ghost use Rattle.docstore.specs.StoreFile.{IsStore};
+ghost use Rattle.docstore.specs.Walking.{IsEntered, IsWalk, LooksAlong};
 
 use crate::cache::BlockCache;
 use crate::cache_stats::CacheStats;
@@ -18,13 +20,17 @@ use crate::documents::read_document;
 use crate::error::StoreError;
 use crate::footer::DocStoreVersion;
 use crate::index::layer_cursor::LayerCursor;
-use crate::look_up::look_up_document;
+use crate::iter::RawIter;
+use crate::look_up::{Entered, look_up_block, look_up_document};
 use crate::open_error::OpenError;
 use crate::opening::read_store;
 use crate::store_index::StoreIndex;
+use crate::walk::first_walk;
 use std::alloc::Global;
 use std::marker::Model;
-use store_base::{DocId, DocumentDeserialize, FileHandle, FileSlice, OwnedBytes, StoreSpaceUsage};
+use store_base::{
+    AliveBitSet, DocId, DocumentDeserialize, FileHandle, FileSlice, OwnedBytes, StoreSpaceUsage,
+};
 
 /// How many blocks a reader's cache may keep where its user has no number of its own.
 pub const DOCSTORE_CACHE_CAPACITY: usize = 100;
@@ -146,9 +152,51 @@ impl<H: FileHandle> StoreReader<H> {
         read_document(alloc, self.version, bytes)
     }
 
+    // Looks the block up that has a document, for all of its documents.
+    pub(crate) fn enter(&mut self, alloc: Global, doc_id: DocId) -> Entered
+        requires { doc_id < num_docs self.old }
+        ensures entered { IsEntered self.old doc_id result self.new }
+        ensures covers { Covers self.old.checkpoints (length self.old.file.content) }
+    {
+        let checkpoint = self.index.seek(doc_id).unwrap();
+        let block = look_up_block(&mut self.file, &mut self.cache, alloc, &checkpoint);
+        Entered {
+            first: checkpoint.doc_range.start,
+            end: checkpoint.doc_range.end,
+            block,
+        }
+    }
+
+    /// The bytes of each document that is alive, in the order of the ids; without a set of each.
+    /// Each block is looked up once, at its first document, also where all of its documents are
+    /// dead; the first block here.
+    pub fn iter_raw<'a>(
+        &'a mut self,
+        alloc: Global,
+        alive: Option<&'a AliveBitSet>,
+    ) -> RawIter<'a, H>
+        requires { IfSome alive (λ set. num_docs self.old ≤ length set.now) }
+        ensures same_reader { result.reader.ghost_name ≡ self.entry.ghost_name }
+        ensures alive { result.alive ≡ alive.entry }
+        ensures next { result.walk.next ≡ 0 }
+        ensures walk { IsWalk result.reader.now result.walk }
+        ensures first_block { LooksAlong (take 1 self.old.checkpoints)
+            self.old (Err StoreError.Memory) result.reader.now result.walk.block }
+        ensures place { result.walk.place ≡ length (take 1 self.old.checkpoints) }
+    {
+        let walk = first_walk(self, alloc);
+        RawIter {
+            alloc,
+            reader: self,
+            alive,
+            walk,
+        }
+    }
+
     /// How many documents the store has.
     pub fn num_docs(&self) -> DocId
         ensures count { result ≡ num_docs self.now }
+        ensures covers { Covers self.now.checkpoints (length self.now.file.content) }
         ensures slots { result ≡ length (slots (store_of self.now)) }
     {
         self.index.num_docs()
