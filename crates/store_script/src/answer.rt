@@ -3,16 +3,23 @@ use crate::fault::ToolFault;
 use docstore::{StoreError, StoreReader};
 use std::alloc::Global;
 use std::io::Write;
-use store_base::{FileHandle, OwnedBytes};
+use store_base::{FileHandle, OwnedBytes, RecordDocument};
 
-/// Bytes as hexadecimal digits, `-` for none, on a line of their own.
-pub fn write_bytes<W: Write>(alloc: Global, output: &mut W, bytes: &[u8]) -> Result<(), ToolFault> {
+// Bytes as hexadecimal digits, `-` for none.
+fn write_digits<W: Write>(alloc: Global, output: &mut W, bytes: &[u8]) -> Result<(), ToolFault> {
     if bytes.is_empty() {
-        writeln!(output, "-")?;
+        write!(output, "-")?;
         return Ok(());
     }
     let text = hex::encode(alloc, bytes)?;
-    writeln!(output, "{text}")?;
+    write!(output, "{text}")?;
+    Ok(())
+}
+
+/// Bytes on a line of their own.
+pub fn write_bytes<W: Write>(alloc: Global, output: &mut W, bytes: &[u8]) -> Result<(), ToolFault> {
+    write_digits(alloc, output, bytes)?;
+    writeln!(output)?;
     Ok(())
 }
 
@@ -34,7 +41,7 @@ pub fn write_document<W: Write>(
     }
 }
 
-/// Each document with its number, and then `end`.
+/// Each document with its id, and then `end`.
 pub fn write_documents<H: FileHandle, W: Write>(
     alloc: Global,
     output: &mut W,
@@ -45,5 +52,21 @@ pub fn write_documents<H: FileHandle, W: Write>(
         write_document(alloc, output, reader.get_document_bytes(alloc, doc_id))?;
     }
     writeln!(output, "end")?;
+    Ok(())
+}
+
+/// The fields of a record and their bytes, `empty` where there is none.
+pub fn write_record<W: Write>(
+    alloc: Global,
+    output: &mut W,
+    record: &RecordDocument,
+) -> Result<(), ToolFault> {
+    let mut space = "";
+    for (field, bytes) in record.fields() {
+        write!(output, "{space}{} ", field.field_id())?;
+        write_digits(alloc, output, bytes)?;
+        space = " ";
+    }
+    writeln!(output, "{}", if space.is_empty() { "empty" } else { "" })?;
     Ok(())
 }

@@ -6,8 +6,8 @@ ghost use Rattle.std.specs.Prelude.{◌≤◌};
 
 use docstore::CHECKPOINT_PERIOD;
 use hex::FromHexError;
-use std::alloc::Global;
-use store_base::DocId;
+use std::alloc::{AllocFailed, Global};
+use store_base::{DocId, Field, NoMemory, RecordDocument};
 
 /// How many checkpoints a full block of an index has.
 #[derive(Clone, Copy)]
@@ -22,18 +22,41 @@ pub struct Period {
 pub enum Command {
     /// `new SIZE` or `new SIZE PERIOD`: opens a writer.
     New { block_size: usize, period: Period },
-    /// `put HEX`: stores a document.
+    /// `put HEX`: stores a document that is bytes.
     Put { document: Vec<u8> },
+    /// `rec`, and then any number of ` FIELD HEX`: stores a record.
+    Record { record: RecordDocument },
+    /// `stack STORE`: stacks a store behind the documents.
+    Stack { store: u32 },
     /// `close`: closes the writer and opens what it wrote.
     Close,
-    /// `get STORE ID`: shows a document.
-    Get { store: u32, doc_id: DocId },
     /// `load HEX`: opens a file.
     Load { file: Vec<u8> },
-    /// `dump STORE`: shows each document.
-    Dump { store: u32 },
-    /// `hex STORE`: shows the file.
-    Hex { store: u32 },
+    /// What is asked of a store.
+    Ask { store: u32, question: Question },
+}
+
+/// What is asked of a store.
+#[derive(Drop)]
+pub enum Question {
+    /// `get STORE ID`: a document.
+    Document { doc_id: DocId },
+    /// `rget STORE ID`: a record.
+    Record { doc_id: DocId },
+    /// `iter STORE`, and then any number of ` ID`: the documents but for those.
+    Documents { deleted: Vec<DocId> },
+    /// `dump STORE`: each document with its id, read anew.
+    Dump,
+    /// `hex STORE`: the file.
+    File,
+    /// `open STORE CAPACITY`: the store opened again, with a cache of so many blocks.
+    Open { capacity: usize },
+    /// `stats STORE`: what its cache did.
+    Stats,
+    /// `usage STORE`: how many bytes its parts take.
+    Usage,
+    /// `marks STORE`: where its blocks lie.
+    Checkpoints,
 }
 
 /// Why a line is no command.
@@ -41,8 +64,20 @@ pub enum Command {
 pub enum LineFault {
     /// It has none of the forms.
     Bad,
-    /// Its bytes find no memory.
+    /// What it says finds no memory.
     Memory,
+}
+
+impl From<NoMemory> for LineFault {
+    fn from(_: NoMemory) -> LineFault {
+        LineFault::Memory
+    }
+}
+
+impl<T: Drop> From<AllocFailed<T>> for LineFault {
+    fn from(_: AllocFailed<T>) -> LineFault {
+        LineFault::Memory
+    }
 }
 
 // A number below 2^64.
@@ -81,6 +116,49 @@ fn bytes_of(alloc: Global, word: &str) -> Result<Vec<u8>, LineFault> {
     }
 }
 
+// Pairs of a field and its bytes.
+fn record_of(alloc: Global, words: &str) -> Result<RecordDocument, LineFault> {
+    let mut record = RecordDocument::new(alloc);
+    let mut open_field = None;
+    for word in words.split(' ') {
+        match open_field.take() {
+            None => open_field = Some(Field::from_field_id(short_number(word)?)),
+            Some(field) => record.add(field, &bytes_of(alloc, word)?)?,
+        }
+    }
+    match open_field {
+        None => Ok(record),
+        Some(_) => Err(LineFault::Bad),
+    }
+}
+
+// A store, and the ids that are deleted in it.
+fn documents_of(alloc: Global, words: &str) -> Result<Command, LineFault> {
+    let mut store = None;
+    let mut deleted = Vec::new(alloc);
+    for word in words.split(' ') {
+        let number = short_number(word)?;
+        match store {
+            None => store = Some(number),
+            Some(_) => deleted.push(number)?,
+        }
+    }
+    match store {
+        Some(store) => Ok(Command::Ask {
+            store,
+            question: Question::Documents { deleted },
+        }),
+        None => Err(LineFault::Bad),
+    }
+}
+
+fn ask(store: &str, question: Question) -> Result<Command, LineFault> {
+    Ok(Command::Ask {
+        store: short_number(store)?,
+        question,
+    })
+}
+
 // A command of one word behind its name.
 fn with_word(alloc: Global, name: &str, word: &str) -> Result<Command, LineFault> {
     match name {
@@ -96,12 +174,14 @@ fn with_word(alloc: Global, name: &str, word: &str) -> Result<Command, LineFault
         "load" => Ok(Command::Load {
             file: bytes_of(alloc, word)?,
         }),
-        "dump" => Ok(Command::Dump {
+        "stack" => Ok(Command::Stack {
             store: short_number(word)?,
         }),
-        "hex" => Ok(Command::Hex {
-            store: short_number(word)?,
-        }),
+        "dump" => ask(word, Question::Dump),
+        "hex" => ask(word, Question::File),
+        "stats" => ask(word, Question::Stats),
+        "usage" => ask(word, Question::Usage),
+        "marks" => ask(word, Question::Checkpoints),
         _ => Err(LineFault::Bad),
     }
 }
@@ -113,16 +193,24 @@ fn with_words(name: &str, first: &str, second: &str) -> Result<Command, LineFaul
             block_size: number(first)? as usize,
             period: period_of(second)?,
         }),
-        "get" => Ok(Command::Get {
-            store: short_number(first)?,
-            doc_id: short_number(second)?,
-        }),
+        "get" => {
+            let doc_id = short_number(second)?;
+            ask(first, Question::Document { doc_id })
+        }
+        "rget" => {
+            let doc_id = short_number(second)?;
+            ask(first, Question::Record { doc_id })
+        }
+        "open" => {
+            let capacity = number(second)? as usize;
+            ask(first, Question::Open { capacity })
+        }
         _ => Err(LineFault::Bad),
     }
 }
 
-/// The command of a line, without the byte that ends it.
-pub fn parse(alloc: Global, line: &str) -> Result<Command, LineFault> {
+// A command of a fixed number of words.
+fn with_few_words(alloc: Global, line: &str) -> Result<Command, LineFault> {
     let mut words = line.split(' ');
     let name = words.next().unwrap_or("");
     match (words.next(), words.next(), words.next()) {
@@ -130,5 +218,21 @@ pub fn parse(alloc: Global, line: &str) -> Result<Command, LineFault> {
         (Some(word), None, _) => with_word(alloc, name, word),
         (Some(first), Some(second), None) => with_words(name, first, second),
         _ => Err(LineFault::Bad),
+    }
+}
+
+/// The command of a line, without the byte that ends it.
+pub fn parse(alloc: Global, line: &str) -> Result<Command, LineFault> {
+    if line == "rec" {
+        let record = RecordDocument::new(alloc);
+        return Ok(Command::Record { record });
+    }
+    if let Some(words) = line.strip_prefix("rec ") {
+        let record = record_of(alloc, words)?;
+        return Ok(Command::Record { record });
+    }
+    match line.strip_prefix("iter ") {
+        Some(words) => documents_of(alloc, words),
+        None => with_few_words(alloc, line),
     }
 }

@@ -1,42 +1,167 @@
-//! A store in memory.
+//! A store in memory, and its answers.
+ghost use Rattle.std.specs.Prelude.{◌≤◌};
+
+use crate::answer::{write_bytes, write_document, write_documents, write_error, write_record};
+use crate::command::Question;
 use crate::fault::ToolFault;
 use docstore::{StoreError, StoreReader};
 use std::alloc::Global;
-use store_base::{FileSlice, MemFile};
+use std::io::Write;
+use store_base::{AliveBitSet, DocId, FileSlice, MemFile, RecordDocument};
 
 /// An opened store, and its file.
 #[derive(Drop)]
 pub struct Store {
     pub file: Vec<u8>,
-    pub reader: StoreReader<MemFile>,
+    reader: StoreReader<MemFile>,
 }
 
-/// Opens a file of these bytes, with no cache. What the file is refused for is inside.
+/// Opens a file of these bytes, with a cache of so many blocks. What the file is refused for is inside.
 pub fn open_bytes(
     alloc: Global,
     bytes: Vec<u8>,
+    capacity: usize,
 ) -> Result<Result<StoreReader<MemFile>, StoreError>, ToolFault> {
     let file = FileSlice::new(MemFile::new(alloc, bytes)?);
-    match StoreReader::open(alloc, file, 0) {
+    match StoreReader::open(alloc, file, capacity) {
         Ok(reader) => Ok(Ok(reader)),
         Err(refusal) => Ok(Err(refusal.error)),
     }
 }
 
 impl Store {
-    /// Opens a file, of which a copy is kept.
+    /// Opens a file, of which a copy is kept, with no cache.
     pub fn open(alloc: Global, file: Vec<u8>) -> Result<Result<Store, StoreError>, ToolFault> {
-        match open_bytes(alloc, Vec::from_slice(alloc, &file)?)? {
+        match open_bytes(alloc, Vec::from_slice(alloc, &file)?, 0)? {
             Ok(reader) => Ok(Ok(Store { file, reader })),
             Err(error) => Ok(Err(error)),
         }
     }
 
-    /// The same store, opened anew.
-    pub fn reopened(
+    /// The reader that is kept.
+    pub fn reader(&mut self) -> &mut StoreReader<MemFile> {
+        &mut self.reader
+    }
+
+    // The same store, opened anew.
+    fn reopened(
         &self,
         alloc: Global,
+        capacity: usize,
     ) -> Result<Result<StoreReader<MemFile>, StoreError>, ToolFault> {
-        open_bytes(alloc, Vec::from_slice(alloc, &self.file)?)
+        open_bytes(alloc, Vec::from_slice(alloc, &self.file)?, capacity)
+    }
+
+    /// Answers a question.
+    pub fn answer<W: Write>(
+        &mut self,
+        alloc: Global,
+        question: Question,
+        output: &mut W,
+    ) -> Result<(), ToolFault> {
+        match question {
+            Question::Document { doc_id } => {
+                write_document(alloc, output, self.reader.get_document_bytes(alloc, doc_id))
+            }
+            Question::Record { doc_id } => self.show_record(alloc, doc_id, output),
+            Question::Documents { deleted } => self.iterate(alloc, &deleted, output),
+            Question::Dump => self.dump(alloc, output),
+            Question::File => write_bytes(alloc, output, &self.file),
+            Question::Open { capacity } => self.open_again(alloc, capacity, output),
+            Question::Stats => self.show_stats(output),
+            Question::Usage => self.show_usage(output),
+            Question::Checkpoints => self.show_checkpoints(output),
+        }
+    }
+
+    fn show_record<W: Write>(
+        &mut self,
+        alloc: Global,
+        doc_id: DocId,
+        output: &mut W,
+    ) -> Result<(), ToolFault> {
+        match self.reader.get::<RecordDocument>(alloc, doc_id) {
+            Ok(record) => write_record(alloc, output, &record),
+            Err(error) => write_error(output, error),
+        }
+    }
+
+    // The documents that aren't deleted, and then `end`.
+    fn iterate<W: Write>(
+        &mut self,
+        alloc: Global,
+        deleted: &[DocId],
+        output: &mut W,
+    ) -> Result<(), ToolFault> {
+        let alive = AliveBitSet::for_test_from_deleted_docs(
+            alloc,
+            deleted,
+            self.reader.num_docs(),
+        )?;
+        let set = if deleted.is_empty() {
+            None
+        } else {
+            Some(&alive)
+        };
+        for document in self.reader.iter_raw(alloc, set) {
+            write_document(alloc, output, document)?;
+        }
+        writeln!(output, "end")?;
+        Ok(())
+    }
+
+    fn dump<W: Write>(&mut self, alloc: Global, output: &mut W) -> Result<(), ToolFault> {
+        match self.reopened(alloc, 0)? {
+            Ok(mut reader) => write_documents(alloc, output, &mut reader),
+            Err(error) => write_error(output, error),
+        }
+    }
+
+    fn open_again<W: Write>(
+        &mut self,
+        alloc: Global,
+        capacity: usize,
+        output: &mut W,
+    ) -> Result<(), ToolFault> {
+        match self.reopened(alloc, capacity)? {
+            Ok(reader) => self.reader = reader,
+            Err(error) => return write_error(output, error),
+        }
+        writeln!(output, "ok")?;
+        Ok(())
+    }
+
+    fn show_stats<W: Write>(&self, output: &mut W) -> Result<(), ToolFault> {
+        let stats = self.reader.cache_stats();
+        write!(
+            output,
+            "entries {} hits {} misses {} lru ",
+            stats.num_entries, stats.cache_hits, stats.cache_misses
+        )?;
+        match self.reader.peek_lru() {
+            Some(place) => writeln!(output, "{place}")?,
+            None => writeln!(output, "none")?,
+        }
+        Ok(())
+    }
+
+    fn show_usage<W: Write>(&self, output: &mut W) -> Result<(), ToolFault> {
+        let usage = self.reader.space_usage();
+        writeln!(
+            output,
+            "data {} offsets {} total {}",
+            usage.data_usage(),
+            usage.offsets_usage(),
+            usage.total()
+        )?;
+        Ok(())
+    }
+
+    fn show_checkpoints<W: Write>(&self, output: &mut W) -> Result<(), ToolFault> {
+        for checkpoint in self.reader.block_checkpoints() {
+            writeln!(output, "{checkpoint:?}")?;
+        }
+        writeln!(output, "end")?;
+        Ok(())
     }
 }

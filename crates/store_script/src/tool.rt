@@ -1,12 +1,15 @@
 //! The writer and the stores that a script works on.
-use crate::answer::{write_bytes, write_document, write_documents, write_error};
+use crate::answer::write_error;
 use crate::command::{Command, LineFault, Period, parse};
 use crate::fault::ToolFault;
 use crate::store::Store;
-use docstore::{Compressor, StoreWriter};
+use docstore::{Compressor, StoreError, StoreWriter};
 use std::alloc::Global;
 use std::io::Write;
-use store_base::{DocId, MemSink};
+use store_base::{MemSink, RecordDocument, Schema};
+
+// How many fields records may have.
+const FIELDS: u32 = 4;
 
 /// At most one open writer, and stores numbered from 0 in the order in which they came.
 #[derive(Drop)]
@@ -14,6 +17,25 @@ pub struct Tool {
     alloc: Global,
     writer: Option<StoreWriter<MemSink>>,
     stores: Vec<Store>,
+}
+
+// What a document was answered with: its id, or the refusal.
+fn write_id<W: Write>(
+    output: &mut W,
+    doc_id: u32,
+    stored: Result<(), StoreError>,
+) -> Result<(), ToolFault> {
+    match stored {
+        Ok(()) => writeln!(output, "id {doc_id}")?,
+        Err(error) => write_error(output, error)?,
+    }
+    Ok(())
+}
+
+// A word alone on its line.
+fn write_word<W: Write>(output: &mut W, word: &str) -> Result<(), ToolFault> {
+    writeln!(output, "{word}")?;
+    Ok(())
 }
 
 impl Tool {
@@ -28,16 +50,12 @@ impl Tool {
     /// Answers a line.
     pub fn answer<W: Write>(&mut self, line: &[u8], output: &mut W) -> Result<(), ToolFault> {
         let Ok(text) = str::from_utf8(line) else {
-            writeln!(output, "bad")?;
-            return Ok(());
+            return write_word(output, "bad");
         };
         match parse(self.alloc, text) {
             Ok(command) => self.obey(command, output),
             Err(LineFault::Memory) => Err(ToolFault::Memory),
-            Err(LineFault::Bad) => {
-                writeln!(output, "bad")?;
-                Ok(())
-            }
+            Err(LineFault::Bad) => write_word(output, "bad"),
         }
     }
 
@@ -45,11 +63,14 @@ impl Tool {
         match command {
             Command::New { block_size, period } => self.open_writer(block_size, period, output),
             Command::Put { document } => self.put(&document, output),
+            Command::Record { record } => self.put_record(&record, output),
+            Command::Stack { store } => self.stack(store, output),
             Command::Close => self.close(output),
-            Command::Get { store, doc_id } => self.get(store, doc_id, output),
             Command::Load { file } => self.add(file, output),
-            Command::Dump { store } => self.dump(store, output),
-            Command::Hex { store } => self.show_file(store, output),
+            Command::Ask { store, question } => match self.stores.get_mut(store as usize) {
+                Some(store) => store.answer(self.alloc, question, output),
+                None => write_word(output, "no store"),
+            },
         }
     }
 
@@ -60,8 +81,7 @@ impl Tool {
         output: &mut W,
     ) -> Result<(), ToolFault> {
         if self.writer.is_some() {
-            writeln!(output, "busy")?;
-            return Ok(());
+            return write_word(output, "busy");
         }
         self.writer = Some(StoreWriter::with_period(
             self.alloc,
@@ -70,27 +90,46 @@ impl Tool {
             block_size,
             period.value,
         ));
-        writeln!(output, "ok")?;
-        Ok(())
+        write_word(output, "ok")
     }
 
     fn put<W: Write>(&mut self, document: &[u8], output: &mut W) -> Result<(), ToolFault> {
         let Some(writer) = &mut self.writer else {
-            writeln!(output, "none")?;
-            return Ok(());
+            return write_word(output, "none");
         };
         let doc_id = writer.num_docs();
-        match writer.store_bytes(document) {
-            Ok(()) => writeln!(output, "id {doc_id}")?,
-            Err(error) => write_error(output, error)?,
+        write_id(output, doc_id, writer.store_bytes(document))
+    }
+
+    fn put_record<W: Write>(
+        &mut self,
+        record: &RecordDocument,
+        output: &mut W,
+    ) -> Result<(), ToolFault> {
+        let Some(writer) = &mut self.writer else {
+            return write_word(output, "none");
+        };
+        let doc_id = writer.num_docs();
+        let stored = writer.store(record, &Schema::with_fields(FIELDS));
+        write_id(output, doc_id, stored)
+    }
+
+    fn stack<W: Write>(&mut self, store: u32, output: &mut W) -> Result<(), ToolFault> {
+        let Some(writer) = &mut self.writer else {
+            return write_word(output, "none");
+        };
+        let Some(store) = self.stores.get_mut(store as usize) else {
+            return write_word(output, "no store");
+        };
+        match writer.stack(store.reader()) {
+            Ok(()) => write_word(output, "ok"),
+            Err(error) => write_error(output, error),
         }
-        Ok(())
     }
 
     fn close<W: Write>(&mut self, output: &mut W) -> Result<(), ToolFault> {
         let Some(writer) = self.writer.take() else {
-            writeln!(output, "none")?;
-            return Ok(());
+            return write_word(output, "none");
         };
         match writer.close() {
             Ok(sink) => self.add(sink.into_bytes(), output),
@@ -111,38 +150,5 @@ impl Tool {
         }
         writeln!(output, "store {number} {len}")?;
         Ok(())
-    }
-
-    fn get<W: Write>(
-        &mut self,
-        store: u32,
-        doc_id: DocId,
-        output: &mut W,
-    ) -> Result<(), ToolFault> {
-        let Some(store) = self.stores.get_mut(store as usize) else {
-            writeln!(output, "no store")?;
-            return Ok(());
-        };
-        let document = store.reader.get_document_bytes(self.alloc, doc_id);
-        write_document(self.alloc, output, document)
-    }
-
-    fn dump<W: Write>(&mut self, store: u32, output: &mut W) -> Result<(), ToolFault> {
-        let Some(store) = self.stores.get(store as usize) else {
-            writeln!(output, "no store")?;
-            return Ok(());
-        };
-        match store.reopened(self.alloc)? {
-            Ok(mut reader) => write_documents(self.alloc, output, &mut reader),
-            Err(error) => write_error(output, error),
-        }
-    }
-
-    fn show_file<W: Write>(&mut self, store: u32, output: &mut W) -> Result<(), ToolFault> {
-        let Some(store) = self.stores.get(store as usize) else {
-            writeln!(output, "no store")?;
-            return Ok(());
-        };
-        write_bytes(self.alloc, output, &store.file)
     }
 }

@@ -34,7 +34,7 @@ pub fn run<R: Read, W: Write + Drop>(
 }
 
 fn dump_bytes<W: Write>(alloc: Global, bytes: Vec<u8>, output: &mut W) -> Result<(), ToolFault> {
-    match open_bytes(alloc, bytes)? {
+    match open_bytes(alloc, bytes, 0)? {
         Ok(mut reader) => write_documents(alloc, output, &mut reader),
         Err(error) => write_error(output, error),
     }
