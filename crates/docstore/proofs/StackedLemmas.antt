@@ -6,10 +6,10 @@ use Rattle.docstore.specs.declared.index.Checkpoint.{Checkpoint}
 use Rattle.docstore.specs.Checkpoint.{docs_end}
 use Rattle.docstore.specs.Block.{Slot}
 use Rattle.docstore.specs.Slots.{slots}
-use Rattle.docstore.specs.StoreFile.{StoreBlock, docs_in, marks_from, file}
+use Rattle.docstore.specs.StoreFile.{StoreBlock, docs_in, marks_from, file, file_with}
 use Rattle.docstore.specs.Writer.{Writing, blocks_of, flushed}
 use Rattle.docstore.specs.Stacking.{with_store}
-use Rattle.docstore.specs.Laws.{stacked, FlushesKeepSlots, StoresAreStackedInOrder, StackedSlotsAreCounted, StackedFilesAreJoined, StackingIsAssociative}
+use Rattle.docstore.specs.Laws.{stacked, FlushesKeepSlots, StoresAreStackedInOrder, StackedSlotsAreCounted, StackedFilesAreJoined, StackingIsAssociative, StackedAloneIsTheSame}
 use Rattle.docstore.proofs.StoreLemmas.{docs_in-cons, all-front}
 use Rattle.docstore.proofs.TakenLemmas.{slots-append, slots_flushed, last_fits, length-slots}
 
@@ -58,3 +58,9 @@ stacking_is_associative w bs cs ds none =
     stacked_files_are_joined w ((bs ++ cs) ∷ ds ∷ []) none
     ∙ ap (λ (x : List StoreBlock). file w.output.period 3 (w.output.finished ++ x)) (append_assoc bs cs (ds ++ []) ∙ ap (λ (x : List StoreBlock). bs ++ x) (sym (append_assoc cs ds [])))
     ∙ sym (stacked_files_are_joined w (bs ∷ (cs ++ ds) ∷ []) none)
+
+pub stacked_alone_is_the_same : StackedAloneIsTheSame
+stacked_alone_is_the_same w bytes bs store zeros none first =
+    stacked_files_are_joined w (bs ∷ []) none
+    ∙ ap (λ (x : List StoreBlock). file w.output.period 3 (x ++ (bs ++ []))) first ∙ ap (λ (x : List StoreBlock). file w.output.period 3 x) (append-nil bs)
+    ∙ ap (λ (x : List ℕ). file_with w.output.period 3 x bs) (sym zeros) ∙ sym store.parts

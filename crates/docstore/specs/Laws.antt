@@ -7,7 +7,7 @@ use Rattle.docstore.specs.Layers.{layer_text, layer_above, digit_count, layers, 
 use Rattle.docstore.specs.Block.{Slot, doc, block}
 use Rattle.docstore.specs.Slots.{slots}
 use Rattle.docstore.specs.Trace.{block_of}
-use Rattle.docstore.specs.StoreFile.{StoreBlock, AreBlocks, file, IsStore}
+use Rattle.docstore.specs.StoreFile.{StoreBlock, AreBlocks, file, reserved_of, IsStore}
 use Rattle.docstore.specs.Reading.{Reading, num_docs as docs_of}
 use Rattle.docstore.specs.Stacking.{AreRead, with_store}
 use Rattle.docstore.specs.Writer.{Writing, num_docs, flushed, with_document}
@@ -84,3 +84,7 @@ StackedFilesAreJoined = (w : Writing) (stores : List (List StoreBlock)) → w.pe
 -- So it doesn't matter which of three stores were stacked to one before.
 abbrev pub StackingIsAssociative : Type 0
 StackingIsAssociative = (w : Writing) (bs cs ds : List StoreBlock) → w.pending ≡ [] → file_of (stacked w ((bs ++ cs) ∷ ds ∷ [])) ≡ file_of (stacked w (bs ∷ (cs ++ ds) ∷ []))
+
+-- A file of the writer's period whose reserved bytes are those that are written is written again where its store is stacked alone.
+abbrev pub StackedAloneIsTheSame : Type 0
+StackedAloneIsTheSame = (w : Writing) (bytes : List ℕ) (bs : List StoreBlock) (store : IsStore w.output.period bytes 3 bs) → store.reserved ≡ reserved_of w.output.period 3 → w.pending ≡ [] → w.output.finished ≡ [] → file_of (with_store w bs) ≡ bytes

@@ -1,6 +1,6 @@
 //! Laws of the formats.
 ghost use Rattle.docstore.specs.CacheSums.{StatsAreAdded};
-ghost use Rattle.docstore.specs.Laws.{CheckpointBlocksAreApart, IndexPartsAreApart, LayerAboveIsInLine, LayersAreInLine, FilesAreStores, StoresAreApart, BlocksHoldDocuments, WrittenDocumentsAreFound, DocumentsAreTakenInOrder, IdsAreGivenInOrder, FlushesKeepSlots, StoresAreStackedInOrder, StackedSlotsAreCounted, StackedFilesAreJoined, StackingIsAssociative};
+ghost use Rattle.docstore.specs.Laws.{CheckpointBlocksAreApart, IndexPartsAreApart, LayerAboveIsInLine, LayersAreInLine, FilesAreStores, StoresAreApart, BlocksHoldDocuments, WrittenDocumentsAreFound, DocumentsAreTakenInOrder, IdsAreGivenInOrder, FlushesKeepSlots, StoresAreStackedInOrder, StackedSlotsAreCounted, StackedFilesAreJoined, StackingIsAssociative, StackedAloneIsTheSame};
 
 /// No checkpoint block begins another, and each list in line has its own.
 pub fn checkpoint_blocks_are_apart()
@@ -80,4 +80,9 @@ pub fn stacking_is_associative()
 /// What two caches did adds to the same in either order, and what three did in either grouping.
 pub fn stats_are_added()
     ensures { StatsAreAdded }
+{}
+
+/// A store that is stacked alone is written as the file that it was read from, at one period.
+pub fn stacked_alone_is_the_same()
+    ensures { StackedAloneIsTheSame }
 {}

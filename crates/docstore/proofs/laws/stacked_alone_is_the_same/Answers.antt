@@ -1,0 +1,5 @@
+use Rattle.docstore.proofs.StackedLemmas.{stacked_alone_is_the_same}
+use Rattle.docstore.proofs.laws.stacked_alone_is_the_same.Goals as goal
+
+pub returns : goal.returns
+returns c = stacked_alone_is_the_same
