@@ -11,6 +11,7 @@ use Rattle.docstore.specs.declared.error.StoreError.TheVariants.{Read, Memory}
 use Rattle.docstore.specs.Answering.{IsLookedUp, AnswersFrom, AnswersTruly}
 use Rattle.docstore.specs.Block.{Slot, slot}
 use Rattle.docstore.specs.Checkpoint.{IsInLineFrom, Covers, docs_end, first_past}
+use Rattle.docstore.specs.Documents.{ReadsFrom, ReadsTruly}
 use Rattle.docstore.specs.Iteration.{is_in}
 use Rattle.docstore.specs.LookingUp.{Takes}
 use Rattle.docstore.specs.Reading.{Reading, part_of, num_docs, store_of}
@@ -242,3 +243,21 @@ pub item_is_true : (r : Reading) (id first : ℕ) (block result : Result (List �
 item_is_true r id first block result s answer honest =
     subst (λ (o : Option Slot). AnswersTruly id o result) (sym s.slot_is)
     (answers_by r.file.content s.checkpoint id block result (s.holds honest) s.only (subst (λ n. AnswersFrom id (id - n) block result) (sym s.start) answer))
+
+-- what is read of an answer, by what it says of the slot
+pub read_truly : {D : Type 0} (reading : List ℕ → Option D) (id : ℕ) (s : Option Slot) (answer : Result (List ℕ) StoreError) (result : Result D StoreError) → AnswersTruly id s answer → ReadsFrom reading answer result → ReadsTruly reading id s result
+read_truly reading id s (Ok bytes) (Ok d) truly reads = record { bytes = bytes; stored = truly; reads = reads }
+read_truly reading id s (Ok bytes) (Err e) truly reads = elim reads [
+  | inl bad ↦ inr (inr (inl (bad.0, record { bytes = bytes; stored = truly; reads = bad.1 })))
+  | inr memory ↦ inr (inr (inr (inr memory)))
+]
+read_truly reading id s (Err e) (Ok d) truly reads = absurd cc
+read_truly reading id s (Err e) (Err f) truly reads =
+    let same : f ≡ e = cc in
+    elim truly [
+      | inl none ↦ inl (same ∙ none.0, none.1)
+      | inr others ↦ elim others [
+        | inl damaged ↦ inr (inl (same ∙ damaged.0, damaged.1))
+        | inr aside ↦ inr (inr (inr (elim aside [ inl read ↦ inl (same ∙ read) | inr memory ↦ inr (same ∙ memory) ])))
+      ]
+    ]

@@ -10,6 +10,7 @@ use Rattle.docstore.specs.declared.walk.Walk.{Walk}
 use Rattle.docstore.specs.Answering.{AnswersFrom, AnswersTruly, IsLookedUp}
 use Rattle.docstore.specs.Block.{slot}
 use Rattle.docstore.specs.Checkpoint.{docs_end, first_past}
+use Rattle.docstore.specs.Documents.{ReadsFrom, ReadsTruly}
 use Rattle.docstore.specs.Iteration.{is_in}
 use Rattle.docstore.specs.LookingUp.{Takes}
 use Rattle.docstore.specs.Reading.{Reading, num_docs, part_of, store_of}
@@ -19,6 +20,11 @@ use Rattle.docstore.specs.Slots.{slots}
 abbrev pub set_of : Option (Bor (List Bool)) → Option (ℕ → Bool)
 set_of None = None
 set_of (Some alive) = Some (is_alive_at alive.now)
+
+-- the same of no set or one
+abbrev pub set_in : List (List Bool) → Option (ℕ → Bool)
+set_in [] = None
+set_in (alive ∷ others) = Some (is_alive_at alive)
 
 -- One look-up of the block that has this document: what is taken of it for all of its documents.
 pub record IsTaken (old : Reading) (id : ℕ) (checkpoint : Checkpoint) (block : Result (List ℕ) StoreError) (new : Reading) : Type 0 where
@@ -86,3 +92,17 @@ pub record GivesNext (set : Option (ℕ → Bool)) (old : Reading) (from : Walk)
   pub last : ℕ
   pub walks : WalksTo set old from last new to
   pub gives : MatchOption item ((last ≡ num_docs old) × (to.next ≡ last)) (λ answer. IsItem set old last to answer)
+
+-- what is read of an item, if there is one
+abbrev pub ReadsItem : {D : Type 0} → (List ℕ → Option D) → Option (Result (List ℕ) StoreError) → Option (Result D StoreError) → Type 0
+ReadsItem reading None None = Unit {0}
+ReadsItem reading None (Some result) = ⊥
+ReadsItem reading (Some answer) None = ⊥
+ReadsItem reading (Some answer) (Some result) = ReadsFrom reading answer result
+
+-- The same of documents: what is read of the item's bytes, by those of the slot in an honest file.
+pub record GivesDocument {D : Type 0} (reading : List ℕ → Option D) (set : Option (ℕ → Bool)) (old : Reading) (from : Walk) (item : Option (Result D StoreError)) (new : Reading) (to : Walk) : Type 0 where
+  pub bytes : Option (Result (List ℕ) StoreError)
+  pub gives : GivesNext set old from bytes new to
+  pub reads : ReadsItem reading bytes item
+  pub honest : IsTrue old.file.honest → IfSome item (ReadsTruly reading gives.last (slice_get (slots (store_of old)) gives.last))

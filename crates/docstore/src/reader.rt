@@ -11,7 +11,7 @@ ghost use Rattle.docstore.specs.Opening.{IsOpened, IsRefused, RefusesNoStore};
 ghost use Rattle.docstore.specs.Reading.{IsSeen, num_docs, store_of};
 ghost use Rattle.docstore.specs.Slots.{slots};
 ghost use Rattle.docstore.specs.StoreFile.{IsStore};
-ghost use Rattle.docstore.specs.Walking.{IsEntered, IsWalk, LooksAlong};
+ghost use Rattle.docstore.specs.Walking.{set_of, set_in, IsEntered, IsWalk, LooksAlong};
 
 use crate::cache::BlockCache;
 use crate::cache_stats::CacheStats;
@@ -20,14 +20,14 @@ use crate::documents::read_document;
 use crate::error::StoreError;
 use crate::footer::DocStoreVersion;
 use crate::index::layer_cursor::LayerCursor;
-use crate::iter::RawIter;
+use crate::iter::{DocIter, Items, RawIter, sets_of};
 use crate::look_up::{Entered, look_up_block, look_up_document};
 use crate::open_error::OpenError;
 use crate::opening::read_store;
 use crate::store_index::StoreIndex;
-use crate::walk::first_walk;
+use crate::walk::{DocWalk, first_walk};
 use std::alloc::Global;
-use std::marker::Model;
+use std::marker::{Model, PhantomData};
 use store_base::{
     AliveBitSet, DocId, DocumentDeserialize, FileHandle, FileSlice, OwnedBytes, StoreSpaceUsage,
 };
@@ -177,7 +177,7 @@ impl<H: FileHandle> StoreReader<H> {
     ) -> RawIter<'a, H>
         requires { IfSome alive (λ set. num_docs self.old ≤ length set.now) }
         ensures same_reader { result.reader.ghost_name ≡ self.entry.ghost_name }
-        ensures alive { result.alive ≡ alive.entry }
+        ensures alive { set_in result.alive.now ≡ set_of alive.entry }
         ensures next { result.walk.next ≡ 0 }
         ensures walk { IsWalk result.reader.now result.walk }
         ensures first_block { LooksAlong (take 1 self.old.checkpoints)
@@ -185,11 +185,39 @@ impl<H: FileHandle> StoreReader<H> {
         ensures place { result.walk.place ≡ length (take 1 self.old.checkpoints) }
     {
         let walk = first_walk(self, alloc);
-        RawIter {
-            alloc,
+        Items {
             reader: self,
-            alive,
+            alloc,
+            alive: sets_of(alive),
             walk,
+        }
+    }
+
+    /// Each document that is alive, in the order of the ids; without a set each. Otherwise as
+    /// `iter_raw`. Documents of version 3 are read as version 2.
+    pub fn iter<'a, D: DocumentDeserialize>(
+        &'a mut self,
+        alloc: Global,
+        alive: Option<&'a AliveBitSet>,
+    ) -> DocIter<'a, H, D>
+        requires { IfSome alive (λ set. num_docs self.old ≤ length set.now) }
+        ensures same_reader { result.reader.ghost_name ≡ self.entry.ghost_name }
+        ensures alive { set_in result.alive.now ≡ set_of alive.entry }
+        ensures next { result.walk.raw.next ≡ 0 }
+        ensures walk { IsWalk result.reader.now result.walk.raw }
+        ensures first_block { LooksAlong (take 1 self.old.checkpoints)
+            self.old (Err StoreError.Memory) result.reader.now result.walk.raw.block }
+        ensures place { result.walk.raw.place ≡ length (take 1 self.old.checkpoints) }
+    {
+        let raw = first_walk(self, alloc);
+        Items {
+            reader: self,
+            alloc,
+            alive: sets_of(alive),
+            walk: DocWalk {
+                raw,
+                document: PhantomData,
+            },
         }
     }
 

@@ -3,13 +3,14 @@ ghost use Rattle.std.specs.Prelude.{◌≡◌, ◌≤◌, ◌<◌, ◌+◌, true
 ghost use Rattle.docstore.specs.declared.index.Checkpoint.{Checkpoint};
 ghost use Rattle.docstore.specs.Iteration.{is_in};
 ghost use Rattle.docstore.specs.Reading.{num_docs};
-ghost use Rattle.docstore.specs.Walking.{set_of, IsTaken, StandsIn, IsWalk, LooksAlong, WalksTo, AnswersOf};
+ghost use Rattle.docstore.specs.Walking.{set_in, IsTaken, StandsIn, IsWalk, LooksAlong, WalksTo, AnswersOf};
 
 use crate::error::StoreError;
 use crate::reader::StoreReader;
 use crate::slot::document_in;
 use std::alloc::Global;
-use store_base::{AliveBitSet, DocId, FileHandle, OwnedBytes};
+use std::marker::PhantomData;
+use store_base::{AliveBitSet, DocId, DocumentDeserialize, FileHandle, OwnedBytes};
 
 /// Where an iteration stands: at an id, in the last of the blocks that it looked up.
 #[derive(Drop)]
@@ -19,6 +20,13 @@ pub struct Walk {
     pub(crate) first: DocId,
     pub(crate) end: DocId,
     pub(crate) block: Result<OwnedBytes, StoreError>,
+}
+
+/// The same, where each document is read as a type.
+#[derive(Drop)]
+pub struct DocWalk<D: DocumentDeserialize> {
+    pub(crate) raw: Walk,
+    pub(crate) document: PhantomData<D>,
 }
 
 // Before the first block.
@@ -86,11 +94,11 @@ pub(crate) fn first_walk<H: FileHandle>(reader: &mut StoreReader<H>, alloc: Glob
     walk
 }
 
-// Whether a document is alive.
-fn is_alive(alive: Option<&AliveBitSet>, doc_id: DocId) -> bool
-    ensures { result ≡ is_in (set_of alive.entry) doc_id }
+// Whether a document is alive, by a set or by none.
+fn is_alive(alive: &[AliveBitSet], doc_id: DocId) -> bool
+    ensures { result ≡ is_in (set_in alive.now) doc_id }
 {
-    match alive {
+    match alive.first() {
         Some(alive) => alive.is_alive(doc_id),
         None => true,
     }
@@ -100,16 +108,16 @@ fn is_alive(alive: Option<&AliveBitSet>, doc_id: DocId) -> bool
 pub(crate) fn walk_on<H: FileHandle>(
     reader: &mut StoreReader<H>,
     alloc: Global,
-    alive: Option<&AliveBitSet>,
+    alive: &[AliveBitSet],
     walk: &mut Walk,
 ) -> Option<DocId>
     requires { IsWalk reader.old walk.old }
     ensures walk { IsWalk reader.new walk.new }
     ensures found { MatchOption result
-        (WalksTo (set_of alive.entry) reader.old walk.old (num_docs reader.old) reader.new walk.new
+        (WalksTo (set_in alive.now) reader.old walk.old (num_docs reader.old) reader.new walk.new
         × (walk.new.next ≡ num_docs reader.old))
-        (λ id. WalksTo (set_of alive.entry) reader.old walk.old id reader.new walk.new
-        × (id < num_docs reader.old) × (is_in (set_of alive.entry) id ≡ true) × (walk.new.next ≡ id + 1)
+        (λ id. WalksTo (set_in alive.now) reader.old walk.old id reader.new walk.new
+        × (id < num_docs reader.old) × (is_in (set_in alive.now) id ≡ true) × (walk.new.next ≡ id + 1)
         × StandsIn reader.old id walk.new.first walk.new.block) }
 {
     for doc_id in walk.next..reader.num_docs() {

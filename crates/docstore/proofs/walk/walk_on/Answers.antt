@@ -1,6 +1,6 @@
 use Rattle.std.proofs.Common.{◌≡◌, refl, sym, ◌∙◌, subst, arith}
 use Rattle.docstore.specs.Reading.{num_docs}
-use Rattle.docstore.specs.Walking.{WalksTo, set_of}
+use Rattle.docstore.specs.Walking.{WalksTo, set_in}
 use Rattle.docstore.proofs.WalkingLemmas.{walks_past, walks_along, walks_same, docs_of_some, docs_stay, stands_in}
 use Rattle.docstore.proofs.walk.walk_on.Goals as goal
 
@@ -35,4 +35,4 @@ returns-clause-found g c =
     let some = docs_of_some 0 0 c.args.reader.now.checkpoints c.args.walk.now.place c.num_docs-doc_id-end.ensures.covers.in_line in
     let below = c.requires.below in let end = c.requires.end in
     let all : c.loop-doc_id.doc_id ≡ num_docs c.args.reader.now = omega (arith, c.loop-doc_id.auto.doc_id-end) in
-    (subst (λ n. WalksTo (set_of c.args.alive) c.args.reader.now c.args.walk.now n c.loop-doc_id.reader c.loop-doc_id.walk) all c.loop-doc_id.invariant.on, here ∙ all)
+    (subst (λ n. WalksTo (set_in c.args.alive.now) c.args.reader.now c.args.walk.now n c.loop-doc_id.reader c.loop-doc_id.walk) all c.loop-doc_id.invariant.on, here ∙ all)

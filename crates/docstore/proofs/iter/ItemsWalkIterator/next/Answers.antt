@@ -1,6 +1,6 @@
 use Rattle.std.proofs.Common.{refl, arith}
 use Rattle.docstore.proofs.WalkingLemmas.{docs_stay, item_is_true}
-use Rattle.docstore.proofs.iter.RawIterIterator.next.Goals as goal
+use Rattle.docstore.proofs.iter.ItemsWalkIterator.next.Goals as goal
 
 pub returns-clause-goes : goal.returns-clause-goes
 returns-clause-goes g c =
