@@ -105,14 +105,14 @@ module _ {X : Type 0} where
   length-promoted k es d some = with_entry k es (λ l. length l ≡ length es) some (λ e h. (found k es e h d).size)
 
   -- a key that is not found is no key
-  apart_from_none : (k : ℕ) (es : List (ℕ × X)) → IsNone (lookup (nat_eq k) es) → AllByRecursion (λ y. nat_eq k y ≡ false) (keys_of es) × (list_any (λ j. j == k) (keys_of es) ≡ false)
+  pub apart_from_none : (k : ℕ) (es : List (ℕ × X)) → IsNone (lookup (nat_eq k) es) → AllByRecursion (λ y. nat_eq k y ≡ false) (keys_of es) × (list_any (λ j. j == k) (keys_of es) ≡ false)
   apart_from_none k [] n = (tt, refl)
   apart_from_none k (f ∷ es) n = (elim (nat_eq k f.0) as (λ y. nat_eq k f.0 ≡ y → AllByRecursion (λ y. nat_eq k y ≡ false) (keys_of (f ∷ es)) × (list_any (λ j. j == k) (keys_of (f ∷ es)) ≡ false)) [
     | true ↦ λ t. let no = rw t at n in cc
     | false ↦ λ t. let on = apart_from_none k es (rw t at n) in ((t, on.0), rw (eq_sym f.0 k, t) on.1)
   ]) refl
 
-  any_from_some : (k : ℕ) (es : List (ℕ × X)) → IsSome (lookup (nat_eq k) es) → list_any (λ j. j == k) (keys_of es) ≡ true
+  pub any_from_some : (k : ℕ) (es : List (ℕ × X)) → IsSome (lookup (nat_eq k) es) → list_any (λ j. j == k) (keys_of es) ≡ true
   any_from_some k [] s = cc
   any_from_some k (f ∷ es) s = (elim (nat_eq k f.0) as (λ y. nat_eq k f.0 ≡ y → list_any (λ j. j == k) (keys_of (f ∷ es)) ≡ true) [
     | true ↦ λ t. rw (eq_sym f.0 k, t) refl

@@ -39,6 +39,8 @@ pub mod SeenLemmas
 pub mod StoreSlotLemmas
 pub mod AnsweringLemmas
 pub mod WalkingLemmas
+pub mod RecentLemmas
+pub mod LookedLemmas
 pub mod OpenedLemmas
 pub mod RefusedLemmas
 pub mod HandedLemmas

@@ -27,3 +27,11 @@ looked_along (c ∷ cs) set count = c.byte_range.start ∷ (if nat_le count (ali
 -- the keys that an iterator looks up that is dropped after so many items
 abbrev pub looked : List StoreBlock → Option (ℕ → Bool) → ℕ → List ℕ
 looked bs set count = looked_along (marks bs) set count
+
+-- how many ids below this one are in the set
+abbrev pub alive_below : Option (ℕ → Bool) → ℕ → ℕ
+alive_below set id = count_by (is_in set) (range_with_len 0 id)
+
+-- the keys of these blocks, in order
+abbrev pub keys_along : List Checkpoint → List ℕ
+keys_along cs = map (λ c. c.byte_range.start) cs

@@ -31,5 +31,6 @@ pub mod Answering
 pub mod Documents
 pub mod Iteration
 pub mod Walking
+pub mod LookLaws
 pub mod Opening
 pub mod Stacking

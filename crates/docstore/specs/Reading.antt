@@ -56,3 +56,14 @@ pub record IsSeen (r : Reading) : Type 0 where
   pub blocks : AreBlocks (store_of r)
   pub marks_are : marks (store_of r) ≡ r.checkpoints
   pub data_is : data_of (store_of r) ≡ r.file.content
+
+-- The same store, in the same form and under the same capacity. What was read and what is kept may differ.
+pub record IsSameStore (old new : Reading) : Type 0 where
+  pub content : new.file.content ≡ old.file.content
+  pub honest : new.file.honest ≡ old.file.honest
+  pub failures : old.file.failures ≤ new.file.failures
+  pub checkpoints : new.checkpoints ≡ old.checkpoints
+  pub period : new.period ≡ old.period
+  pub version : new.version ≡ old.version
+  pub decompressor : new.decompressor ≡ old.decompressor
+  pub capacity : new.cache.capacity ≡ old.cache.capacity

@@ -13,7 +13,7 @@ use Rattle.docstore.specs.Checkpoint.{docs_end, first_past}
 use Rattle.docstore.specs.Documents.{ReadsFrom, ReadsTruly}
 use Rattle.docstore.specs.Iteration.{is_in}
 use Rattle.docstore.specs.LookingUp.{Takes}
-use Rattle.docstore.specs.Reading.{Reading, num_docs, part_of, store_of}
+use Rattle.docstore.specs.Reading.{Reading, IsSameStore, num_docs, part_of, store_of}
 use Rattle.docstore.specs.Slots.{slots}
 
 -- the set of the ids that are alive
@@ -84,6 +84,7 @@ pub record IsItem (set : Option (ℕ → Bool)) (old : Reading) (id : ℕ) (to :
   pub below : id < num_docs old
   pub is_alive : is_in set id ≡ true
   pub next : to.next ≡ id + 1
+  pub above : to.first ≤ id
   pub answers : AnswersOf id to answer
   pub honest : IsTrue old.file.honest → AnswersTruly id (slice_get (slots (store_of old)) id) answer
 
@@ -91,6 +92,7 @@ pub record IsItem (set : Option (ℕ → Bool)) (old : Reading) (id : ℕ) (to :
 pub record GivesNext (set : Option (ℕ → Bool)) (old : Reading) (from : Walk) (item : Option (Result (List ℕ) StoreError)) (new : Reading) (to : Walk) : Type 0 where
   pub last : ℕ
   pub walks : WalksTo set old from last new to
+  pub same : IsSameStore old new
   pub gives : MatchOption item ((last ≡ num_docs old) × (to.next ≡ last)) (λ answer. IsItem set old last to answer)
 
 -- what is read of an item, if there is one

@@ -1,5 +1,6 @@
 //! Laws of the formats.
 ghost use Rattle.docstore.specs.CacheSums.{StatsAreAdded};
+ghost use Rattle.docstore.specs.LookLaws.{LooksAreRecent, WalksLookUp};
 ghost use Rattle.docstore.specs.Laws.{CheckpointBlocksAreApart, IndexPartsAreApart, LayerAboveIsInLine, LayersAreInLine, FilesAreStores, StoresAreApart, BlocksHoldDocuments, WrittenDocumentsAreFound, DocumentsAreTakenInOrder, IdsAreGivenInOrder, FlushesKeepSlots, StoresAreStackedInOrder, StackedSlotsAreCounted, StackedFilesAreJoined, StackingIsAssociative, StackedAloneIsTheSame};
 
 /// No checkpoint block begins another, and each list in line has its own.
@@ -85,4 +86,15 @@ pub fn stats_are_added()
 /// A store that is stacked alone is written as the file that it was read from, at one period.
 pub fn stacked_alone_is_the_same()
     ensures { StackedAloneIsTheSame }
+{}
+
+/// Blocks that are looked up one after the other are look-ups of their first bytes, with a read for
+/// each that isn't kept.
+pub fn looks_are_recent()
+    ensures { LooksAreRecent }
+{}
+
+/// An iteration has looked up the blocks that the definition says for the number of its items.
+pub fn walks_look_up()
+    ensures { WalksLookUp }
 {}

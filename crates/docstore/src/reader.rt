@@ -8,7 +8,7 @@ ghost use Rattle.docstore.specs.Footer.{version_number};
 ghost use Rattle.docstore.specs.Kept.{last_key};
 ghost use Rattle.docstore.specs.Layers.{index_part};
 ghost use Rattle.docstore.specs.Opening.{IsOpened, IsRefused, RefusesNoStore};
-ghost use Rattle.docstore.specs.Reading.{IsSeen, num_docs, store_of};
+ghost use Rattle.docstore.specs.Reading.{IsSameStore, IsSeen, num_docs, store_of};
 ghost use Rattle.docstore.specs.Slots.{slots};
 ghost use Rattle.docstore.specs.StoreFile.{IsStore};
 ghost use Rattle.docstore.specs.Walking.{set_of, set_in, IsEntered, IsWalk, LooksAlong};
@@ -117,6 +117,7 @@ impl<H: FileHandle> StoreReader<H> {
             → AnswersTruly doc_id (slice_get (slots (store_of self.old)) doc_id) result }
         ensures failed { IsErrOf result StoreError.Read
             → HasRisen self.old.file.failures self.new.file.failures }
+        ensures same_store { IsSameStore self.old self.new }
     {
         let Some(checkpoint) = self.index.seek(doc_id) else {
             return Err(StoreError::InvalidArgument(doc_id));
@@ -147,6 +148,7 @@ impl<H: FileHandle> StoreReader<H> {
             doc_id (slice_get (slots (store_of self.old)) doc_id) result }
         ensures failed { IsErrOf result StoreError.Read
             → HasRisen self.old.file.failures self.new.file.failures }
+        ensures same_store { IsSameStore self.old self.new }
     {
         let bytes = self.get_document_bytes(alloc, doc_id);
         read_document(alloc, self.version, bytes)
@@ -182,6 +184,7 @@ impl<H: FileHandle> StoreReader<H> {
         ensures walk { IsWalk result.reader.now result.walk }
         ensures first_block { LooksAlong (take 1 self.old.checkpoints)
             self.old (Err StoreError.Memory) result.reader.now result.walk.block }
+        ensures same_store { IsSameStore self.old result.reader.now }
         ensures place { result.walk.place ≡ length (take 1 self.old.checkpoints) }
     {
         let walk = first_walk(self, alloc);
@@ -207,6 +210,7 @@ impl<H: FileHandle> StoreReader<H> {
         ensures walk { IsWalk result.reader.now result.walk.raw }
         ensures first_block { LooksAlong (take 1 self.old.checkpoints)
             self.old (Err StoreError.Memory) result.reader.now result.walk.raw.block }
+        ensures same_store { IsSameStore self.old result.reader.now }
         ensures place { result.walk.raw.place ≡ length (take 1 self.old.checkpoints) }
     {
         let raw = first_walk(self, alloc);

@@ -2,7 +2,7 @@
 ghost use Rattle.std.specs.Prelude.{◌≡◌, ◌≤◌, ◌<◌, ◌+◌, true, Some, length, slice_get, slice_range, take, Err, MatchOption};
 ghost use Rattle.docstore.specs.declared.index.Checkpoint.{Checkpoint};
 ghost use Rattle.docstore.specs.Iteration.{is_in};
-ghost use Rattle.docstore.specs.Reading.{num_docs};
+ghost use Rattle.docstore.specs.Reading.{IsSameStore, num_docs};
 ghost use Rattle.docstore.specs.Walking.{set_in, IsTaken, StandsIn, IsWalk, LooksAlong, WalksTo, AnswersOf};
 
 use crate::error::StoreError;
@@ -113,6 +113,7 @@ pub(crate) fn walk_on<H: FileHandle>(
 ) -> Option<DocId>
     requires { IsWalk reader.old walk.old }
     ensures walk { IsWalk reader.new walk.new }
+    ensures same { IsSameStore reader.old reader.new }
     ensures found { MatchOption result
         (WalksTo (set_in alive.now) reader.old walk.old (num_docs reader.old) reader.new walk.new
         × (walk.new.next ≡ num_docs reader.old))

@@ -1,6 +1,7 @@
 use Rattle.std.proofs.Common.{◌≡◌, refl, sym, ◌∙◌, subst, arith}
 use Rattle.docstore.specs.Reading.{num_docs}
 use Rattle.docstore.specs.Walking.{WalksTo, set_in}
+use Rattle.docstore.proofs.RecentLemmas.{same_on, same_along}
 use Rattle.docstore.proofs.WalkingLemmas.{walks_past, walks_along, walks_same, docs_of_some, docs_stay, stands_in}
 use Rattle.docstore.proofs.walk.walk_on.Goals as goal
 
@@ -36,3 +37,9 @@ returns-clause-found g c =
     let below = c.requires.below in let end = c.requires.end in
     let all : c.loop-doc_id.doc_id ≡ num_docs c.args.reader.now = omega (arith, c.loop-doc_id.auto.doc_id-end) in
     (subst (λ n. WalksTo (set_in c.args.alive.now) c.args.reader.now c.args.walk.now n c.loop-doc_id.reader c.loop-doc_id.walk) all c.loop-doc_id.invariant.on, here ∙ all)
+
+pub returns-then-is_alive-clause-same : goal.returns-then-is_alive-clause-same
+returns-then-is_alive-clause-same g c = same_on _ _ _ (same_along _ _ _ _ _ c.loop-doc_id.invariant.on.looks) (same_along _ _ _ _ _ c.step_in.ensures.looks)
+
+pub returns-clause-same : goal.returns-clause-same
+returns-clause-same g c = same_along _ _ _ _ _ c.loop-doc_id.invariant.on.looks

@@ -22,7 +22,8 @@ returns-clause-steps g c =
         gives = record {
           last = c.in_ok-doc_id.doc_id;
           walks = found.0;
-          gives = record { below = found.1; is_alive = found.2; next = found.3; answers = c.answer_of-bytes.ensures; honest = truly };
+          same = c.walk_on.ensures.same;
+          gives = record { below = found.1; is_alive = found.2; next = found.3; above = found.4.above; answers = c.answer_of-bytes.ensures; honest = truly };
         };
         reads = reads;
         honest = λ honest. read_truly _ _ _ c.answer_of-bytes.result c.read_document.result (truly honest) reads;

@@ -17,7 +17,8 @@ returns-clause-steps g c =
       record {
         last = c.in_ok-doc_id.doc_id;
         walks = found.0;
-        gives = record { below = found.1; is_alive = found.2; next = found.3; answers = c.answer_of.ensures; honest = item_is_true _ _ _ _ _ found.4 c.answer_of.ensures };
+        same = c.walk_on.ensures.same;
+        gives = record { below = found.1; is_alive = found.2; next = found.3; above = found.4.above; answers = c.answer_of.ensures; honest = item_is_true _ _ _ _ _ found.4 c.answer_of.ensures };
       },
       refl,
       refl,

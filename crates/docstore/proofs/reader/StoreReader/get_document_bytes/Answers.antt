@@ -5,6 +5,7 @@ use Rattle.docstore.specs.contracts.reader.StoreReader.{the_view}
 use denote.Param.{param}
 use Rattle.docstore.proofs.SeekLemmas.{IsWithin, within, none_past}
 use Rattle.docstore.proofs.LookUpLemmas.{stays_honest, reader_after}
+use Rattle.docstore.proofs.RecentLemmas.{same_store, same_as_it_is}
 use Rattle.docstore.proofs.AnsweringLemmas.{not_none_such, read_failed, answers_truly, none_truly}
 use Rattle.docstore.proofs.reader.StoreReader.get_document_bytes.Goals as goal
 
@@ -70,3 +71,9 @@ returns-clause-honest g c honest = answers_truly _ _ _ _ (rw (← c.self.view_is
 
 pub returns-clause-failed : goal.returns-clause-failed
 returns-clause-failed g c e = read_failed _ _ _ _ (answered g c) e
+
+pub returns-in_default-clause-same_store : goal.returns-in_default-clause-same_store
+returns-in_default-clause-same_store g c = same_as_it_is _
+
+pub returns-clause-same_store : goal.returns-clause-same_store
+returns-clause-same_store g c = same_store _ _ _ _ _ (answered g c).looked

@@ -1,0 +1,126 @@
+-- What look-ups one after the other do, and what they leave.
+use Rattle.std.proofs.Common.{◌≡◌, ℕ, ◌+◌, ◌<◌, ◌≤◌, ◌^◌, Bool, List, [], ◌∷◌, is_some, refl, sym, ap, ◌∙◌, subst, arith, inl, inr}
+use Rattle.std.specs.Prelude.{if◌then◌else◌, ◌==◌, Result, Ok, Err}
+use Rattle.std.specs.List.{list_any}
+use Rattle.std.specs.Map.{keys_of}
+use Rattle.store_base.specs.Counts.{raised}
+use Rattle.store_base.specs.Files.{Part}
+use Rattle.docstore.specs.declared.error.StoreError.{StoreError}
+use Rattle.docstore.specs.declared.index.Checkpoint.{Checkpoint}
+use Rattle.docstore.specs.Answering.{IsLookedUp}
+use Rattle.docstore.specs.Cache.{CacheState, LookUp, look_up, recent, misses_along}
+use Rattle.docstore.specs.Kept.{Blocks, state_of}
+use Rattle.docstore.specs.LookingUp.{LooksUp, cache_missed}
+use Rattle.docstore.specs.LookLaws.{LooksAreRecent}
+use Rattle.docstore.specs.Reading.{Reading, IsSameStore}
+use Rattle.docstore.specs.Walking.{LooksAlong}
+use Rattle.docstore.proofs.KeptLemmas.{any_from_some, apart_from_none}
+
+-- the capacity stays
+capacity_missed : (key : ℕ) (came : Result (List ℕ) StoreError) (is_kept : Bool) (cache : Blocks) → (cache_missed key came is_kept cache).capacity ≡ cache.capacity
+capacity_missed key (Ok block) is_kept cache = refl
+capacity_missed key (Err e) is_kept cache = refl
+
+-- what a look-up leaves of the file and of the capacity, and how often it reads
+record Leaves (c : Checkpoint) (file : Part) (cache : Blocks) (file' : Part) (cache' : Blocks) : Type 0 where
+  content : file'.content ≡ file.content
+  honest : file'.honest ≡ file.honest
+  failures : file.failures ≤ file'.failures
+  capacity : cache'.capacity ≡ cache.capacity
+  reads : file.reads < 2 ^ 64 → file'.reads ≡ raised file.reads (if list_any (λ k. k == c.byte_range.start) (keys_of cache.kept) then 0 else 1)
+
+leaves : (c : Checkpoint) (file : Part) (cache : Blocks) (came : Result (List ℕ) StoreError) (file' : Part) (cache' : Blocks) → LooksUp c file cache came file' cache' → Leaves c file cache file' cache'
+leaves c file cache came file' cache' l = elim l.cause [
+  | inl hit ↦
+      let same = hit.file_stays in
+      let failures : file'.failures ≡ file.failures = ap (λ (f : Part). f.failures) same in
+      let reads : file'.reads ≡ file.reads = ap (λ (f : Part). f.reads) same in
+      let any = any_from_some c.byte_range.start cache.kept (ap is_some hit.kept) in
+      record {
+        content = ap (λ (f : Part). f.content) same;
+        honest = ap (λ (f : Part). f.honest) same;
+        failures = omega arith;
+        capacity = ap (λ (b : Blocks). b.capacity) hit.after;
+        reads = λ few. rw any (omega arith);
+      }
+  | inr miss ↦
+      let none = (apart_from_none c.byte_range.start cache.kept (ap is_some miss.absent)).1 in
+      record {
+        content = miss.read.once.content;
+        honest = miss.read.once.honest;
+        failures = miss.read.once.failures;
+        capacity = ap (λ (b : Blocks). b.capacity) miss.after ∙ capacity_missed c.byte_range.start came miss.is_kept cache;
+        reads = λ few. rw none miss.read.once.reads;
+      }
+]
+
+-- a look-up leaves the store
+pub same_store : (old : Reading) (id : ℕ) (c : Checkpoint) (came : Result (List ℕ) StoreError) (new : Reading) → IsLookedUp old id c came new → IsSameStore old new
+same_store old id c came new l =
+    let left = leaves c old.file old.cache came new.file new.cache l.looks_up in
+    record {
+      content = left.content;
+      honest = left.honest;
+      failures = left.failures;
+      checkpoints = ap (λ (r : Reading). r.checkpoints) l.stays;
+      period = ap (λ (r : Reading). r.period) l.stays;
+      version = ap (λ (r : Reading). r.version) l.stays;
+      decompressor = ap (λ (r : Reading). r.decompressor) l.stays;
+      capacity = left.capacity;
+    }
+
+pub same_as_it_is : (r : Reading) → IsSameStore r r
+same_as_it_is r = record { content = refl; honest = refl; failures = omega arith; checkpoints = refl; period = refl; version = refl; decompressor = refl; capacity = refl }
+
+pub same_on : (a b c : Reading) → IsSameStore a b → IsSameStore b c → IsSameStore a c
+same_on a b c p q = record {
+  content = q.content ∙ p.content;
+  honest = q.honest ∙ p.honest;
+  failures = omega (arith, p.failures, q.failures);
+  checkpoints = q.checkpoints ∙ p.checkpoints;
+  period = q.period ∙ p.period;
+  version = q.version ∙ p.version;
+  decompressor = q.decompressor ∙ p.decompressor;
+  capacity = q.capacity ∙ p.capacity;
+}
+
+pub same_along : (cs : List Checkpoint) (r : Reading) (b : Result (List ℕ) StoreError) (r' : Reading) (b' : Result (List ℕ) StoreError) → LooksAlong cs r b r' b' → IsSameStore r r'
+same_along [] r b r' b' l = subst (λ (x : Reading). IsSameStore r x) (sym l.0) (same_as_it_is r)
+same_along (c ∷ cs) r b r' b' l = same_on r l.0 r' (same_store r c.doc_range.start c l.2.came l.0 l.2.looked) (same_along cs l.0 l.1 r' b' l.3)
+
+-- reads that are counted once and then again
+raised_on : (n k m reads : ℕ) → n < 2 ^ 64 → reads ≡ raised (raised n k) m → reads ≡ raised n (k + m)
+raised_on n k m reads few e = omega arith
+
+few_raised : (n k : ℕ) → n < 2 ^ 64 → raised n k < 2 ^ 64
+few_raised n k few = omega arith
+
+pub looks_are_recent : LooksAreRecent
+looks_are_recent [] old block new block' few l =
+    let reads : new.file.reads ≡ old.file.reads = ap (λ (r : Reading). r.file.reads) l.0 in
+    record {
+      looks = [];
+      order = refl;
+      state = ap (λ (r : Reading). state_of r.cache) l.0;
+      capacity = ap (λ (r : Reading). r.cache.capacity) l.0;
+      reads = omega arith;
+    }
+looks_are_recent (c ∷ cs) old block new block' few l =
+    let mid = l.0 in
+    let one = l.2.looked.looks_up in
+    let left = leaves c old.file old.cache l.2.came mid.file mid.cache one in
+    let key = c.byte_range.start in
+    let missed = if list_any (λ k. k == key) (keys_of old.cache.kept) then 0 else 1 in
+    let read : mid.file.reads ≡ raised old.file.reads missed = left.reads few in
+    let on = looks_are_recent cs mid l.1 new block' (subst (λ (n : ℕ). n < 2 ^ 64) (sym read) (few_raised old.file.reads missed few)) l.3 in
+    let first : LookUp = record { key = key; kept = one.is_kept } in
+    let rest = misses_along mid.cache.capacity (state_of mid.cache) on.looks in
+    let same : rest ≡ misses_along old.cache.capacity (look_up old.cache.capacity (state_of old.cache) first) on.looks =
+    ap (λ (n : ℕ). misses_along n (state_of mid.cache) on.looks) left.capacity ∙ ap (λ (s : CacheState). misses_along old.cache.capacity s on.looks) one.step in
+    record {
+      looks = first ∷ on.looks;
+      order = ap (λ (ks : List ℕ). key ∷ ks) on.order;
+      state = on.state ∙ ap (λ (n : ℕ). recent n (state_of mid.cache) on.looks) left.capacity ∙ ap (λ (s : CacheState). recent old.cache.capacity s on.looks) one.step;
+      capacity = on.capacity ∙ left.capacity;
+      reads = raised_on old.file.reads missed rest new.file.reads few (on.reads ∙ ap (λ (n : ℕ). raised n rest) read) ∙ ap (λ (n : ℕ). raised old.file.reads (missed + n)) same;
+    }

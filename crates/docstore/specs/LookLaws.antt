@@ -1,0 +1,35 @@
+-- What look-ups one after the other do, and which blocks an iteration has looked up.
+use Rattle.std.specs.Prelude.{◌≡◌, ℕ, ◌+◌, ◌<◌, ◌≤◌, ◌^◌, Bool, true, List, length, map, take, Option, Result}
+use Rattle.store_base.specs.Counts.{raised}
+use Rattle.docstore.specs.declared.error.StoreError.{StoreError}
+use Rattle.docstore.specs.declared.index.Checkpoint.{Checkpoint}
+use Rattle.docstore.specs.declared.walk.Walk.{Walk}
+use Rattle.docstore.specs.Cache.{LookUp, recent, misses_along}
+use Rattle.docstore.specs.Checkpoint.{Covers}
+use Rattle.docstore.specs.Iteration.{is_in, looked_along, alive_below, keys_along}
+use Rattle.docstore.specs.Kept.{state_of}
+use Rattle.docstore.specs.Reading.{Reading, num_docs}
+use Rattle.docstore.specs.Walking.{IsWalk, LooksAlong}
+
+-- Look-ups of these keys in order, with what became of each. The file was read once for each that didn't find its key.
+pub record AreLookUps (keys : List ℕ) (old new : Reading) : Type 0 where
+  pub looks : List LookUp
+  pub order : map (λ l. l.key) looks ≡ keys
+  pub state : state_of new.cache ≡ recent old.cache.capacity (state_of old.cache) looks
+  pub capacity : new.cache.capacity ≡ old.cache.capacity
+  pub reads : new.file.reads ≡ raised old.file.reads (misses_along old.cache.capacity (state_of old.cache) looks)
+
+-- Blocks that are looked up one after the other are look-ups of their first bytes.
+abbrev pub LooksAreRecent : Type 0
+LooksAreRecent = (cs : List Checkpoint) (old : Reading) (block : Result (List ℕ) StoreError) (new : Reading) (block' : Result (List ℕ) StoreError)
+    → old.file.reads < 2 ^ 64 → LooksAlong cs old block new block' → AreLookUps (keys_along cs) old new
+
+-- Where an iteration stands behind an item, it has looked up what the definition says for so many items; and where it has come to the
+-- end, for any greater number.
+pub record IsLooked (r : Reading) (w : Walk) (set : Option (ℕ → Bool)) : Type 0 where
+  pub none : w.place ≡ length (take 1 r.checkpoints) → keys_along (take w.place r.checkpoints) ≡ looked_along r.checkpoints set 0
+  pub item : (id : ℕ) → w.next ≡ id + 1 → w.first ≤ id → is_in set id ≡ true → keys_along (take w.place r.checkpoints) ≡ looked_along r.checkpoints set (alive_below set w.next)
+  pub all : (count : ℕ) → w.next ≡ num_docs r → alive_below set (num_docs r) < count → keys_along (take w.place r.checkpoints) ≡ looked_along r.checkpoints set count
+
+abbrev pub WalksLookUp : Type 0
+WalksLookUp = (r : Reading) (w : Walk) (set : Option (ℕ → Bool)) → Covers r.checkpoints (length r.file.content) → IsWalk r w → IsLooked r w set
