@@ -2,11 +2,11 @@
 use Rattle.std.proofs.Common.{◌≡◌, ℕ, ◌-◌, ◌≤◌, List, length, arith, Option, Some, refl, sym, ap, ◌∙◌, subst, inl, inr, ◌⊎◌}
 use Rattle.std.specs.Prelude.{Result, Ok, Err, IsTrue, IfOk, slice_get}
 use Rattle.store_base.specs.Counts.{HasRisen}
-use Rattle.docstore.specs.declared.index.Checkpoint.{Checkpoint}
-use Rattle.docstore.specs.declared.error.StoreError.{StoreError}
-use Rattle.docstore.specs.declared.error.StoreError.TheVariants.{InvalidArgument, Read, Memory}
+use Rattle.layered_index.specs.declared.index.Checkpoint.{Checkpoint}
+use Rattle.layered_index.specs.declared.error.StoreError.{StoreError}
+use Rattle.layered_index.specs.declared.error.StoreError.TheVariants.{InvalidArgument, Read, Memory}
 use Rattle.docstore.specs.Block.{Slot, slot}
-use Rattle.docstore.specs.Checkpoint.{Covers, first_past}
+use Rattle.layered_index.specs.Checkpoint.{Covers, first_past}
 use Rattle.docstore.specs.Slots.{slots}
 use Rattle.docstore.specs.StoreFile.{StoreBlock}
 use Rattle.docstore.specs.Reading.{Reading, num_docs, part_of, store_of}

@@ -2,11 +2,11 @@
 use Rattle.std.proofs.Common.{◌≡◌, ℕ, ◌≤◌, List, ◌∷◌, ◌++◌, length, refl, sym, ◌∙◌, ap, arith, length-append, inl, inr}
 use Rattle.docstore.specs.Footer.{footer}
 use Rattle.docstore.specs.Laws.{FilesAreStores, StoresAreApart}
-use Rattle.docstore.specs.Layers.{index_part}
+use Rattle.layered_index.specs.Layers.{index_part}
 use Rattle.docstore.specs.StoreFile.{StoreBlock, data_of, marks, HasForm, IsStore}
 use Rattle.docstore.proofs.ExtractionLemmas.{length-reserved, length-footer}
-use Rattle.docstore.proofs.IndexLemmas.{index_parts_are_apart}
-use Rattle.docstore.proofs.ListLemmas.{same_fronts}
+use Rattle.layered_index.proofs.IndexLemmas.{index_parts_are_apart}
+use Rattle.layered_index.proofs.ListLemmas.{same_fronts}
 use Rattle.docstore.proofs.OutputLemmas.{file_is_store}
 use Rattle.docstore.proofs.RefusedLemmas.{beginnings_apart, known_version, tails, one_period}
 use Rattle.docstore.proofs.StoreLemmas.{data_fits, marks_in_line, blocks_from}

@@ -4,12 +4,12 @@ use Rattle.std.specs.Prelude.{◌&&◌, ◌==◌}
 use Rattle.std.specs.List.{AllByRecursion}
 use Rattle.std.proofs.lemmas.Bool.{ltb-true, lt-ltb, eqb-true, eq-eqb}
 use Rattle.store_base.specs.ReadingLemmas.{some_is}
-use Rattle.docstore.specs.declared.index.Checkpoint.{Checkpoint}
-use Rattle.docstore.specs.Checkpoint.{IsInLineFrom, IsInLine, IsFilled, Covers, docs_end, bytes_end}
-use Rattle.docstore.specs.LineLemmas.{in_line_from, in_line_somewhere}
-use Rattle.docstore.specs.IndexReading.{IsIndexPart}
+use Rattle.layered_index.specs.declared.index.Checkpoint.{Checkpoint}
+use Rattle.layered_index.specs.Checkpoint.{IsInLineFrom, IsInLine, IsFilled, Covers, docs_end, bytes_end}
+use Rattle.layered_index.specs.LineLemmas.{in_line_from, in_line_somewhere}
+use Rattle.layered_index.specs.IndexReading.{IsIndexPart}
 use Rattle.docstore.specs.Covering.{goes_on, covered_to, HasIndexOf}
-use Rattle.docstore.proofs.IndexLemmas.{index_parts_are_apart}
+use Rattle.layered_index.proofs.IndexLemmas.{index_parts_are_apart}
 
 both : (a b : Bool) → (a && b) ≡ true → (a ≡ true) × (b ≡ true)
 both true true e = (refl, refl)

@@ -4,12 +4,12 @@ use Rattle.std.specs.Prelude.{Result, Ok, Err}
 use Rattle.std.proofs.lemmas.Bool.{ltb-true, ltb-false}
 use Rattle.store_base.specs.Counts.{HasRisen}
 use Rattle.store_base.specs.Files.{Part}
-use Rattle.docstore.specs.declared.error.StoreError.{StoreError}
-use Rattle.docstore.specs.declared.error.StoreError.TheVariants.{Read}
+use Rattle.layered_index.specs.declared.error.StoreError.{StoreError}
+use Rattle.layered_index.specs.declared.error.StoreError.TheVariants.{Read}
 use Rattle.docstore.specs.declared.footer.DocStoreFooter.{DocStoreFooter}
 use Rattle.docstore.specs.Extraction.{SaysFrom, ExtractsFooter}
 use Rattle.docstore.specs.FileReading.{Comes}
-use Rattle.docstore.specs.Layers.{Index}
+use Rattle.layered_index.specs.Layers.{Index}
 use Rattle.docstore.specs.Opening.{IndexFrom, ReadsIndex, Opens, OpensFrom}
 
 -- what no reading changes

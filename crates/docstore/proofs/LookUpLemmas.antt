@@ -4,9 +4,9 @@ use Rattle.std.proofs.Common.{◌≡◌, ℕ, zero, suc, ◌-◌, Bool, true, fa
 use Rattle.std.specs.Prelude.{Result, Ok, Err, IsTrue, IfOk, IsSomeAnd}
 use Rattle.std.specs.List.{AllByRecursion}
 use Rattle.store_base.specs.Files.{Part}
-use Rattle.docstore.specs.declared.index.Checkpoint.{Checkpoint}
-use Rattle.docstore.specs.declared.error.StoreError.{StoreError}
-use Rattle.docstore.specs.Checkpoint.{Covers, first_past}
+use Rattle.layered_index.specs.declared.index.Checkpoint.{Checkpoint}
+use Rattle.layered_index.specs.declared.error.StoreError.{StoreError}
+use Rattle.layered_index.specs.Checkpoint.{Covers, first_past}
 use Rattle.docstore.specs.Cache.{look_up}
 use Rattle.docstore.specs.FileReading.{Comes}
 use Rattle.docstore.specs.Kept.{Blocks, block_at, after_hit, with_pair, state_of}

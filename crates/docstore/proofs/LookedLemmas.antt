@@ -3,9 +3,9 @@ use Rattle.std.proofs.Common.{◌≡◌, ℕ, zero, suc, ◌+◌, ◌-◌, ◌<�
 use Rattle.std.specs.List.{AllByRecursion, count_by, range_with_len}
 use Rattle.std.proofs.lemmas.Bool.{le-leb, lt-leb}
 use Rattle.std.proofs.lemmas.List.Sums.{sum_by-cons}
-use Rattle.docstore.specs.declared.index.Checkpoint.{Checkpoint}
+use Rattle.layered_index.specs.declared.index.Checkpoint.{Checkpoint}
 use Rattle.docstore.specs.declared.walk.Walk.{Walk}
-use Rattle.docstore.specs.Checkpoint.{IsInLineFrom, IsFilled, Covers, docs_end, doc_count}
+use Rattle.layered_index.specs.Checkpoint.{IsInLineFrom, IsFilled, Covers, docs_end, doc_count}
 use Rattle.docstore.specs.Iteration.{is_in, alive_count, alive_below, looked_along, keys_along}
 use Rattle.docstore.specs.Reading.{Reading, num_docs}
 use Rattle.docstore.specs.Walking.{IsWalk}

@@ -6,15 +6,15 @@ use Rattle.std.proofs.lemmas.List.{append-nil}
 use Rattle.store_base.specs.Files.{Part}
 use Rattle.docstore.specs.declared.compressors.Decompressor.{Decompressor}
 use Rattle.docstore.specs.declared.compressors.Decompressor.TheVariants as unpacked
-use Rattle.docstore.specs.declared.error.StoreError.{StoreError}
+use Rattle.layered_index.specs.declared.error.StoreError.{StoreError}
 use Rattle.docstore.specs.declared.footer.DocStoreFooter.{DocStoreFooter}
 use Rattle.docstore.specs.declared.footer.DocStoreVersion.{DocStoreVersion}
-use Rattle.docstore.specs.declared.index.Checkpoint.{Checkpoint}
-use Rattle.docstore.specs.Checkpoint.{Covers}
+use Rattle.layered_index.specs.declared.index.Checkpoint.{Checkpoint}
+use Rattle.layered_index.specs.Checkpoint.{Covers}
 use Rattle.docstore.specs.Extraction.{SaysFrom, ExtractsFooter}
 use Rattle.docstore.specs.FileReading.{Comes}
 use Rattle.docstore.specs.Footer.{footer, kind_of, version_number}
-use Rattle.docstore.specs.Layers.{Index, index_part}
+use Rattle.layered_index.specs.Layers.{Index, index_part}
 use Rattle.docstore.specs.Opening.{IndexFrom, ReadsIndex, OpensFrom, IsOpened}
 use Rattle.docstore.specs.Reading.{Reading, store_of}
 use Rattle.docstore.specs.StoreFile.{data_of, marks, HasForm, IsStore}

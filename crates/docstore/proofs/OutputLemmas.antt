@@ -3,14 +3,14 @@ use Rattle.std.proofs.Common.{◌≡◌, ℕ, ◌+◌, ◌-◌, ◌^◌, ◌<◌
 use Rattle.std.proofs.lemmas.List.{append-nil, drop-append-le, take-append-le, take-append-drop, length-drop}
 use Rattle.std.proofs.Math.ListN.{drop_of_length-le}
 use Rattle.std.specs.List.{AllByRecursion}
-use Rattle.docstore.specs.declared.index.Checkpoint.{Checkpoint}
-use Rattle.docstore.specs.declared.error.Cause.{Cause}
-use Rattle.docstore.specs.Checkpoint.{IsInLineFrom, IsInLine}
+use Rattle.layered_index.specs.declared.index.Checkpoint.{Checkpoint}
+use Rattle.layered_index.specs.declared.error.Cause.{Cause}
+use Rattle.layered_index.specs.Checkpoint.{IsInLineFrom, IsInLine}
 use Rattle.docstore.specs.StoreFile.{StoreBlock, IsStoreBlock, docs_in, AreBlocks, data_of, marks_from, marks, file, reserved_of, IsStore}
 use Rattle.docstore.specs.declared.compressors.Compressor.{Compressor}
 use Rattle.docstore.specs.declared.compressors.Compressor.TheVariants as packed
 use Rattle.docstore.specs.Footer.{footer, kind_of, unpacks}
-use Rattle.docstore.specs.Layers.{index_part}
+use Rattle.layered_index.specs.Layers.{index_part}
 use Rattle.docstore.specs.BlockOutput.{BlockOutput, with_blocks, with_risen, IsSound, data_in, front_of, blocks_in, AreWritten, IsCompressing, compressing}
 use Rattle.docstore.proofs.StoreLemmas.{docs_in-cons, docs_in-append, data_of-append, data_fits, AreBlocks-append, marks_from-append, marks_in_line_from, marks_in_line, docs_in-blocks_at, blocks_from, blocks_none}
 

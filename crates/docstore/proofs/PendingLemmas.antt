@@ -10,8 +10,8 @@ use Rattle.store_base.specs.Serialize.{fixed}
 use Rattle.store_base.specs.SerializeLemmas.{length-fixed}
 use Rattle.docstore.specs.Block.{starts_from, block}
 use Rattle.docstore.specs.Trace.{weight}
-use Rattle.docstore.specs.declared.error.StoreError.{StoreError}
-use Rattle.docstore.specs.declared.error.StoreError.TheVariants.{Memory, BlockTooLarge}
+use Rattle.layered_index.specs.declared.error.StoreError.{StoreError}
+use Rattle.layered_index.specs.declared.error.StoreError.TheVariants.{Memory, BlockTooLarge}
 use Rattle.docstore.specs.Pending.{first_or, documents_at, IsPending, IsDocumentRefusal}
 
 -- ---- sizes

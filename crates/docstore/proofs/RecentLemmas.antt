@@ -5,8 +5,8 @@ use Rattle.std.specs.List.{list_any}
 use Rattle.std.specs.Map.{keys_of}
 use Rattle.store_base.specs.Counts.{raised}
 use Rattle.store_base.specs.Files.{Part}
-use Rattle.docstore.specs.declared.error.StoreError.{StoreError}
-use Rattle.docstore.specs.declared.index.Checkpoint.{Checkpoint}
+use Rattle.layered_index.specs.declared.error.StoreError.{StoreError}
+use Rattle.layered_index.specs.declared.index.Checkpoint.{Checkpoint}
 use Rattle.docstore.specs.Answering.{IsLookedUp}
 use Rattle.docstore.specs.Cache.{CacheState, LookUp, look_up, recent, misses_along}
 use Rattle.docstore.specs.Kept.{Blocks, state_of}

@@ -8,14 +8,14 @@ use Rattle.std.proofs.Math.Seq.{drop-append_seam, take-append_seam}
 use Rattle.store_base.specs.Files.{Part}
 use Rattle.store_base.specs.Serialize.{fixed}
 use Rattle.store_base.specs.SerializeLemmas.{fixed_numbers_are_apart}
-use Rattle.docstore.specs.declared.error.StoreError.{StoreError}
-use Rattle.docstore.specs.declared.error.StoreError.TheVariants.{BadVersion, BadBlockKind, Read, Memory, BadPeriod}
+use Rattle.layered_index.specs.declared.error.StoreError.{StoreError}
+use Rattle.layered_index.specs.declared.error.StoreError.TheVariants.{BadVersion, BadBlockKind, Read, Memory, BadPeriod}
 use Rattle.docstore.specs.declared.footer.DocStoreFooter.{DocStoreFooter}
-use Rattle.docstore.specs.Checkpoint.{IsFilled, Covers, bytes_end}
+use Rattle.layered_index.specs.Checkpoint.{IsFilled, Covers, bytes_end}
 use Rattle.docstore.specs.Extraction.{Says, SaysFrom, ExtractsFooter}
 use Rattle.docstore.specs.FileReading.{Comes}
 use Rattle.docstore.specs.Footer.{footer, version_number}
-use Rattle.docstore.specs.Layers.{index_part}
+use Rattle.layered_index.specs.Layers.{index_part}
 use Rattle.docstore.specs.Opening.{IndexFrom, ReadsIndex, Opens, OpensFrom, IsSomeStore, RefusesNoStore}
 use Rattle.docstore.specs.StoreFile.{StoreBlock, IsStoreBlock, AreBlocks, data_of, marks_from, marks, HasForm}
 use Rattle.docstore.proofs.ExtractionLemmas.{length-reserved, length-footer}

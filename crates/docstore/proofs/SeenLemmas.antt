@@ -4,8 +4,8 @@ use Rattle.std.specs.Prelude.{slice_range}
 use Rattle.std.specs.List.{AllByRecursion}
 use Rattle.std.proofs.lemmas.List.{take_all, length-take-le, length-drop, drop-drop}
 use Rattle.std.proofs.Math.Seq.{take-add}
-use Rattle.docstore.specs.declared.index.Checkpoint.{Checkpoint}
-use Rattle.docstore.specs.Checkpoint.{IsInLineFrom, docs_end, bytes_end, doc_count, IsFilled, Covers}
+use Rattle.layered_index.specs.declared.index.Checkpoint.{Checkpoint}
+use Rattle.layered_index.specs.Checkpoint.{IsInLineFrom, docs_end, bytes_end, doc_count, IsFilled, Covers}
 use Rattle.docstore.specs.StoreFile.{StoreBlock, IsStoreBlock, AreBlocks, docs_in, data_of, marks_from, marks}
 use Rattle.docstore.specs.BlockOutput.{blocks_at}
 use Rattle.docstore.specs.Reading.{part_of}

@@ -3,10 +3,10 @@ use Rattle.std.proofs.Common.{◌≡◌, ℕ, ◌+◌, ◌^◌, ◌<◌, List, [
 use Rattle.std.proofs.lemmas.List.Sums.{sum_by-cons}
 use Rattle.std.specs.List.{sum_by, AllByRecursion}
 use Rattle.docstore.specs.declared.compressors.Compressor.{Compressor}
-use Rattle.docstore.specs.declared.error.Cause.{Cause}
-use Rattle.docstore.specs.declared.index.Checkpoint.{Checkpoint}
-use Rattle.docstore.specs.Checkpoint.{checkpoint, doc_count, IsWithinLimits, IsInLineFrom, IsInLine, docs_end, Covers}
-use Rattle.docstore.specs.LineLemmas.{in_line-split, in_line-join, in_line_from}
+use Rattle.layered_index.specs.declared.error.Cause.{Cause}
+use Rattle.layered_index.specs.declared.index.Checkpoint.{Checkpoint}
+use Rattle.layered_index.specs.Checkpoint.{checkpoint, doc_count, IsWithinLimits, IsInLineFrom, IsInLine, docs_end, Covers}
+use Rattle.layered_index.specs.LineLemmas.{in_line-split, in_line-join, in_line_from}
 use Rattle.docstore.specs.StoreFile.{StoreBlock, IsStoreBlock, docs_in, data_of, marks_from, marks}
 use Rattle.docstore.specs.BlockOutput.{BlockOutput, IsCompressing, compressing, blocks_at}
 use Rattle.docstore.specs.Stacking.{shifted}

@@ -4,9 +4,9 @@ use Rattle.std.proofs.lemmas.List.Concat.{flat_map-append}
 use Rattle.std.proofs.lemmas.List.Sums.{sum_by-cons}
 use Rattle.std.proofs.Math.Seq.{drop-append_seam, take-append_seam}
 use Rattle.std.specs.List.{sum_by, AllByRecursion}
-use Rattle.docstore.specs.declared.index.Checkpoint.{Checkpoint}
-use Rattle.docstore.specs.Checkpoint.{checkpoint, doc_count, byte_len, IsInLineFrom, IsInLine}
-use Rattle.docstore.specs.LineLemmas.{in_line_from}
+use Rattle.layered_index.specs.declared.index.Checkpoint.{Checkpoint}
+use Rattle.layered_index.specs.Checkpoint.{checkpoint, doc_count, byte_len, IsInLineFrom, IsInLine}
+use Rattle.layered_index.specs.LineLemmas.{in_line_from}
 use Rattle.docstore.specs.StoreFile.{StoreBlock, IsStoreBlock, docs_in, AreBlocks, data_of, marks_from, marks}
 use Rattle.docstore.specs.BlockOutput.{blocks_at}
 

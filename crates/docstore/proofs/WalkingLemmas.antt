@@ -4,13 +4,13 @@ use Rattle.std.proofs.lemmas.Bool.{ltb-true, ltb-false, lt-ltb, le-ltb}
 use Rattle.std.proofs.lemmas.List.{drop-drop}
 use Rattle.std.proofs.Math.Seq.{take-add}
 use Rattle.std.specs.Prelude.{nat_lt, IsTrue, IfOk, IfErr, IfSome, Result, Ok, Err, slice_get, slice_range}
-use Rattle.docstore.specs.declared.index.Checkpoint.{Checkpoint}
-use Rattle.docstore.specs.declared.error.StoreError.{StoreError}
+use Rattle.layered_index.specs.declared.index.Checkpoint.{Checkpoint}
+use Rattle.layered_index.specs.declared.error.StoreError.{StoreError}
 use Rattle.docstore.specs.declared.walk.Walk.{Walk}
-use Rattle.docstore.specs.declared.error.StoreError.TheVariants.{Read, Memory}
+use Rattle.layered_index.specs.declared.error.StoreError.TheVariants.{Read, Memory}
 use Rattle.docstore.specs.Answering.{IsLookedUp, AnswersFrom, AnswersTruly}
 use Rattle.docstore.specs.Block.{Slot, slot}
-use Rattle.docstore.specs.Checkpoint.{IsInLineFrom, Covers, docs_end, first_past}
+use Rattle.layered_index.specs.Checkpoint.{IsInLineFrom, Covers, docs_end, first_past}
 use Rattle.docstore.specs.Documents.{ReadsFrom, ReadsTruly}
 use Rattle.docstore.specs.Iteration.{is_in}
 use Rattle.docstore.specs.LookingUp.{Takes}

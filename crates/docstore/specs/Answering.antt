@@ -1,10 +1,10 @@
 -- What a get of a document answers.
 use Rattle.std.specs.Prelude.{◌≡◌, ◌⊎◌, ℕ, ◌-◌, IsTrue, IfOk, List, Option, Some, None, Result, Ok, Err}
-use Rattle.docstore.specs.declared.error.StoreError.{StoreError}
-use Rattle.docstore.specs.declared.error.StoreError.TheVariants.{InvalidArgument, DamagedDocument, Read, Memory}
-use Rattle.docstore.specs.declared.index.Checkpoint.{Checkpoint}
+use Rattle.layered_index.specs.declared.error.StoreError.{StoreError}
+use Rattle.layered_index.specs.declared.error.StoreError.TheVariants.{InvalidArgument, DamagedDocument, Read, Memory}
+use Rattle.layered_index.specs.declared.index.Checkpoint.{Checkpoint}
 use Rattle.docstore.specs.Block.{Slot, slot, doc, damaged}
-use Rattle.docstore.specs.Checkpoint.{first_past}
+use Rattle.layered_index.specs.Checkpoint.{first_past}
 use Rattle.docstore.specs.LookingUp.{LooksUp}
 use Rattle.docstore.specs.Reading.{Reading, with_parts, part_of}
 

@@ -3,12 +3,12 @@ use Rattle.std.specs.Prelude.{◌≡◌, ℕ, ◌-◌, ◌<◌, ◌≤◌, ◌^�
 use Rattle.std.specs.List.{sum_by}
 use Rattle.store_base.specs.Counts.{HasRisen}
 use Rattle.docstore.specs.declared.compressors.Compressor.{Compressor}
-use Rattle.docstore.specs.declared.error.Cause.{Cause}
-use Rattle.docstore.specs.declared.error.Cause.TheVariants.{Write, Memory as OutOfMemory}
-use Rattle.docstore.specs.declared.error.StoreError.{StoreError}
-use Rattle.docstore.specs.declared.error.StoreError.TheVariants.{Memory, Failed}
-use Rattle.docstore.specs.declared.index.Checkpoint.{Checkpoint}
-use Rattle.docstore.specs.Checkpoint.{doc_count, byte_len}
+use Rattle.layered_index.specs.declared.error.Cause.{Cause}
+use Rattle.layered_index.specs.declared.error.Cause.TheVariants.{Write, Memory as OutOfMemory}
+use Rattle.layered_index.specs.declared.error.StoreError.{StoreError}
+use Rattle.layered_index.specs.declared.error.StoreError.TheVariants.{Memory, Failed}
+use Rattle.layered_index.specs.declared.index.Checkpoint.{Checkpoint}
+use Rattle.layered_index.specs.Checkpoint.{doc_count, byte_len}
 use Rattle.docstore.specs.StoreFile.{StoreBlock, AreBlocks, docs_in, data_of, marks}
 
 -- How blocks are packed and the index is grouped; the finished blocks; why the writer has failed, if it has; what the output held when it was handed in, what it holds, and how often it failed.

@@ -1,8 +1,8 @@
 -- The test of covering, and the index of a store.
 use Rattle.std.specs.Prelude.{◌≡◌, ℕ, ◌==◌, ◌&&◌, nat_lt, Bool, if◌then◌else◌, List, [], ◌∷◌, Option, Some, None}
-use Rattle.docstore.specs.declared.index.Checkpoint.{Checkpoint}
-use Rattle.docstore.specs.Checkpoint.{Covers}
-use Rattle.docstore.specs.Layers.{index_part}
+use Rattle.layered_index.specs.declared.index.Checkpoint.{Checkpoint}
+use Rattle.layered_index.specs.Checkpoint.{Covers}
+use Rattle.layered_index.specs.Layers.{index_part}
 
 -- whether it begins at this document and this byte, and has one of each
 abbrev pub goes_on : ℕ → ℕ → Checkpoint → Bool

@@ -1,7 +1,7 @@
 -- Documents as values: what is read from the bytes of a slot.
 use Rattle.std.specs.Prelude.{◌≡◌, ◌⊎◌, ℕ, List, Option, Some, None, Result, Ok, Err}
-use Rattle.docstore.specs.declared.error.StoreError.{StoreError}
-use Rattle.docstore.specs.declared.error.StoreError.TheVariants.{InvalidArgument, DamagedDocument, BadDocument, Read, Memory}
+use Rattle.layered_index.specs.declared.error.StoreError.{StoreError}
+use Rattle.layered_index.specs.declared.error.StoreError.TheVariants.{InvalidArgument, DamagedDocument, BadDocument, Read, Memory}
 use Rattle.docstore.specs.declared.footer.DocStoreVersion.{DocStoreVersion}
 use Rattle.docstore.specs.declared.footer.DocStoreVersion.TheVariants.{V1, V2, V3}
 use Rattle.docstore.specs.Answering.{IsAnswered}

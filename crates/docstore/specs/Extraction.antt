@@ -2,8 +2,8 @@
 use Rattle.std.specs.Prelude.{◌≡◌, ℕ, ◌-◌, ◌<◌, ◌≤◌, List, [], length, Result, Ok, Err}
 use Rattle.store_base.specs.Files.{Part}
 use Rattle.store_base.specs.declared.fault.DecodeFault.TheVariants as fault
-use Rattle.docstore.specs.declared.error.StoreError.{StoreError}
-use Rattle.docstore.specs.declared.error.StoreError.TheVariants.{ShortFile, BadVersion, BadBlockKind, BadPeriod}
+use Rattle.layered_index.specs.declared.error.StoreError.{StoreError}
+use Rattle.layered_index.specs.declared.error.StoreError.TheVariants.{ShortFile, BadVersion, BadBlockKind, BadPeriod}
 use Rattle.docstore.specs.declared.footer.DocStoreFooter.{DocStoreFooter}
 use Rattle.docstore.specs.FileReading.{Comes}
 use Rattle.docstore.specs.FooterReading.{ReadsFooter}

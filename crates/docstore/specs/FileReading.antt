@@ -2,15 +2,8 @@
 use Rattle.std.specs.Prelude.{◌≡◌, ◌⊎◌, ℕ, ◌-◌, IsTrue, List, length, slice_range, Result, Err, IfOk, IfErr}
 use Rattle.store_base.specs.Counts.{HasRisen}
 use Rattle.store_base.specs.Files.{Part, ReadsOnce}
-use Rattle.store_base.specs.declared.fault.ReadFault.{ReadFault}
-use Rattle.store_base.specs.declared.fault.ReadFault.TheVariants as fault
-use Rattle.docstore.specs.declared.error.StoreError.{StoreError}
-use Rattle.docstore.specs.declared.error.StoreError.TheVariants.{Read, Memory}
-
--- the refusal that a read that failed is answered by
-abbrev pub read_refusal : ReadFault → StoreError
-read_refusal fault.Device = Read
-read_refusal fault.Memory = Memory
+use Rattle.layered_index.specs.declared.error.StoreError.{StoreError}
+use Rattle.layered_index.specs.declared.error.StoreError.TheVariants.{Read, Memory}
 
 -- The bytes that came, or why none did. The file counts one read.
 pub record Comes (old : Part) (from to : ℕ) (came : Result (List ℕ) StoreError) (new : Part) : Type 0 where

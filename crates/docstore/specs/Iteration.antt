@@ -1,8 +1,8 @@
 -- What going over a store gives, and which blocks it looks up.
 use Rattle.std.specs.Prelude.{ℕ, ◌-◌, Bool, true, if◌then◌else◌, nat_le, List, [], ◌∷◌, map, Option, Some, None}
 use Rattle.std.specs.List.{filter, count_by, enumerate_from, range_with_len}
-use Rattle.docstore.specs.declared.index.Checkpoint.{Checkpoint}
-use Rattle.docstore.specs.Checkpoint.{doc_count}
+use Rattle.layered_index.specs.declared.index.Checkpoint.{Checkpoint}
+use Rattle.layered_index.specs.Checkpoint.{doc_count}
 use Rattle.docstore.specs.Block.{Slot}
 use Rattle.docstore.specs.StoreFile.{StoreBlock, marks}
 

@@ -1,11 +1,3 @@
-pub mod Checkpoint
-pub mod LineLemmas
-pub mod Layers
-pub mod BlockReading
-pub mod LayerReading
-pub mod Tables
-pub mod IndexReading
-pub mod Building
 pub mod Block
 pub mod Footer
 pub mod StoreFile
@@ -16,8 +8,6 @@ pub mod Trace
 pub mod Pending
 pub mod BlockOutput
 pub mod Writer
-pub mod Refusal
-pub mod Outcome
 pub mod Laws
 pub mod FileReading
 pub mod Cache

@@ -1,11 +1,11 @@
 -- What look-ups one after the other do, and which blocks an iteration has looked up.
 use Rattle.std.specs.Prelude.{◌≡◌, ℕ, ◌+◌, ◌<◌, ◌≤◌, ◌^◌, Bool, true, List, length, map, take, Option, Result}
 use Rattle.store_base.specs.Counts.{raised}
-use Rattle.docstore.specs.declared.error.StoreError.{StoreError}
-use Rattle.docstore.specs.declared.index.Checkpoint.{Checkpoint}
+use Rattle.layered_index.specs.declared.error.StoreError.{StoreError}
+use Rattle.layered_index.specs.declared.index.Checkpoint.{Checkpoint}
 use Rattle.docstore.specs.declared.walk.Walk.{Walk}
 use Rattle.docstore.specs.Cache.{LookUp, recent, misses_along}
-use Rattle.docstore.specs.Checkpoint.{Covers}
+use Rattle.layered_index.specs.Checkpoint.{Covers}
 use Rattle.docstore.specs.Iteration.{is_in, looked_along, alive_below, keys_along}
 use Rattle.docstore.specs.Kept.{state_of}
 use Rattle.docstore.specs.Reading.{Reading, num_docs}

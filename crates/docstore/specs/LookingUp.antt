@@ -1,9 +1,9 @@
 -- A look-up of a block: in the cache, and then in the file.
 use Rattle.std.specs.Prelude.{◌≡◌, ◌⊎◌, ℕ, Bool, List, Some, None, Result, Ok, Err}
 use Rattle.store_base.specs.Files.{Part}
-use Rattle.docstore.specs.declared.error.StoreError.{StoreError}
-use Rattle.docstore.specs.declared.error.StoreError.TheVariants.{Memory}
-use Rattle.docstore.specs.declared.index.Checkpoint.{Checkpoint}
+use Rattle.layered_index.specs.declared.error.StoreError.{StoreError}
+use Rattle.layered_index.specs.declared.error.StoreError.TheVariants.{Memory}
+use Rattle.layered_index.specs.declared.index.Checkpoint.{Checkpoint}
 use Rattle.docstore.specs.Cache.{look_up}
 use Rattle.docstore.specs.FileReading.{Comes}
 use Rattle.docstore.specs.Kept.{Blocks, block_at, after_hit, after_miss, with_block, state_of}

@@ -1,16 +1,16 @@
 -- What opening a store finds.
 use Rattle.std.specs.Prelude.{◌≡◌, ◌⊎◌, ℕ, ◌-◌, ◌<◌, ◌≤◌, List, length, slice_range, Result, Ok, Err}
 use Rattle.store_base.specs.Files.{Part}
-use Rattle.docstore.specs.declared.error.StoreError.{StoreError}
-use Rattle.docstore.specs.declared.error.StoreError.TheVariants.{BadOffset, Read, Memory}
+use Rattle.layered_index.specs.declared.error.StoreError.{StoreError}
+use Rattle.layered_index.specs.declared.error.StoreError.TheVariants.{BadOffset, Read, Memory}
 use Rattle.docstore.specs.declared.footer.DocStoreFooter.{DocStoreFooter}
-use Rattle.docstore.specs.Layers.{Index}
+use Rattle.layered_index.specs.Layers.{Index}
 use Rattle.docstore.specs.Covering.{IsIndexOf, HasIndexOf}
 use Rattle.docstore.specs.Extraction.{ExtractsFooter, narrowed}
 use Rattle.docstore.specs.FileReading.{Comes}
 use Rattle.docstore.specs.Kept.{no_blocks}
 use Rattle.docstore.specs.Reading.{Reading}
-use Rattle.docstore.specs.Refusal.{RefusesOnlyUnless}
+use Rattle.layered_index.specs.Refusal.{RefusesOnlyUnless}
 use Rattle.docstore.specs.StoreFile.{StoreBlock, IsStore}
 
 -- The index of checkpoints that cover what stands before it; or these bytes are none, or memory ran out.

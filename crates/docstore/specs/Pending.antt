@@ -3,8 +3,8 @@ use Rattle.std.specs.Prelude.{◌≡◌, ◌⊎◌, ℕ, ◌+◌, ◌*◌, ◌<�
 use Rattle.std.specs.List.{concat}
 use Rattle.store_base.specs.declared.fault.DocFault.{DocFault}
 use Rattle.store_base.specs.declared.fault.DocFault.TheVariants as fault
-use Rattle.docstore.specs.declared.error.StoreError.{StoreError}
-use Rattle.docstore.specs.declared.error.StoreError.TheVariants.{Memory, Unserializable, BlockTooLarge}
+use Rattle.layered_index.specs.declared.error.StoreError.{StoreError}
+use Rattle.layered_index.specs.declared.error.StoreError.TheVariants.{Memory, Unserializable, BlockTooLarge}
 use Rattle.docstore.specs.Block.{starts_from}
 
 -- where a document ends: where the next one begins, or at the end

@@ -4,8 +4,8 @@ use Rattle.std.specs.List.{AllByRecursion}
 use Rattle.store_base.specs.Files.{Part}
 use Rattle.docstore.specs.declared.compressors.Decompressor.{Decompressor}
 use Rattle.docstore.specs.declared.footer.DocStoreVersion.{DocStoreVersion}
-use Rattle.docstore.specs.declared.index.Checkpoint.{Checkpoint}
-use Rattle.docstore.specs.Checkpoint.{docs_end, Covers}
+use Rattle.layered_index.specs.declared.index.Checkpoint.{Checkpoint}
+use Rattle.layered_index.specs.Checkpoint.{docs_end, Covers}
 use Rattle.docstore.specs.BlockOutput.{blocks_at}
 use Rattle.docstore.specs.Kept.{Blocks}
 use Rattle.docstore.specs.StoreFile.{StoreBlock, AreBlocks, data_of, marks}

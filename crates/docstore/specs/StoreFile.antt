@@ -1,9 +1,9 @@
 -- A store as a list of blocks, and its file.
 use Rattle.std.specs.Prelude.{◌≡◌, ℕ, ◌+◌, ◌<◌, ◌≤◌, ◌^◌, ◌==◌, if◌then◌else◌, ◌⊎◌, List, [], ◌∷◌, ◌++◌, length, replicate}
 use Rattle.std.specs.List.{flat_map, sum_by, AllByRecursion}
-use Rattle.docstore.specs.declared.index.Checkpoint.{Checkpoint}
-use Rattle.docstore.specs.Checkpoint.{checkpoint}
-use Rattle.docstore.specs.Layers.{index_part}
+use Rattle.layered_index.specs.declared.index.Checkpoint.{Checkpoint}
+use Rattle.layered_index.specs.Checkpoint.{checkpoint}
+use Rattle.layered_index.specs.Layers.{index_part}
 use Rattle.docstore.specs.Footer.{footer}
 
 -- a block of a store: how many documents it has, and its bytes

@@ -2,14 +2,14 @@
 use Rattle.std.specs.Prelude.{◌≡◌, ◌⊎◌, ℕ, ◌+◌, ◌-◌, ◌≤◌, ◌<◌, Bool, true, false, List, [], ◌∷◌, length, take, slice_range, slice_get, IsTrue, IfErr, IfOk, IfSome, Option, Some, None, Result, MatchOption}
 use Rattle.std.specs.Borrow.{Bor}
 use Rattle.store_base.specs.AliveBitSet.{is_alive_at}
-use Rattle.docstore.specs.declared.error.StoreError.{StoreError}
-use Rattle.docstore.specs.declared.error.StoreError.TheVariants.{Read, Memory}
-use Rattle.docstore.specs.declared.index.Checkpoint.{Checkpoint}
+use Rattle.layered_index.specs.declared.error.StoreError.{StoreError}
+use Rattle.layered_index.specs.declared.error.StoreError.TheVariants.{Read, Memory}
+use Rattle.layered_index.specs.declared.index.Checkpoint.{Checkpoint}
 use Rattle.docstore.specs.declared.look_up.Entered.{Entered}
 use Rattle.docstore.specs.declared.walk.Walk.{Walk}
 use Rattle.docstore.specs.Answering.{AnswersFrom, AnswersTruly, IsLookedUp}
 use Rattle.docstore.specs.Block.{slot}
-use Rattle.docstore.specs.Checkpoint.{docs_end, first_past}
+use Rattle.layered_index.specs.Checkpoint.{docs_end, first_past}
 use Rattle.docstore.specs.Documents.{ReadsFrom, ReadsTruly}
 use Rattle.docstore.specs.Iteration.{is_in}
 use Rattle.docstore.specs.LookingUp.{Takes}

@@ -1,8 +1,8 @@
 -- A store that is written, and what its calls do.
 use Rattle.std.specs.Prelude.{◌≡◌, ℕ, ◌+◌, ◌-◌, ◌<◌, ◌≤◌, ◌^◌, nat_lt, if◌then◌else◌, List, [], ◌∷◌, ◌++◌, length, Option, Some, None}
-use Rattle.docstore.specs.declared.error.Cause.{Cause}
-use Rattle.docstore.specs.declared.error.StoreError.{StoreError}
-use Rattle.docstore.specs.declared.error.StoreError.TheVariants.{Memory, Unserializable, BlockTooLarge, TooManyDocs, Failed}
+use Rattle.layered_index.specs.declared.error.Cause.{Cause}
+use Rattle.layered_index.specs.declared.error.StoreError.{StoreError}
+use Rattle.layered_index.specs.declared.error.StoreError.TheVariants.{Memory, Unserializable, BlockTooLarge, TooManyDocs, Failed}
 use Rattle.docstore.specs.Block.{block}
 use Rattle.docstore.specs.StoreFile.{StoreBlock, docs_in}
 use Rattle.docstore.specs.Trace.{weight, block_of}

@@ -9,8 +9,8 @@ ghost use Rattle.docstore.specs.Cache.{look_up};
 ghost use Rattle.docstore.specs.Kept.{capacity_of, entries_of, with_pair, no_blocks, block_at, last_key, after_hit, after_miss, with_block, state_of};
 ghost use Rattle.docstore.specs.LookingUp.{IsCopy};
 
-use crate::error::StoreError;
 use crate::slot::document_in;
+use layered_index::StoreError;
 use lru::LruCache;
 use std::alloc::Global;
 use std::marker::Model;

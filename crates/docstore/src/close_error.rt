@@ -1,9 +1,9 @@
 //! Why a writer was not closed.
 
 ghost use Rattle.std.specs.Prelude.{◌≡◌};
-ghost use Rattle.docstore.specs.Outcome.{behind_bytes};
+ghost use Rattle.layered_index.specs.Outcome.{behind_bytes};
 
-use crate::error::{Cause, StoreError};
+use layered_index::{Cause, StoreError};
 
 /// Why a writer was not closed, and its output.
 #[derive(Drop)]

@@ -10,8 +10,8 @@ ghost use Rattle.docstore.specs.StoreFile.{docs_in};
 ghost use Rattle.docstore.specs.Trace.{weight, block_of};
 ghost use Rattle.docstore.specs.BlockOutput.{with_blocks, with_risen, IsSound, FailsFor};
 
-use crate::error::{Cause, StoreError};
 use crate::store_compressor::BlockCompressor;
+use layered_index::{Cause, StoreError};
 use std::alloc::{AllocError, Global};
 use std::marker::Model;
 use store_base::{DocFault, Document, Schema, TerminatingWrite};

@@ -2,8 +2,8 @@
 ghost use Rattle.std.specs.Prelude.{◌≡◌};
 ghost use Rattle.docstore.specs.Documents.{document_version, ReadsFrom};
 
-use crate::error::StoreError;
 use crate::footer::DocStoreVersion;
+use layered_index::StoreError;
 use std::alloc::Global;
 use store_base::{DocFault, DocumentDeserialize, OwnedBytes};
 

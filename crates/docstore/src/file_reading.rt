@@ -2,24 +2,10 @@
 ghost use Rattle.std.specs.Prelude.{◌≤◌, length};
 ghost use Rattle.docstore.specs.FileReading.{Comes};
 
-use crate::error::StoreError;
+use layered_index::StoreError;
 use std::alloc::Global;
 use std::ops::Range;
-use store_base::{FileHandle, FileSlice, OwnedBytes, ReadFault};
-
-impl From<ReadFault> for StoreError {
-    ghost use Rattle.std.specs.Prelude.{◌≡◌};
-    ghost use Rattle.docstore.specs.FileReading.{read_refusal};
-
-    ghost from_gives = { λ fault e. e ≡ read_refusal fault };
-
-    fn from(fault: ReadFault) -> StoreError {
-        match fault {
-            ReadFault::Device => StoreError::Read,
-            ReadFault::Memory => StoreError::Memory,
-        }
-    }
-}
+use store_base::{FileHandle, FileSlice, OwnedBytes};
 
 // Reads a range of a file, by one read.
 pub(crate) fn read_part<H: FileHandle>(

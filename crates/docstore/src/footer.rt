@@ -5,7 +5,7 @@ ghost use Rattle.docstore.specs.Footer.{version_number};
 ghost use Rattle.docstore.specs.FooterReading.{ReadsVersion, IsPeriodOf};
 
 use crate::compressors::Decompressor;
-use crate::index::CHECKPOINT_PERIOD;
+use layered_index::CHECKPOINT_PERIOD;
 use std::alloc::Global;
 use std::fmt;
 use store_base::{BinarySerializable, DecodeFault, FixedSize, TerminatingWrite, WriteFault};

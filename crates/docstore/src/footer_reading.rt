@@ -3,10 +3,10 @@ ghost use Rattle.std.specs.Prelude.{◌≡◌, ◌-◌, length, slice_range, Ok,
 ghost use Rattle.store_base.specs.Files.{Part};
 ghost use Rattle.docstore.specs.Extraction.{ExtractsFooter, narrowed, Says};
 
-use crate::error::StoreError;
 use crate::file_reading::read_part;
 use crate::footer::DocStoreFooter;
 use crate::open_error::OpenError;
+use layered_index::StoreError;
 use std::alloc::Global;
 use store_base::{BinarySerializable, DecodeFault, FileHandle, FileSlice, FixedSize};
 

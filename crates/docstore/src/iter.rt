@@ -3,9 +3,9 @@ ghost use Rattle.std.specs.Prelude.{◌≡◌};
 ghost use Rattle.docstore.specs.Walking.{set_of, set_in};
 
 use crate::documents::read_document;
-use crate::error::StoreError;
 use crate::reader::StoreReader;
 use crate::walk::{DocWalk, Walk, answer_of, walk_on};
+use layered_index::StoreError;
 use std::alloc::Global;
 use store_base::{AliveBitSet, DocumentDeserialize, FileHandle, OwnedBytes};
 

@@ -1,27 +1,7 @@
 //! Laws of the formats.
 ghost use Rattle.docstore.specs.CacheSums.{StatsAreAdded};
 ghost use Rattle.docstore.specs.LookLaws.{LooksAreRecent, WalksLookUp};
-ghost use Rattle.docstore.specs.Laws.{CheckpointBlocksAreApart, IndexPartsAreApart, LayerAboveIsInLine, LayersAreInLine, FilesAreStores, StoresAreApart, BlocksHoldDocuments, WrittenDocumentsAreFound, DocumentsAreTakenInOrder, IdsAreGivenInOrder, FlushesKeepSlots, StoresAreStackedInOrder, StackedSlotsAreCounted, StackedFilesAreJoined, StackingIsAssociative, StackedAloneIsTheSame};
-
-/// No checkpoint block begins another, and each list in line has its own.
-pub fn checkpoint_blocks_are_apart()
-    ensures { CheckpointBlocksAreApart }
-{}
-
-/// Each list in line has its own index part, at each period.
-pub fn index_parts_are_apart()
-    ensures { IndexPartsAreApart }
-{}
-
-/// The layer above a list in line is in line.
-pub fn layer_above_is_in_line()
-    ensures { LayerAboveIsInLine }
-{}
-
-/// All layers of a list in line are in line.
-pub fn layers_are_in_line()
-    ensures { LayersAreInLine }
-{}
+ghost use Rattle.docstore.specs.Laws.{FilesAreStores, StoresAreApart, BlocksHoldDocuments, WrittenDocumentsAreFound, DocumentsAreTakenInOrder, IdsAreGivenInOrder, FlushesKeepSlots, StoresAreStackedInOrder, StackedSlotsAreCounted, StackedFilesAreJoined, StackingIsAssociative, StackedAloneIsTheSame};
 
 /// The file that is written for blocks is a store of them.
 pub fn files_are_stores()
@@ -88,7 +68,6 @@ pub fn stacked_alone_is_the_same()
     ensures { StackedAloneIsTheSame }
 {}
 
-/// Blocks that are looked up one after the other are look-ups of their first bytes, with a read for
 /// each that isn't kept.
 pub fn looks_are_recent()
     ensures { LooksAreRecent }

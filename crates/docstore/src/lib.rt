@@ -7,11 +7,9 @@ pub mod close_error;
 pub mod compressors;
 mod current_block;
 mod documents;
-pub mod error;
 mod file_reading;
 pub mod footer;
 mod footer_reading;
-pub mod index;
 pub mod iter;
 pub mod laws;
 mod look_up;
@@ -28,15 +26,12 @@ pub mod writer;
 pub use cache_stats::CacheStats;
 pub use close_error::CloseError;
 pub use compressors::{Compressor, Decompressor};
-pub use error::{Cause, StoreError};
 pub use footer::{DOC_STORE_VERSION, DocStoreFooter, DocStoreVersion};
-pub use index::block::CheckpointBlock;
-pub use index::layer_cursor::LayerCursor;
-pub use index::looks::{Looks, Steps, seek_over};
-pub use index::skip_index::SkipIndex;
-pub use index::skip_index_builder::SkipIndexBuilder;
-pub use index::{CHECKPOINT_PERIOD, Checkpoint};
 pub use iter::{DocIter, Items, RawIter};
+pub use layered_index::{
+    CHECKPOINT_PERIOD, Cause, Checkpoint, CheckpointBlock, LayerCursor, Looks, SkipIndex,
+    SkipIndexBuilder, Steps, StoreError, seek_over,
+};
 pub use open_error::OpenError;
 pub use reader::{DOCSTORE_CACHE_CAPACITY, StoreReader};
 pub use slot::block_read_index;

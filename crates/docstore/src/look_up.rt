@@ -1,16 +1,15 @@
 //! A look-up of a block, in the cache and then in the file.
 
 ghost use Rattle.std.specs.Prelude.{◌≤◌, ℕ, List, Result, length};
-ghost use Rattle.docstore.specs.declared.error.StoreError.{StoreError as StoreErrorOf};
+ghost use Rattle.layered_index.specs.declared.error.StoreError.{StoreError as StoreErrorOf};
 ghost use Rattle.docstore.specs.Answering.{AnswersFrom};
 ghost use Rattle.docstore.specs.FileReading.{Comes};
 ghost use Rattle.docstore.specs.LookingUp.{LooksUp, Takes};
 
 use crate::cache::BlockCache;
-use crate::error::StoreError;
 use crate::file_reading::read_part;
-use crate::index::Checkpoint;
 use crate::slot::document_in;
+use layered_index::{Checkpoint, StoreError};
 use std::alloc::Global;
 use store_base::{DocId, FileHandle, FileSlice, OwnedBytes};
 

@@ -1,5 +1,5 @@
 //! Why a file was not opened.
-use crate::error::StoreError;
+use layered_index::StoreError;
 use store_base::{FileHandle, FileSlice};
 
 /// Why a file was not opened, and the file, with the range that it came with.

@@ -2,11 +2,11 @@
 ghost use Rattle.std.specs.Prelude.{◌≤◌, length};
 ghost use Rattle.docstore.specs.Opening.{ReadsIndex, Opens};
 
-use crate::error::StoreError;
 use crate::file_reading::read_part;
 use crate::footer::DocStoreFooter;
 use crate::footer_reading::{FOOTER_LEN, read_footer};
 use crate::store_index::StoreIndex;
+use layered_index::StoreError;
 use std::alloc::Global;
 use store_base::{FileHandle, FileSlice};
 

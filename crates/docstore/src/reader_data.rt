@@ -1,11 +1,11 @@
 //! Reading the whole data of a store.
 ghost use Rattle.std.specs.Prelude.{◌≡◌, ◌⊎◌, length, IsTrue, IfOk, IfErr, IsErrOf};
 ghost use Rattle.store_base.specs.Counts.{HasRisen};
-ghost use Rattle.docstore.specs.Checkpoint.{Covers};
+ghost use Rattle.layered_index.specs.Checkpoint.{Covers};
 ghost use Rattle.docstore.specs.Stacking.{IsReadOnce};
 
-use crate::error::StoreError;
 use crate::reader::StoreReader;
+use layered_index::StoreError;
 use std::alloc::Global;
 use store_base::{FileHandle, OwnedBytes};
 

@@ -3,7 +3,7 @@ ghost use Rattle.std.specs.Prelude.{◌≡◌, ◌≤◌, ◌+◌, length, slice
 ghost use Rattle.docstore.specs.Answering.{Answers};
 ghost use Rattle.docstore.specs.Block.{slot, doc, damaged, u32_at as u32_in};
 
-use crate::error::StoreError;
+use layered_index::StoreError;
 use std::ops::Range;
 use store_base::{DocId, OwnedBytes};
 

@@ -2,9 +2,9 @@
 
 ghost use Rattle.std.specs.Prelude.{◌≡◌, ◌≢◌, ◌+◌, ◌<◌, ◌≤◌, ◌^◌, List, [], ◌∷◌, ◌++◌, length, map, true, None, OnOk, OnErr, IfOk, IfErr, IfSome, IsErrOf};
 ghost use Rattle.std.specs.List.{sum_by};
-ghost use Rattle.docstore.specs.Checkpoint.{doc_count, docs_end, IsInLineFrom, Covers};
+ghost use Rattle.layered_index.specs.Checkpoint.{doc_count, docs_end, IsInLineFrom, Covers};
 ghost use Rattle.docstore.specs.Footer.{footer, kind_of, unpacks};
-ghost use Rattle.docstore.specs.Layers.{index_part};
+ghost use Rattle.layered_index.specs.Layers.{index_part};
 ghost use Rattle.docstore.specs.StoreFile.{StoreBlock, docs_in, file, reserved_of, IsStore};
 ghost use Rattle.docstore.specs.BlockOutput.{with_blocks, with_risen, blocks_at, IsSound, FailsFor, AfterBlock, AfterClose, IsEndRefusal};
 ghost use Rattle.docstore.specs.Reading.{num_docs as docs_of};
@@ -12,12 +12,11 @@ ghost use Rattle.docstore.specs.Stacking.{AreRead, IsReadOnce, shifted, AfterSta
 
 use crate::close_error::CloseError;
 use crate::compressors::{Compressor, Decompressor};
-use crate::error::{Cause, StoreError};
 use crate::footer::{DOC_STORE_VERSION, DocStoreFooter, DocStoreVersion};
-use crate::index::layer_cursor::LayerCursor;
-use crate::index::skip_index_builder::SkipIndexBuilder;
-use crate::index::{CHECKPOINT_PERIOD, Checkpoint};
 use crate::reader::StoreReader;
+use layered_index::{
+    CHECKPOINT_PERIOD, Cause, Checkpoint, LayerCursor, SkipIndexBuilder, StoreError,
+};
 use std::alloc::Global;
 use std::marker::Model;
 use store_base::{BinarySerializable, CountingWriter, FileHandle, TerminatingWrite};

@@ -1,14 +1,11 @@
 //! The index of a store, whose checkpoints cover the data.
 ghost use Rattle.std.specs.Prelude.{◌≡◌, ◌≤◌, length, MatchResult};
-ghost use Rattle.docstore.specs.Checkpoint.{docs_end, first_past};
+ghost use Rattle.layered_index.specs.Checkpoint.{docs_end, first_past};
 ghost use Rattle.docstore.specs.Covering.{goes_on, covered_to, IsIndexOf, HasIndexOf};
-ghost use Rattle.docstore.specs.Layers.{Index, index_part};
-ghost use Rattle.docstore.specs.Refusal.{RefusesOnlyUnless};
+ghost use Rattle.layered_index.specs.Layers.{Index, index_part};
+ghost use Rattle.layered_index.specs.Refusal.{RefusesOnlyUnless};
 
-use crate::error::StoreError;
-use crate::index::Checkpoint;
-use crate::index::layer_cursor::LayerCursor;
-use crate::index::skip_index::SkipIndex;
+use layered_index::{Checkpoint, LayerCursor, SkipIndex, StoreError};
 use std::alloc::Global;
 use std::marker::Model;
 use store_base::{DocId, OwnedBytes};
@@ -51,8 +48,8 @@ pub(crate) struct StoreIndex {
 
 impl Model for StoreIndex {
     ghost use Rattle.std.specs.Prelude.{◌≡◌, length};
-    ghost use Rattle.docstore.specs.Checkpoint.{docs_end};
-    ghost use Rattle.docstore.specs.Layers.{Index, index_part};
+    ghost use Rattle.layered_index.specs.Checkpoint.{docs_end};
+    ghost use Rattle.layered_index.specs.Layers.{Index, index_part};
 
     ghost Value = { Index };
 

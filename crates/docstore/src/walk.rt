@@ -1,13 +1,13 @@
 //! Where an iteration stands, and how it goes on.
 ghost use Rattle.std.specs.Prelude.{◌≡◌, ◌≤◌, ◌<◌, ◌+◌, true, Some, length, slice_get, slice_range, take, Err, MatchOption};
-ghost use Rattle.docstore.specs.declared.index.Checkpoint.{Checkpoint};
+ghost use Rattle.layered_index.specs.declared.index.Checkpoint.{Checkpoint};
 ghost use Rattle.docstore.specs.Iteration.{is_in};
 ghost use Rattle.docstore.specs.Reading.{IsSameStore, num_docs};
 ghost use Rattle.docstore.specs.Walking.{set_in, IsTaken, StandsIn, IsWalk, LooksAlong, WalksTo, AnswersOf};
 
-use crate::error::StoreError;
 use crate::reader::StoreReader;
 use crate::slot::document_in;
+use layered_index::StoreError;
 use std::alloc::Global;
 use std::marker::PhantomData;
 use store_base::{AliveBitSet, DocId, DocumentDeserialize, FileHandle, OwnedBytes};

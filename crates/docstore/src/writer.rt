@@ -11,11 +11,10 @@ ghost use Rattle.docstore.specs.Stacking.{AreRead, IsReadOnce, IsReadAtMostOnce,
 use crate::close_error::CloseError;
 use crate::compressors::Compressor;
 use crate::current_block::CurrentBlock;
-use crate::error::{Cause, StoreError};
 use crate::footer::DocStoreVersion;
-use crate::index::CHECKPOINT_PERIOD;
 use crate::reader::StoreReader;
 use crate::store_compressor::BlockCompressor;
+use layered_index::{CHECKPOINT_PERIOD, Cause, StoreError};
 use std::alloc::Global;
 use std::marker::Model;
 use store_base::{Document, FileHandle, Schema, TerminatingWrite};

@@ -1,6 +1,6 @@
 use Rattle.std.proofs.Common.{ℕ, List, refl, ap, ◌∙◌, true, inl, inr}
 use Rattle.std.specs.Prelude.{Result, Ok, Err}
-use Rattle.docstore.specs.declared.error.StoreError.{StoreError}
+use Rattle.layered_index.specs.declared.error.StoreError.{StoreError}
 use Rattle.docstore.specs.LookingUp.{IsCopy, Takes}
 use Rattle.docstore.specs.Kept.{with_block}
 use Rattle.docstore.proofs.LookUpLemmas.{look_up_by_hit, look_up_by_miss}

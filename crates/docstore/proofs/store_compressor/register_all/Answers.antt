@@ -1,8 +1,8 @@
 use Rattle.std.proofs.Common.{◌≡◌, List, [], ◌∷◌, ◌++◌, length, map, sym, ◌∙◌, ap, arith, append_assoc}
 use Rattle.std.specs.List.{sum_by}
-use Rattle.docstore.specs.declared.index.Checkpoint.{Checkpoint}
-use Rattle.docstore.specs.Checkpoint.{doc_count}
-use Rattle.docstore.specs.Layers.{Index}
+use Rattle.layered_index.specs.declared.index.Checkpoint.{Checkpoint}
+use Rattle.layered_index.specs.Checkpoint.{doc_count}
+use Rattle.layered_index.specs.Layers.{Index}
 use Rattle.docstore.specs.Stacking.{shifted}
 use Rattle.docstore.proofs.StackingLemmas.{next_left}
 use Rattle.docstore.proofs.store_compressor.register_all.Goals as goal

@@ -1,6 +1,6 @@
 use Rattle.std.proofs.Common.{◌≡◌, ◌++◌, ◌<◌, ◌≤◌, ◌^◌, length, map}
 use Rattle.std.specs.List.{sum_by}
-use Rattle.docstore.specs.Checkpoint.{doc_count}
+use Rattle.layered_index.specs.Checkpoint.{doc_count}
 use Rattle.docstore.specs.Stacking.{shifted}
 use Rattle.docstore.proofs.store_compressor.register_all.Given as goal
 

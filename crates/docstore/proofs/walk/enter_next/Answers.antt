@@ -1,5 +1,5 @@
 use Rattle.std.proofs.Common.{◌≡◌, ◌+◌, ◌-◌, take, sym, ap, ◌∙◌, arith}
-use Rattle.docstore.specs.Checkpoint.{docs_end}
+use Rattle.layered_index.specs.Checkpoint.{docs_end}
 use Rattle.docstore.specs.Reading.{Reading}
 use Rattle.docstore.proofs.SeekLemmas.{docs_grow}
 use Rattle.docstore.proofs.WalkingLemmas.{IsNextBlock, next_is, holds_next, only_next}

@@ -19,8 +19,8 @@ pub struct Line {
 
 impl Model for Line {
     ghost use Rattle.std.specs.Prelude.{List, ◌≡◌};
-    ghost use Rattle.docstore.specs.declared.index.Checkpoint.{Checkpoint};
-    ghost use Rattle.docstore.specs.Checkpoint.{IsInLineFrom, docs_end, bytes_end};
+    ghost use Rattle.layered_index.specs.declared.index.Checkpoint.{Checkpoint};
+    ghost use Rattle.layered_index.specs.Checkpoint.{IsInLineFrom, docs_end, bytes_end};
 
     ghost Value = { List Checkpoint };
 

@@ -1,5 +1,5 @@
 use Rattle.std.proofs.Common.{◌<◌, refl, sym, ◌∙◌, arith}
-use Rattle.docstore.specs.Checkpoint.{docs_end}
+use Rattle.layered_index.specs.Checkpoint.{docs_end}
 use Rattle.docstore.proofs.SeekLemmas.{IsWithin, within, some_below}
 use Rattle.docstore.proofs.LookUpLemmas.{stays_honest, reader_after}
 use Rattle.docstore.proofs.reader.StoreReader.enter.Goals as goal

@@ -1,6 +1,6 @@
 use Rattle.std.proofs.Common.{◌≡◌, ℕ, List, length, sym, ◌∙◌, ap, subst}
-use Rattle.docstore.specs.declared.index.Checkpoint.{Checkpoint}
-use Rattle.docstore.specs.Checkpoint.{Covers}
+use Rattle.layered_index.specs.declared.index.Checkpoint.{Checkpoint}
+use Rattle.layered_index.specs.Checkpoint.{Covers}
 use Rattle.docstore.specs.StoreFile.{StoreBlock, marks}
 use Rattle.docstore.specs.BlockOutput.{blocks_at}
 use Rattle.docstore.specs.Reading.{Reading}

@@ -2,9 +2,9 @@ use Rattle.std.proofs.Common.{◌≡◌, ℕ, ◌+◌, List, [], ◌∷◌, ◌+
 use Rattle.std.proofs.lemmas.Grind.{common_steps}
 use Rattle.std.proofs.lemmas.List.{append-nil}
 use Rattle.store_base.specs.Counts.{raised}
-use Rattle.docstore.specs.declared.error.Cause.{Cause}
-use Rattle.docstore.specs.Checkpoint.{checkpoint}
-use Rattle.docstore.specs.Layers.{Index}
+use Rattle.layered_index.specs.declared.error.Cause.{Cause}
+use Rattle.layered_index.specs.Checkpoint.{checkpoint}
+use Rattle.layered_index.specs.Layers.{Index}
 use Rattle.docstore.specs.StoreFile.{StoreBlock, marks_from}
 use Rattle.docstore.specs.BlockOutput.{BlockOutput, IsCompressing, compressing}
 use Rattle.docstore.proofs.OutputLemmas.{AreAdded, sound, failed, block_added, seen_added}

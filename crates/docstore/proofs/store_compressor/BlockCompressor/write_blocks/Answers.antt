@@ -2,10 +2,10 @@ use Rattle.std.proofs.Common.{◌≡◌, ℕ, ◌+◌, ◌<◌, List, ◌++◌, 
 use Rattle.std.proofs.lemmas.Grind.{common_steps}
 use Rattle.std.specs.List.{sum_by}
 use Rattle.store_base.specs.Counts.{raised}
-use Rattle.docstore.specs.declared.error.Cause.{Cause}
-use Rattle.docstore.specs.declared.index.Checkpoint.{Checkpoint}
-use Rattle.docstore.specs.Checkpoint.{doc_count}
-use Rattle.docstore.specs.Layers.{Index}
+use Rattle.layered_index.specs.declared.error.Cause.{Cause}
+use Rattle.layered_index.specs.declared.index.Checkpoint.{Checkpoint}
+use Rattle.layered_index.specs.Checkpoint.{doc_count}
+use Rattle.layered_index.specs.Layers.{Index}
 use Rattle.docstore.specs.StoreFile.{docs_in, marks_from}
 use Rattle.docstore.specs.BlockOutput.{BlockOutput, IsCompressing, compressing, blocks_at}
 use Rattle.docstore.specs.Stacking.{shifted}

@@ -1,6 +1,6 @@
 use Rattle.std.proofs.Common.{◌≡◌, ℕ, Option, Some, None, length, refl, sym, ap, ◌∙◌, subst, inl}
-use Rattle.docstore.specs.Checkpoint.{Covers}
-use Rattle.docstore.specs.Layers.{index_part}
+use Rattle.layered_index.specs.Checkpoint.{Covers}
+use Rattle.layered_index.specs.Layers.{index_part}
 use Rattle.docstore.specs.Covering.{covered_to}
 use Rattle.docstore.proofs.CoveringLemmas.{IsCovered, some_pair, covers_by, not_covered}
 use Rattle.docstore.proofs.store_index.StoreIndex.read.Goals as goal

@@ -1,7 +1,7 @@
 use Rattle.std.proofs.Common.{◌≡◌, ℕ, ◌+◌, ◌^◌, ◌<◌, ◌≤◌, List, [], ◌∷◌, ◌++◌, refl, sym, subst, arith}
-use Rattle.docstore.specs.declared.index.Checkpoint.{Checkpoint}
-use Rattle.docstore.specs.Checkpoint.{checkpoint, docs_end, bytes_end, IsWithinLimits, IsInLineFrom}
-use Rattle.docstore.specs.LineLemmas.{in_line-join, in_line_from, docs_end-put, bytes_end-put}
+use Rattle.layered_index.specs.declared.index.Checkpoint.{Checkpoint}
+use Rattle.layered_index.specs.Checkpoint.{checkpoint, docs_end, bytes_end, IsWithinLimits, IsInLineFrom}
+use Rattle.layered_index.specs.LineLemmas.{in_line-join, in_line_from, docs_end-put, bytes_end-put}
 use Rattle.store_testing.proofs.tests.index.line.Line.add.Goals as goal
 
 -- what begins at the ends of a list is in line behind it

@@ -2,10 +2,10 @@ use Rattle.std.proofs.Common.{◌≡◌, ◌++◌, ◌∷◌, [], ◌∙◌, ℕ
 use Rattle.std.proofs.Math.Seq.{take-suc}
 use Rattle.std.proofs.lemmas.Option.{get_or_from_slice_get, slice_get_within}
 use Rattle.std.proofs.lemmas.List.{take_all}
-use Rattle.docstore.specs.declared.index.Checkpoint.{Checkpoint}
-use Rattle.docstore.specs.Checkpoint.{IsInLine}
-use Rattle.docstore.specs.Layers.{Index}
-use Rattle.docstore.specs.LineLemmas.{in_line_from, in_line_take}
+use Rattle.layered_index.specs.declared.index.Checkpoint.{Checkpoint}
+use Rattle.layered_index.specs.Checkpoint.{IsInLine}
+use Rattle.layered_index.specs.Layers.{Index}
+use Rattle.layered_index.specs.LineLemmas.{in_line_from, in_line_take}
 use Rattle.store_testing.proofs.tests.index.line.Line.builder.Goals as goal
 
 -- the front that is one longer

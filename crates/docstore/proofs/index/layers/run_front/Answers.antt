@@ -1,7 +1,0 @@
-use Rattle.std.proofs.Common.{sym, ◌∙◌, ap}
-use Rattle.docstore.specs.Tables.{with_ends}
-use Rattle.docstore.proofs.CursorLemmas.{items_heading}
-use Rattle.docstore.proofs.index.layers.run_front.Goals as goal
-
-pub returns-clause-kept : goal.returns-clause-kept
-returns-clause-kept c = λ some. c.in_ok-doc_end.ensures.kept ∙ ap (with_ends c.args.ends.now) (sym (items_heading 0 0 c.args.bytes.now c.in-Some.heading c.in-Some.steps.now (sym c.in-Some.ensures) some))

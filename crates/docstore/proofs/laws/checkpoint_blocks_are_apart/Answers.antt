@@ -1,5 +1,0 @@
-use Rattle.docstore.proofs.CheckpointLemmas.{checkpoint_blocks_are_apart}
-use Rattle.docstore.proofs.laws.checkpoint_blocks_are_apart.Goals as goal
-
-pub returns : goal.returns
-returns c = checkpoint_blocks_are_apart

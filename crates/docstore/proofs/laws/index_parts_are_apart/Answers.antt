@@ -1,5 +1,0 @@
-use Rattle.docstore.proofs.IndexLemmas.{index_parts_are_apart}
-use Rattle.docstore.proofs.laws.index_parts_are_apart.Goals as goal
-
-pub returns : goal.returns
-returns c = index_parts_are_apart

@@ -1,5 +1,0 @@
-use Rattle.docstore.proofs.LayerLemmas.{layers_are_in_line}
-use Rattle.docstore.proofs.laws.layers_are_in_line.Goals as goal
-
-pub returns : goal.returns
-returns c = layers_are_in_line

@@ -1,0 +1,62 @@
+-- Halving: what is known below and above the middle.
+use Rattle.std.proofs.Common.{◌≡◌, ℕ, zero, suc, ◌+◌, ◌/◌, ◌<◌, ◌≤◌, ltb, List, [], ◌∷◌, Option, Some, None, refl, ◌∙◌, ap, arith}
+use Rattle.std.proofs.lemmas.Bool.{cond-true, cond-false, lt-ltb, le-ltb}
+use Rattle.std.specs.Prelude.{slice_get}
+use Rattle.layered_index.specs.declared.index.Checkpoint.{Checkpoint}
+use Rattle.layered_index.specs.Checkpoint.{IsInLineFrom, IsInLine, first_past}
+use Rattle.layered_index.specs.Layers.{digit_count}
+use Rattle.layered_index.proofs.IndexLemmas.{digit_count-le, digit_count_more}
+use Rattle.layered_index.specs.LineLemmas.{in_line_somewhere}
+use Rattle.layered_index.proofs.DigitLemmas.{below_digits}
+
+-- the answer is the first, if that ends past the target, and else that of the others
+past_here : (c : Checkpoint) (cs : List Checkpoint) (target : ℕ) → target < c.doc_range.end → first_past (c ∷ cs) target ≡ Some c
+past_here c cs target lt = cond-true (ltb target c.doc_range.end) (Some c) (first_past cs target) (lt-ltb target c.doc_range.end lt)
+
+past_later : (c : Checkpoint) (cs : List Checkpoint) (target : ℕ) → c.doc_range.end ≤ target → first_past (c ∷ cs) target ≡ first_past cs target
+past_later c cs target le = cond-false (ltb target c.doc_range.end) (Some c) (first_past cs target) (le-ltb target c.doc_range.end le)
+
+-- none of the first so many ends past the target
+abbrev pub NoneBelow : List Checkpoint → ℕ → ℕ → Type 0
+NoneBelow cs target low = (i : ℕ) (c : Checkpoint) → i < low → slice_get cs i ≡ Some c → c.doc_range.end ≤ target
+
+-- the one with this index does, if there is one
+abbrev pub EndsPast : ℕ → Option Checkpoint → Type 0
+EndsPast target None = Unit {0}
+EndsPast target (Some c) = target < c.doc_range.end
+
+-- then it is the answer
+pub first_at : (cs : List Checkpoint) (target high : ℕ) → NoneBelow cs target high → EndsPast target (slice_get cs high) → first_past cs target ≡ slice_get cs high
+first_at [] target high none past = refl
+first_at (c ∷ cs) target zero none past = past_here c cs target past
+first_at (c ∷ cs) target (suc high) none past = past_later c cs target (none 0 c (omega arith) refl) ∙ first_at cs target high (λ i d lt e. none (suc i) d (omega arith) e) past
+
+-- in a list in line later ones end no earlier
+from_start : (doc byte : ℕ) (cs : List Checkpoint) (i : ℕ) (c : Checkpoint) → IsInLineFrom doc byte cs → slice_get cs i ≡ Some c → doc ≤ c.doc_range.end
+from_start doc byte [] i c h e = absurd (cc)
+from_start doc byte (d ∷ cs) zero c h e = let same : d ≡ c = cc in omega (arith, ap (λ (x : Checkpoint). x.doc_range.end) same, h.0, h.2.doc_order)
+from_start doc byte (d ∷ cs) (suc i) c h e = omega (arith, from_start d.doc_range.end d.byte_range.end cs i c h.3 e, h.0, h.2.doc_order)
+
+ordered : (doc byte : ℕ) (cs : List Checkpoint) (i j : ℕ) (a b : Checkpoint) → IsInLineFrom doc byte cs → i ≤ j → slice_get cs i ≡ Some a → slice_get cs j ≡ Some b → a.doc_range.end ≤ b.doc_range.end
+ordered doc byte [] i j a b h le p q = absurd (cc)
+ordered doc byte (d ∷ cs) zero zero a b h le p q = let same : a ≡ b = cc in omega (arith, ap (λ (x : Checkpoint). x.doc_range.end) same)
+ordered doc byte (d ∷ cs) zero (suc j) a b h le p q =
+    let same : d ≡ a = cc in
+    omega (arith, ap (λ (x : Checkpoint). x.doc_range.end) same, from_start d.doc_range.end d.byte_range.end cs j b h.3 q)
+ordered doc byte (d ∷ cs) (suc i) zero a b h le p q = absurd (omega arith)
+ordered doc byte (d ∷ cs) (suc i) (suc j) a b h le p q = ordered d.doc_range.end d.byte_range.end cs i j a b h.3 (omega arith) p q
+
+-- what does not end past the target tells it of all before
+pub none_up_to : (cs : List Checkpoint) (target middle : ℕ) (c : Checkpoint) → IsInLine cs → slice_get cs middle ≡ Some c → c.doc_range.end ≤ target → NoneBelow cs target (middle + 1)
+none_up_to cs target middle c h e le i d lt p =
+    let from = in_line_somewhere cs h in
+    omega (arith, ordered from.0 from.1 cs i middle d c from.2 (omega arith) p e)
+
+-- ---- how many halves there are
+
+pub digits_grow : (a b : ℕ) → a ≤ b → digit_count 2 a ≤ digit_count 2 b
+digits_grow a b le = digit_count-le 2 (digit_count 2 b) a (omega arith) (omega (arith, below_digits 2 b (omega arith)))
+
+-- one look, and then at most half are left
+pub half_left : (rest n : ℕ) → 0 < n → rest ≤ n / 2 → digit_count 2 rest + 1 ≤ digit_count 2 n
+half_left rest n some le = omega (arith, digits_grow rest (n / 2) le, digit_count_more 2 n (omega arith) some)

@@ -1,0 +1,11 @@
+pub mod Checkpoint
+pub mod LineLemmas
+pub mod Layers
+pub mod BlockReading
+pub mod LayerReading
+pub mod Tables
+pub mod IndexReading
+pub mod Building
+pub mod Refusal
+pub mod Outcome
+pub mod Laws

@@ -1,0 +1,167 @@
+//! A list of checkpoints, decoded once and looked at by index.
+ghost use Rattle.std.specs.Prelude.{◌≡◌, ◌<◌, List, ℕ, [], ◌∷◌, ◌++◌, length, slice_get, Some, IfOk};
+ghost use Rattle.layered_index.specs.Checkpoint.{IsInLine, IsInLineFrom};
+ghost use Rattle.layered_index.specs.LayerReading.{items};
+ghost use Rattle.layered_index.specs.Tables.{EndLists, no_ends, with_ends};
+
+use crate::index::Checkpoint;
+use crate::index::layer_cursor::LayerCursor;
+use crate::index::looks::Looks;
+use std::alloc::Global;
+use std::marker::Model;
+use store_base::{DocId, NoMemory};
+
+/// Where checkpoints end: their documents, and their bytes.
+#[derive(Drop)]
+pub(crate) struct Ends {
+    docs: Vec<DocId>,
+    bytes: Vec<usize>,
+}
+
+impl Model for Ends {
+    ghost use Rattle.layered_index.specs.Tables.{EndLists};
+
+    ghost Value = { EndLists };
+
+    ghost view = { λ a. record { docs = a.docs.items; bytes = a.bytes.items } };
+}
+
+impl Ends {
+    pub fn new(alloc: Global) -> Ends
+        ensures { result ≡ no_ends }
+    {
+        Ends {
+            docs: Vec::new(alloc),
+            bytes: Vec::new(alloc),
+        }
+    }
+
+    /// How many there are.
+    pub fn len(&self) -> usize
+        ensures { result ≡ length self.now.docs }
+    {
+        self.docs.len()
+    }
+
+    // The two ends with this index.
+    fn get(&self, i: usize) -> (DocId, usize)
+        requires docs { i < length self.now.docs }
+        requires bytes { i < length self.now.bytes }
+        ensures docs { slice_get self.now.docs i ≡ Some result.0 }
+        ensures bytes { slice_get self.now.bytes i ≡ Some result.1 }
+    {
+        (self.docs[i], self.bytes[i])
+    }
+
+    /// Forgets all, and makes room for so many.
+    pub fn start_over(&mut self, most: usize) -> Result<(), NoMemory>
+        ensures { IfOk result (λ _. self.new ≡ no_ends) }
+    {
+        self.docs.clear();
+        self.bytes.clear();
+        self.docs.reserve_exact(most)?;
+        self.bytes.reserve_exact(most)?;
+        Ok(())
+    }
+
+    pub fn push(&mut self, doc_end: DocId, byte_end: usize) -> Result<(), NoMemory>
+        ensures { IfOk result (λ _. self.new ≡ record {
+          docs = self.old.docs ++ doc_end ∷ [];
+          bytes = self.old.bytes ++ byte_end ∷ [];
+        }) }
+    {
+        self.docs.push(doc_end)?;
+        self.bytes.push(byte_end)?;
+        Ok(())
+    }
+}
+
+/// Where the first checkpoint begins, and where each ends. Both tables ascend, as the list is in line.
+#[derive(Drop)]
+pub(crate) struct Tables {
+    doc: DocId,
+    byte: usize,
+    ends: Ends,
+}
+
+impl Model for Tables {
+    ghost use Rattle.std.specs.Prelude.{List};
+    ghost use Rattle.layered_index.specs.declared.index.Checkpoint.{Checkpoint};
+    ghost use Rattle.layered_index.specs.Tables.{between, AreTables};
+
+    ghost Value = { List Checkpoint };
+
+    ghost view = { λ a. between a.doc a.byte a.ends.docs a.ends.bytes };
+
+    ghost invariant = { λ a. AreTables a.ends (between a.doc a.byte a.ends.docs a.ends.bytes) };
+}
+
+// Where the first checkpoint of a layer begins.
+fn start_of(layer: &[u8]) -> (DocId, usize)
+    requires { IsInLine (items 0 0 0 layer.now) }
+    ensures { IsInLineFrom result.0 result.1 (items 0 0 0 layer.now) }
+{
+    match LayerCursor::new(layer).next() {
+        None => (0, 0),
+        Some(first) => (first.doc_range.start, first.byte_range.start),
+    }
+}
+
+impl Tables {
+    /// Those of a layer whose checkpoints end there.
+    pub fn new(layer: &[u8], ends: Ends) -> Tables
+        requires in_line { IsInLine (items 0 0 0 layer.now) }
+        requires ends { ends ≡ with_ends no_ends (items 0 0 0 layer.now) }
+        ensures { result ≡ items 0 0 0 layer.now }
+    {
+        let (doc, byte) = start_of(layer);
+        Tables { doc, byte, ends }
+    }
+
+    /// How many checkpoints there are.
+    pub fn len(&self) -> usize
+        ensures len { result ≡ length self.now }
+        ensures in_line { IsInLine self.now }
+    {
+        self.ends.len()
+    }
+
+    /// The checkpoint with this index.
+    pub fn get(&self, i: usize) -> Checkpoint
+        requires { i < length self.now }
+        ensures { slice_get self.now i ≡ Some result }
+    {
+        let (doc, byte) = if i == 0 {
+            (self.doc, self.byte)
+        } else {
+            self.ends.get(i - 1)
+        };
+        let (doc_end, byte_end) = self.ends.get(i);
+        Checkpoint {
+            doc_range: doc..doc_end,
+            byte_range: byte..byte_end,
+        }
+    }
+}
+
+/// Looks at tables, counted.
+#[derive(Drop)]
+pub(crate) struct TableLooks<'a> {
+    pub tables: &'a Tables,
+    pub count: u64,
+}
+
+impl<'a> Looks for TableLooks<'a> {
+    ghost list = { λ s. s.tables.now };
+
+    ghost looks = { λ s. s.count };
+
+    fn len(&self) -> usize {
+        self.tables.len()
+    }
+
+    fn look(&mut self, i: usize) -> Checkpoint {
+        self.count = self.count.saturating_add(1);
+        self.tables.get(i)
+    }
+}
