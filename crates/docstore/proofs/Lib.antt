@@ -23,3 +23,9 @@ pub mod DocumentLemmas
 pub mod TakenLemmas
 pub mod StackingLemmas
 pub mod StackedLemmas
+pub mod CallLemmas
+pub mod CutLemmas
+pub mod RunSoFarLemmas
+pub mod MeaningLemmas
+pub mod CommandLemmas
+pub mod CauseLemmas

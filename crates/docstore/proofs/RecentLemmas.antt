@@ -1,5 +1,5 @@
 -- What look-ups one after the other do, and what they leave.
-use Rattle.std.proofs.Common.{◌≡◌, ℕ, ◌+◌, ◌<◌, ◌≤◌, ◌^◌, Bool, List, [], ◌∷◌, is_some, refl, sym, ap, ◌∙◌, subst, arith, inl, inr}
+use Rattle.std.proofs.Common.{◌≡◌, ℕ, ◌+◌, ◌<◌, ◌≤◌, ◌^◌, Bool, true, false, List, [], ◌∷◌, is_some, refl, sym, ap, ◌∙◌, subst, arith, inl, inr}
 use Rattle.std.specs.Prelude.{if◌then◌else◌, ◌==◌, Result, Ok, Err}
 use Rattle.std.specs.List.{list_any}
 use Rattle.std.specs.Map.{keys_of}
@@ -11,7 +11,7 @@ use Rattle.docstore.specs.Answering.{IsLookedUp}
 use Rattle.docstore.specs.Cache.{CacheState, LookUp, look_up, recent, misses_along}
 use Rattle.docstore.specs.Kept.{Blocks, state_of}
 use Rattle.docstore.specs.LookingUp.{LooksUp, cache_missed}
-use Rattle.docstore.specs.LookLaws.{LooksAreRecent}
+use Rattle.docstore.specs.LookLaws.{LooksAreRecent, LookUpsAreCounted}
 use Rattle.docstore.specs.Reading.{Reading, IsSameStore}
 use Rattle.docstore.specs.Walking.{LooksAlong}
 use Rattle.docstore.proofs.KeptLemmas.{any_from_some, apart_from_none}
@@ -124,3 +124,16 @@ looks_are_recent (c ∷ cs) old block new block' few l =
       capacity = on.capacity ∙ left.capacity;
       reads = raised_on old.file.reads missed rest new.file.reads few (on.reads ∙ ap (λ (n : ℕ). raised n rest) read) ∙ ap (λ (n : ℕ). raised old.file.reads (missed + n)) same;
     }
+
+counted_one : (capacity : ℕ) (s : CacheState) (l : LookUp) → s.hits + s.misses + 1 < 2 ^ 64 → (look_up capacity s l).hits + (look_up capacity s l).misses ≡ s.hits + s.misses + 1
+counted_one capacity s l few = (elim (list_any (λ k. k == l.key) s.keys) as (λ y. list_any (λ k. k == l.key) s.keys ≡ y → (look_up capacity s l).hits + (look_up capacity s l).misses ≡ s.hits + s.misses + 1) [
+  | true ↦ λ t. rw t (omega arith)
+  | false ↦ λ t. rw t (omega arith)
+]) refl
+
+pub look_ups_are_counted : LookUpsAreCounted
+look_ups_are_counted capacity s [] few = omega arith
+look_ups_are_counted capacity s (l ∷ ls) few =
+    let one = counted_one capacity s l (omega arith) in
+    let on = look_ups_are_counted capacity (look_up capacity s l) ls (omega arith) in
+    omega (arith, one, on)

@@ -13,7 +13,7 @@ pub risen_further : (a b c : ℕ) → a ≤ b → HasRisen b c → HasRisen a c
 risen_further a b c le h = record { no_lower = omega (arith, h.no_lower); risen = λ lt. omega (arith, h.risen lt) }
 
 -- a cause since later is a cause since before
-cause_further : (cause : Cause) (failures risen last : ℕ) (old bytes mid new : List ℕ) → failures ≤ risen → mid ≡ old ++ bytes → HasCause cause risen last mid new → HasCause cause failures last old new
+pub cause_further : (cause : Cause) (failures risen last : ℕ) (old bytes mid new : List ℕ) → failures ≤ risen → mid ≡ old ++ bytes → HasCause cause risen last mid new → HasCause cause failures last old new
 cause_further Write failures risen last old bytes mid new le is h = risen_further failures risen last le h
 cause_further OutOfMemory failures risen last old bytes mid new le is h = record {
   more = bytes ++ h.more;

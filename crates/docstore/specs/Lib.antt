@@ -24,3 +24,5 @@ pub mod Walking
 pub mod LookLaws
 pub mod Opening
 pub mod Stacking
+pub mod Causes
+pub mod Run

@@ -4,7 +4,7 @@ use Rattle.store_base.specs.Counts.{raised}
 use Rattle.layered_index.specs.declared.error.StoreError.{StoreError}
 use Rattle.layered_index.specs.declared.index.Checkpoint.{Checkpoint}
 use Rattle.docstore.specs.declared.walk.Walk.{Walk}
-use Rattle.docstore.specs.Cache.{LookUp, recent, misses_along}
+use Rattle.docstore.specs.Cache.{CacheState, LookUp, recent, misses_along}
 use Rattle.layered_index.specs.Checkpoint.{Covers}
 use Rattle.docstore.specs.Iteration.{is_in, looked_along, alive_below, keys_along}
 use Rattle.docstore.specs.Kept.{state_of}
@@ -33,3 +33,8 @@ pub record IsLooked (r : Reading) (w : Walk) (set : Option (ℕ → Bool)) : Typ
 
 abbrev pub WalksLookUp : Type 0
 WalksLookUp = (r : Reading) (w : Walk) (set : Option (ℕ → Bool)) → Covers r.checkpoints (length r.file.content) → IsWalk r w → IsLooked r w set
+
+-- Each look-up is a hit or a miss, and counted as one, while the counts are below their greatest value.
+abbrev pub LookUpsAreCounted : Type 0
+LookUpsAreCounted = (capacity : ℕ) (s : CacheState) (looks : List LookUp) → s.hits + s.misses + length looks < 2 ^ 64
+    → (recent capacity s looks).hits + (recent capacity s looks).misses ≡ s.hits + s.misses + length looks

@@ -107,7 +107,8 @@ fn put_front(blocks: &mut LruCache<usize, OwnedBytes>, key: usize, block: OwnedB
 fn put_in(blocks: &mut Option<LruCache<usize, OwnedBytes>>, key: usize, block: OwnedBytes) -> bool
     requires { lookup (nat_eq key) (entries_of blocks.old) ≡ None }
     ensures capacity { capacity_of blocks.new ≡ capacity_of blocks.old }
-    ensures entries { entries_of blocks.new ≡ with_pair (capacity_of blocks.old) key block result (entries_of blocks.old) }
+    ensures entries { entries_of blocks.new
+        ≡ with_pair (capacity_of blocks.old) key block result (entries_of blocks.old) }
 {
     match blocks {
         Some(blocks) => put_front(blocks, key, block),

@@ -1,6 +1,8 @@
 //! Laws of the formats.
 ghost use Rattle.docstore.specs.CacheSums.{StatsAreAdded};
 ghost use Rattle.docstore.specs.LookLaws.{LooksAreRecent, WalksLookUp};
+ghost use Rattle.docstore.specs.LookLaws.{LooksAreRecent, LookUpsAreCounted, WalksLookUp};
+ghost use Rattle.docstore.specs.Run.{BlocksMeanTheirCalls};
 ghost use Rattle.docstore.specs.Laws.{FilesAreStores, StoresAreApart, BlocksHoldDocuments, WrittenDocumentsAreFound, DocumentsAreTakenInOrder, IdsAreGivenInOrder, FlushesKeepSlots, StoresAreStackedInOrder, StackedSlotsAreCounted, StackedFilesAreJoined, StackingIsAssociative, StackedAloneIsTheSame};
 
 /// The file that is written for blocks is a store of them.
@@ -76,4 +78,14 @@ pub fn looks_are_recent()
 /// An iteration has looked up the blocks that the definition says for the number of its items.
 pub fn walks_look_up()
     ensures { WalksLookUp }
+{}
+
+/// Hits and misses together are the number of look-ups, while both are below their greatest value.
+pub fn look_ups_are_counted()
+    ensures { LookUpsAreCounted }
+{}
+
+/// The slots of the blocks that calls may leave are what the calls brought, whatever the block size.
+pub fn blocks_mean_their_calls()
+    ensures { BlocksMeanTheirCalls }
 {}

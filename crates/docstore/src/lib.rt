@@ -17,6 +17,7 @@ pub mod open_error;
 mod opening;
 pub mod reader;
 mod reader_data;
+pub mod run;
 pub mod slot;
 pub mod store_compressor;
 mod store_index;
@@ -34,6 +35,7 @@ pub use layered_index::{
 };
 pub use open_error::OpenError;
 pub use reader::{DOCSTORE_CACHE_CAPACITY, StoreReader};
+pub use run::{StoreCommand, WriteReport, write_store, write_store_with_period};
 pub use slot::block_read_index;
 pub use store_compressor::BlockCompressor;
 pub use walk::{DocWalk, Walk};

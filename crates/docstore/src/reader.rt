@@ -101,7 +101,7 @@ impl<H: FileHandle> StoreReader<H> {
         })
     }
 
-    /// The bytes of a document. Its block is looked up by its first byte, and read where it is not kept.
+    /// The bytes of a document. Its block is looked up by its first byte, and read where it isn't kept.
     pub fn get_document_bytes(
         &mut self,
         alloc: Global,

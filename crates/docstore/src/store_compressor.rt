@@ -103,7 +103,7 @@ impl<W: TerminatingWrite> BlockCompressor<W> {
     }
 
     /// How many documents the blocks have.
-    pub(crate) fn num_docs(&self) -> u32
+    pub fn num_docs(&self) -> u32
         ensures { result ≡ docs_in self.now.finished }
     {
         self.first_doc_in_block

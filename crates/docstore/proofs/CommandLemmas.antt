@@ -1,0 +1,160 @@
+-- What a list of commands leaves.
+use Rattle.std.proofs.Common.{◌≡◌, ℕ, ◌+◌, ◌<◌, ◌≤◌, inl, List, [], ◌∷◌, ◌++◌, length, take, drop, get_or, set, Option, Some, None, Result, refl, sym, ◌∙◌, ap, subst, arith}
+use Rattle.std.proofs.lemmas.List.{take_more, drop-drop, get_or-drop, drop-set-lt}
+use Rattle.std.specs.Prelude.{IfSome}
+use Rattle.std.specs.List.{fold}
+use Rattle.std.proofs.lemmas.List.Sums.{fold-append}
+use Rattle.docstore.specs.Causes.{Stage, first_stage, stage_after, CommandGets, HaveCauses}
+use Rattle.docstore.proofs.CauseLemmas.{stage_then}
+use Rattle.layered_index.specs.declared.error.Cause.{Cause}
+use Rattle.layered_index.specs.declared.error.StoreError.{StoreError}
+use Rattle.layered_index.specs.declared.error.StoreError.TheVariants.{ShortFile, BadVersion, BadBlockKind, BadOffset, BadIndex, InvalidArgument, DamagedDocument, BadDocument, Read, Memory, OldVersion, Unserializable, BlockTooLarge, TooManyDocs, Failed, BadPeriod}
+use Rattle.docstore.specs.declared.run.StoreCommand.{StoreCommand}
+use Rattle.docstore.specs.declared.run.StoreCommand.TheVariants.{Doc, Bytes, Stack}
+use Rattle.docstore.specs.StoreFile.{data_of}
+use Rattle.docstore.specs.Trace.{Step, effect}
+use Rattle.docstore.specs.BlockOutput.{BlockOutput, HasCause, AfterFailedClose, AfterClose, HoldsBlocks}
+use Rattle.docstore.specs.Writer.{Writing, AfterFailed, IsStoreWriter}
+use Rattle.docstore.specs.Run.{stage_of, IsStep, IsKept, IsCall, IsTrace, AreKept, AfterRun}
+use Rattle.docstore.proofs.RunSoFarLemmas.{IsRunSoFar, run_step}
+use Rattle.docstore.proofs.WriterLemmas.{cause_further}
+
+-- where a list of calls stands at its end
+abbrev stage_by : ℕ → Stage → List Step → Stage
+stage_by size at trace = fold (λ a s. stage_after size a (effect s)) at trace
+
+-- While the writer works it has made these calls.
+pub record IsRunBy {D H : Type 0} (size period : ℕ) (held : List ℕ) (doc_bytes : D → Option (List ℕ)) (commands left : List (StoreCommand D H)) (results : List (Result (Unit {0}) StoreError)) (w : Writing) : Type 0 where
+  pub trace : List Step
+  pub calls : IsTrace doc_bytes commands results trace
+  pub causes : HaveCauses size doc_bytes first_stage commands left results trace
+  pub stage : stage_of w ≡ fold (λ a s. stage_after size a (effect s)) first_stage trace
+  pub so_far : IsRunSoFar size period held trace w
+
+abbrev pub IsRun : {D H : Type 0} → ℕ → ℕ → List ℕ → (D → Option (List ℕ)) → List (StoreCommand D H) → List (StoreCommand D H) → List (Result (Unit {0}) StoreError) → Writing → Type 0
+IsRun size period held doc_bytes commands left results w = w.output.failure ≡ None → IsRunBy size period held doc_bytes commands left results w
+
+trace_more : {D H : Type 0} (doc_bytes : D → Option (List ℕ)) (commands : List (StoreCommand D H)) (results : List (Result (Unit {0}) StoreError)) (trace : List Step) (command : StoreCommand D H) (result : Result (Unit {0}) StoreError) (s : Step)
+    → IsTrace doc_bytes commands results trace → IsStep doc_bytes command result s → IsTrace doc_bytes (commands ++ command ∷ []) (results ++ result ∷ []) (trace ++ s ∷ [])
+trace_more doc_bytes [] [] [] command result s h is = (is, tt)
+trace_more doc_bytes (c ∷ commands) (r ∷ results) (t ∷ trace) command result s h is = (h.0, trace_more doc_bytes commands results trace command result s h.1 is)
+trace_more doc_bytes [] [] (t ∷ trace) command result s h is = absurd h
+trace_more doc_bytes [] (r ∷ results) trace command result s h is = absurd h
+trace_more doc_bytes (c ∷ commands) [] trace command result s h is = absurd h
+trace_more doc_bytes (c ∷ commands) (r ∷ results) [] command result s h is = absurd h
+
+causes_more : {D H : Type 0} (size : ℕ) (doc_bytes : D → Option (List ℕ)) (at : Stage) (commands left : List (StoreCommand D H)) (results : List (Result (Unit {0}) StoreError)) (trace : List Step) (command after : StoreCommand D H) (result : Result (Unit {0}) StoreError) (s : Step)
+    → HaveCauses size doc_bytes at commands left results trace → CommandGets doc_bytes (stage_by size at trace) command after result → HaveCauses size doc_bytes at (commands ++ command ∷ []) (left ++ after ∷ []) (results ++ result ∷ []) (trace ++ s ∷ [])
+causes_more size doc_bytes at [] [] [] [] command after result s h is = (is, tt)
+causes_more size doc_bytes at (c ∷ commands) (d ∷ left) (r ∷ results) (t ∷ trace) command after result s h is = (h.0, causes_more size doc_bytes (stage_after size at (effect t)) commands left results trace command after result s h.1 is)
+causes_more size doc_bytes at [] [] [] (t ∷ trace) command after result s h is = absurd h
+causes_more size doc_bytes at [] [] (r ∷ results) trace command after result s h is = absurd h
+causes_more size doc_bytes at [] (d ∷ left) results trace command after result s h is = absurd h
+causes_more size doc_bytes at (c ∷ commands) [] results trace command after result s h is = absurd h
+causes_more size doc_bytes at (c ∷ commands) (d ∷ left) [] trace command after result s h is = absurd h
+causes_more size doc_bytes at (c ∷ commands) (d ∷ left) (r ∷ results) [] command after result s h is = absurd h
+
+-- one more call
+pub run_by_more : {D H : Type 0} (size period : ℕ) (held : List ℕ) (doc_bytes : D → Option (List ℕ)) (commands left : List (StoreCommand D H)) (results : List (Result (Unit {0}) StoreError)) (command after : StoreCommand D H) (result : Result (Unit {0}) StoreError) (old new : Writing)
+    → (new.output.failure ≡ None → IsCall doc_bytes command after result old new) → IsRun size period held doc_bytes commands left results old → IsRun size period held doc_bytes (commands ++ command ∷ []) (left ++ after ∷ []) (results ++ result ∷ []) new
+run_by_more size period held doc_bytes commands left results command after result old new made run = λ works.
+    let call = made works in
+    let before = run call.works in
+    record {
+      trace = before.trace ++ call.step ∷ [];
+      calls = trace_more doc_bytes commands results before.trace command result call.step before.calls call.is;
+      causes = causes_more size doc_bytes first_stage commands left results before.trace command after result call.step before.causes
+          (subst (λ (at : Stage). CommandGets doc_bytes at command after result) before.stage call.cause);
+      stage = ap stage_of call.after ∙ stage_then old (effect call.step)
+          ∙ (λ i. stage_after (before.so_far.size_is i) (before.stage i) (effect call.step))
+          ∙ sym (fold-append (λ a s. stage_after size a (effect s)) first_stage before.trace (call.step ∷ []));
+      so_far = run_step size period held before.trace call.step old new call.after before.so_far;
+    }
+
+-- ---- what is kept
+
+pub all_kept : {D H : Type 0} (commands : List (StoreCommand D H)) → AreKept commands commands
+all_kept [] = tt
+all_kept (Doc d ∷ commands) = (refl, all_kept commands)
+all_kept (Bytes v ∷ commands) = (refl, all_kept commands)
+all_kept (Stack reader ∷ commands) = (inl refl, all_kept commands)
+
+pub kept_more : {D H : Type 0} (olds news : List (StoreCommand D H)) (old new : StoreCommand D H) → AreKept olds news → IsKept old new → AreKept (olds ++ old ∷ []) (news ++ new ∷ [])
+kept_more [] [] old new h is = (is, tt)
+kept_more (c ∷ olds) (d ∷ news) old new h is = (h.0, kept_more olds news old new h.1 is)
+kept_more [] (d ∷ news) old new h is = absurd h
+kept_more (c ∷ olds) [] old new h is = absurd h
+
+-- ---- failures
+
+-- Why a writer has failed, if it has, by what the output held at first.
+abbrev pub HasFailedSince : List ℕ → ℕ → Writing → Type 0
+HasFailedSince held failures w = IfSome w.output.failure (λ cause. HasCause cause failures w.output.failures held w.output.content)
+
+pub none_failed : (held : List ℕ) (failures : ℕ) (w : Writing) → w.output.failure ≡ None → HasFailedSince held failures w
+none_failed held failures w none = subst (λ (o : Option Cause). IfSome o (λ cause. HasCause cause failures w.output.failures held w.output.content)) (sym none) tt
+
+-- a cause since an output that held the finished blocks
+since : (held : List ℕ) (failures : ℕ) (old : BlockOutput) (cause : Cause) (risen : ℕ) (content : List ℕ) → failures ≤ old.failures → old.before ≡ held → HoldsBlocks old → HasCause cause old.failures risen old.content content → HasCause cause failures risen held content
+since held failures old cause risen content le before holds why =
+    cause_further cause failures old.failures risen held (data_of old.finished) old.content content le (holds.written ∙ ap (λ (x : List ℕ). x ++ data_of old.finished) before) why
+
+-- a call that failed for good
+failed_by : (held : List ℕ) (failures : ℕ) (old new : Writing) (first : Option Cause) (cause : Cause) → failures ≤ old.output.failures → IsStoreWriter old → (old.output.failure ≡ None → old.output.before ≡ held)
+    → IfSome first (λ c. HasCause c failures old.output.failures held old.output.content) → AfterFailed first cause old new → HasCause cause failures new.output.failures held new.output.content
+failed_by held failures old new None cause le sound before was h =
+    since held failures old.output cause new.output.failures new.output.content le (before h.worked) (sound.output.works h.worked) h.why
+failed_by held failures old new (Some first) cause le sound before was h =
+    subst (λ (w : Writing). HasCause cause failures w.output.failures held w.output.content) (sym h.1)
+    (subst (λ (c : Cause). HasCause c failures old.output.failures held old.output.content) (sym h.0) was)
+
+pub failed_more : (held : List ℕ) (failures : ℕ) (old new : Writing) → failures ≤ old.output.failures → IsStoreWriter old → (old.output.failure ≡ None → old.output.before ≡ held)
+    → HasFailedSince held failures old → IfSome new.output.failure (λ cause. AfterFailed old.output.failure cause old new) → HasFailedSince held failures new
+failed_more held failures old new le sound before was h = go new.output.failure h
+  where
+    go : (after : Option Cause) → IfSome after (λ cause. AfterFailed old.output.failure cause old new) → IfSome after (λ cause. HasCause cause failures new.output.failures held new.output.content)
+    go None h = tt
+    go (Some cause) h = failed_by held failures old new old.output.failure cause le sound before was h
+
+-- a writer that is not closed
+not_closed : (held : List ℕ) (failures : ℕ) (w : Writing) (first : Option Cause) (cause : Cause) (risen : ℕ) (content : List ℕ) → w.output.failure ≡ first → failures ≤ w.output.failures → IsStoreWriter w → (w.output.failure ≡ None → w.output.before ≡ held)
+    → IfSome first (λ c. HasCause c failures w.output.failures held w.output.content) → AfterFailedClose first cause w.output content risen → HasCause cause failures risen held content
+not_closed held failures w None cause risen content is le sound before was h = since held failures w.output cause risen content le (before is) (sound.output.works is) h
+not_closed held failures w (Some first) cause risen content is le sound before was h =
+    let same : HasCause cause failures w.output.failures held w.output.content = subst (λ (c : Cause). HasCause c failures w.output.failures held w.output.content) (sym h.0) was in
+    subst (λ (n : ℕ). HasCause cause failures n held content) (sym h.2) (subst (λ (x : List ℕ). HasCause cause failures w.output.failures held x) (sym h.1) same)
+
+pub after_run : (held : List ℕ) (failures : ℕ) (w : Writing) (e : StoreError) (risen : ℕ) (content : List ℕ) → failures ≤ w.output.failures → IsStoreWriter w → (w.output.failure ≡ None → w.output.before ≡ held)
+    → HasFailedSince held failures w → AfterClose e w.output content risen → AfterRun held content failures risen e
+after_run held failures w Memory risen content le sound before was h =
+    let holds = sound.output.works h.0 in
+    (w.output.finished, holds.blocks, h.1 ∙ holds.written ∙ ap (λ (x : List ℕ). x ++ data_of w.output.finished) (before h.0))
+after_run held failures w (Failed cause) risen content le sound before was h = not_closed held failures w w.output.failure cause risen content refl le sound before was h
+after_run held failures w (ShortFile k) risen content le sound before was h = absurd h
+after_run held failures w (BadVersion k) risen content le sound before was h = absurd h
+after_run held failures w (BadBlockKind k) risen content le sound before was h = absurd h
+after_run held failures w BadOffset risen content le sound before was h = absurd h
+after_run held failures w BadIndex risen content le sound before was h = absurd h
+after_run held failures w (InvalidArgument k) risen content le sound before was h = absurd h
+after_run held failures w (DamagedDocument k) risen content le sound before was h = absurd h
+after_run held failures w BadDocument risen content le sound before was h = absurd h
+after_run held failures w Read risen content le sound before was h = absurd h
+after_run held failures w OldVersion risen content le sound before was h = absurd h
+after_run held failures w Unserializable risen content le sound before was h = absurd h
+after_run held failures w BlockTooLarge risen content le sound before was h = absurd h
+after_run held failures w TooManyDocs risen content le sound before was h = absurd h
+after_run held failures w (BadPeriod k) risen content le sound before was h = absurd h
+
+-- ---- lists that are gone over
+
+-- where what is left is the same, so is the next
+next_same : {A : Type 0} (olds news : List A) (i : ℕ) (d : A) → drop i news ≡ drop i olds → get_or news i d ≡ get_or olds i d
+next_same olds news i d rest =
+    let here : i + 0 ≡ i = omega arith in
+    ap (λ (n : ℕ). get_or news n d) (sym here) ∙ sym (get_or-drop i news 0 d) ∙ ap (λ xs. get_or xs 0 d) rest ∙ get_or-drop i olds 0 d ∙ ap (λ (n : ℕ). get_or olds n d) here
+
+pub front_more : {A : Type 0} (olds news : List A) (i : ℕ) (d : A) → drop i news ≡ drop i olds → i < length olds → take (i + 1) olds ≡ take i olds ++ get_or news i d ∷ []
+front_more olds news i d rest lt = take_more olds i d lt ∙ ap (λ x. take i olds ++ x ∷ []) (sym (next_same olds news i d rest))
+
+pub rest_more : {A : Type 0} (olds news : List A) (i : ℕ) (new : A) → drop i news ≡ drop i olds → drop (i + 1) (set news i new) ≡ drop (i + 1) olds
+rest_more olds news i new rest = drop-set-lt (i + 1) news i new (omega arith) ∙ sym (drop-drop 1 i news) ∙ ap (λ xs. drop 1 xs) rest ∙ drop-drop 1 i olds

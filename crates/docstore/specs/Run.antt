@@ -1,0 +1,92 @@
+-- Whole lists of writing calls.
+use Rattle.std.specs.Prelude.{◌≡◌, ℕ, List, [], ◌∷◌, ◌++◌, Option, None, Result, Ok, Err, OnOk}
+use Rattle.layered_index.specs.declared.error.StoreError.{StoreError}
+use Rattle.layered_index.specs.declared.error.StoreError.TheVariants.{Read, Memory, Failed}
+use Rattle.docstore.specs.declared.run.StoreCommand.{StoreCommand}
+use Rattle.docstore.specs.declared.run.StoreCommand.TheVariants.{Doc, Bytes, Stack}
+use Rattle.docstore.specs.StoreFile.{StoreBlock, AreBlocks, data_of, file, IsStore}
+use Rattle.docstore.specs.Slots.{slots}
+use Rattle.docstore.specs.BlockOutput.{HasCause}
+use Rattle.docstore.specs.Trace.{Step, Answer, accepted, read_failed, no_memory, refused, store, store_bytes, stack, Effect, adds, ends, may_end, no_effect, effect, meaning, Blocks}
+use Rattle.docstore.specs.Causes.{Stage, first_stage, CommandGets, HaveCauses}
+use Rattle.docstore.specs.Writer.{Writing, num_docs, flushed, with_document, with_failures}
+use Rattle.docstore.specs.Reading.{Reading}
+use Rattle.docstore.specs.Stacking.{AreRead, IsReadAtMostOnce, with_store}
+
+-- what a trace says of a result
+abbrev pub answer_of : Result (Unit {0}) StoreError → Answer
+answer_of (Ok x) = accepted
+answer_of (Err Read) = read_failed
+answer_of (Err Memory) = no_memory
+answer_of (Err _) = refused
+
+-- A reader's store in a trace: what came of its file, if it was stacked.
+pub record IsStacking (reader : Reading) (result : Result (Unit {0}) StoreError) (s : Step) : Type 0 where
+  pub blocks : List StoreBlock
+  pub step : s ≡ record { call = stack blocks; answer = answer_of result }
+  pub read : OnOk result (AreRead reader blocks)
+
+-- A command and its result in a trace.
+abbrev pub IsStep : {D H : Type 0} → (D → Option (List ℕ)) → StoreCommand D H → Result (Unit {0}) StoreError → Step → Type 0
+IsStep doc_bytes (Doc d) result s = s ≡ record { call = store (doc_bytes d); answer = answer_of result }
+IsStep doc_bytes (Bytes v) result s = s ≡ record { call = store_bytes v.items; answer = answer_of result }
+IsStep doc_bytes (Stack reader) result s = IsStacking reader result s
+
+-- What a call leaves of a command: all but what its reader's file counts.
+abbrev pub IsKept : {D H : Type 0} → StoreCommand D H → StoreCommand D H → Type 0
+IsKept (Doc d) new = new ≡ Doc d
+IsKept (Bytes v) new = new ≡ Bytes v
+IsKept (Stack old) (Stack new) = IsReadAtMostOnce old new
+IsKept (Stack old) _ = ⊥
+
+-- what an effect leaves of a writer
+abbrev pub after_effect : Writing → Effect → Writing
+after_effect w (adds bytes) = with_document w bytes
+after_effect w (ends bs) = with_store w bs
+after_effect w may_end = flushed w
+after_effect w no_effect = w
+
+-- where a writer stands
+abbrev pub stage_of : Writing → Stage
+stage_of w = record { count = num_docs w; pending = w.pending }
+
+-- The call was made by a writer that worked and works.
+pub record IsCall {D H : Type 0} (doc_bytes : D → Option (List ℕ)) (command left : StoreCommand D H) (result : Result (Unit {0}) StoreError) (old new : Writing) : Type 0 where
+  pub step : Step
+  pub is : IsStep doc_bytes command result step
+  pub cause : CommandGets doc_bytes (stage_of old) command left result
+  pub works : old.output.failure ≡ None
+  pub after : new ≡ with_failures new.output.failures (after_effect old (effect step))
+
+-- These steps are the commands with their results.
+abbrev pub IsTrace : {D H : Type 0} → (D → Option (List ℕ)) → List (StoreCommand D H) → List (Result (Unit {0}) StoreError) → List Step → Type 0
+IsTrace doc_bytes [] [] [] = Unit {0}
+IsTrace doc_bytes (command ∷ commands) (result ∷ results) (s ∷ trace) = IsStep doc_bytes command result s × IsTrace doc_bytes commands results trace
+IsTrace doc_bytes _ _ _ = ⊥
+
+-- Each command is as it was, but for what its reader's file counts.
+abbrev pub AreKept : {D H : Type 0} → List (StoreCommand D H) → List (StoreCommand D H) → Type 0
+AreKept [] [] = Unit {0}
+AreKept (old ∷ commands) (new ∷ others) = IsKept old new × AreKept commands others
+AreKept _ _ = ⊥
+
+-- Behind what it held, the output has the file of the blocks that these calls leave, whose slots are what the calls brought; and each result has its cause.
+pub record IsWritten {D H : Type 0} (period size : ℕ) (doc_bytes : D → Option (List ℕ)) (commands left : List (StoreCommand D H)) (results : List (Result (Unit {0}) StoreError)) (old new : List ℕ) : Type 0 where
+  pub trace : List Step
+  pub blocks : List StoreBlock
+  pub calls : IsTrace doc_bytes commands results trace
+  pub causes : HaveCauses size doc_bytes first_stage commands left results trace
+  pub cut : Blocks size trace blocks
+  pub store : IsStore period (file period 3 blocks) 3 blocks
+  pub slots_are : slots blocks ≡ meaning trace
+  pub output : new ≡ old ++ file period 3 blocks
+
+-- What a refused run leaves in the output. For want of memory whole blocks went out, or none.
+abbrev pub AfterRun : List ℕ → List ℕ → ℕ → ℕ → StoreError → Type 0
+AfterRun old new failures risen Memory = (bs : List StoreBlock) × AreBlocks bs × (new ≡ old ++ data_of bs)
+AfterRun old new failures risen (Failed cause) = HasCause cause failures risen old new
+AfterRun old new failures risen _ = ⊥
+
+-- The slots of the blocks that calls may leave are what the calls brought, whatever the block size.
+abbrev pub BlocksMeanTheirCalls : Type 0
+BlocksMeanTheirCalls = (size : ℕ) (trace : List Step) (bs : List StoreBlock) → AreBlocks bs → Blocks size trace bs → slots bs ≡ meaning trace
