@@ -29,3 +29,4 @@ pub mod RunSoFarLemmas
 pub mod MeaningLemmas
 pub mod CommandLemmas
 pub mod CauseLemmas
+pub mod EndToEndLemmas

@@ -26,3 +26,4 @@ pub mod Opening
 pub mod Stacking
 pub mod Causes
 pub mod Run
+pub mod EndToEnd

@@ -1,9 +1,11 @@
 //! Laws of the formats.
 ghost use Rattle.docstore.specs.CacheSums.{StatsAreAdded};
-ghost use Rattle.docstore.specs.LookLaws.{LooksAreRecent, WalksLookUp};
 ghost use Rattle.docstore.specs.LookLaws.{LooksAreRecent, LookUpsAreCounted, WalksLookUp};
+ghost use Rattle.docstore.specs.EndToEnd.{DocumentsHaveTheirIds, StoredDocumentsAreGot};
 ghost use Rattle.docstore.specs.Run.{BlocksMeanTheirCalls};
 ghost use Rattle.docstore.specs.Laws.{FilesAreStores, StoresAreApart, BlocksHoldDocuments, WrittenDocumentsAreFound, DocumentsAreTakenInOrder, IdsAreGivenInOrder, FlushesKeepSlots, StoresAreStackedInOrder, StackedSlotsAreCounted, StackedFilesAreJoined, StackingIsAssociative, StackedAloneIsTheSame};
+
+use store_base::StoredDocument;
 
 /// The file that is written for blocks is a store of them.
 pub fn files_are_stores()
@@ -88,4 +90,15 @@ pub fn look_ups_are_counted()
 /// The slots of the blocks that calls may leave are what the calls brought, whatever the block size.
 pub fn blocks_mean_their_calls()
     ensures { BlocksMeanTheirCalls }
+{}
+
+/// The document that a call brought has the id that was next, whatever was called before and after.
+pub fn documents_have_their_ids()
+    ensures { DocumentsHaveTheirIds }
+{}
+
+/// Where the slot of an id has the bytes of a document, `StoreReader::get` gives its stored form, 9 and 10 aside. Documents of
+/// the versions 2 and 3 are read as version 2.
+pub fn stored_documents_are_got<D: StoredDocument>()
+    ensures { StoredDocumentsAreGot D.doc_bytes (D.reading 2) D.stored }
 {}
