@@ -30,3 +30,5 @@ pub mod MeaningLemmas
 pub mod CommandLemmas
 pub mod CauseLemmas
 pub mod EndToEndLemmas
+pub mod ListingLemmas
+pub mod AnswersLemmas

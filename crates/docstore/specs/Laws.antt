@@ -1,6 +1,6 @@
 -- What the formats promise.
 use Rattle.std.specs.Prelude.{◌≡◌, ℕ, ◌<◌, ◌≤◌, ◌^◌, List, [], ◌∷◌, ◌++◌, length, map}
-use Rattle.std.specs.List.{flat_map, AllByRecursion}
+use Rattle.std.specs.List.{flat_map}
 use Rattle.docstore.specs.Block.{Slot, doc, block}
 use Rattle.docstore.specs.Slots.{slots}
 use Rattle.docstore.specs.Trace.{block_of}

@@ -27,3 +27,5 @@ pub mod Stacking
 pub mod Causes
 pub mod Run
 pub mod EndToEnd
+pub mod Listing
+pub mod Answers

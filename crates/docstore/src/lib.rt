@@ -1,6 +1,7 @@
 //! A document store with a layered skip index.
 #![tactic(auto)]
 
+pub mod answers;
 mod cache;
 pub mod cache_stats;
 pub mod close_error;
@@ -24,6 +25,7 @@ mod store_index;
 pub mod walk;
 pub mod writer;
 
+pub use answers::{Answer, ReadCall, answer_all};
 pub use cache_stats::CacheStats;
 pub use close_error::CloseError;
 pub use compressors::{Compressor, Decompressor};

@@ -4,6 +4,7 @@ ghost use Rattle.std.specs.Prelude.{◌≡◌, ◌≤◌, None, true, IfSome, If
 ghost use Rattle.docstore.specs.Run.{IsCall, IsKept, AreKept, IsWritten, AfterRun};
 ghost use Rattle.docstore.specs.Writer.{IsStoreWriter, AfterFailed};
 
+pub use crate::answers::{Answer, ReadCall, answer_all};
 use crate::close_error::CloseError;
 use crate::compressors::Compressor;
 use crate::reader::StoreReader;

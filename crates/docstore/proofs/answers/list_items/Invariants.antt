@@ -1,0 +1,22 @@
+use Rattle.std.proofs.Common.{◌≡◌, ◌≤◌, ◌-◌, length}
+use Rattle.std.specs.Prelude.{IsTrue}
+use Rattle.docstore.specs.Listing.{AreItems}
+use Rattle.docstore.specs.Reading.{IsSameStore, store_of}
+use Rattle.docstore.specs.Slots.{slots}
+use Rattle.docstore.specs.Walking.{set_of, set_in, IsWalk}
+use Rattle.docstore.proofs.ListingLemmas.{alive_so_far}
+use Rattle.docstore.proofs.answers.list_items.Given as goal
+
+abbrev pub invariant-loop-iter : goal.invariant-loop-iter
+invariant-loop-iter g l = record {
+  name : l.iter.reader.ghost_name ≡ l.initial.iter.reader.ghost_name;
+  walk : IsWalk l.iter.reader.now l.iter.walk;
+  same : IsSameStore l.fn.reader l.iter.reader.now;
+  set : set_in l.iter.alive.now ≡ set_of l.alive;
+  listed : IsTrue l.fn.reader.file.honest → AreItems (alive_so_far (set_of l.alive) (slots (store_of l.fn.reader)) l.iter.walk.next) l.items.items;
+  below : l.iter.walk.next ≤ length (slots (store_of l.fn.reader));
+  few : length l.items.items ≤ l.most;
+}
+
+abbrev pub decreases-loop-iter : goal.decreases-loop-iter
+decreases-loop-iter g l = l.most - length l.items.items
