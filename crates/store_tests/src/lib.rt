@@ -19,3 +19,5 @@ mod raw_blocks;
 mod scripts;
 #[cfg(test)]
 mod stacking;
+#[cfg(test)]
+mod whole_lists;
