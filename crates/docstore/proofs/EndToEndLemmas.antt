@@ -5,7 +5,11 @@ use Rattle.layered_index.specs.declared.error.StoreError.TheVariants.{Read, Memo
 use Rattle.docstore.specs.Block.{Slot, doc, damaged}
 use Rattle.docstore.specs.Documents.{IsSpelled}
 use Rattle.docstore.specs.Trace.{Step, Effect, effect, slots_of, meaning}
-use Rattle.docstore.specs.EndToEnd.{DocumentsHaveTheirIds, StoredDocumentsAreGot}
+use Rattle.docstore.specs.EndToEnd.{DocumentsHaveTheirIds, StoredDocumentsAreGot, WrittenListsAreFound}
+use Rattle.docstore.specs.Slots.{slots}
+use Rattle.docstore.specs.StoreFile.{file}
+use Rattle.docstore.proofs.ApartLemmas.{stores_are_apart}
+use Rattle.docstore.proofs.MeaningLemmas.{blocks_mean_their_calls}
 
 -- what stands behind a list stands at its length
 at_length : (xs ys : List Slot) (x : Slot) → slice_get (xs ++ x ∷ ys) (length xs) ≡ Some x
@@ -42,3 +46,8 @@ stored_documents_are_got doc_bytes reading stored read_back document schema byte
         let same_bytes : bytes ≡ h.bytes = cc in
         let read : Some (stored document) ≡ None = sym (read_back document schema bytes written) ∙ ap reading same_bytes ∙ h.reads in
         absurd cc
+
+pub written_lists_are_found : WrittenListsAreFound
+written_lists_are_found size period trace blocks found_period version bs written cut found =
+    let same = stores_are_apart found_period period (file period 3 blocks) version 3 bs blocks found written in
+    (same.0, same.1, ap slots same.2 ∙ blocks_mean_their_calls size trace blocks written.blocks cut)

@@ -31,4 +31,6 @@ pub mod CommandLemmas
 pub mod CauseLemmas
 pub mod EndToEndLemmas
 pub mod ListingLemmas
+pub mod ListedLemmas
 pub mod AnswersLemmas
+pub mod SameAnswerLemmas

@@ -130,7 +130,7 @@ listed_all set all n count items listed few below dead =
 pub same_slots : (first old : Reading) → IsSameStore first old → slots (store_of old) ≡ slots (store_of first)
 same_slots first old same = λ i. slots (blocks_at (same.checkpoints i) (same.content i))
 
-same_count : (first old : Reading) → IsSameStore first old → num_docs old ≡ num_docs first
+pub same_count : (first old : Reading) → IsSameStore first old → num_docs old ≡ num_docs first
 same_count first old same = ap (docs_end 0) same.checkpoints
 
 -- one more item

@@ -14,10 +14,10 @@ use Rattle.docstore.proofs.SeekLemmas.{docs_go_on}
 
 module _ (set : Option (ℕ → Bool)) where
   -- how many of so many ids, from this one on, are in the set
-  abbrev alive_in : ℕ → ℕ → ℕ
+  abbrev pub alive_in : ℕ → ℕ → ℕ
   alive_in a n = count_by (is_in set) (range_with_len a n)
 
-  alive-split : (a m n : ℕ) → alive_in a (m + n) ≡ alive_in a m + alive_in (a + m) n
+  pub alive-split : (a m n : ℕ) → alive_in a (m + n) ≡ alive_in a m + alive_in (a + m) n
   alive-split a zero n = let e : a + 0 ≡ a = omega arith in let none : 0 + n ≡ n = omega arith in rw (e, none) (omega arith)
   alive-split a (suc m) n =
       let e : suc m + n ≡ suc (m + n) = omega arith in
@@ -35,7 +35,7 @@ module _ (set : Option (ℕ → Bool)) where
       omega arith
 
   -- an id of the set is counted
-  alive-one : (a n : ℕ) → is_in set (a + n) ≡ true → 1 ≤ alive_in a (n + 1)
+  pub alive-one : (a n : ℕ) → is_in set (a + n) ≡ true → 1 ≤ alive_in a (n + 1)
   alive-one a n is =
       let one = sum_by-cons (λ x. cond (is_in set x) 1 0) (a + n) [] in
       let counted : ◌≡◌ {A = ℕ} (cond {A = ℕ} (is_in set (a + n)) 1 0) 1 = rw is refl in
@@ -98,7 +98,7 @@ looked_none : (set : Option (ℕ → Bool)) (cs : List Checkpoint) → keys_alon
 looked_none set [] = refl
 looked_none set (c ∷ cs) = rw (le-leb 0 (alive_count set c) (omega arith)) refl
 
-take_length_one : (cs : List Checkpoint) → take (length (take 1 cs)) cs ≡ take 1 cs
+pub take_length_one : (cs : List Checkpoint) → take (length (take 1 cs)) cs ≡ take 1 cs
 take_length_one [] = refl
 take_length_one (c ∷ cs) = refl
 

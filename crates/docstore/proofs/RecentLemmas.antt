@@ -1,5 +1,7 @@
 -- What look-ups one after the other do, and what they leave.
-use Rattle.std.proofs.Common.{◌≡◌, ℕ, ◌+◌, ◌<◌, ◌≤◌, ◌^◌, Bool, true, false, List, [], ◌∷◌, is_some, refl, sym, ap, ◌∙◌, subst, arith, inl, inr}
+use Rattle.std.proofs.Common.{◌≡◌, ℕ, ◌+◌, ◌<◌, ◌≤◌, ◌^◌, Bool, true, false, List, [], ◌∷◌, ◌++◌, map, is_some, refl, sym, ap, ◌∙◌, subst, arith, inl, inr}
+use Rattle.std.proofs.lemmas.List.{map-append}
+use Rattle.std.proofs.lemmas.List.Sums.{fold-append}
 use Rattle.std.specs.Prelude.{if◌then◌else◌, ◌==◌, Result, Ok, Err}
 use Rattle.std.specs.List.{list_any}
 use Rattle.std.specs.Map.{keys_of}
@@ -11,7 +13,8 @@ use Rattle.docstore.specs.Answering.{IsLookedUp}
 use Rattle.docstore.specs.Cache.{CacheState, LookUp, look_up, recent, misses_along}
 use Rattle.docstore.specs.Kept.{Blocks, state_of}
 use Rattle.docstore.specs.LookingUp.{LooksUp, cache_missed}
-use Rattle.docstore.specs.LookLaws.{LooksAreRecent, LookUpsAreCounted}
+use Rattle.docstore.specs.Iteration.{keys_along}
+use Rattle.docstore.specs.LookLaws.{AreLookUps, LooksAreRecent, LookUpsAreCounted}
 use Rattle.docstore.specs.Reading.{Reading, IsSameStore}
 use Rattle.docstore.specs.Walking.{LooksAlong}
 use Rattle.docstore.proofs.KeptLemmas.{any_from_some, apart_from_none}
@@ -95,35 +98,52 @@ raised_on n k m reads few e = omega arith
 few_raised : (n k : ℕ) → n < 2 ^ 64 → raised n k < 2 ^ 64
 few_raised n k few = omega arith
 
-pub looks_are_recent : LooksAreRecent
-looks_are_recent [] old block new block' few l =
-    let reads : new.file.reads ≡ old.file.reads = ap (λ (r : Reading). r.file.reads) l.0 in
+-- how many of some look-ups and then of others don't find their key
+misses_then : (capacity : ℕ) (s : CacheState) (ls ms : List LookUp) → misses_along capacity s (ls ++ ms) ≡ misses_along capacity s ls + misses_along capacity (recent capacity s ls) ms
+misses_then capacity s [] ms = omega arith
+misses_then capacity s (l ∷ ls) ms = omega (arith, misses_then capacity (look_up capacity s l) ls ms)
+
+-- no look-up
+pub no_looks : (r : Reading) → AreLookUps [] r r
+no_looks r = record { looks = []; order = refl; state = refl; capacity = refl; reads = λ few. omega arith }
+
+-- one look-up
+pub look_once : (c : Checkpoint) (old : Reading) (came : Result (List ℕ) StoreError) (new : Reading) → LooksUp c old.file old.cache came new.file new.cache → AreLookUps (c.byte_range.start ∷ []) old new
+look_once c old came new one =
+    let left = leaves c old.file old.cache came new.file new.cache one in
     record {
-      looks = [];
+      looks = record { key = c.byte_range.start; kept = one.is_kept } ∷ [];
       order = refl;
-      state = ap (λ (r : Reading). state_of r.cache) l.0;
-      capacity = ap (λ (r : Reading). r.cache.capacity) l.0;
-      reads = omega arith;
+      state = one.step;
+      capacity = left.capacity;
+      reads = λ few. omega (arith, left.reads few);
     }
-looks_are_recent (c ∷ cs) old block new block' few l =
-    let mid = l.0 in
-    let one = l.2.looked.looks_up in
-    let left = leaves c old.file old.cache l.2.came mid.file mid.cache one in
-    let key = c.byte_range.start in
-    let missed = if list_any (λ k. k == key) (keys_of old.cache.kept) then 0 else 1 in
-    let read : mid.file.reads ≡ raised old.file.reads missed = left.reads few in
-    let on = looks_are_recent cs mid l.1 new block' (subst (λ (n : ℕ). n < 2 ^ 64) (sym read) (few_raised old.file.reads missed few)) l.3 in
-    let first : LookUp = record { key = key; kept = one.is_kept } in
-    let rest = misses_along mid.cache.capacity (state_of mid.cache) on.looks in
-    let same : rest ≡ misses_along old.cache.capacity (look_up old.cache.capacity (state_of old.cache) first) on.looks =
-    ap (λ (n : ℕ). misses_along n (state_of mid.cache) on.looks) left.capacity ∙ ap (λ (s : CacheState). misses_along old.cache.capacity s on.looks) one.step in
+
+-- some look-ups, and then others
+pub looks_then : (ks ls : List ℕ) (old mid new : Reading) → AreLookUps ks old mid → AreLookUps ls mid new → AreLookUps (ks ++ ls) old new
+looks_then ks ls old mid new p q =
+    let n = old.cache.capacity in
+    let s = state_of old.cache in
+    let here = misses_along n s p.looks in
+    let rest = misses_along mid.cache.capacity (state_of mid.cache) q.looks in
+    let same : rest ≡ misses_along n (recent n s p.looks) q.looks =
+    ap (λ (m : ℕ). misses_along m (state_of mid.cache) q.looks) p.capacity ∙ ap (λ (t : CacheState). misses_along n t q.looks) p.state in
     record {
-      looks = first ∷ on.looks;
-      order = ap (λ (ks : List ℕ). key ∷ ks) on.order;
-      state = on.state ∙ ap (λ (n : ℕ). recent n (state_of mid.cache) on.looks) left.capacity ∙ ap (λ (s : CacheState). recent old.cache.capacity s on.looks) one.step;
-      capacity = on.capacity ∙ left.capacity;
-      reads = raised_on old.file.reads missed rest new.file.reads few (on.reads ∙ ap (λ (n : ℕ). raised n rest) read) ∙ ap (λ (n : ℕ). raised old.file.reads (missed + n)) same;
+      looks = p.looks ++ q.looks;
+      order = map-append (λ (l : LookUp). l.key) p.looks q.looks ∙ ap (λ (xs : List ℕ). xs ++ map (λ (l : LookUp). l.key) q.looks) p.order ∙ ap (λ (ys : List ℕ). ks ++ ys) q.order;
+      state = q.state ∙ ap (λ (m : ℕ). recent m (state_of mid.cache) q.looks) p.capacity ∙ ap (λ (t : CacheState). recent n t q.looks) p.state ∙ sym (fold-append (look_up n) s p.looks q.looks);
+      capacity = q.capacity ∙ p.capacity;
+      reads = λ few.
+          let read = p.reads few in
+          let less : mid.file.reads < 2 ^ 64 = subst (λ (k : ℕ). k < 2 ^ 64) (sym read) (few_raised old.file.reads here few) in
+          raised_on old.file.reads here rest new.file.reads few (q.reads less ∙ ap (λ (k : ℕ). raised k rest) read)
+          ∙ ap (λ (k : ℕ). raised old.file.reads k) (ap (λ (m : ℕ). here + m) same ∙ sym (misses_then n s p.looks q.looks));
     }
+
+pub looks_are_recent : LooksAreRecent
+looks_are_recent [] old block new block' l = subst (λ (r : Reading). AreLookUps [] old r) (sym l.0) (no_looks old)
+looks_are_recent (c ∷ cs) old block new block' l =
+    looks_then (c.byte_range.start ∷ []) (keys_along cs) old l.0 new (look_once c old l.2.came l.0 l.2.looked.looks_up) (looks_are_recent cs l.0 l.1 new block' l.3)
 
 counted_one : (capacity : ℕ) (s : CacheState) (l : LookUp) → s.hits + s.misses + 1 < 2 ^ 64 → (look_up capacity s l).hits + (look_up capacity s l).misses ≡ s.hits + s.misses + 1
 counted_one capacity s l few = (elim (list_any (λ k. k == l.key) s.keys) as (λ y. list_any (λ k. k == l.key) s.keys ≡ y → (look_up capacity s l).hits + (look_up capacity s l).misses ≡ s.hits + s.misses + 1) [

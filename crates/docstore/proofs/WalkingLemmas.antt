@@ -84,12 +84,12 @@ walks_past set old from id new to to' w dead place block = record {
     ]) refl
 
 -- blocks on and on
-looks_on : (cs ds : List Checkpoint) (r : Reading) (b : Result (List ℕ) StoreError) (mid : Reading) (b1 : Result (List ℕ) StoreError) (r' : Reading) (b' : Result (List ℕ) StoreError)
+pub looks_on : (cs ds : List Checkpoint) (r : Reading) (b : Result (List ℕ) StoreError) (mid : Reading) (b1 : Result (List ℕ) StoreError) (r' : Reading) (b' : Result (List ℕ) StoreError)
     → LooksAlong cs r b mid b1 → LooksAlong ds mid b1 r' b' → LooksAlong (cs ++ ds) r b r' b'
 looks_on [] ds r b mid b1 r' b' l m = subst (λ (x : Reading). LooksAlong ds x b r' b') l.0 (subst (λ (x : Result (List ℕ) StoreError). LooksAlong ds mid x r' b') l.1 m)
 looks_on (c ∷ cs) ds r b mid b1 r' b' l m = (l.0, l.1, l.2, looks_on cs ds l.0 l.1 mid b1 r' b' l.3 m)
 
-range_joined : (cs : List Checkpoint) (p q n : ℕ) → p ≤ q → q ≤ n → slice_range cs p n ≡ slice_range cs p q ++ slice_range cs q n
+pub range_joined : (cs : List Checkpoint) (p q n : ℕ) → p ≤ q → q ≤ n → slice_range cs p n ≡ slice_range cs p q ++ slice_range cs q n
 range_joined cs p q n pq qn =
     let whole : n - p ≡ (q - p) + (n - q) = omega arith in
     let place : p + (q - p) ≡ q = omega arith in

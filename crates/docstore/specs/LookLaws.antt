@@ -11,18 +11,19 @@ use Rattle.docstore.specs.Kept.{state_of}
 use Rattle.docstore.specs.Reading.{Reading, num_docs}
 use Rattle.docstore.specs.Walking.{IsWalk, LooksAlong}
 
--- Look-ups of these keys in order, with what became of each. The file was read once for each that didn't find its key.
+-- Look-ups of these keys in order, with what became of each. The file was read once for each that didn't find its key; its count is
+-- one of 64 bits.
 pub record AreLookUps (keys : List ℕ) (old new : Reading) : Type 0 where
   pub looks : List LookUp
   pub order : map (λ l. l.key) looks ≡ keys
   pub state : state_of new.cache ≡ recent old.cache.capacity (state_of old.cache) looks
   pub capacity : new.cache.capacity ≡ old.cache.capacity
-  pub reads : new.file.reads ≡ raised old.file.reads (misses_along old.cache.capacity (state_of old.cache) looks)
+  pub reads : old.file.reads < 2 ^ 64 → new.file.reads ≡ raised old.file.reads (misses_along old.cache.capacity (state_of old.cache) looks)
 
 -- Blocks that are looked up one after the other are look-ups of their first bytes.
 abbrev pub LooksAreRecent : Type 0
 LooksAreRecent = (cs : List Checkpoint) (old : Reading) (block : Result (List ℕ) StoreError) (new : Reading) (block' : Result (List ℕ) StoreError)
-    → old.file.reads < 2 ^ 64 → LooksAlong cs old block new block' → AreLookUps (keys_along cs) old new
+    → LooksAlong cs old block new block' → AreLookUps (keys_along cs) old new
 
 -- Where an iteration stands behind an item, it has looked up what the definition says for so many items; and where it has come to the
 -- end, for any greater number.

@@ -92,6 +92,7 @@ pub record IsItem (set : Option (ℕ → Bool)) (old : Reading) (id : ℕ) (to :
 pub record GivesNext (set : Option (ℕ → Bool)) (old : Reading) (from : Walk) (item : Option (Result (List ℕ) StoreError)) (new : Reading) (to : Walk) : Type 0 where
   pub last : ℕ
   pub walks : WalksTo set old from last new to
+  pub walk : IsWalk new to
   pub same : IsSameStore old new
   pub gives : MatchOption item ((last ≡ num_docs old) × (to.next ≡ last)) (λ answer. IsItem set old last to answer)
 

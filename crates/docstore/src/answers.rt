@@ -1,8 +1,10 @@
 //! Whole lists of reading calls.
 ghost use Rattle.std.specs.Prelude.{◌≤◌, IsTrue, IfOk, IfSome, IsOkUnless, length};
 ghost use Rattle.std.specs.List.{AllByRecursion};
-ghost use Rattle.docstore.specs.Answers.{CanAnswer, IsAnswer, AreAnswers};
+ghost use Rattle.docstore.specs.Answers.{CanAnswer, IsAnswer, AreAnswers, keys_of_call, keys_of_calls};
+ghost use Rattle.docstore.specs.Iteration.{looked_along};
 ghost use Rattle.docstore.specs.Listing.{AreItems, first_alive};
+ghost use Rattle.docstore.specs.LookLaws.{AreLookUps};
 ghost use Rattle.docstore.specs.Reading.{IsSameStore, num_docs, store_of};
 ghost use Rattle.docstore.specs.Slots.{slots};
 ghost use Rattle.docstore.specs.Walking.{set_of};
@@ -33,7 +35,8 @@ pub enum Answer {
 
 /// Makes the calls in order. A refused document is its answer, and the next call made.
 ///
-/// `Memory` comes only where the lists of answers can't grow.
+/// The blocks of the documents and of the iterations are looked up in this order, and the file is read once for each that the
+/// cache doesn't keep. `Memory` comes only where the lists of answers can't grow.
 pub fn answer_all<H: FileHandle>(
     alloc: Global,
     reader: &mut StoreReader<H>,
@@ -42,6 +45,7 @@ pub fn answer_all<H: FileHandle>(
     requires { AllByRecursion (CanAnswer (num_docs reader.old)) calls.now }
     ensures answers { IfOk result (λ v. IsTrue reader.old.file.honest
         → AreAnswers (slots (store_of reader.old)) calls.now v.items) }
+    ensures looks { IfOk result (λ v. AreLookUps (keys_of_calls reader.old.checkpoints calls.now) reader.old reader.new) }
     ensures memory { IsOkUnless result StoreError.Memory }
     ensures same_store { IsSameStore reader.old reader.new }
 {
@@ -62,6 +66,7 @@ fn answer_one<H: FileHandle>(
     requires { CanAnswer (num_docs reader.old) call.now }
     ensures answer { IfOk result (λ answer. IsTrue reader.old.file.honest
         → IsAnswer (slots (store_of reader.old)) call.now answer) }
+    ensures looks { IfOk result (λ answer. AreLookUps (keys_of_call reader.old.checkpoints call.now) reader.old reader.new) }
     ensures memory { IsOkUnless result StoreError.Memory }
     ensures same_store { IsSameStore reader.old reader.new }
 {
@@ -84,6 +89,8 @@ fn list_items<H: FileHandle>(
     requires { IfSome alive (λ set. num_docs reader.old ≤ length set.now) }
     ensures items { IfOk result (λ v. IsTrue reader.old.file.honest
         → AreItems (first_alive count (slots (store_of reader.old)) (set_of alive.entry)) v.items) }
+    ensures looks { IfOk result (λ v. AreLookUps (looked_along reader.old.checkpoints (set_of alive.entry) count)
+        reader.old reader.new) }
     ensures memory { IsOkUnless result StoreError.Memory }
     ensures same_store { IsSameStore reader.old reader.new }
 {

@@ -1,7 +1,8 @@
 //! Laws of the formats.
 ghost use Rattle.docstore.specs.CacheSums.{StatsAreAdded};
 ghost use Rattle.docstore.specs.LookLaws.{LooksAreRecent, LookUpsAreCounted, WalksLookUp};
-ghost use Rattle.docstore.specs.EndToEnd.{DocumentsHaveTheirIds, StoredDocumentsAreGot};
+ghost use Rattle.docstore.specs.Answers.{SlotsDecideAnswers};
+ghost use Rattle.docstore.specs.EndToEnd.{DocumentsHaveTheirIds, StoredDocumentsAreGot, WrittenListsAreFound};
 ghost use Rattle.docstore.specs.Run.{BlocksMeanTheirCalls};
 ghost use Rattle.docstore.specs.Laws.{FilesAreStores, StoresAreApart, BlocksHoldDocuments, WrittenDocumentsAreFound, DocumentsAreTakenInOrder, IdsAreGivenInOrder, FlushesKeepSlots, StoresAreStackedInOrder, StackedSlotsAreCounted, StackedFilesAreJoined, StackingIsAssociative, StackedAloneIsTheSame};
 
@@ -72,6 +73,7 @@ pub fn stacked_alone_is_the_same()
     ensures { StackedAloneIsTheSame }
 {}
 
+/// Blocks that are looked up one after the other take the cache through the definition's steps, and the file is read once for
 /// each that isn't kept.
 pub fn looks_are_recent()
     ensures { LooksAreRecent }
@@ -92,6 +94,12 @@ pub fn blocks_mean_their_calls()
     ensures { BlocksMeanTheirCalls }
 {}
 
+/// Whatever store `StoreReader::open` finds in the file of a list of writing calls, it has the list's period and version 3, and its
+/// slots are what the calls brought, whatever the block size.
+pub fn written_lists_are_found()
+    ensures { WrittenListsAreFound }
+{}
+
 /// The document that a call brought has the id that was next, whatever was called before and after.
 pub fn documents_have_their_ids()
     ensures { DocumentsHaveTheirIds }
@@ -101,4 +109,10 @@ pub fn documents_have_their_ids()
 /// the versions 2 and 3 are read as version 2.
 pub fn stored_documents_are_got<D: StoredDocument>()
     ensures { StoredDocumentsAreGot D.doc_bytes (D.reading 2) D.stored }
+{}
+
+/// The slots decide what a list of reading calls answers where no read failed and memory was found: neither the cache nor its
+/// capacity, nor what was called before.
+pub fn slots_decide_answers()
+    ensures { SlotsDecideAnswers }
 {}

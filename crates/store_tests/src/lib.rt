@@ -4,6 +4,8 @@
 #[cfg(test)]
 mod caching;
 #[cfg(test)]
+mod capacities;
+#[cfg(test)]
 mod devices;
 #[cfg(test)]
 mod footers;

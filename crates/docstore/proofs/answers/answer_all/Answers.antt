@@ -2,7 +2,7 @@ use Rattle.std.proofs.Common.{◌+◌, take, sym, subst, arith}
 use Rattle.docstore.specs.Answers.{AreAnswers}
 use Rattle.docstore.specs.Reading.{store_of}
 use Rattle.docstore.specs.Slots.{slots}
-use Rattle.docstore.proofs.AnswersLemmas.{answers_more}
+use Rattle.docstore.proofs.AnswersLemmas.{answers_more, looks_more}
 use Rattle.docstore.proofs.RecentLemmas.{same_on}
 use Rattle.docstore.proofs.answers.answer_all.Goals as goal
 
@@ -15,6 +15,7 @@ loop-call-preserved g c =
     let answers = c.loop-call.answers.items in
     record {
       same = same_on first old c.answer_one.new.reader c.loop-call.invariant.same c.answer_one.ensures.same_store;
+      looks = looks_more first old c.answer_one.new.reader calls i c.call-item.result (omega arith) c.call-item.is c.loop-call.invariant.same c.loop-call.invariant.looks c.in_ok-answer.ensures.looks;
       so_far = λ honest. subst (AreAnswers (slots (store_of first)) (take (i + 1) calls)) (sym c.in_ok-push.ensures.items)
           (answers_more first old calls i c.call-item.result answers c.in_ok-answer.answer (omega arith) c.call-item.is c.loop-call.invariant.same c.loop-call.invariant.so_far c.in_ok-answer.ensures.answer honest);
     }

@@ -4,6 +4,7 @@ use Rattle.docstore.specs.Listing.{AreItems}
 use Rattle.docstore.specs.Reading.{IsSameStore, store_of}
 use Rattle.docstore.specs.Slots.{slots}
 use Rattle.docstore.specs.Walking.{set_of, set_in, IsWalk}
+use Rattle.docstore.proofs.ListedLemmas.{IsListedTo}
 use Rattle.docstore.proofs.ListingLemmas.{alive_so_far}
 use Rattle.docstore.proofs.answers.list_items.Given as goal
 
@@ -15,6 +16,7 @@ invariant-loop-iter g l = record {
   set : set_in l.iter.alive.now ≡ set_of l.alive;
   listed : IsTrue l.fn.reader.file.honest → AreItems (alive_so_far (set_of l.alive) (slots (store_of l.fn.reader)) l.iter.walk.next) l.items.items;
   below : l.iter.walk.next ≤ length (slots (store_of l.fn.reader));
+  looks : IsListedTo l.fn.reader (set_of l.alive) (length l.items.items) l.iter.reader.now l.iter.walk;
   few : length l.items.items ≤ l.most;
 }
 

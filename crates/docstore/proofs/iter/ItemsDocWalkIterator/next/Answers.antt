@@ -22,6 +22,7 @@ returns-clause-steps g c =
         gives = record {
           last = c.in_ok-doc_id.doc_id;
           walks = found.0;
+          walk = c.walk_on.ensures.walk;
           same = c.walk_on.ensures.same;
           gives = record { below = found.1; is_alive = found.2; next = found.3; above = found.4.above; answers = c.answer_of-bytes.ensures; honest = truly };
         };
