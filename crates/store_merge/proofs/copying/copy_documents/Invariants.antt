@@ -1,0 +1,21 @@
+use Rattle.std.proofs.Common.{◌≡◌, ◌≤◌, length, take}
+use Rattle.docstore.specs.Iteration.{alive}
+use Rattle.docstore.specs.Reading.{IsSameStore, store_of}
+use Rattle.docstore.specs.Slots.{slots}
+use Rattle.docstore.specs.Walking.{set_of, set_in}
+use Rattle.docstore.specs.Writer.{IsStoreWriter}
+use Rattle.store_merge.specs.Bringing.{IsCopied}
+use Rattle.store_merge.proofs.CopyLemmas.{HasFailedRead}
+use Rattle.store_merge.proofs.copying.copy_documents.Given as goal
+
+abbrev pub invariant-loop-document : goal.invariant-loop-document
+invariant-loop-document g l = record {
+  name : l.document-iterator.reader.ghost_name ≡ l.initial.document-iterator.reader.ghost_name;
+  same : IsSameStore l.fn.reader l.document-iterator.reader.now;
+  set : set_in l.document-iterator.alive.now ≡ set_of l.alive;
+  copied : IsCopied l.fn.reader.file.honest (alive (take l.document-iterator.walk.next (slots (store_of l.fn.reader))) (set_of l.alive)) l.fn.writer l.writer;
+  below : l.document-iterator.walk.next ≤ length (slots (store_of l.fn.reader));
+  failed : HasFailedRead l.fn.reader l.document-iterator.reader.now l.document-iterator.walk.block;
+  count : l.fn.writer.output.failures ≤ l.writer.output.failures;
+  sound : IsStoreWriter l.writer;
+}

@@ -1,0 +1,4 @@
+pub mod Choice
+pub mod Bringing
+pub mod Refusals
+pub mod Copying

@@ -1,0 +1,58 @@
+-- Why a merge ends early, and what that leaves.
+use Rattle.std.specs.Prelude.{◌≡◌, ◌⊎◌, ℕ, ◌-◌, ◌<◌, ◌≤◌, ◌^◌, Bool, true, false, IsTrue, List, take, slice_get, Option, Some, None}
+use Rattle.store_base.specs.Counts.{HasRisen}
+use Rattle.layered_index.specs.declared.error.StoreError.{StoreError}
+use Rattle.layered_index.specs.declared.error.StoreError.TheVariants.{DamagedDocument, Read, Memory, BlockTooLarge, TooManyDocs, Failed}
+use Rattle.docstore.specs.Block.{doc, damaged}
+use Rattle.docstore.specs.Iteration.{is_in, alive}
+use Rattle.docstore.specs.Reading.{Reading, num_docs as docs_of, store_of}
+use Rattle.docstore.specs.Slots.{slots}
+use Rattle.docstore.specs.Stacking.{HasTooMany, IsFlushed}
+use Rattle.docstore.specs.Writer.{Writing, num_docs, IsTooLarge, AfterFailed}
+use Rattle.store_merge.specs.declared.input.MergeInput.{MergeInput}
+use Rattle.store_merge.specs.Choice.{set_of, is_stacked}
+use Rattle.store_merge.specs.Bringing.{IsCopied}
+
+-- Why the bytes of a document were refused, and what that leaves of the writer.
+abbrev pub RefusesBytes : List ℕ → Writing → Writing → StoreError → Type 0
+RefusesBytes bytes old new Memory = (old.output.failure ≡ None) × (new ≡ old)
+RefusesBytes bytes old new TooManyDocs = (old.output.failure ≡ None) × (num_docs old ≡ 2 ^ 32 - 1) × (new ≡ old)
+RefusesBytes bytes old new BlockTooLarge = IsTooLarge old bytes × (new ≡ old)
+RefusesBytes bytes old new (Failed cause) = AfterFailed old.output.failure cause old new
+RefusesBytes bytes old new _ = ⊥
+
+-- Why a document did not come of its file: it is damaged, a read failed, or memory ran out.
+abbrev pub RefusesItem : ℕ → Reading → Reading → StoreError → Type 0
+RefusesItem id old new (DamagedDocument k) = (k ≡ id) × (IsTrue old.file.honest → slice_get (slots (store_of old)) id ≡ Some damaged)
+RefusesItem id old new Read = HasRisen old.file.failures new.file.failures
+RefusesItem id old new Memory = Unit {0}
+RefusesItem id old new _ = ⊥
+
+-- The bytes of a document came, and the writer refused them.
+pub record RefusesDocument (id : ℕ) (reader : Reading) (old new : Writing) (e : StoreError) : Type 0 where
+  pub bytes : List ℕ
+  pub came : IsTrue reader.file.honest → slice_get (slots (store_of reader)) id ≡ Some (doc bytes)
+  pub refused : RefusesBytes bytes old new e
+
+-- The copying of a store stops at a document that is alive, behind all that are alive before it.
+pub record StopsAt (set : Option (ℕ → Bool)) (reader read : Reading) (old new : Writing) (e : StoreError) : Type 0 where
+  pub id : ℕ
+  pub below : id < docs_of reader
+  pub is_alive : is_in set id ≡ true
+  pub before : Writing
+  pub copied : IsCopied reader.file.honest (alive (take id (slots (store_of reader))) set) old before
+  pub count : old.output.failures ≤ before.output.failures
+  pub cause : (RefusesItem id reader read e × (new ≡ before)) ⊎ RefusesDocument id reader before new e
+
+-- Why a store was not stacked, and what that leaves of the writer.
+abbrev pub RefusesStore : Reading → Reading → Writing → Writing → StoreError → Type 0
+RefusesStore reader read old new TooManyDocs = HasTooMany old reader × (new ≡ old)
+RefusesStore reader read old new Memory = IsFlushed old new
+RefusesStore reader read old new Read = IsFlushed old new × HasRisen reader.file.failures read.file.failures
+RefusesStore reader read old new (Failed cause) = AfterFailed old.output.failure cause old new
+RefusesStore reader read old new _ = ⊥
+
+-- Why an input was refused, and what that leaves of the writer.
+abbrev pub RefusesInput : {H : Type 0} → MergeInput H → MergeInput H → Writing → Writing → StoreError → Type 0
+RefusesInput x left old new e =
+    ((is_stacked x ≡ true) × RefusesStore x.reader left.reader old new e) ⊎ ((is_stacked x ≡ false) × StopsAt (set_of x.alive) x.reader left.reader old new e)

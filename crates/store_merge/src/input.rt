@@ -1,0 +1,11 @@
+//! The inputs of a merge.
+
+use docstore::StoreReader;
+use store_base::{AliveBitSet, FileHandle};
+
+/// A store that is merged, and which of its documents are alive. Without a set each is.
+#[derive(Drop)]
+pub struct MergeInput<H: FileHandle> {
+    pub reader: StoreReader<H>,
+    pub alive: Option<AliveBitSet>,
+}

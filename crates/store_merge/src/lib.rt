@@ -1,0 +1,13 @@
+//! Merges stores with live sets: the documents that are alive in each of some stores, in order, go behind those of a writer.
+//!
+//! A store of at least six blocks of which nothing is deleted is stacked, block by block; the documents of every other
+//! one are copied one by one. That rule is this project's own.
+#![tactic(auto)]
+
+pub mod choosing;
+pub mod copying;
+pub mod input;
+pub mod merge_error;
+
+pub use input::MergeInput;
+pub use merge_error::MergeError;
