@@ -30,12 +30,25 @@ use Rattle.store_merge.specs.Refusals.{RefusesItem, StopsAt}
 
 -- ---- slots that are alive
 
--- one more slot behind a list
-enumerate_more : (n : ℕ) (xs : List Slot) (x : Slot) → enumerate_from n (xs ++ x ∷ []) ≡ enumerate_from n xs ++ (n + length xs, x) ∷ []
-enumerate_more n [] x = let here : n ≡ n + 0 = omega arith in ap (λ (k : ℕ). (k, x) ∷ []) here
-enumerate_more n (y ∷ xs) x =
-    let here : (n + 1) + length xs ≡ n + length (y ∷ xs) = omega arith in
-    ap (λ (ys : List (ℕ × Slot)). (n, y) ∷ ys) (enumerate_more (n + 1) xs x ∙ ap (λ (k : ℕ). enumerate_from (n + 1) xs ++ (k, x) ∷ []) here)
+-- joined lists
+enumerate_append : (n : ℕ) (xs ys : List Slot) → enumerate_from n (xs ++ ys) ≡ enumerate_from n xs ++ enumerate_from (n + length xs) ys
+enumerate_append n [] ys = let here : n ≡ n + 0 = omega arith in ap (λ (k : ℕ). enumerate_from k ys) here
+enumerate_append n (x ∷ xs) ys =
+    let here : (n + 1) + length xs ≡ n + length (x ∷ xs) = omega arith in
+    ap (λ (zs : List (ℕ × Slot)). (n, x) ∷ zs) (enumerate_append (n + 1) xs ys ∙ ap (λ (k : ℕ). enumerate_from (n + 1) xs ++ enumerate_from k ys) here)
+
+-- the slots of the set, of those that are behind so many others
+abbrev pub alive_behind : ℕ → List Slot → Option (ℕ → Bool) → List Slot
+alive_behind n xs set = map (λ (x : ℕ × Slot). x.1) (filter (λ (x : ℕ × Slot). is_in set x.0) (enumerate_from n xs))
+
+pub alive_append : (set : Option (ℕ → Bool)) (xs ys : List Slot) → alive (xs ++ ys) set ≡ alive xs set ++ alive_behind (length xs) ys set
+alive_append set xs ys =
+    let p : ℕ × Slot → Bool = λ y. is_in set y.0 in
+    let second : ℕ × Slot → Slot = λ y. y.1 in
+    let here : 0 + length xs ≡ length xs = omega arith in
+    ap (λ (zs : List (ℕ × Slot)). map second (filter p zs)) (enumerate_append 0 xs ys ∙ ap (λ (k : ℕ). enumerate_from 0 xs ++ enumerate_from k ys) here)
+    ∙ ap (map second) (filter-append p (enumerate_from 0 xs) (enumerate_from (length xs) ys))
+    ∙ map-append second (filter p (enumerate_from 0 xs)) (filter p (enumerate_from (length xs) ys))
 
 -- the slot of an id, if it is alive
 abbrev one : Bool → Slot → List Slot
@@ -50,14 +63,7 @@ one_of set id s = by (is_in set id)
     by false = refl
 
 alive_more : (set : Option (ℕ → Bool)) (xs : List Slot) (x : Slot) → alive (xs ++ x ∷ []) set ≡ alive xs set ++ one (is_in set (length xs)) x
-alive_more set xs x =
-    let p : ℕ × Slot → Bool = λ y. is_in set y.0 in
-    let second : ℕ × Slot → Slot = λ y. y.1 in
-    let here : 0 + length xs ≡ length xs = omega arith in
-    ap (λ (ys : List (ℕ × Slot)). map second (filter p ys)) (enumerate_more 0 xs x ∙ ap (λ (k : ℕ). enumerate_from 0 xs ++ (k, x) ∷ []) here)
-    ∙ ap (map second) (filter-append p (enumerate_from 0 xs) ((length xs, x) ∷ []))
-    ∙ map-append second (filter p (enumerate_from 0 xs)) (filter p ((length xs, x) ∷ []))
-    ∙ ap (λ (ys : List Slot). alive xs set ++ ys) (one_of set (length xs) x)
+alive_more set xs x = alive_append set xs (x ∷ []) ∙ ap (λ (ys : List Slot). alive xs set ++ ys) (one_of set (length xs) x)
 
 length_taken : {A : Type 0} (n : ℕ) (xs : List A) → n ≤ length xs → length (take n xs) ≡ n
 length_taken zero xs le = refl

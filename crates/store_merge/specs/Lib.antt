@@ -2,3 +2,4 @@ pub mod Choice
 pub mod Bringing
 pub mod Refusals
 pub mod Copying
+pub mod Inputs

@@ -1,16 +1,17 @@
 -- Why a merge ends early, and what that leaves.
-use Rattle.std.specs.Prelude.{◌≡◌, ◌⊎◌, ℕ, ◌-◌, ◌<◌, ◌≤◌, ◌^◌, Bool, true, false, IsTrue, List, take, slice_get, Option, Some, None}
+use Rattle.std.specs.Prelude.{◌≡◌, ◌⊎◌, ℕ, ◌-◌, ◌<◌, ◌≤◌, ◌^◌, Bool, true, false, IsTrue, List, ◌++◌, take, slice_get, Option, Some, None}
 use Rattle.store_base.specs.Counts.{HasRisen}
 use Rattle.layered_index.specs.declared.error.StoreError.{StoreError}
 use Rattle.layered_index.specs.declared.error.StoreError.TheVariants.{DamagedDocument, Read, Memory, BlockTooLarge, TooManyDocs, Failed}
-use Rattle.docstore.specs.Block.{doc, damaged}
+use Rattle.docstore.specs.Block.{Slot, doc, damaged}
 use Rattle.docstore.specs.Iteration.{is_in, alive}
+use Rattle.docstore.specs.Laws.{taken}
 use Rattle.docstore.specs.Reading.{Reading, num_docs as docs_of, store_of}
 use Rattle.docstore.specs.Slots.{slots}
 use Rattle.docstore.specs.Stacking.{HasTooMany, IsFlushed}
 use Rattle.docstore.specs.Writer.{Writing, num_docs, IsTooLarge, AfterFailed}
 use Rattle.store_merge.specs.declared.input.MergeInput.{MergeInput}
-use Rattle.store_merge.specs.Choice.{set_of, is_stacked}
+use Rattle.store_merge.specs.Choice.{set_of, is_stacked, alive_slots}
 use Rattle.store_merge.specs.Bringing.{IsCopied}
 
 -- Why the bytes of a document were refused, and what that leaves of the writer.
@@ -56,3 +57,9 @@ RefusesStore reader read old new _ = ⊥
 abbrev pub RefusesInput : {H : Type 0} → MergeInput H → MergeInput H → Writing → Writing → StoreError → Type 0
 RefusesInput x left old new e =
     ((is_stacked x ≡ true) × RefusesStore x.reader left.reader old new e) ⊎ ((is_stacked x ≡ false) × StopsAt (set_of x.alive) x.reader left.reader old new e)
+
+-- A beginning of the alive slots of an input is behind what was taken before.
+pub record HasGrown {H : Type 0} (x : MergeInput H) (old new : Writing) : Type 0 where
+  pub more : List Slot
+  pub grown : taken new ≡ taken old ++ more
+  pub front : IsTrue x.reader.file.honest → (rest : List Slot) × (alive_slots x ≡ more ++ rest)

@@ -1,0 +1,99 @@
+-- What the taking of one input leaves.
+use Rattle.std.proofs.Common.{◌≡◌, ℕ, ◌≤◌, ◌⊎◌, inl, inr, Bool, true, false, cond, Bor, List, [], ◌∷◌, ◌++◌, length, take, drop, map, Option, Some, None, Result, Ok, Err, refl, sym, ◌∙◌, ap, subst, arith}
+use Rattle.std.specs.Prelude.{OnOk, IfErr, IsTrue, nat_lt}
+use Rattle.std.specs.Option.{option_copied}
+use Rattle.std.specs.List.{fold}
+use Rattle.std.proofs.lemmas.List.{take-append-drop}
+use Rattle.store_base.specs.AliveBitSet.{is_alive_at}
+use Rattle.layered_index.specs.declared.error.Cause.{Cause}
+use Rattle.layered_index.specs.declared.error.StoreError.{StoreError}
+use Rattle.layered_index.specs.declared.error.StoreError.TheVariants.{ShortFile, BadVersion, BadBlockKind, BadOffset, BadIndex, InvalidArgument, DamagedDocument, BadDocument, Read, Memory, OldVersion, Unserializable, BlockTooLarge, TooManyDocs, Failed, BadPeriod}
+use Rattle.docstore.specs.Block.{Slot, doc}
+use Rattle.docstore.specs.Iteration.{alive}
+use Rattle.docstore.specs.Laws.{taken}
+use Rattle.docstore.specs.Reading.{Reading, store_of}
+use Rattle.docstore.specs.Slots.{slots}
+use Rattle.docstore.specs.Trace.{weight}
+use Rattle.docstore.specs.Walking.{set_of as set_of_lent}
+use Rattle.docstore.specs.Writer.{Writing, flushed, with_document, AfterFailed}
+use Rattle.store_merge.specs.declared.input.MergeInput.{MergeInput}
+use Rattle.store_merge.specs.Bringing.{stacked, copied, IsCopied, with_documents}
+use Rattle.store_merge.specs.Choice.{set_of, is_stacked, alive_of, alive_slots}
+use Rattle.store_merge.specs.Inputs.{IsStacked, IsInputTaken}
+use Rattle.store_merge.specs.Refusals.{RefusesBytes, StopsAt, HasGrown}
+use Rattle.store_merge.proofs.CopyLemmas.{alive_append, alive_behind}
+
+pub ok_then : {T E : Type 0} (P Q : Type 0) (r : Result T E) → (P → Q) → OnOk r P → OnOk r Q
+ok_then P Q (Ok x) on h = on h
+ok_then P Q (Err e) on h = h
+
+pub err_then : {T E : Type 0} (P Q : E → Type 0) (r : Result T E) → ((e : E) → P e → Q e) → IfErr r P → IfErr r Q
+err_then P Q (Ok x) on h = h
+err_then P Q (Err e) on h = on e h
+
+-- a set that is lent, or none
+pub lent : (o : Option (Bor (List Bool))) (alive : Option (List Bool)) → option_copied o ≡ alive → set_of_lent o ≡ set_of alive
+lent None alive is = ap set_of is
+lent (Some set) alive is = ap set_of is
+
+pub stacked_taken : {H : Type 0} (x : MergeInput H) (old new : Writing) → is_stacked x ≡ true → IsStacked x.reader old new → IsInputTaken x old new
+stacked_taken x old new is s = record { part = stacked s.blocks; came = (is, s.came); after = s.after; grown = s.grown }
+
+pub copied_taken : {H : Type 0} (x : MergeInput H) (set : Option (ℕ → Bool)) (old new : Writing) → is_stacked x ≡ false → set ≡ set_of x.alive → IsCopied x.reader.file.honest (alive_of x.reader set) old new → IsInputTaken x old new
+copied_taken x set old new is same h =
+    let k : IsCopied x.reader.file.honest (alive_of x.reader (set_of x.alive)) old new = subst (λ (s : Option (ℕ → Bool)). IsCopied x.reader.file.honest (alive_of x.reader s) old new) same h in
+    record { part = copied k.docs; came = (is, k.came); after = k.after; grown = k.grown }
+
+-- ---- a copying that stops
+
+-- documents leave a writer as failed as it was
+same_failure : (w : Writing) (docs : List (List ℕ)) → (with_documents w docs).output.failure ≡ w.output.failure
+same_failure w [] = refl
+same_failure w (d ∷ docs) = same_failure (with_document w d) docs ∙ by (nat_lt w.block_size (weight (w.pending ++ d ∷ [])))
+  where
+    more : Writing
+    more = record w { pending = w.pending ++ d ∷ [] }
+
+    by : (full : Bool) → (cond full (flushed more) more).output.failure ≡ w.output.failure
+    by true = refl
+    by false = refl
+
+-- a writer that did not fail for good is as it was
+unfailed : (first : Option Cause) (cause : Cause) (old new : Writing) → old.output.failure ≡ first → new.output.failure ≡ old.output.failure → AfterFailed first cause old new → new ≡ old
+unfailed None cause old new is same h = absurd (let f = h.failure in let p : ◌≡◌ {A = Option Cause} None (Some cause) = sym is ∙ sym same ∙ f in cc)
+unfailed (Some c) cause old new is same h = h.1
+
+refused_bytes : (bytes : List ℕ) (old new : Writing) (e : StoreError) → new.output.failure ≡ old.output.failure → RefusesBytes bytes old new e → new ≡ old
+refused_bytes bytes old new Memory same h = h.1
+refused_bytes bytes old new TooManyDocs same h = h.2
+refused_bytes bytes old new BlockTooLarge same h = h.1
+refused_bytes bytes old new (Failed cause) same h = unfailed old.output.failure cause old new refl same h
+refused_bytes bytes old new (ShortFile k) same h = absurd h
+refused_bytes bytes old new (BadVersion k) same h = absurd h
+refused_bytes bytes old new (BadBlockKind k) same h = absurd h
+refused_bytes bytes old new BadOffset same h = absurd h
+refused_bytes bytes old new BadIndex same h = absurd h
+refused_bytes bytes old new (InvalidArgument k) same h = absurd h
+refused_bytes bytes old new (DamagedDocument k) same h = absurd h
+refused_bytes bytes old new BadDocument same h = absurd h
+refused_bytes bytes old new Read same h = absurd h
+refused_bytes bytes old new OldVersion same h = absurd h
+refused_bytes bytes old new Unserializable same h = absurd h
+refused_bytes bytes old new (BadPeriod k) same h = absurd h
+
+-- what a copying that stops has put behind
+pub stopped_grown : {H : Type 0} (x : MergeInput H) (set : Option (ℕ → Bool)) (read : Reading) (old new : Writing) (e : StoreError) → set ≡ set_of x.alive → StopsAt set x.reader read old new e → new.output.failure ≡ old.output.failure → HasGrown x old new
+stopped_grown x set read old new e same s unchanged =
+    let all = slots (store_of x.reader) in
+    let before_is : s.before.output.failure ≡ old.output.failure = ap (λ (w : Writing). w.output.failure) s.copied.after ∙ same_failure old s.copied.docs in
+    let stays : new ≡ s.before = elim s.cause [
+      | inl c ↦ c.1
+      | inr c ↦ refused_bytes c.bytes s.before new e (unchanged ∙ sym before_is) c.refused
+    ] in
+    let split : alive_slots x ≡ alive (take s.id all) set ++ alive_behind (length (take s.id all)) (drop s.id all) set =
+    ap (alive_of x.reader) (sym same) ∙ ap (λ (xs : List Slot). alive xs set) (sym (take-append-drop s.id all)) ∙ alive_append set (take s.id all) (drop s.id all) in
+    record {
+      more = map doc s.copied.docs;
+      grown = ap taken stays ∙ s.copied.grown;
+      front = λ honest. (alive_behind (length (take s.id all)) (drop s.id all) set, split ∙ ap (λ (xs : List Slot). xs ++ alive_behind (length (take s.id all)) (drop s.id all) set) (sym (s.copied.came.truly honest)));
+    }

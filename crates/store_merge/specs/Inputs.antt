@@ -1,0 +1,45 @@
+-- The inputs of a merge, and what the taking of one leaves.
+use Rattle.std.specs.Prelude.{◌≡◌, ◌≢◌, ◌≤◌, List, [], ◌∷◌, ◌++◌, length, IfSome}
+use Rattle.docstore.specs.declared.footer.DocStoreVersion.TheVariants.{V1}
+use Rattle.docstore.specs.Laws.{taken}
+use Rattle.docstore.specs.Reading.{Reading, IsSameStore, num_docs as docs_of}
+use Rattle.docstore.specs.Slots.{slots}
+use Rattle.docstore.specs.Stacking.{AreRead, with_store}
+use Rattle.docstore.specs.StoreFile.{StoreBlock}
+use Rattle.docstore.specs.Writer.{Writing, with_failures}
+use Rattle.store_merge.specs.declared.input.MergeInput.{MergeInput}
+use Rattle.store_merge.specs.Bringing.{Brought, IsBrought, with_brought, slots_of}
+
+-- An input's set, if it has one, tells of each of its documents.
+abbrev pub HasWholeSet : {H : Type 0} → MergeInput H → Type 0
+HasWholeSet x = IfSome x.alive (λ set. docs_of x.reader ≤ length set)
+
+-- An input has such a set, and its documents are in no older form.
+pub record CanBeTaken {H : Type 0} (x : MergeInput H) : Type 0 where
+  pub set : HasWholeSet x
+  pub version : x.reader.version ≢ V1
+
+-- What a merge leaves of an input: its store and its set.
+pub record IsInputKept {H : Type 0} (x left : MergeInput H) : Type 0 where
+  pub store : IsSameStore x.reader left.reader
+  pub set : left.alive ≡ x.alive
+
+-- each of some inputs
+abbrev pub AreInputsKept : {H : Type 0} → List (MergeInput H) → List (MergeInput H) → Type 0
+AreInputsKept [] [] = Unit {0}
+AreInputsKept (x ∷ inputs) (y ∷ left) = IsInputKept x y × AreInputsKept inputs left
+AreInputsKept _ _ = ⊥
+
+-- A store was stacked.
+pub record IsStacked (reader : Reading) (old new : Writing) : Type 0 where
+  pub blocks : List StoreBlock
+  pub came : AreRead reader blocks
+  pub after : new ≡ with_failures new.output.failures (with_store old blocks)
+  pub grown : taken new ≡ taken old ++ slots blocks
+
+-- An input was taken: what came of it is behind what was taken before.
+pub record IsInputTaken {H : Type 0} (x : MergeInput H) (old new : Writing) : Type 0 where
+  pub part : Brought
+  pub came : IsBrought x part
+  pub after : new ≡ with_failures new.output.failures (with_brought old part)
+  pub grown : taken new ≡ taken old ++ slots_of part

@@ -1,0 +1,57 @@
+//! Takes one input of a merge.
+ghost use Rattle.std.specs.Prelude.{◌≡◌, ◌≢◌, ◌≤◌, OnOk, IfErr};
+ghost use Rattle.docstore.specs.Laws.{taken};
+ghost use Rattle.docstore.specs.Reading.{IsSameStore};
+ghost use Rattle.docstore.specs.Writer.{IsStoreWriter};
+ghost use Rattle.store_merge.specs.Inputs.{CanBeTaken, IsInputKept, IsInputTaken, IsStacked};
+ghost use Rattle.store_merge.specs.Refusals.{RefusesInput, RefusesStore, HasGrown};
+
+use crate::choosing::is_stacked;
+use crate::copying::copy_documents;
+use crate::input::MergeInput;
+use docstore::{DocStoreVersion, StoreError, StoreReader, StoreWriter, laws};
+use std::alloc::Global;
+use store_base::{FileHandle, TerminatingWrite};
+
+// Puts a whole store behind what the writer has taken.
+fn stack_store<W: TerminatingWrite, H: FileHandle>(
+    writer: &mut StoreWriter<W>,
+    reader: &mut StoreReader<H>,
+) -> Result<(), StoreError>
+    requires version { reader.old.version ≢ DocStoreVersion.V1 }
+    requires sound { IsStoreWriter writer.old }
+    ensures stacked { OnOk result (IsStacked reader.old writer.old writer.new) }
+    ensures refused { IfErr result (RefusesStore reader.old reader.new writer.old writer.new) }
+    ensures grown { IfErr result (λ _. writer.new.output.failure ≡ writer.old.output.failure → taken writer.new ≡ taken writer.old) }
+    ensures same_store { IsSameStore reader.old reader.new }
+    ensures count { writer.old.output.failures ≤ writer.new.output.failures }
+    ensures sound { IsStoreWriter writer.new }
+{
+    laws::stores_are_stacked_in_order();
+    laws::flushes_keep_slots();
+    writer.stack(reader)
+}
+
+/// Takes one input: stacks it, or copies its documents that are alive.
+pub fn take_input<W: TerminatingWrite, H: FileHandle>(
+    alloc: Global,
+    writer: &mut StoreWriter<W>,
+    input: &mut MergeInput<H>,
+) -> Result<(), StoreError>
+    requires input { CanBeTaken input.old }
+    requires sound { IsStoreWriter writer.old }
+    ensures taken { OnOk result (IsInputTaken input.old writer.old writer.new) }
+    ensures refused { IfErr result (RefusesInput input.old input.new writer.old writer.new) }
+    ensures grown { IfErr result (λ _. writer.new.output.failure ≡ writer.old.output.failure → HasGrown input.old writer.old writer.new) }
+    ensures kept { IsInputKept input.old input.new }
+    ensures count { writer.old.output.failures ≤ writer.new.output.failures }
+    ensures sound { IsStoreWriter writer.new }
+{
+    let is_stacked = is_stacked(input);
+    let MergeInput { reader, alive } = input;
+    if is_stacked {
+        stack_store(writer, reader)
+    } else {
+        copy_documents(alloc, writer, reader, alive.as_ref())
+    }
+}
