@@ -1,2 +1,3 @@
 pub mod CopyLemmas
 pub mod TakeLemmas
+pub mod MergeLemmas

@@ -3,3 +3,4 @@ pub mod Bringing
 pub mod Refusals
 pub mod Copying
 pub mod Inputs
+pub mod Merge

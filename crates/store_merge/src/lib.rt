@@ -8,6 +8,7 @@ pub mod choosing;
 pub mod copying;
 pub mod input;
 pub mod merge_error;
+pub mod merging;
 pub mod taking;
 
 pub use input::MergeInput;

@@ -1,0 +1,111 @@
+-- How far a merge has come.
+use Rattle.std.proofs.Common.{◌≡◌, ℕ, zero, suc, ◌+◌, ◌<◌, ◌≤◌, Bool, List, [], ◌∷◌, ◌++◌, length, take, drop, get_or, set, Option, Some, None, refl, sym, ◌∙◌, ap, subst, arith, append_assoc}
+use Rattle.std.proofs.lemmas.List.{append-nil, take_more, take_more_set, take_all, drop-drop, get_or-drop, get_or-set_same, drop-set-lt, length-set}
+use Rattle.std.proofs.lemmas.List.Concat.{flat_map-append}
+use Rattle.std.proofs.lemmas.List.Sums.{fold-append}
+use Rattle.std.proofs.lemmas.Option.{slice_get-get_or}
+use Rattle.std.specs.Prelude.{slice_get}
+use Rattle.std.specs.List.{AllByRecursion, fold, flat_map}
+use Rattle.docstore.specs.Block.{Slot}
+use Rattle.docstore.specs.Laws.{taken}
+use Rattle.docstore.specs.Stacking.{with_store}
+use Rattle.docstore.specs.Writer.{Writing, with_document, with_failures}
+use Rattle.store_merge.specs.declared.input.MergeInput.{MergeInput}
+use Rattle.store_merge.specs.Bringing.{Brought, stacked, copied, with_documents, with_brought, merged, slots_of, IsBrought, AreBrought}
+use Rattle.store_merge.specs.Inputs.{IsInputKept, AreInputsKept, IsInputTaken}
+use Rattle.store_merge.specs.Merge.{IsMerged}
+use Rattle.store_merge.proofs.CopyLemmas.{counted_document, same_as_it_is}
+
+-- ---- lists that are gone over
+
+pub all_at : {A : Type 0} (P : A → Type 0) (xs : List A) (i : ℕ) (d : A) → AllByRecursion P xs → i < length xs → P (get_or xs i d)
+all_at P [] i d h lt = absurd (omega (arith, lt))
+all_at P (x ∷ xs) zero d h lt = h.0
+all_at P (x ∷ xs) (suc i) d h lt = all_at P xs i d h.1 (omega (arith, lt))
+
+-- where what is left is the same, so is the next
+pub next_same : {A : Type 0} (olds news : List A) (i : ℕ) (d : A) → drop i news ≡ drop i olds → get_or news i d ≡ get_or olds i d
+next_same olds news i d rest =
+    let here : i + 0 ≡ i = omega arith in
+    ap (λ (n : ℕ). get_or news n d) (sym here) ∙ sym (get_or-drop i news 0 d) ∙ ap (λ xs. get_or xs 0 d) rest ∙ get_or-drop i olds 0 d ∙ ap (λ (n : ℕ). get_or olds n d) here
+
+front_more : {A : Type 0} (olds news : List A) (i : ℕ) (d : A) → drop i news ≡ drop i olds → i < length olds → take (i + 1) olds ≡ take i olds ++ get_or news i d ∷ []
+front_more olds news i d rest lt = take_more olds i d lt ∙ ap (λ x. take i olds ++ x ∷ []) (sym (next_same olds news i d rest))
+
+pub rest_more : {A : Type 0} (olds news : List A) (i : ℕ) (new : A) → drop i news ≡ drop i olds → drop (i + 1) (set news i new) ≡ drop (i + 1) olds
+rest_more olds news i new rest = drop-set-lt (i + 1) news i new (omega arith) ∙ sym (drop-drop 1 i news) ∙ ap (λ xs. drop 1 xs) rest ∙ drop-drop 1 i olds
+
+-- the next one, before and after it is written
+pub named_is : {A : Type 0} (olds news : List A) (i : ℕ) (d : A) → drop i news ≡ drop i olds → i < length olds → slice_get olds i ≡ Some (get_or news i d)
+named_is olds news i d rest lt = slice_get-get_or olds i d lt ∙ ap (λ x. Some x) (sym (next_same olds news i d rest))
+
+pub left_is : {A : Type 0} (news : List A) (i : ℕ) (y : A) → i < length news → slice_get (set news i y) i ≡ Some y
+left_is news i y lt = slice_get-get_or (set news i y) i y (omega (arith, lt, length-set news i y)) ∙ ap (λ x. Some x) (get_or-set_same news i y y lt)
+
+-- ---- what is kept
+
+pub all_kept : {H : Type 0} (xs : List (MergeInput H)) → AreInputsKept xs xs
+all_kept [] = tt
+all_kept (x ∷ xs) = (record { store = same_as_it_is x.reader; set = refl }, all_kept xs)
+
+kept_push : {H : Type 0} (xs ys : List (MergeInput H)) (x y : MergeInput H) → AreInputsKept xs ys → IsInputKept x y → AreInputsKept (xs ++ x ∷ []) (ys ++ y ∷ [])
+kept_push [] [] x y h is = (is, tt)
+kept_push (a ∷ xs) (b ∷ ys) x y h is = (h.0, kept_push xs ys x y h.1 is)
+kept_push [] (b ∷ ys) x y h is = absurd h
+kept_push (a ∷ xs) [] x y h is = absurd h
+
+pub kept_more : {H : Type 0} (olds news : List (MergeInput H)) (i : ℕ) (d y : MergeInput H) → length news ≡ length olds → i < length olds → drop i news ≡ drop i olds
+    → IsInputKept (get_or news i d) y → AreInputsKept (take i olds) (take i news) → AreInputsKept (take (i + 1) olds) (take (i + 1) (set news i y))
+kept_more olds news i d y len lt rest is h =
+    let x = get_or news i d in
+    subst (λ xs. AreInputsKept xs (take (i + 1) (set news i y))) (sym (front_more olds news i d rest lt))
+    (subst (AreInputsKept (take i olds ++ x ∷ [])) (sym (take_more_set news i y (omega (arith, len, lt)))) (kept_push (take i olds) (take i news) x y h is))
+
+-- the others are as they were
+pub kept_all : {H : Type 0} (i : ℕ) (olds news : List (MergeInput H)) → AreInputsKept (take i olds) (take i news) → drop i news ≡ drop i olds → AreInputsKept olds news
+kept_all zero olds news h rest = subst (AreInputsKept olds) (sym rest) (all_kept olds)
+kept_all (suc i) [] [] h rest = tt
+kept_all (suc i) (x ∷ olds) (y ∷ news) h rest = (h.0, kept_all i olds news h.1 rest)
+kept_all (suc i) [] (y ∷ news) h rest = absurd h
+kept_all (suc i) (x ∷ olds) [] h rest = absurd h
+
+-- ---- what has come
+
+counted_documents : (n : ℕ) (w : Writing) (docs : List (List ℕ)) → with_documents (with_failures n w) docs ≡ with_failures n (with_documents w docs)
+counted_documents n w [] = refl
+counted_documents n w (d ∷ docs) = ap (λ (v : Writing). with_documents v docs) (counted_document n w d) ∙ counted_documents n (with_document w d) docs
+
+counted : (n : ℕ) (w : Writing) (part : Brought) → with_brought (with_failures n w) part ≡ with_failures n (with_brought w part)
+counted n w (stacked bs) = refl
+counted n w (copied docs) = counted_documents n w docs
+
+brought_push : {H : Type 0} (xs : List (MergeInput H)) (parts : List Brought) (x : MergeInput H) (part : Brought) → AreBrought xs parts → IsBrought x part → AreBrought (xs ++ x ∷ []) (parts ++ part ∷ [])
+brought_push [] [] x part h is = (is, tt)
+brought_push (y ∷ xs) (p ∷ parts) x part h is = (h.0, brought_push xs parts x part h.1 is)
+brought_push [] (p ∷ parts) x part h is = absurd h
+brought_push (y ∷ xs) [] x part h is = absurd h
+
+pub none_merged : {H : Type 0} (w : Writing) → IsMerged {H = H} [] w w
+none_merged w = record { parts = []; came = tt; after = refl; grown = sym (append-nil (taken w)) }
+
+merged_push : {H : Type 0} (xs : List (MergeInput H)) (x : MergeInput H) (start old new : Writing) → IsMerged xs start old → IsInputTaken x old new → IsMerged (xs ++ x ∷ []) start new
+merged_push xs x start old new h t =
+    let n = new.output.failures in
+    let all : merged start (h.parts ++ t.part ∷ []) ≡ with_brought (merged start h.parts) t.part = fold-append with_brought start h.parts (t.part ∷ []) in
+    record {
+      parts = h.parts ++ t.part ∷ [];
+      came = brought_push xs h.parts x t.part h.came t.came;
+      after = t.after
+          ∙ ap (λ (v : Writing). with_failures n (with_brought v t.part)) h.after
+          ∙ ap (with_failures n) (counted old.output.failures (merged start h.parts) t.part ∙ ap (with_failures old.output.failures) (sym all));
+      grown = t.grown ∙ ap (λ (ss : List Slot). ss ++ slots_of t.part) h.grown ∙ append_assoc (taken start) (flat_map slots_of h.parts) (slots_of t.part)
+          ∙ ap (λ (ss : List Slot). taken start ++ ss) (ap (λ (ss : List Slot). flat_map slots_of h.parts ++ ss) (sym (append-nil (slots_of t.part))) ∙ sym (flat_map-append slots_of h.parts (t.part ∷ [])));
+    }
+
+pub merged_more : {H : Type 0} (olds news : List (MergeInput H)) (i : ℕ) (d : MergeInput H) (start old new : Writing) → i < length olds → drop i news ≡ drop i olds
+    → IsMerged (take i olds) start old → IsInputTaken (get_or news i d) old new → IsMerged (take (i + 1) olds) start new
+merged_more olds news i d start old new lt rest h t =
+    subst (λ xs. IsMerged xs start new) (sym (front_more olds news i d rest lt)) (merged_push (take i olds) (get_or news i d) start old new h t)
+
+pub merged_all : {H : Type 0} (i : ℕ) (olds : List (MergeInput H)) (start new : Writing) → length olds ≤ i → IsMerged (take i olds) start new → IsMerged olds start new
+merged_all i olds start new le h = subst (λ xs. IsMerged xs start new) (take_all i olds le) h

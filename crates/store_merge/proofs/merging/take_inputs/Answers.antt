@@ -1,0 +1,68 @@
+use Rattle.std.proofs.Common.{◌≡◌, ◌<◌, ◌+◌, List, length, get_or, set, refl, sym, subst, arith}
+use Rattle.store_merge.specs.declared.input.MergeInput.{MergeInput}
+use Rattle.store_merge.specs.Inputs.{CanBeTaken}
+use Rattle.store_merge.proofs.MergeLemmas.{all_at, next_same, rest_more, named_is, left_is, kept_more, kept_all, none_merged, merged_more, merged_all}
+use Rattle.store_merge.proofs.merging.take_inputs.Goals as goal
+
+pub loop-place-init : goal.loop-place-init
+loop-place-init g c = record { merged = none_merged c.args.writer.now; kept = tt; rest = refl; count = omega arith; sound = c.requires.sound }
+
+pub take_input-requires-clause-input : goal.take_input-requires-clause-input
+take_input-requires-clause-input g c =
+    let olds : List (MergeInput g.row.H.Denot) = c.args.inputs.now in
+    let news : List (MergeInput g.row.H.Denot) = c.loop-place.inputs in
+    let i = c.loop-place.place in
+    let d = c.index-inputs-place.result in
+    subst CanBeTaken (sym (next_same olds news i d c.loop-place.invariant.rest)) (all_at CanBeTaken olds i d c.requires.inputs c.loop-place-test.true)
+
+pub returns-in-Err-clause-ended : goal.returns-in-Err-clause-ended
+returns-in-Err-clause-ended g c =
+    let olds : List (MergeInput g.row.H.Denot) = c.args.inputs.now in
+    let news : List (MergeInput g.row.H.Denot) = c.loop-place.inputs in
+    let i = c.loop-place.place in
+    let d = c.index-inputs-place.result in
+    let lt : i < length news = omega arith in
+    record {
+      before = c.loop-place.writer;
+      taken_before = c.loop-place.invariant.merged;
+      count = c.loop-place.invariant.count;
+      named = get_or news i d;
+      is_named = named_is olds news i d c.loop-place.invariant.rest c.loop-place-test.true;
+      rest = c.take_input.new.input;
+      is_left = left_is news i c.take_input.new.input lt;
+      refused = c.in-Err.ensures.refused;
+      more = c.in-Err.ensures.grown;
+    }
+
+pub returns-in-Err-clause-kept : goal.returns-in-Err-clause-kept
+returns-in-Err-clause-kept g c =
+    let olds : List (MergeInput g.row.H.Denot) = c.args.inputs.now in
+    let news : List (MergeInput g.row.H.Denot) = c.loop-place.inputs in
+    let i = c.loop-place.place in
+    let y = c.take_input.new.input in
+    kept_all (i + 1) olds (set news i y)
+    (kept_more olds news i c.index-inputs-place.result y c.loop-place.auto.inputs c.loop-place-test.true c.loop-place.invariant.rest c.take_input.ensures.kept c.loop-place.invariant.kept)
+    (rest_more olds news i y c.loop-place.invariant.rest)
+
+pub loop-place-preserved : goal.loop-place-preserved
+loop-place-preserved g c =
+    let olds : List (MergeInput g.row.H.Denot) = c.args.inputs.now in
+    let news : List (MergeInput g.row.H.Denot) = c.loop-place.inputs in
+    let i = c.loop-place.place in
+    let d = c.index-inputs-place.result in
+    let y = c.take_input.new.input in
+    let inv = c.loop-place.invariant in
+    record {
+      merged = merged_more olds news i d c.args.writer.now c.loop-place.writer c.take_input.new.writer c.loop-place-test.true inv.rest inv.merged c.in_default.ensures.taken;
+      kept = kept_more olds news i d y c.loop-place.auto.inputs c.loop-place-test.true inv.rest c.take_input.ensures.kept inv.kept;
+      rest = rest_more olds news i y inv.rest;
+      count = omega (arith, inv.count, c.take_input.ensures.count);
+      sound = c.take_input.ensures.sound;
+    }
+
+pub returns-clause-merged : goal.returns-clause-merged
+returns-clause-merged g c =
+    merged_all c.loop-place.place c.args.inputs.now c.args.writer.now c.loop-place.writer (omega arith) c.loop-place.invariant.merged
+
+pub returns-clause-kept : goal.returns-clause-kept
+returns-clause-kept g c = kept_all c.loop-place.place c.args.inputs.now c.loop-place.inputs c.loop-place.invariant.kept c.loop-place.invariant.rest
