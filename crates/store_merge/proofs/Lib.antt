@@ -1,3 +1,4 @@
 pub mod CopyLemmas
 pub mod TakeLemmas
 pub mod MergeLemmas
+pub mod HonestLemmas

@@ -1,5 +1,5 @@
 -- What a merge does.
-use Rattle.std.specs.Prelude.{◌≡◌, ◌≤◌, ℕ, List, ◌++◌, take, slice_get, Some}
+use Rattle.std.specs.Prelude.{◌≡◌, ◌≤◌, ℕ, IsTrue, List, ◌++◌, take, slice_get, Some}
 use Rattle.std.specs.List.{flat_map}
 use Rattle.docstore.specs.Laws.{taken}
 use Rattle.docstore.specs.Writer.{Writing, with_failures}
@@ -7,6 +7,10 @@ use Rattle.store_merge.specs.declared.input.MergeInput.{MergeInput}
 use Rattle.store_merge.specs.declared.merge_error.MergeError.{MergeError}
 use Rattle.store_merge.specs.Bringing.{Brought, merged, slots_of, AreBrought}
 use Rattle.store_merge.specs.Refusals.{RefusesInput, HasGrown}
+
+-- Reads of an input's file give what it holds.
+abbrev pub IsHonest : {H : Type 0} → MergeInput H → Type 0
+IsHonest x = IsTrue x.reader.file.honest
 
 -- What came of the inputs, in order, is behind what the writer had taken.
 pub record IsMerged {H : Type 0} (inputs : List (MergeInput H)) (old new : Writing) : Type 0 where

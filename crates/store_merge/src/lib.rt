@@ -13,3 +13,4 @@ pub mod taking;
 
 pub use input::MergeInput;
 pub use merge_error::MergeError;
+pub use merging::merge;

@@ -1,16 +1,17 @@
 //! Merges stores with live sets.
-ghost use Rattle.std.specs.Prelude.{◌≡◌, ◌≢◌, ◌≤◌, ◌⊎◌, None, Some, OnOk, IfErr, MatchOption};
-ghost use Rattle.std.specs.List.{AllByRecursion};
+ghost use Rattle.std.specs.Prelude.{◌≡◌, ◌≤◌, ◌++◌, None, Err, OnOk, IfErr, IfSome};
+ghost use Rattle.std.specs.List.{AllByRecursion, flat_map};
+ghost use Rattle.docstore.specs.Laws.{taken};
 ghost use Rattle.docstore.specs.Writer.{IsStoreWriter};
-ghost use Rattle.store_merge.specs.Choice.{first_old};
+ghost use Rattle.store_merge.specs.Choice.{first_old, alive_slots};
 ghost use Rattle.store_merge.specs.Inputs.{HasWholeSet, CanBeTaken, AreInputsKept};
-ghost use Rattle.store_merge.specs.Merge.{IsMerged, IsEnded};
+ghost use Rattle.store_merge.specs.Merge.{IsHonest, IsMerged, IsEnded};
 
 use crate::choosing::first_old;
 use crate::input::MergeInput;
 use crate::merge_error::MergeError;
 use crate::taking::take_input;
-use docstore::StoreWriter;
+use docstore::{StoreError, StoreWriter, laws};
 use std::alloc::Global;
 use store_base::{FileHandle, TerminatingWrite};
 
@@ -37,4 +38,50 @@ fn take_inputs<W: TerminatingWrite, H: FileHandle>(
         }
     }
     Ok(())
+}
+
+/// Puts the documents that are alive in each input behind those of the writer, in order.
+///
+/// An input whose documents may be in an older form is refused before anything is taken. Then each
+/// input with at least six blocks and nothing deleted is stacked, by `StoreWriter::stack`, and each
+/// other one is copied, by `StoreReader::iter_raw` and `StoreWriter::store_bytes`: a rule of this
+/// project. The first refusal of such a call ends the merge, and what was taken before stays. After
+/// `Failed` the writer answers only `Failed`.
+pub fn merge<W: TerminatingWrite, H: FileHandle>(
+    alloc: Global,
+    writer: &mut StoreWriter<W>,
+    inputs: &mut [MergeInput<H>],
+) -> Result<(), MergeError>
+    requires sets { AllByRecursion HasWholeSet inputs.old }
+    requires sound { IsStoreWriter writer.old }
+
+    // The lowest input of version 1 is named, and nothing is taken.
+    ensures old_version { IfSome (first_old inputs.old) (λ place.
+        (result ≡ Err (record { error = StoreError.OldVersion; input = place }))
+        × (writer.new ≡ writer.old) × (inputs.new ≡ inputs.old)) }
+
+    // Otherwise all came, or the first refusal of a call on the named input ended it.
+    ensures merged { OnOk result (IsMerged inputs.old writer.old writer.new) }
+    ensures ended { first_old inputs.old ≡ None
+        → IfErr result (IsEnded inputs.old inputs.new writer.old writer.new) }
+
+    // What follows, where the files are honest.
+    ensures grown { OnOk result (AllByRecursion IsHonest inputs.old
+        → taken writer.new ≡ taken writer.old ++ flat_map alive_slots inputs.old) }
+
+    // The inputs keep their stores and sets.
+    ensures kept { AreInputsKept inputs.old inputs.new }
+
+    ensures count { writer.old.output.failures ≤ writer.new.output.failures }
+    ensures sound { IsStoreWriter writer.new }
+{
+    // So what is stacked of an honest file is each of its slots.
+    laws::stacked_slots_are_counted();
+    if let Some(input) = first_old(inputs) {
+        return Err(MergeError {
+            error: StoreError::OldVersion,
+            input,
+        });
+    }
+    take_inputs(alloc, writer, inputs)
 }

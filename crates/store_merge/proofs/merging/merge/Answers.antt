@@ -1,0 +1,25 @@
+use Rattle.std.proofs.Common.{◌≡◌, List, ◌++◌, sym, ◌∙◌, ap}
+use Rattle.std.specs.List.{AllByRecursion, flat_map}
+use Rattle.docstore.specs.Block.{Slot}
+use Rattle.docstore.specs.Laws.{taken}
+use Rattle.store_merge.specs.declared.input.MergeInput.{MergeInput}
+use Rattle.store_merge.specs.Choice.{alive_slots}
+use Rattle.store_merge.specs.Merge.{IsHonest, IsMerged}
+use Rattle.store_merge.proofs.HonestLemmas.{can_be_taken, all_slots}
+use Rattle.store_merge.proofs.MergeLemmas.{all_kept}
+use Rattle.store_merge.proofs.TakeLemmas.{ok_then}
+use Rattle.store_merge.proofs.merging.merge.Goals as goal
+
+pub returns-in-Some-clause-kept : goal.returns-in-Some-clause-kept
+returns-in-Some-clause-kept g c = all_kept c.args.inputs.now
+
+pub take_inputs-requires-clause-inputs : goal.take_inputs-requires-clause-inputs
+take_inputs-requires-clause-inputs g c = can_be_taken c.args.inputs.now c.requires.sets (sym c.first_old.ensures ∙ c.in_default.is)
+
+pub returns-clause-grown : goal.returns-clause-grown
+returns-clause-grown g c =
+    let inputs : List (MergeInput g.row.H.Denot) = c.args.inputs.now in
+    let old = c.args.writer.now in
+    let new = c.take_inputs.new.writer in
+    ok_then (IsMerged inputs old new) (AllByRecursion IsHonest inputs → taken new ≡ taken old ++ flat_map alive_slots inputs) c.take_inputs.result
+    (λ h honest. h.grown ∙ ap (λ (ss : List Slot). taken old ++ ss) (all_slots c.stacked_slots_are_counted.ensures inputs h.parts honest h.came)) c.take_inputs.ensures.merged
