@@ -187,3 +187,24 @@ fn a_damaged_block_is_answered_the_same(rt: HostRuntime) -> Result<(), Fail> {
     }
     Ok(())
 }
+
+#[test]
+fn one_block_is_kept_behind_a_list_of_calls(rt: HostRuntime) -> Result<(), Fail> {
+    let alloc = rt.alloc();
+    let mut reader = opened(alloc, written(alloc, 0, &[b"a", b"b"])?, 1)?;
+    let calls = [
+        ReadCall::Bytes(1),
+        ReadCall::Iter {
+            alive: None,
+            take: 1,
+        },
+        ReadCall::Bytes(5),
+        ReadCall::Bytes(0),
+    ];
+    let answers = answer_all(alloc, &mut reader, calls.as_slice())?;
+    let expected = b"ok b\nok a\nend\nerror \x06\0\0\0\nok a\n";
+    assert_eq!(rt; spelled(alloc, &answers)?.as_slice(), expected.as_slice());
+    assert_eq!(rt; reader.cache_stats(), stats(1, 1, 2));
+    assert_eq!(rt; reader.peek_lru(), Some(0));
+    Ok(())
+}

@@ -108,3 +108,41 @@ fn answers_are_the_same_at_every_capacity(rt: HostRuntime) -> Result<(), Fail> {
     }
     Ok(())
 }
+
+#[test]
+fn each_refused_call_has_its_cause(rt: HostRuntime) -> Result<(), Fail> {
+    let alloc = rt.alloc();
+    let mut old = written(alloc, 16384, &[b"abc"])?;
+    let place = old.len().saturating_sub(28);
+    if let Some(version) = old.get_mut(place) {
+        *version = 1;
+    }
+    let mut record = RecordDocument::new(alloc);
+    record.add(Field::from_field_id(5), b"z")?;
+    let mut commands: Commands = Vec::new(alloc);
+    commands.push(StoreCommand::Bytes(Vec::from_slice(alloc, b"x")?))?;
+    commands.push(StoreCommand::Stack(opened_bytes(alloc, old)?))?;
+    commands.push(StoreCommand::Doc(record))?;
+    commands.push(StoreCommand::Bytes(Vec::new(alloc)))?;
+    let schema = Schema::with_fields(1);
+    match write_store(alloc, MemSink::new(alloc), 16384, &schema, &mut commands) {
+        Ok(report) => {
+            assert_eq!(rt;
+                report.results.as_slice(),
+                [
+                    Ok(()),
+                    Err(StoreError::OldVersion),
+                    Err(StoreError::Unserializable),
+                    Ok(())
+                ]
+                .as_slice()
+            );
+            let front = b"x\0\0\0\0\x01\0\0\0\x02\0\0\0\x81\x85\x81\x80\x80\x82\x8d";
+            let file = report.output.into_bytes();
+            assert!(rt; file.starts_with(front));
+            assert_eq!(rt; file.len(), 48);
+        }
+        Err(refusal) => assert_eq!(rt; refusal.error, StoreError::BadIndex),
+    }
+    Ok(())
+}
