@@ -32,6 +32,8 @@ pub enum Command {
     Close,
     /// `load HEX`: opens a file.
     Load { file: Vec<u8> },
+    /// `merge SIZE`, and then one or more ` STORE`: merges these stores, of which nothing is deleted, into one.
+    Merge { block_size: usize, stores: Vec<u32> },
     /// What is asked of a store.
     Ask { store: u32, question: Question },
 }
@@ -152,6 +154,22 @@ fn documents_of(alloc: Global, words: &str) -> Result<Command, LineFault> {
     }
 }
 
+// A block size, and at least one store.
+fn merge_of(alloc: Global, words: &str) -> Result<Command, LineFault> {
+    let mut block_size = None;
+    let mut stores = Vec::new(alloc);
+    for word in words.split(' ') {
+        match block_size {
+            None => block_size = Some(number(word)? as usize),
+            Some(_) => stores.push(short_number(word)?)?,
+        }
+    }
+    match block_size {
+        Some(block_size) if !stores.is_empty() => Ok(Command::Merge { block_size, stores }),
+        _ => Err(LineFault::Bad),
+    }
+}
+
 fn ask(store: &str, question: Question) -> Result<Command, LineFault> {
     Ok(Command::Ask {
         store: short_number(store)?,
@@ -230,6 +248,9 @@ pub fn parse(alloc: Global, line: &str) -> Result<Command, LineFault> {
     if let Some(words) = line.strip_prefix("rec ") {
         let record = record_of(alloc, words)?;
         return Ok(Command::Record { record });
+    }
+    if let Some(words) = line.strip_prefix("merge ") {
+        return merge_of(alloc, words);
     }
     match line.strip_prefix("iter ") {
         Some(words) => documents_of(alloc, words),

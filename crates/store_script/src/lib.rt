@@ -6,6 +6,7 @@ mod answer;
 mod command;
 mod fault;
 mod input;
+mod merging;
 mod store;
 mod tool;
 mod whole;

@@ -43,8 +43,8 @@ impl Store {
         &mut self.reader
     }
 
-    // The same store, opened anew.
-    fn reopened(
+    /// The same store, opened anew.
+    pub fn reopened(
         &self,
         alloc: Global,
         capacity: usize,

@@ -2,6 +2,7 @@
 use crate::answer::write_error;
 use crate::command::{Command, LineFault, Period, parse};
 use crate::fault::ToolFault;
+use crate::merging::merged;
 use crate::store::Store;
 use docstore::{Compressor, StoreError, StoreWriter};
 use std::alloc::Global;
@@ -67,6 +68,7 @@ impl Tool {
             Command::Stack { store } => self.stack(store, output),
             Command::Close => self.close(output),
             Command::Load { file } => self.add(file, output),
+            Command::Merge { block_size, stores } => self.merge(block_size, &stores, output),
             Command::Ask { store, question } => match self.stores.get_mut(store as usize) {
                 Some(store) => store.answer(self.alloc, question, output),
                 None => write_word(output, "no store"),
@@ -134,6 +136,23 @@ impl Tool {
         match writer.close() {
             Ok(sink) => self.add(sink.into_bytes(), output),
             Err(refusal) => write_error(output, refusal.error),
+        }
+    }
+
+    // An open writer and the stores that are named stay as they are.
+    fn merge<W: Write>(
+        &mut self,
+        block_size: usize,
+        stores: &[u32],
+        output: &mut W,
+    ) -> Result<(), ToolFault> {
+        let count = self.stores.len();
+        if stores.iter().any(|store| *store as usize >= count) {
+            return write_word(output, "no store");
+        }
+        match merged(self.alloc, block_size, &self.stores, stores)? {
+            Ok(file) => self.add(file, output),
+            Err(error) => write_error(output, error),
         }
     }
 
