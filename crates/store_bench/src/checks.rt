@@ -1,0 +1,92 @@
+//! Numbers over what a workload did, which are the same where the same was done.
+ghost use Rattle.std.specs.Prelude.{◌≤◌};
+
+use crate::measure::Run;
+use std::time::Duration;
+
+const HASH_START: u64 = 14695981039346656037;
+
+const HASH_FACTOR: u64 = 1099511628211;
+
+// A footer: the version, the offset of the index, the kind of the blocks, and what is reserved.
+const FOOTER_LEN: usize = 28;
+
+const VERSION_2: [u8; 4] = [2, 0, 0, 0];
+
+const VERSION_LEN: usize = 4;
+
+const RESERVED_LEN: usize = 15;
+
+/// A check with one more number.
+pub fn chained(check: u64, number: u64) -> u64 {
+    check.wrapping_mul(1000003).wrapping_add(number)
+}
+
+/// A check with one more slot: its length, its first byte and its last.
+pub fn mixed(check: u64, slot: &[u8]) -> u64 {
+    let first = slot.first().copied().map_or(0, u64::from);
+    let last = slot.last().copied().map_or(0, u64::from);
+    chained(check, slot.len() as u64)
+        .wrapping_add(256 * first)
+        .wrapping_add(65536 * last)
+}
+
+fn hash_on(start: u64, bytes: &[u8]) -> u64 {
+    let mut hash = start;
+    for byte in bytes {
+        hash = (hash ^ u64::from(*byte)).wrapping_mul(HASH_FACTOR);
+    }
+    hash
+}
+
+/// The hash of bytes, FNV-1a of 64 bits.
+pub fn hash(bytes: &[u8]) -> u64 {
+    hash_on(HASH_START, bytes)
+}
+
+/// The hash of a file, with the footer that version 2 has in place of version 3's.
+pub fn hash_as_version_2(file: &[u8]) -> u64 {
+    if file.len() < FOOTER_LEN {
+        return hash(file);
+    }
+    let (front, footer) = file.split_at(file.len() - FOOTER_LEN);
+    let kept = &footer[VERSION_LEN..FOOTER_LEN - RESERVED_LEN];
+    let hash = hash_on(hash_on(hash(front), &VERSION_2), kept);
+    hash_on(hash, &[0; RESERVED_LEN])
+}
+
+/// A check over slots, how many there were, and how many bytes they had.
+#[derive(Clone, Copy)]
+pub struct Slots {
+    pub check: u64,
+    pub count: u64,
+    pub bytes: u64,
+}
+
+impl Slots {
+    /// No slot.
+    pub fn new() -> Slots {
+        Slots {
+            check: 0,
+            count: 0,
+            bytes: 0,
+        }
+    }
+
+    /// One more.
+    pub fn add(&mut self, slot: &[u8]) {
+        self.check = mixed(self.check, slot);
+        self.count = self.count.wrapping_add(1);
+        self.bytes = self.bytes.wrapping_add(slot.len() as u64);
+    }
+
+    /// The repetition that did so, in this time.
+    pub fn run(&self, time: Duration) -> Run {
+        Run {
+            time,
+            count: self.count,
+            bytes: self.bytes,
+            check: self.check,
+        }
+    }
+}

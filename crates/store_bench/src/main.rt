@@ -1,0 +1,61 @@
+//! Times workloads over this store. Without arguments it does small ones, and prints a check of each.
+//!
+//! The arguments are `all`, or the name of a workload, and then words like `n=1000`. Each is done `reps` times, and the
+//! fastest is printed: the name, how many, the nanoseconds, those of each, and 10^6 bytes a second.
+#![tactic(auto)]
+
+mod arguments;
+mod checks;
+mod documents;
+mod generator;
+mod ids;
+mod index_work;
+mod marks;
+mod measure;
+mod plans;
+mod shared_file;
+mod store_work;
+mod stores;
+mod workloads;
+
+use anyhow::Result;
+use arguments::Numbers;
+use measure::Telling;
+use plans::{LARGE, SMALL};
+use std::env;
+use workloads::Bench;
+
+// Does each workload of a list.
+fn run_plan(rt: &HostRuntime, plan: &str, telling: Telling, numbers: Numbers) -> Result<()> {
+    let bench = Bench {
+        rt,
+        alloc: rt.alloc(),
+        telling,
+    };
+    for line in plan.lines() {
+        let mut numbers = numbers;
+        let (name, words) = line.split_once(' ').unwrap_or((line, ""));
+        for word in words.split_whitespace() {
+            numbers.take(word)?;
+        }
+        bench.run(name, &numbers)?;
+    }
+    Ok(())
+}
+
+fn main(rt: HostRuntime) -> Result<()> {
+    let mut words = env::args(&rt)?.skip(1);
+    let Some(name) = words.next() else {
+        return run_plan(&rt, SMALL, Telling::Checks, Numbers::once());
+    };
+    let mut numbers = Numbers::new();
+    for word in words {
+        numbers.take(word.as_str())?;
+    }
+    let plan = if name.as_str() == "all" {
+        LARGE
+    } else {
+        name.as_str()
+    };
+    run_plan(&rt, plan, Telling::Times, numbers)
+}

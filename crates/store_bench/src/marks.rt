@@ -1,0 +1,90 @@
+//! Checkpoints in line, for indexes without a store.
+ghost use Rattle.std.specs.Prelude.{◌≡◌, ◌≤◌, take, length, IfOk};
+
+use crate::generator::{Generator, MARKS_SEED, TARGETS_SEED};
+use docstore::{Checkpoint, CheckpointBlock, SkipIndexBuilder, StoreError};
+use std::alloc::{AllocError, Global};
+use std::marker::Model;
+use store_base::{DocId, MemSink};
+
+/// Checkpoints of up to 200 documents and some 16400 bytes, from the first id and the first byte on.
+#[derive(Drop)]
+pub struct Marks {
+    doc: u32,
+    byte: usize,
+    block: CheckpointBlock,
+}
+
+impl Model for Marks {
+    ghost use Rattle.std.specs.Prelude.{List};
+    ghost use Rattle.layered_index.specs.declared.index.Checkpoint.{Checkpoint};
+    ghost use Rattle.layered_index.specs.Checkpoint.{EndsAt};
+
+    ghost Value = { List Checkpoint };
+
+    ghost view = { λ m. m.block };
+
+    ghost invariant = { λ m. EndsAt m.doc m.byte m.block };
+}
+
+impl Marks {
+    // One more. What can't be numbered is refused.
+    fn add(&mut self, docs: u32, bytes: u32) -> Result<(), StoreError> {
+        let Some(doc_end) = self.doc.checked_add(docs) else {
+            return Err(StoreError::TooManyDocs);
+        };
+        let Some(byte_end) = self.byte.checked_add(bytes as usize) else {
+            return Err(StoreError::TooManyDocs);
+        };
+        self.block.push(Checkpoint {
+            doc_range: self.doc..doc_end,
+            byte_range: self.byte..byte_end,
+        })?;
+        self.doc = doc_end;
+        self.byte = byte_end;
+        Ok(())
+    }
+
+    /// So many.
+    pub fn of_count(alloc: Global, count: u64) -> Result<Marks, StoreError> {
+        let mut generator = Generator::new(MARKS_SEED);
+        let mut marks = Marks {
+            doc: 0,
+            byte: 0,
+            block: CheckpointBlock::new(alloc)?,
+        };
+        for _ in 0..count {
+            let docs = 1 + (generator.next() % 200) as u32;
+            let bytes = 16000 + (generator.next() % 800) as u32;
+            marks.add(docs, bytes)?;
+        }
+        Ok(marks)
+    }
+
+    /// Where their documents end.
+    pub fn num_docs(&self) -> u32 {
+        self.doc
+    }
+
+    /// The index part of copies that are inserted one by one.
+    pub fn index_part(&self, alloc: Global) -> Result<MemSink, StoreError> {
+        let mut builder = SkipIndexBuilder::new(alloc);
+        for i in 0..self.block.len() {
+            builder.insert(self.block.get(i))?;
+        }
+        let mut output = MemSink::new(alloc);
+        builder.serialize_into(&mut output)?;
+        Ok(output)
+    }
+}
+
+/// So many documents below an end, to be sought.
+pub fn targets(alloc: Global, count: u64, end: u32) -> Result<Vec<DocId>, AllocError> {
+    let mut generator = Generator::new(TARGETS_SEED);
+    let mut targets = Vec::new(alloc);
+    let end = u64::from(end.max(1));
+    for _ in 0..count {
+        targets.push((generator.next() % end) as u32)?;
+    }
+    Ok(targets)
+}

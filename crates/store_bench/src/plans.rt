@@ -1,0 +1,51 @@
+//! Lists of workloads, a command line each.
+
+/// Small sizes: what is told of them by default.
+pub const SMALL: &str = "\
+write n=3000 l=8
+write n=2000 l=100
+write n=300 l=1000
+write n=20 l=20000
+open n=1000 q=3
+open n=20000 q=3
+get_uniform n=5000 q=2000
+get_hot n=5000 q=2000 hot=500
+get_zipf n=5000 q=2000
+get_seq n=5000
+iter_raw n=5000
+iter_raw_deleted n=5000
+stack k=10 n=500
+stack k=100 n=3
+seek n=10 q=1000
+seek n=1000 q=1000
+seek n=5000 q=1000
+index_build n=5000
+index_open n=10 q=3
+index_open n=1000 q=3
+index_open n=5000 q=3
+index_walk n=5000";
+
+/// The sizes that are compared.
+pub const LARGE: &str = "\
+write n=2000000 l=8
+write n=200000 l=100
+write n=20000 l=1000
+write n=1000 l=20000
+open n=1000
+open n=1000000
+get_uniform
+get_hot
+get_zipf
+get_seq
+iter_raw
+iter_raw_deleted
+stack
+stack k=1000 n=10
+seek n=1000
+seek n=100000
+seek n=1000000
+index_build
+index_open n=1000
+index_open n=100000
+index_open n=1000000
+index_walk";

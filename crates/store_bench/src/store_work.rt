@@ -1,0 +1,187 @@
+//! Workloads over whole stores.
+use crate::checks::{Slots, hash_as_version_2};
+use crate::documents::Documents;
+use crate::measure::{Run, Workload};
+use crate::shared_file::SharedFile;
+use crate::stores::{closed, opened, written};
+use anyhow::Result;
+use docstore::{Compressor, StoreError, StoreReader, StoreWriter};
+use std::alloc::Global;
+use std::rt::Clock;
+use std::time::Instant;
+use store_base::{AliveBitSet, DocId, MemSink, OwnedBytes};
+
+/// Writes a store: a new output and writer, each document, and the end.
+#[derive(Drop)]
+pub struct Write {
+    pub alloc: Global,
+    pub documents: Documents,
+    pub count: usize,
+    pub block_size: usize,
+}
+
+impl Workload for Write {
+    fn run<C: Clock>(&mut self, clock: &C) -> Result<Run> {
+        let start = Instant::now(clock)?;
+        let output = written(self.alloc, &self.documents, self.count, self.block_size)?;
+        let time = start.elapsed(clock)?;
+        let count = self.count as u64;
+        Ok(Run {
+            time,
+            count,
+            bytes: count.wrapping_mul(self.documents.len() as u64),
+            check: hash_as_version_2(output.as_slice()),
+        })
+    }
+}
+
+/// A store that is opened again and again: its file, and the cache's capacity.
+#[derive(Drop)]
+pub struct Source {
+    pub alloc: Global,
+    pub file: OwnedBytes,
+    pub capacity: usize,
+}
+
+impl Source {
+    /// A fresh reader.
+    pub fn open(&self) -> Result<StoreReader<SharedFile>, StoreError> {
+        opened(self.alloc, &self.file, self.capacity)
+    }
+}
+
+/// Opens the store so many times, and drops the reader.
+#[derive(Drop)]
+pub struct Open {
+    pub source: Source,
+    pub times: u64,
+}
+
+// The sum of what the readers tell of the index's length.
+fn open_again(source: &Source, times: u64) -> Result<u64, StoreError> {
+    let mut sum: u64 = 0;
+    for _ in 0..times {
+        let reader = source.open()?;
+        sum = sum.wrapping_add(reader.space_usage().offsets_usage());
+    }
+    Ok(sum)
+}
+
+impl Workload for Open {
+    fn run<C: Clock>(&mut self, clock: &C) -> Result<Run> {
+        let start = Instant::now(clock)?;
+        let check = open_again(&self.source, self.times)?;
+        let time = start.elapsed(clock)?;
+        Ok(Run {
+            time,
+            count: self.times,
+            bytes: 0,
+            check,
+        })
+    }
+}
+
+/// Gets documents by their ids.
+#[derive(Drop)]
+pub struct Get {
+    pub source: Source,
+    pub ids: Vec<DocId>,
+}
+
+fn get_all(
+    alloc: Global,
+    reader: &mut StoreReader<SharedFile>,
+    ids: &[DocId],
+) -> Result<Slots, StoreError> {
+    let mut slots = Slots::new();
+    for id in ids {
+        slots.add(reader.get_document_bytes(alloc, *id)?.as_slice());
+    }
+    Ok(slots)
+}
+
+impl Workload for Get {
+    fn run<C: Clock>(&mut self, clock: &C) -> Result<Run> {
+        let mut reader = self.source.open()?;
+        let start = Instant::now(clock)?;
+        let slots = get_all(self.source.alloc, &mut reader, &self.ids)?;
+        let time = start.elapsed(clock)?;
+        Ok(slots.run(time))
+    }
+}
+
+/// Goes over the documents that aren't deleted.
+#[derive(Drop)]
+pub struct Iterate {
+    pub source: Source,
+    pub deleted: Vec<DocId>,
+}
+
+impl Workload for Iterate {
+    fn run<C: Clock>(&mut self, clock: &C) -> Result<Run> {
+        let alloc = self.source.alloc;
+        let mut reader = self.source.open()?;
+        let alive = AliveBitSet::for_test_from_deleted_docs(
+            alloc,
+            &self.deleted,
+            reader.num_docs(),
+        )?;
+        let set = if self.deleted.is_empty() {
+            None
+        } else {
+            Some(&alive)
+        };
+        let mut slots = Slots::new();
+        let start = Instant::now(clock)?;
+        for document in reader.iter_raw(alloc, set) {
+            slots.add(document?.as_slice());
+        }
+        let time = start.elapsed(clock)?;
+        Ok(slots.run(time))
+    }
+}
+
+/// Stacks a store so many times on an empty one.
+#[derive(Drop)]
+pub struct Stack {
+    pub source: Source,
+    pub times: u64,
+    pub block_size: usize,
+}
+
+fn open_many(source: &Source, times: u64) -> Result<Vec<StoreReader<SharedFile>>, StoreError> {
+    let mut readers = Vec::new(source.alloc);
+    for _ in 0..times {
+        readers.push(source.open()?)?;
+    }
+    Ok(readers)
+}
+
+fn stacked(
+    alloc: Global,
+    readers: Vec<StoreReader<SharedFile>>,
+    block_size: usize,
+) -> Result<MemSink, StoreError> {
+    let mut writer = StoreWriter::new(alloc, MemSink::new(alloc), Compressor::None, block_size);
+    for mut reader in readers {
+        writer.stack(&mut reader)?;
+    }
+    closed(writer)
+}
+
+impl Workload for Stack {
+    fn run<C: Clock>(&mut self, clock: &C) -> Result<Run> {
+        let alloc = self.source.alloc;
+        let data = self.source.open()?.space_usage().data_usage();
+        let readers = open_many(&self.source, self.times)?;
+        let start = Instant::now(clock)?;
+        let output = stacked(alloc, readers, self.block_size)?;
+        let time = start.elapsed(clock)?;
+        Ok(Run {
+            time,
+            count: self.times,
+            bytes: data.wrapping_mul(self.times),
+            check: hash_as_version_2(output.as_slice()),
+        })
+    }
+}

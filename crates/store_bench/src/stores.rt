@@ -1,0 +1,41 @@
+//! The stores that are written and opened.
+use crate::documents::Documents;
+use crate::shared_file::SharedFile;
+use docstore::{Compressor, StoreError, StoreReader, StoreWriter};
+use std::alloc::Global;
+use store_base::{FileSlice, MemSink, OwnedBytes};
+
+/// Closes a writer.
+pub fn closed(writer: StoreWriter<MemSink>) -> Result<MemSink, StoreError> {
+    match writer.close() {
+        Ok(output) => Ok(output),
+        Err(refusal) => Err(refusal.error),
+    }
+}
+
+/// The store of the first so many documents.
+pub fn written(
+    alloc: Global,
+    documents: &Documents,
+    count: usize,
+    block_size: usize,
+) -> Result<MemSink, StoreError> {
+    let mut writer = StoreWriter::new(alloc, MemSink::new(alloc), Compressor::None, block_size);
+    for i in 0..count {
+        writer.store_bytes(documents.get(i))?;
+    }
+    closed(writer)
+}
+
+/// Opens a file, with a cache of so many blocks.
+pub fn opened(
+    alloc: Global,
+    file: &OwnedBytes,
+    capacity: usize,
+) -> Result<StoreReader<SharedFile>, StoreError> {
+    let file = FileSlice::new(SharedFile::of_bytes(file)?);
+    match StoreReader::open(alloc, file, capacity) {
+        Ok(reader) => Ok(reader),
+        Err(refusal) => Err(refusal.error),
+    }
+}

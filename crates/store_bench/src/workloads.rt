@@ -1,0 +1,217 @@
+//! Workloads by their names: each is made, done and told.
+ghost use Rattle.std.specs.Prelude.{◌<◌, IfSome};
+
+use crate::arguments::Numbers;
+use crate::documents::Documents;
+use crate::ids::{Order, deleted, ids};
+use crate::index_work::{Build, OpenIndex, Seek, Walk};
+use crate::marks::{Marks, targets};
+use crate::measure::{Measure, Telling, Workload, perform};
+use crate::store_work::{Get, Iterate, Open, Source, Stack, Write};
+use crate::stores::written;
+use anyhow::{Result, bail};
+use docstore::SkipIndex;
+use std::alloc::Global;
+use std::rt::Clock;
+use store_base::OwnedBytes;
+
+/// Where workloads are printed, and how they are told.
+#[derive(Drop)]
+pub struct Bench<'a, R> {
+    pub rt: &'a R,
+    pub alloc: Global,
+    pub telling: Telling,
+}
+
+// Documents of this length.
+fn documents_of(alloc: Global, length: u64) -> Result<Documents> {
+    match Documents::of_length(alloc, length as usize)? {
+        Some(documents) => Ok(documents),
+        None => bail!("l is not below the pool's length: {length}"),
+    }
+}
+
+// A number of documents that has ids: at least one, and a u32.
+fn some_documents(count: u64) -> Option<u32>
+    ensures { IfSome result (λ n. 0 < n) }
+{
+    match u32::try_from(count) {
+        Ok(count) if count > 0 => Some(count),
+        _ => None,
+    }
+}
+
+impl<'a, R: Print + Eprint + Clock> Bench<'a, R> {
+    /// Makes the workload of this name, does it and tells of it.
+    pub fn run(&self, name: &str, numbers: &Numbers) -> Result<()> {
+        match name {
+            "write" => self.write(numbers),
+            "open" => self.open(numbers),
+            "get_uniform" => self.get(name, Order::Uniform, numbers),
+            "get_hot" => self.get(name, Order::Hot(numbers.hot()), numbers),
+            "get_zipf" => self.get(name, Order::Zipf, numbers),
+            "get_seq" => self.get(name, Order::Sequential, numbers),
+            "iter_raw" => self.iterate(name, false, numbers),
+            "iter_raw_deleted" => self.iterate(name, true, numbers),
+            "stack" => self.stack(numbers),
+            "seek" => self.seek(numbers),
+            "index_build" => self.build_index(numbers),
+            "index_open" => self.open_index(numbers),
+            "index_walk" => self.walk_index(numbers),
+            _ => bail!("no such workload: {name}"),
+        }
+    }
+
+    fn measure<W: Workload>(&self, name: &str, numbers: &Numbers, workload: &mut W) -> Result<()> {
+        let how = Measure {
+            repetitions: numbers.repetitions(),
+            telling: self.telling,
+        };
+        perform(self.rt, name, workload, how)
+    }
+
+    // A store of so many documents, and how it is opened.
+    fn source(&self, documents: u64, capacity: u64, numbers: &Numbers) -> Result<Source> {
+        let alloc = self.alloc;
+        let pool = documents_of(alloc, numbers.length())?;
+        let block_size = numbers.block_size() as usize;
+        let output = written(alloc, &pool, documents as usize, block_size)?;
+        Ok(Source {
+            alloc,
+            file: OwnedBytes::new(alloc, output.into_bytes())?,
+            capacity: capacity as usize,
+        })
+    }
+
+    fn write(&self, numbers: &Numbers) -> Result<()> {
+        let count = numbers.documents(200_000);
+        let length = numbers.length();
+        let block_size = numbers.block_size();
+        let name = format!(in self.alloc; "write/n={count}/l={length}/bs={block_size}")?;
+        let mut work = Write {
+            alloc: self.alloc,
+            documents: documents_of(self.alloc, length)?,
+            count: count as usize,
+            block_size: block_size as usize,
+        };
+        self.measure(name.as_str(), numbers, &mut work)
+    }
+
+    fn open(&self, numbers: &Numbers) -> Result<()> {
+        let count = numbers.documents(1_000_000);
+        let times = numbers.questions(2000);
+        let shape = self.shape_of_reader(count, numbers)?;
+        let name = format!(in self.alloc; "open/{shape}/q={times}")?;
+        let mut work = Open {
+            source: self.source(count, numbers.capacity(), numbers)?,
+            times,
+        };
+        self.measure(name.as_str(), numbers, &mut work)
+    }
+
+    // What names say of an opened store.
+    fn shape_of_reader(&self, count: u64, numbers: &Numbers) -> Result<String> {
+        let length = numbers.length();
+        let block_size = numbers.block_size();
+        let capacity = numbers.capacity();
+        Ok(format!(in self.alloc; "n={count}/l={length}/bs={block_size}/cap={capacity}")?)
+    }
+
+    fn get(&self, kind: &str, order: Order, numbers: &Numbers) -> Result<()> {
+        let count = numbers.documents(1_000_000);
+        let usual = match order {
+            Order::Sequential => count,
+            _ => 200_000,
+        };
+        let questions = numbers.questions(usual);
+        let shape = self.shape_of_reader(count, numbers)?;
+        let name = format!(in self.alloc; "{kind}/{shape}/q={questions}")?;
+        let Some(num_docs) = some_documents(count) else {
+            bail!("n is not from 1 to 4294967295: {count}");
+        };
+        let mut work = Get {
+            source: self.source(count, numbers.capacity(), numbers)?,
+            ids: ids(self.alloc, order, questions, num_docs)?,
+        };
+        self.measure(name.as_str(), numbers, &mut work)
+    }
+
+    fn iterate(&self, kind: &str, with_deleted: bool, numbers: &Numbers) -> Result<()> {
+        let count = numbers.documents(1_000_000);
+        let shape = self.shape_of_reader(count, numbers)?;
+        let name = format!(in self.alloc; "{kind}/{shape}")?;
+        let from = if with_deleted { count } else { 0 };
+        let mut work = Iterate {
+            source: self.source(count, numbers.capacity(), numbers)?,
+            deleted: deleted(self.alloc, from)?,
+        };
+        self.measure(name.as_str(), numbers, &mut work)
+    }
+
+    fn stack(&self, numbers: &Numbers) -> Result<()> {
+        let count = numbers.documents(1000);
+        let times = numbers.stores();
+        let length = numbers.length();
+        let block_size = numbers.block_size();
+        let name = format!(in self.alloc; "stack/k={times}/n={count}/l={length}/bs={block_size}")?;
+        let mut work = Stack {
+            source: self.source(count, 0, numbers)?,
+            times,
+            block_size: block_size as usize,
+        };
+        self.measure(name.as_str(), numbers, &mut work)
+    }
+
+    fn seek(&self, numbers: &Numbers) -> Result<()> {
+        let alloc = self.alloc;
+        let count = numbers.documents(1_000_000);
+        let questions = numbers.questions(1_000_000);
+        let name = format!(in alloc; "seek/n={count}/q={questions}")?;
+        let marks = Marks::of_count(alloc, count)?;
+        let part = OwnedBytes::new(alloc, marks.index_part(alloc)?.into_bytes())?;
+        let mut work = Seek {
+            index: SkipIndex::open(alloc, part)?,
+            targets: targets(alloc, questions, marks.num_docs())?,
+        };
+        self.measure(name.as_str(), numbers, &mut work)
+    }
+
+    fn build_index(&self, numbers: &Numbers) -> Result<()> {
+        let alloc = self.alloc;
+        let count = numbers.documents(1_000_000);
+        let name = format!(in alloc; "index_build/n={count}")?;
+        let mut work = Build {
+            alloc,
+            marks: Marks::of_count(alloc, count)?,
+            count,
+        };
+        self.measure(name.as_str(), numbers, &mut work)
+    }
+
+    fn open_index(&self, numbers: &Numbers) -> Result<()> {
+        let alloc = self.alloc;
+        let count = numbers.documents(1_000_000);
+        let times = numbers.questions(1000);
+        let name = format!(in alloc; "index_open/n={count}/q={times}")?;
+        let part = Marks::of_count(alloc, count)?.index_part(alloc)?;
+        let mut work = OpenIndex {
+            alloc,
+            part: OwnedBytes::new(alloc, part.into_bytes())?,
+            times,
+        };
+        self.measure(name.as_str(), numbers, &mut work)
+    }
+
+    fn walk_index(&self, numbers: &Numbers) -> Result<()> {
+        let alloc = self.alloc;
+        let count = numbers.documents(1_000_000);
+        let name = format!(in alloc; "index_walk/n={count}")?;
+        let part = Marks::of_count(alloc, count)?.index_part(alloc)?;
+        let len = part.as_slice().len() as u64;
+        let mut work = Walk {
+            index: SkipIndex::open(alloc, OwnedBytes::new(alloc, part.into_bytes())?)?,
+            len,
+        };
+        self.measure(name.as_str(), numbers, &mut work)
+    }
+}
