@@ -1,5 +1,5 @@
 -- Halving: what is known below and above the middle.
-use Rattle.std.proofs.Common.{◌≡◌, ℕ, zero, suc, ◌+◌, ◌/◌, ◌<◌, ◌≤◌, ltb, List, [], ◌∷◌, Option, Some, None, refl, ◌∙◌, ap, arith}
+use Rattle.std.proofs.Common.{◌≡◌, ℕ, zero, suc, ◌+◌, ◌/◌, ◌<◌, ◌≤◌, ltb, List, [], ◌∷◌, length, Option, Some, None, refl, ◌∙◌, ap, arith}
 use Rattle.std.proofs.lemmas.Bool.{cond-true, cond-false, lt-ltb, le-ltb}
 use Rattle.std.specs.Prelude.{slice_get}
 use Rattle.layered_index.specs.declared.index.Checkpoint.{Checkpoint}
@@ -24,6 +24,12 @@ NoneBelow cs target low = (i : ℕ) (c : Checkpoint) → i < low → slice_get c
 abbrev pub EndsPast : ℕ → Option Checkpoint → Type 0
 EndsPast target None = Unit {0}
 EndsPast target (Some c) = target < c.doc_range.end
+
+-- none stands behind the last
+pub past_end : (cs : List Checkpoint) (target n : ℕ) → length cs ≤ n → EndsPast target (slice_get cs n)
+past_end [] target n le = tt
+past_end (c ∷ cs) target zero le = absurd (omega arith)
+past_end (c ∷ cs) target (suc n) le = past_end cs target n (omega arith)
 
 -- then it is the answer
 pub first_at : (cs : List Checkpoint) (target high : ℕ) → NoneBelow cs target high → EndsPast target (slice_get cs high) → first_past cs target ≡ slice_get cs high

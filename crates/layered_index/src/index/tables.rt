@@ -1,6 +1,7 @@
 //! A list of checkpoints, decoded once and looked at by index.
-ghost use Rattle.std.specs.Prelude.{◌≡◌, ◌<◌, List, ℕ, [], ◌∷◌, ◌++◌, length, slice_get, Some, IfOk};
-ghost use Rattle.layered_index.specs.Checkpoint.{IsInLine, IsInLineFrom};
+ghost use Rattle.std.specs.Prelude.{◌≡◌, ◌<◌, ◌≤◌, List, ℕ, [], ◌∷◌, ◌++◌, length, slice_get, Some, IfOk};
+ghost use Rattle.layered_index.specs.declared.index.Checkpoint.{Checkpoint};
+ghost use Rattle.layered_index.specs.Checkpoint.{IsInLine, IsInLineFrom, first_past};
 ghost use Rattle.layered_index.specs.LayerReading.{items};
 ghost use Rattle.layered_index.specs.Tables.{EndLists, no_ends, with_ends};
 
@@ -43,6 +44,14 @@ impl Ends {
         self.docs.len()
     }
 
+    // Where the documents end of the one with this index.
+    fn doc_end(&self, i: usize) -> DocId
+        requires { i < length self.now.docs }
+        ensures { slice_get self.now.docs i ≡ Some result }
+    {
+        self.docs[i]
+    }
+
     // The two ends with this index.
     fn get(&self, i: usize) -> (DocId, usize)
         requires docs { i < length self.now.docs }
@@ -77,11 +86,15 @@ impl Ends {
 }
 
 /// Where the first checkpoint begins, and where each ends. Both tables ascend, as the list is in line.
+///
+/// The pace is how many checkpoints there are to a document, in parts of 2^32. A seek guesses by it,
+/// and no answer depends on it.
 #[derive(Drop)]
 pub(crate) struct Tables {
     doc: DocId,
     byte: usize,
     ends: Ends,
+    pace: u64,
 }
 
 impl Model for Tables {
@@ -107,6 +120,27 @@ fn start_of(layer: &[u8]) -> (DocId, usize)
     }
 }
 
+// How many checkpoints there are to a document, in parts of 2^32.
+fn pace_of(ends: &Ends) -> u64 {
+    let Some(last) = ends.docs.last() else {
+        return 0;
+    };
+    (ends.docs.len() as u64).saturating_mul(1 << 32) / (u64::from(*last) + 1)
+}
+
+// What is looked at next between two places: the probe if it lies there, and else the middle.
+fn next_look(low: usize, high: usize, probe: usize) -> usize
+    requires { low < high }
+    ensures least { low ≤ result }
+    ensures most { result < high }
+{
+    if low <= probe && probe < high {
+        probe
+    } else {
+        low + (high - low) / 2
+    }
+}
+
 impl Tables {
     /// Those of a layer whose checkpoints end there.
     pub fn new(layer: &[u8], ends: Ends) -> Tables
@@ -115,7 +149,13 @@ impl Tables {
         ensures { result ≡ items 0 0 0 layer.now }
     {
         let (doc, byte) = start_of(layer);
-        Tables { doc, byte, ends }
+        let pace = pace_of(&ends);
+        Tables {
+            doc,
+            byte,
+            ends,
+            pace,
+        }
     }
 
     /// How many checkpoints there are.
@@ -141,6 +181,72 @@ impl Tables {
             doc_range: doc..doc_end,
             byte_range: byte..byte_end,
         }
+    }
+
+    // Where the documents of the checkpoint with this index end.
+    fn doc_end(&self, i: usize) -> DocId
+        requires { i < length self.now }
+        ensures { (c : Checkpoint) × (slice_get self.now i ≡ Some c) × (result ≡ c.doc_range.end) }
+    {
+        self.ends.doc_end(i)
+    }
+
+    // How many checkpoints so many documents have at the pace.
+    fn at_pace(&self, docs: DocId) -> usize {
+        (u64::from(docs).saturating_mul(self.pace) >> 32) as usize
+    }
+
+    // About where the target is: by the pace from the beginning, and by the pace from there.
+    fn guess(&self, target: DocId) -> usize {
+        let count = self.len();
+        if count == 0 {
+            return 0;
+        }
+        let near = self.at_pace(target).min(count - 1);
+        let doc_end = self.doc_end(near);
+        let off = self.at_pace(doc_end.abs_diff(target));
+        if doc_end > target {
+            near.saturating_sub(off)
+        } else {
+            near.saturating_add(off)
+        }
+    }
+
+    // The index of the first checkpoint whose documents end past the target, or how many there are.
+    //
+    // It looks where the guess is, and from there on in growing steps until the target lies between
+    // two looks. Then it halves.
+    fn place(&self, target: DocId) -> usize
+        ensures few { result ≤ length self.now }
+        ensures answer { slice_get self.now result ≡ first_past self.now target }
+    {
+        let mut low = 0;
+        let mut high = self.len();
+        let mut probe = self.guess(target);
+        let mut step: usize = 4;
+        while low < high {
+            let look = next_look(low, high, probe);
+            step = step.saturating_mul(2);
+            if self.doc_end(look) > target {
+                high = look;
+                probe = look.saturating_sub(step);
+            } else {
+                low = look + 1;
+                probe = look.saturating_add(step);
+            }
+        }
+        low
+    }
+
+    /// The first checkpoint whose documents end past the target.
+    pub fn first_past(&self, target: DocId) -> Option<Checkpoint>
+        ensures { result ≡ first_past self.now target }
+    {
+        let place = self.place(target);
+        if place == self.len() {
+            return None;
+        }
+        Some(self.get(place))
     }
 }
 
