@@ -138,3 +138,28 @@ found_above limit bytes v rest e le = let test : ltb v limit ≡ false = le-ltb 
 
 pub found_none : (limit : ℕ) (bytes : List ℕ) → number_at bytes ≡ None → number_below limit bytes ≡ None
 found_none limit bytes e = rw e refl
+
+-- ---- a number of one byte, of two and of three
+
+pub one_byte : (bytes : List ℕ) (a : ℕ) → 1 ≤ length bytes → 128 ≤ get_or bytes 0 0 → get_or bytes 0 0 < 256 → a ≡ get_or bytes 0 0 - 128 → number_below (2 ^ 64) bytes ≡ Some (a, drop 1 bytes)
+one_byte [] a some le fits e = absurd (omega arith)
+one_byte (x ∷ bytes) a some le fits e =
+    found_below (2 ^ 64) (x ∷ bytes) a bytes (last x bytes le ∙ ap (λ (v : ℕ). Some (v, bytes)) (sym e)) (omega (arith, e, fits))
+
+pub two_bytes : (bytes : List ℕ) (a b : ℕ) → 2 ≤ length bytes → get_or bytes 0 0 < 128 → 128 < get_or bytes 1 0 → get_or bytes 1 0 < 256 → a ≡ get_or bytes 0 0 → b ≡ get_or bytes 1 0 - 128
+    → number_below (2 ^ 64) bytes ≡ Some (a + 128 * b, drop 2 bytes)
+two_bytes [] a b some low more fits e f = absurd (omega arith)
+two_bytes (x ∷ []) a b some low more fits e f = absurd (omega arith)
+two_bytes (x ∷ y ∷ bytes) a b some low more fits e f =
+    found_below (2 ^ 64) (x ∷ y ∷ bytes) (a + 128 * b) bytes
+    (longer x (y ∷ bytes) bytes (y - 128) low (omega (arith, more)) (last y bytes (omega (arith, more))) ∙ ap (λ (v : ℕ). Some (v, bytes)) (omega (arith, e, f))) (omega (arith, e, f, low, fits))
+
+pub three_bytes : (bytes : List ℕ) (a b c : ℕ) → 3 ≤ length bytes → get_or bytes 0 0 < 128 → get_or bytes 1 0 < 128 → 128 < get_or bytes 2 0 → get_or bytes 2 0 < 256 → a ≡ get_or bytes 0 0 → b ≡ get_or bytes 1 0 → c ≡ get_or bytes 2 0 - 128
+    → number_below (2 ^ 64) bytes ≡ Some (a + 128 * (b + 128 * c), drop 3 bytes)
+three_bytes [] a b c some low middle more fits e f g = absurd (omega arith)
+three_bytes (x ∷ []) a b c some low middle more fits e f g = absurd (omega arith)
+three_bytes (x ∷ y ∷ []) a b c some low middle more fits e f g = absurd (omega arith)
+three_bytes (x ∷ y ∷ z ∷ bytes) a b c some low middle more fits e f g =
+    let behind = longer y (z ∷ bytes) bytes (z - 128) middle (omega (arith, more)) (last z bytes (omega (arith, more))) in
+    found_below (2 ^ 64) (x ∷ y ∷ z ∷ bytes) (a + 128 * (b + 128 * c)) bytes
+    (longer x (y ∷ z ∷ bytes) bytes (y + 128 * (z - 128)) low (omega (arith, more)) behind ∙ ap (λ (v : ℕ). Some (v, bytes)) (omega (arith, e, f, g))) (omega (arith, e, f, g, low, middle, fits))

@@ -22,6 +22,26 @@ const STOP_BIT: u8 = 128;
 #[derive(Clone, Copy, Debug, PartialEq, Eq)]
 pub struct VInt(pub u64);
 
+// The number at the front and what follows it, where it has at most three bytes.
+//
+// Most numbers of an index have, and this is read without a loop.
+#[inline(always)]
+fn split_short(bytes: &[u8]) -> Option<(u64, &[u8])>
+    ensures { IfSome result (λ x. number_below (2 ^ 64) bytes.now ≡ Some (x.0, x.1.now)) }
+{
+    match bytes {
+        [last, rest @ ..] if *last >= STOP_BIT => Some((u64::from(*last - STOP_BIT), rest)),
+        [low, last, rest @ ..] if *last > STOP_BIT => {
+            Some((u64::from(*low) + 128 * u64::from(*last - STOP_BIT), rest))
+        }
+        [low, middle, last, rest @ ..] if *middle < STOP_BIT && *last > STOP_BIT => {
+            let high = u64::from(*middle) + 128 * u64::from(*last - STOP_BIT);
+            Some((u64::from(*low) + 128 * high, rest))
+        }
+        _ => None,
+    }
+}
+
 // The number below 2^64 at the front, and what follows it.
 fn split_number(bytes: &[u8]) -> Option<(u64, &[u8])>
     ensures { option_map (λ x. (x.0, x.1.now)) result ≡ number_below (2 ^ 64) bytes.now }
@@ -50,11 +70,15 @@ fn split_number(bytes: &[u8]) -> Option<(u64, &[u8])>
 ///
 /// `None` where no front of them is the one spelling of such a number. It takes no memory, so readers that
 /// hold borrowed bytes go by it.
+#[inline]
 pub fn first_number(bytes: &[u8], most: u64) -> Option<(u64, &[u8])>
     ensures read { option_map (λ x. (x.0, x.1.now)) result ≡ number_below (most + 1) bytes.now }
     ensures most { IfSome result (λ x. x.0 ≤ most) }
 {
-    let (value, rest) = split_number(bytes)?;
+    let (value, rest) = match split_short(bytes) {
+        Some(short) => short,
+        None => split_number(bytes)?,
+    };
     if value > most {
         return None;
     }
