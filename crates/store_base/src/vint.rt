@@ -43,6 +43,7 @@ fn split_short(bytes: &[u8]) -> Option<(u64, &[u8])>
 }
 
 // The number below 2^64 at the front, and what follows it.
+#[inline(never)]
 fn split_number(bytes: &[u8]) -> Option<(u64, &[u8])>
     ensures { option_map (λ x. (x.0, x.1.now)) result ≡ number_below (2 ^ 64) bytes.now }
 {
@@ -70,7 +71,7 @@ fn split_number(bytes: &[u8]) -> Option<(u64, &[u8])>
 ///
 /// `None` where no front of them is the one spelling of such a number. It takes no memory, so readers that
 /// hold borrowed bytes go by it.
-#[inline]
+#[inline(always)]
 pub fn first_number(bytes: &[u8], most: u64) -> Option<(u64, &[u8])>
     ensures read { option_map (λ x. (x.0, x.1.now)) result ≡ number_below (most + 1) bytes.now }
     ensures most { IfSome result (λ x. x.0 ≤ most) }

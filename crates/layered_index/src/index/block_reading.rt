@@ -21,6 +21,7 @@ pub(crate) struct Heading {
 }
 
 /// The checkpoint that begins at this document and this byte, and what follows it.
+#[inline(always)]
 #[tactic(auto, unfolding(crate::specs::BlockReading::step_at))]
 pub(crate) fn step_front(doc: u32, byte: usize, bytes: &[u8]) -> Option<(Checkpoint, &[u8])>
     ensures { option_map (λ x. (x.0, x.1.now)) result ≡ step_at doc byte bytes.now }
