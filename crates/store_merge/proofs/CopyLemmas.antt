@@ -107,11 +107,23 @@ counted_document n w document = by (nat_lt w.block_size (weight (w.pending ++ do
     by true = refl
     by false = refl
 
+-- documents leave a writer as failed as it was
+pub same_failure : (w : Writing) (docs : List (List ℕ)) → (with_documents w docs).output.failure ≡ w.output.failure
+same_failure w [] = refl
+same_failure w (d ∷ docs) = same_failure (with_document w d) docs ∙ by (nat_lt w.block_size (weight (w.pending ++ d ∷ [])))
+  where
+    more : Writing
+    more = record w { pending = w.pending ++ d ∷ [] }
+
+    by : (full : Bool) → (cond full (flushed more) more).output.failure ≡ w.output.failure
+    by true = refl
+    by false = refl
+
 -- ---- what was copied so far
 
 module _ (honest : Bool) (old : Writing) where
   copied_none : IsCopied honest [] old old
-  copied_none = record { docs = []; came = record { count = refl; truly = λ _. refl }; after = refl; grown = sym (append-nil (taken old)) }
+  copied_none = record { docs = []; came = record { count = refl; truly = λ _. refl }; after = refl; works = inr refl; grown = sym (append-nil (taken old)) }
 
   copied_as : (xs ys : List Slot) (w : Writing) → xs ≡ ys → IsCopied honest xs old w → IsCopied honest ys old w
   copied_as xs ys w is h = subst (λ (zs : List Slot). IsCopied honest zs old w) is h
@@ -130,6 +142,7 @@ module _ (honest : Bool) (old : Writing) where
         after = t.after
             ∙ ap (λ (v : Writing). with_failures new.output.failures (with_document v t.bytes)) h.after
             ∙ ap (with_failures new.output.failures) (counted_document w.output.failures (with_documents old h.docs) t.bytes ∙ ap (with_failures w.output.failures) (sym all));
+        works = inl (sym (ap (λ (v : Writing). v.output.failure) h.after ∙ same_failure old h.docs) ∙ t.works);
         grown = t.grown ∙ ap (λ (xs : List Slot). xs ++ doc t.bytes ∷ []) h.grown ∙ append_assoc (taken old) (map doc h.docs) (doc t.bytes ∷ []) ∙ ap (λ (xs : List Slot). taken old ++ xs) (sym (map-append doc h.docs (t.bytes ∷ [])));
       }
 

@@ -2,3 +2,4 @@ pub mod CopyLemmas
 pub mod TakeLemmas
 pub mod MergeLemmas
 pub mod HonestLemmas
+pub mod EndLemmas

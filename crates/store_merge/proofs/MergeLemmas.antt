@@ -1,5 +1,5 @@
 -- How far a merge has come.
-use Rattle.std.proofs.Common.{◌≡◌, ℕ, zero, suc, ◌+◌, ◌<◌, ◌≤◌, Bool, List, [], ◌∷◌, ◌++◌, length, take, drop, get_or, set, Option, Some, None, refl, sym, ◌∙◌, ap, subst, arith, append_assoc}
+use Rattle.std.proofs.Common.{◌≡◌, ℕ, zero, suc, ◌+◌, ◌<◌, ◌≤◌, inl, inr, Bool, List, [], ◌∷◌, ◌++◌, length, take, drop, get_or, set, Option, Some, None, refl, sym, ◌∙◌, ap, subst, arith, append_assoc}
 use Rattle.std.proofs.lemmas.List.{append-nil, take_more, take_more_set, take_all, drop-drop, get_or-drop, get_or-set_same, drop-set-lt, length-set}
 use Rattle.std.proofs.lemmas.List.Concat.{flat_map-append}
 use Rattle.std.proofs.lemmas.List.Sums.{fold-append}
@@ -14,7 +14,7 @@ use Rattle.store_merge.specs.declared.input.MergeInput.{MergeInput}
 use Rattle.store_merge.specs.Bringing.{Brought, stacked, copied, with_documents, with_brought, merged, slots_of, IsBrought, AreBrought}
 use Rattle.store_merge.specs.Inputs.{IsInputKept, AreInputsKept, IsInputTaken}
 use Rattle.store_merge.specs.Merge.{IsMerged}
-use Rattle.store_merge.proofs.CopyLemmas.{counted_document, same_as_it_is}
+use Rattle.store_merge.proofs.CopyLemmas.{counted_document, same_failure, same_as_it_is}
 
 -- ---- lists that are gone over
 
@@ -86,7 +86,16 @@ brought_push [] (p ∷ parts) x part h is = absurd h
 brought_push (y ∷ xs) [] x part h is = absurd h
 
 pub none_merged : {H : Type 0} (w : Writing) → IsMerged {H = H} [] w w
-none_merged w = record { parts = []; came = tt; after = refl; grown = sym (append-nil (taken w)) }
+none_merged w = record { parts = []; came = tt; after = refl; works = inr refl; grown = sym (append-nil (taken w)) }
+
+-- what came of inputs leaves a writer as failed as it was
+parts_failure : (w : Writing) (parts : List Brought) → (merged w parts).output.failure ≡ w.output.failure
+parts_failure w [] = refl
+parts_failure w (stacked bs ∷ parts) = parts_failure (with_store w bs) parts
+parts_failure w (copied docs ∷ parts) = parts_failure (with_documents w docs) parts ∙ same_failure w docs
+
+pub merged_failure : {H : Type 0} (start old : Writing) (xs : List (MergeInput H)) → IsMerged xs start old → old.output.failure ≡ start.output.failure
+merged_failure start old xs h = ap (λ (w : Writing). w.output.failure) h.after ∙ parts_failure start h.parts
 
 merged_push : {H : Type 0} (xs : List (MergeInput H)) (x : MergeInput H) (start old new : Writing) → IsMerged xs start old → IsInputTaken x old new → IsMerged (xs ++ x ∷ []) start new
 merged_push xs x start old new h t =
@@ -98,6 +107,13 @@ merged_push xs x start old new h t =
       after = t.after
           ∙ ap (λ (v : Writing). with_failures n (with_brought v t.part)) h.after
           ∙ ap (with_failures n) (counted old.output.failures (merged start h.parts) t.part ∙ ap (with_failures old.output.failures) (sym all));
+      works = elim t.works [
+        | inl worked ↦ inl (sym (merged_failure start old xs h) ∙ worked)
+        | inr idle ↦ elim h.works [
+          | inl worked ↦ inl worked
+          | inr before ↦ inr (idle ∙ before)
+        ]
+      ];
       grown = t.grown ∙ ap (λ (ss : List Slot). ss ++ slots_of t.part) h.grown ∙ append_assoc (taken start) (flat_map slots_of h.parts) (slots_of t.part)
           ∙ ap (λ (ss : List Slot). taken start ++ ss) (ap (λ (ss : List Slot). flat_map slots_of h.parts ++ ss) (sym (append-nil (slots_of t.part))) ∙ sym (flat_map-append slots_of h.parts (t.part ∷ [])));
     }

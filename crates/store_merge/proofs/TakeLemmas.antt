@@ -21,7 +21,7 @@ use Rattle.store_merge.specs.Bringing.{stacked, copied, IsCopied, with_documents
 use Rattle.store_merge.specs.Choice.{set_of, is_stacked, alive_of, alive_slots}
 use Rattle.store_merge.specs.Inputs.{IsStacked, IsInputTaken}
 use Rattle.store_merge.specs.Refusals.{RefusesBytes, StopsAt, HasGrown}
-use Rattle.store_merge.proofs.CopyLemmas.{alive_append, alive_behind}
+use Rattle.store_merge.proofs.CopyLemmas.{alive_append, alive_behind, same_failure}
 
 pub ok_then : {T E : Type 0} (P Q : Type 0) (r : Result T E) → (P → Q) → OnOk r P → OnOk r Q
 ok_then P Q (Ok x) on h = on h
@@ -37,26 +37,14 @@ lent None alive is = ap set_of is
 lent (Some set) alive is = ap set_of is
 
 pub stacked_taken : {H : Type 0} (x : MergeInput H) (old new : Writing) → is_stacked x ≡ true → IsStacked x.reader old new → IsInputTaken x old new
-stacked_taken x old new is s = record { part = stacked s.blocks; came = (is, s.came); after = s.after; grown = s.grown }
+stacked_taken x old new is s = record { part = stacked s.blocks; came = (is, s.came); after = s.after; works = inl s.works; grown = s.grown }
 
 pub copied_taken : {H : Type 0} (x : MergeInput H) (set : Option (ℕ → Bool)) (old new : Writing) → is_stacked x ≡ false → set ≡ set_of x.alive → IsCopied x.reader.file.honest (alive_of x.reader set) old new → IsInputTaken x old new
 copied_taken x set old new is same h =
     let k : IsCopied x.reader.file.honest (alive_of x.reader (set_of x.alive)) old new = subst (λ (s : Option (ℕ → Bool)). IsCopied x.reader.file.honest (alive_of x.reader s) old new) same h in
-    record { part = copied k.docs; came = (is, k.came); after = k.after; grown = k.grown }
+    record { part = copied k.docs; came = (is, k.came); after = k.after; works = k.works; grown = k.grown }
 
 -- ---- a copying that stops
-
--- documents leave a writer as failed as it was
-same_failure : (w : Writing) (docs : List (List ℕ)) → (with_documents w docs).output.failure ≡ w.output.failure
-same_failure w [] = refl
-same_failure w (d ∷ docs) = same_failure (with_document w d) docs ∙ by (nat_lt w.block_size (weight (w.pending ++ d ∷ [])))
-  where
-    more : Writing
-    more = record w { pending = w.pending ++ d ∷ [] }
-
-    by : (full : Bool) → (cond full (flushed more) more).output.failure ≡ w.output.failure
-    by true = refl
-    by false = refl
 
 -- a writer that did not fail for good is as it was
 unfailed : (first : Option Cause) (cause : Cause) (old new : Writing) → old.output.failure ≡ first → new.output.failure ≡ old.output.failure → AfterFailed first cause old new → new ≡ old

@@ -1,5 +1,5 @@
 -- What comes of the inputs of a merge, and what that leaves of a writer.
-use Rattle.std.specs.Prelude.{◌≡◌, ℕ, Bool, true, false, IsTrue, List, [], ◌∷◌, ◌++◌, length, map}
+use Rattle.std.specs.Prelude.{◌≡◌, ◌⊎◌, ℕ, None, Bool, true, false, IsTrue, List, [], ◌∷◌, ◌++◌, length, map}
 use Rattle.std.specs.List.{fold}
 use Rattle.docstore.specs.Block.{Slot, doc}
 use Rattle.docstore.specs.Slots.{slots}
@@ -38,11 +38,16 @@ pub record AreDocuments (honest : Bool) (some : List Slot) (docs : List (List �
   pub count : length docs ≡ length some
   pub truly : IsTrue honest → map doc docs ≡ some
 
+-- The writer worked, or nothing was taken.
+abbrev pub WorkedOrIdle : Writing → Writing → Type 0
+WorkedOrIdle old new = (old.output.failure ≡ None) ⊎ (new ≡ old)
+
 -- Documents of these slots went behind those of a writer, one after the other.
 pub record IsCopied (honest : Bool) (some : List Slot) (old new : Writing) : Type 0 where
   pub docs : List (List ℕ)
   pub came : AreDocuments honest some docs
   pub after : new ≡ with_failures new.output.failures (with_documents old docs)
+  pub works : WorkedOrIdle old new
   pub grown : taken new ≡ taken old ++ map doc docs
 
 -- This came of an input: its whole store where it is stacked, and its alive documents where it isn't.

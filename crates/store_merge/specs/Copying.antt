@@ -1,5 +1,5 @@
 -- How the documents of a store are copied.
-use Rattle.std.specs.Prelude.{◌≡◌, ◌⊎◌, ℕ, List, [], ◌∷◌, ◌++◌, Result, Ok, Err}
+use Rattle.std.specs.Prelude.{◌≡◌, ◌⊎◌, ℕ, List, [], ◌∷◌, ◌++◌, None, Result, Ok, Err}
 use Rattle.layered_index.specs.declared.error.StoreError.{StoreError}
 use Rattle.docstore.specs.Block.{doc}
 use Rattle.docstore.specs.Laws.{taken}
@@ -10,6 +10,7 @@ use Rattle.store_merge.specs.Refusals.{RefusesBytes}
 pub record IsTaken (item : Result (List ℕ) StoreError) (old new : Writing) : Type 0 where
   pub bytes : List ℕ
   pub is : item ≡ Ok bytes
+  pub works : old.output.failure ≡ None
   pub after : new ≡ with_failures new.output.failures (with_document old bytes)
   pub grown : taken new ≡ taken old ++ doc bytes ∷ []
 

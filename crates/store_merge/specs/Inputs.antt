@@ -1,5 +1,5 @@
 -- The inputs of a merge, and what the taking of one leaves.
-use Rattle.std.specs.Prelude.{◌≡◌, ◌≢◌, ◌≤◌, List, [], ◌∷◌, ◌++◌, length, IfSome}
+use Rattle.std.specs.Prelude.{◌≡◌, ◌≢◌, ◌≤◌, List, [], ◌∷◌, ◌++◌, length, IfSome, None}
 use Rattle.docstore.specs.declared.footer.DocStoreVersion.TheVariants.{V1}
 use Rattle.docstore.specs.Laws.{taken}
 use Rattle.docstore.specs.Reading.{Reading, IsSameStore, num_docs as docs_of}
@@ -8,7 +8,7 @@ use Rattle.docstore.specs.Stacking.{AreRead, with_store}
 use Rattle.docstore.specs.StoreFile.{StoreBlock}
 use Rattle.docstore.specs.Writer.{Writing, with_failures}
 use Rattle.store_merge.specs.declared.input.MergeInput.{MergeInput}
-use Rattle.store_merge.specs.Bringing.{Brought, IsBrought, with_brought, slots_of}
+use Rattle.store_merge.specs.Bringing.{Brought, IsBrought, with_brought, slots_of, WorkedOrIdle}
 
 -- An input's set, if it has one, tells of each of its documents.
 abbrev pub HasWholeSet : {H : Type 0} → MergeInput H → Type 0
@@ -34,6 +34,7 @@ AreInputsKept _ _ = ⊥
 pub record IsStacked (reader : Reading) (old new : Writing) : Type 0 where
   pub blocks : List StoreBlock
   pub came : AreRead reader blocks
+  pub works : old.output.failure ≡ None
   pub after : new ≡ with_failures new.output.failures (with_store old blocks)
   pub grown : taken new ≡ taken old ++ slots blocks
 
@@ -42,4 +43,5 @@ pub record IsInputTaken {H : Type 0} (x : MergeInput H) (old new : Writing) : Ty
   pub part : Brought
   pub came : IsBrought x part
   pub after : new ≡ with_failures new.output.failures (with_brought old part)
+  pub works : WorkedOrIdle old new
   pub grown : taken new ≡ taken old ++ slots_of part

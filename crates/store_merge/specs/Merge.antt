@@ -1,11 +1,16 @@
 -- What a merge does.
-use Rattle.std.specs.Prelude.{◌≡◌, ◌≤◌, ℕ, IsTrue, List, ◌++◌, take, slice_get, Some}
+use Rattle.std.specs.Prelude.{◌≡◌, ◌≤◌, ℕ, IsTrue, List, ◌++◌, take, slice_get, Some, IfSome}
 use Rattle.std.specs.List.{flat_map}
+use Rattle.layered_index.specs.declared.error.Cause.{Cause}
+use Rattle.layered_index.specs.declared.error.StoreError.{StoreError}
+use Rattle.layered_index.specs.declared.error.StoreError.TheVariants.{Failed}
+use Rattle.docstore.specs.Block.{Slot}
 use Rattle.docstore.specs.Laws.{taken}
 use Rattle.docstore.specs.Writer.{Writing, with_failures}
 use Rattle.store_merge.specs.declared.input.MergeInput.{MergeInput}
 use Rattle.store_merge.specs.declared.merge_error.MergeError.{MergeError}
-use Rattle.store_merge.specs.Bringing.{Brought, merged, slots_of, AreBrought}
+use Rattle.store_merge.specs.Bringing.{Brought, merged, slots_of, AreBrought, WorkedOrIdle}
+use Rattle.store_merge.specs.Choice.{alive_slots}
 use Rattle.store_merge.specs.Refusals.{RefusesInput, HasGrown}
 
 -- Reads of an input's file give what it holds.
@@ -17,7 +22,18 @@ pub record IsMerged {H : Type 0} (inputs : List (MergeInput H)) (old new : Writi
   pub parts : List Brought
   pub came : AreBrought inputs parts
   pub after : new ≡ with_failures new.output.failures (merged old parts)
+  pub works : WorkedOrIdle old new
   pub grown : taken new ≡ taken old ++ flat_map slots_of parts
+
+-- The writer has failed.
+abbrev pub IsFailed : StoreError → Type 0
+IsFailed e = (cause : Cause) × (e ≡ Failed cause)
+
+-- What the writer has grown by is a beginning of the alive slots of the inputs, whole through those before this place.
+pub record HasBegun {H : Type 0} (inputs : List (MergeInput H)) (place : ℕ) (old new : Writing) : Type 0 where
+  pub more : List Slot
+  pub grown : taken new ≡ taken old ++ flat_map alive_slots (take place inputs) ++ more
+  pub front : IfSome (slice_get inputs place) (λ x. (rest : List Slot) × (alive_slots x ≡ more ++ rest))
 
 -- The inputs before the one that is named were taken, and this one was refused.
 pub record IsEnded {H : Type 0} (inputs left : List (MergeInput H)) (old new : Writing) (e : MergeError) : Type 0 where

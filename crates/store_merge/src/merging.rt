@@ -1,11 +1,11 @@
 //! Merges stores with live sets.
-ghost use Rattle.std.specs.Prelude.{◌≡◌, ◌≤◌, ◌++◌, None, Err, OnOk, IfErr, IfSome};
+ghost use Rattle.std.specs.Prelude.{◌≡◌, ◌≤◌, ◌⊎◌, ◌++◌, None, Err, OnOk, IfErr, IfSome};
 ghost use Rattle.std.specs.List.{AllByRecursion, flat_map};
 ghost use Rattle.docstore.specs.Laws.{taken};
 ghost use Rattle.docstore.specs.Writer.{IsStoreWriter};
 ghost use Rattle.store_merge.specs.Choice.{first_old, alive_slots};
 ghost use Rattle.store_merge.specs.Inputs.{HasWholeSet, CanBeTaken, AreInputsKept};
-ghost use Rattle.store_merge.specs.Merge.{IsHonest, IsMerged, IsEnded};
+ghost use Rattle.store_merge.specs.Merge.{IsHonest, IsMerged, IsEnded, IsFailed, HasBegun};
 
 use crate::choosing::first_old;
 use crate::input::MergeInput;
@@ -68,6 +68,13 @@ pub fn merge<W: TerminatingWrite, H: FileHandle>(
     // What follows, where the files are honest.
     ensures grown { OnOk result (AllByRecursion IsHonest inputs.old
         → taken writer.new ≡ taken writer.old ++ flat_map alive_slots inputs.old) }
+
+    ensures begun { first_old inputs.old ≡ None → AllByRecursion IsHonest inputs.old
+        → IfErr result (λ e. IsFailed e.error ⊎ HasBegun inputs.old e.input writer.old writer.new) }
+
+    // After any refusal but `Failed` the writer is as failed as it was.
+    ensures works { IfErr result (λ e. IsFailed e.error
+        ⊎ (writer.new.output.failure ≡ writer.old.output.failure)) }
 
     // The inputs keep their stores and sets.
     ensures kept { AreInputsKept inputs.old inputs.new }

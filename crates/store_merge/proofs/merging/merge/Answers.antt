@@ -1,13 +1,14 @@
-use Rattle.std.proofs.Common.{◌≡◌, List, ◌++◌, sym, ◌∙◌, ap}
+use Rattle.std.proofs.Common.{◌≡◌, ◌⊎◌, List, ◌++◌, sym, ◌∙◌, ap}
 use Rattle.std.specs.List.{AllByRecursion, flat_map}
 use Rattle.docstore.specs.Block.{Slot}
 use Rattle.docstore.specs.Laws.{taken}
 use Rattle.store_merge.specs.declared.input.MergeInput.{MergeInput}
 use Rattle.store_merge.specs.Choice.{alive_slots}
-use Rattle.store_merge.specs.Merge.{IsHonest, IsMerged}
+use Rattle.store_merge.specs.Merge.{IsHonest, IsMerged, IsEnded, IsFailed, HasBegun}
 use Rattle.store_merge.proofs.HonestLemmas.{can_be_taken, all_slots}
 use Rattle.store_merge.proofs.MergeLemmas.{all_kept}
-use Rattle.store_merge.proofs.TakeLemmas.{ok_then}
+use Rattle.store_merge.proofs.TakeLemmas.{ok_then, err_then}
+use Rattle.store_merge.proofs.EndLemmas.{IsUnfailed, unfailed_end, begun}
 use Rattle.store_merge.proofs.merging.merge.Goals as goal
 
 pub returns-in-Some-clause-kept : goal.returns-in-Some-clause-kept
@@ -23,3 +24,20 @@ returns-clause-grown g c =
     let new = c.take_inputs.new.writer in
     ok_then (IsMerged inputs old new) (AllByRecursion IsHonest inputs → taken new ≡ taken old ++ flat_map alive_slots inputs) c.take_inputs.result
     (λ h honest. h.grown ∙ ap (λ (ss : List Slot). taken old ++ ss) (all_slots c.stacked_slots_are_counted.ensures inputs h.parts honest h.came)) c.take_inputs.ensures.merged
+
+pub returns-clause-begun : goal.returns-clause-begun
+returns-clause-begun g c = λ none honest.
+    let inputs : List (MergeInput g.row.H.Denot) = c.args.inputs.now in
+    let left : List (MergeInput g.row.H.Denot) = c.take_inputs.new.inputs in
+    let old = c.args.writer.now in
+    let new = c.take_inputs.new.writer in
+    err_then (IsEnded inputs left old new) (λ e. IsFailed e.error ⊎ HasBegun inputs e.input old new) c.take_inputs.result
+    (λ e. begun c.stacked_slots_are_counted.ensures inputs left old new e honest) c.take_inputs.ensures.ended
+
+pub returns-clause-works : goal.returns-clause-works
+returns-clause-works g c =
+    let inputs : List (MergeInput g.row.H.Denot) = c.args.inputs.now in
+    let left : List (MergeInput g.row.H.Denot) = c.take_inputs.new.inputs in
+    let old = c.args.writer.now in
+    let new = c.take_inputs.new.writer in
+    err_then (IsEnded inputs left old new) (λ e. IsUnfailed e.error old new) c.take_inputs.result (unfailed_end inputs left old new) c.take_inputs.ensures.ended
