@@ -1,9 +1,9 @@
 -- What a merge that ended has put behind.
-use Rattle.std.proofs.Common.{◌≡◌, ℕ, zero, suc, ◌<◌, ◌≤◌, ◌⊎◌, inl, inr, Bool, List, [], ◌∷◌, ◌++◌, length, take, get_or, Option, Some, None, Result, Ok, Err, refl, sym, ◌∙◌, ap, subst, arith, append_assoc}
+use Rattle.std.proofs.Common.{◌≡◌, ℕ, zero, suc, ◌⊎◌, inl, inr, Bool, List, [], ◌∷◌, ◌++◌, length, take, Option, Some, refl, sym, ◌∙◌, ap, subst}
 use Rattle.std.proofs.lemmas.Bool.{cases_lt}
 use Rattle.std.proofs.lemmas.Option.{get_or_from_slice_get, slice_get_past}
-use Rattle.std.specs.Prelude.{IfErr, IfSome, slice_get}
-use Rattle.std.specs.List.{AllByRecursion, flat_map}
+use Rattle.std.specs.Prelude.{IfSome, slice_get}
+use Rattle.std.specs.List.{AllByRecursion}
 use Rattle.layered_index.specs.declared.error.StoreError.{StoreError}
 use Rattle.layered_index.specs.declared.error.StoreError.TheVariants.{ShortFile, BadVersion, BadBlockKind, BadOffset, BadIndex, InvalidArgument, DamagedDocument, BadDocument, Read, Memory, OldVersion, Unserializable, BlockTooLarge, TooManyDocs, Failed, BadPeriod}
 use Rattle.docstore.specs.Block.{Slot}
@@ -12,10 +12,9 @@ use Rattle.docstore.specs.Reading.{Reading}
 use Rattle.docstore.specs.Writer.{Writing}
 use Rattle.store_merge.specs.declared.input.MergeInput.{MergeInput}
 use Rattle.store_merge.specs.declared.merge_error.MergeError.{MergeError}
-use Rattle.store_merge.specs.Bringing.{slots_of}
 use Rattle.store_merge.specs.Choice.{set_of, alive_slots}
 use Rattle.store_merge.specs.Refusals.{RefusesBytes, RefusesStore, RefusesInput, StopsAt}
-use Rattle.store_merge.specs.Merge.{IsHonest, IsMerged, IsEnded, IsFailed, HasBegun}
+use Rattle.store_merge.specs.Merge.{IsHonest, IsEnded, IsFailed, HasBegun}
 use Rattle.store_merge.proofs.CopyLemmas.{same_failure}
 use Rattle.store_merge.proofs.HonestLemmas.{all_slots}
 use Rattle.store_merge.proofs.MergeLemmas.{all_at, merged_failure}

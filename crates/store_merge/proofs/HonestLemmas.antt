@@ -1,11 +1,8 @@
 -- What came of honest files, and which inputs can be taken.
-use Rattle.std.proofs.Common.{◌≡◌, ◌≢◌, ℕ, zero, suc, ◌+◌, ◌<◌, ◌≤◌, inl, inr, Bool, true, false, ◌&&◌, cond, List, [], ◌∷◌, ◌++◌, length, take, get_or, map, Option, Some, None, refl, sym, ◌∙◌, ap, subst, arith}
+use Rattle.std.proofs.Common.{◌≡◌, ℕ, suc, ◌+◌, ◌<◌, ◌≤◌, inl, inr, Bool, true, false, ◌&&◌, cond, List, [], ◌∷◌, ◌++◌, length, get_or, map, Option, Some, None, refl, sym, ◌∙◌, ap, subst, arith}
 use Rattle.std.proofs.lemmas.Bool.{cases_lt, lt-ltb}
 use Rattle.std.proofs.lemmas.List.Sums.{fails_before_first}
-use Rattle.std.specs.Prelude.{IsTrue, nat_lt}
 use Rattle.std.specs.List.{AllByRecursion, filter, enumerate_from, flat_map, list_all, position, position_or_len, range_with_len}
-use Rattle.docstore.specs.declared.footer.DocStoreVersion.{DocStoreVersion}
-use Rattle.docstore.specs.declared.footer.DocStoreVersion.TheVariants.{V1}
 use Rattle.docstore.specs.Block.{Slot}
 use Rattle.docstore.specs.Iteration.{is_in}
 use Rattle.docstore.specs.Laws.{StackedSlotsAreCounted}

@@ -1,10 +1,8 @@
 -- What the taking of one input leaves.
-use Rattle.std.proofs.Common.{◌≡◌, ℕ, ◌≤◌, ◌⊎◌, inl, inr, Bool, true, false, cond, Bor, List, [], ◌∷◌, ◌++◌, length, take, drop, map, Option, Some, None, Result, Ok, Err, refl, sym, ◌∙◌, ap, subst, arith}
-use Rattle.std.specs.Prelude.{OnOk, IfErr, IsTrue, nat_lt}
+use Rattle.std.proofs.Common.{◌≡◌, ℕ, inl, inr, Bool, true, false, Bor, List, ◌++◌, length, take, drop, map, Option, Some, None, Result, Ok, Err, refl, sym, ◌∙◌, ap, subst}
+use Rattle.std.specs.Prelude.{OnOk, IfErr}
 use Rattle.std.specs.Option.{option_copied}
-use Rattle.std.specs.List.{fold}
 use Rattle.std.proofs.lemmas.List.{take-append-drop}
-use Rattle.store_base.specs.AliveBitSet.{is_alive_at}
 use Rattle.layered_index.specs.declared.error.Cause.{Cause}
 use Rattle.layered_index.specs.declared.error.StoreError.{StoreError}
 use Rattle.layered_index.specs.declared.error.StoreError.TheVariants.{ShortFile, BadVersion, BadBlockKind, BadOffset, BadIndex, InvalidArgument, DamagedDocument, BadDocument, Read, Memory, OldVersion, Unserializable, BlockTooLarge, TooManyDocs, Failed, BadPeriod}
@@ -13,11 +11,10 @@ use Rattle.docstore.specs.Iteration.{alive}
 use Rattle.docstore.specs.Laws.{taken}
 use Rattle.docstore.specs.Reading.{Reading, store_of}
 use Rattle.docstore.specs.Slots.{slots}
-use Rattle.docstore.specs.Trace.{weight}
 use Rattle.docstore.specs.Walking.{set_of as set_of_lent}
-use Rattle.docstore.specs.Writer.{Writing, flushed, with_document, AfterFailed}
+use Rattle.docstore.specs.Writer.{Writing, AfterFailed}
 use Rattle.store_merge.specs.declared.input.MergeInput.{MergeInput}
-use Rattle.store_merge.specs.Bringing.{stacked, copied, IsCopied, with_documents}
+use Rattle.store_merge.specs.Bringing.{stacked, copied, IsCopied}
 use Rattle.store_merge.specs.Choice.{set_of, is_stacked, alive_of, alive_slots}
 use Rattle.store_merge.specs.Inputs.{IsStacked, IsInputTaken}
 use Rattle.store_merge.specs.Refusals.{RefusesBytes, StopsAt, HasGrown}

@@ -1,4 +1,4 @@
-use Rattle.std.proofs.Common.{◌≡◌, ◌<◌, ◌+◌, List, length, get_or, set, refl, sym, subst, arith}
+use Rattle.std.proofs.Common.{◌<◌, ◌+◌, List, length, get_or, set, refl, sym, subst, arith}
 use Rattle.store_merge.specs.declared.input.MergeInput.{MergeInput}
 use Rattle.store_merge.specs.Inputs.{CanBeTaken}
 use Rattle.store_merge.proofs.MergeLemmas.{all_at, next_same, rest_more, named_is, left_is, kept_more, kept_all, none_merged, merged_more, merged_all}
