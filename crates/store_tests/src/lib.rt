@@ -14,6 +14,10 @@ mod iterating;
 #[cfg(test)]
 mod making;
 #[cfg(test)]
+mod merge_refusals;
+#[cfg(test)]
+mod merging;
+#[cfg(test)]
 mod questions;
 #[cfg(test)]
 mod raw_blocks;
