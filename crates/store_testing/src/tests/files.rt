@@ -91,3 +91,13 @@ fn a_lying_file_gives_the_right_length(rt: HostRuntime) -> Result<(), Fail> {
     assert!(rt; is_right(&reads.second, b"gfe", false));
     Ok(())
 }
+
+#[test]
+fn a_lying_file_may_be_honest_at_first(rt: HostRuntime) -> Result<(), Fail> {
+    let bytes = Vec::from_slice(rt.alloc(), b"abcdef")?;
+    let reads = three_reads(rt.alloc(), LyingFile::after_reads(bytes, 1, 2));
+    assert!(rt; is_right(&reads.whole, b"abcdef", false));
+    assert!(rt; is_right(&reads.first, b"`cc", false));
+    assert!(rt; is_right(&reads.second, b"fgf", false));
+    Ok(())
+}

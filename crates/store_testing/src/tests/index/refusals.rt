@@ -57,6 +57,25 @@ fn what_is_no_index_is_refused(rt: HostRuntime) {
     );
 }
 
+// Four milliards of checkpoints take at least twice as many bytes, and so many layers at least as many.
+#[test]
+fn a_count_is_compared_with_the_bytes_that_follow(rt: HostRuntime) {
+    let alloc = rt.alloc();
+    assert!(rt;
+        is_refused(
+            alloc,
+            &[
+                0x81, 0x89, 0x7f, 0x7f, 0x7f, 0x7f, 0x8f, 0x80, 0x80, 0x81, 0x81
+            ]
+        ),
+        "checkpoints"
+    );
+    assert!(rt;
+        is_refused(alloc, &[0x7f, 0x7f, 0x7f, 0x7f, 0x8f]),
+        "layers"
+    );
+}
+
 // The bytes, with another one at this place.
 fn replaced(alloc: Global, bytes: &[u8], place: usize, byte: u8) -> Result<Vec<u8>, StoreError> {
     let mut bytes = Vec::from_slice(alloc, bytes)?;

@@ -1,0 +1,7 @@
+//! Tests of hostile use: files that were cut, and files that lie.
+#![tactic(auto)]
+
+#[cfg(test)]
+mod beginnings;
+#[cfg(test)]
+mod lying_reads;
