@@ -1,7 +1,16 @@
-//! Tests of hostile use: files that were cut, and files that lie.
+//! Tests of hostile use: files that are cut or lie, writes that fail in turn, limits, and every short list of
+//! calls.
 #![tactic(auto)]
 
 #[cfg(test)]
 mod beginnings;
 #[cfg(test)]
+mod dropped_iterators;
+#[cfg(test)]
+mod limits;
+#[cfg(test)]
 mod lying_reads;
+#[cfg(test)]
+mod small_world;
+#[cfg(test)]
+mod writes_in_turn;
