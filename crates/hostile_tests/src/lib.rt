@@ -1,4 +1,4 @@
-//! Tests of hostile use: files that are cut or lie, writes that fail in turn, limits, and every short list of
+//! Tests of hostile use: files that are cut or lie, reads and writes that fail in turn, limits, and every short list of
 //! calls.
 #![tactic(auto)]
 
@@ -10,6 +10,8 @@ mod dropped_iterators;
 mod limits;
 #[cfg(test)]
 mod lying_reads;
+#[cfg(test)]
+mod reads_in_turn;
 #[cfg(test)]
 mod small_world;
 #[cfg(test)]
