@@ -1,11 +1,9 @@
 //! The cache of a reader where reads fail or lie, and sums of what caches did.
 
-use crate::making::{is_found, written};
-use docstore::{CacheStats, DOCSTORE_CACHE_CAPACITY, StoreError, StoreReader};
-use std::alloc::Global;
+use docstore::{CacheStats, DOCSTORE_CACHE_CAPACITY, StoreError};
 use std::test::Fail;
-use store_base::{FileHandle, FileSlice};
 use store_testing::FailingFile;
+use store_testing::making::{is_found, opened_with_cache, written};
 
 fn stats(num_entries: usize, cache_hits: usize, cache_misses: usize) -> CacheStats {
     CacheStats {
@@ -15,19 +13,12 @@ fn stats(num_entries: usize, cache_hits: usize, cache_misses: usize) -> CacheSta
     }
 }
 
-fn cached<H: FileHandle>(alloc: Global, file: H) -> Result<StoreReader<H>, StoreError> {
-    match StoreReader::open(alloc, FileSlice::new(file), DOCSTORE_CACHE_CAPACITY) {
-        Ok(reader) => Ok(reader),
-        Err(refusal) => Err(refusal.error),
-    }
-}
-
 #[test]
 fn a_failed_read_is_a_miss_and_keeps_nothing(rt: HostRuntime) -> Result<(), Fail> {
     let alloc = rt.alloc();
     assert_eq!(rt; DOCSTORE_CACHE_CAPACITY, 100);
     let file = FailingFile::new(alloc, written(alloc, 16384, &[b"abc"])?, 3)?;
-    let mut reader = cached(alloc, file)?;
+    let mut reader = opened_with_cache(alloc, file, DOCSTORE_CACHE_CAPACITY)?;
     assert_eq!(rt;
         reader.get_document_bytes(alloc, 0).err(),
         Some(StoreError::Read)

@@ -1,13 +1,12 @@
 //! Whole lists of reading calls, at several capacities: the same answers, and the counts that each capacity leaves.
 
-use crate::making::{closed, opened_bytes, written};
 use docstore::{
-    Answer, BlockCompressor, CacheStats, Compressor, ReadCall, StoreError, StoreReader,
-    StoreWriter, answer_all,
+    Answer, BlockCompressor, CacheStats, Compressor, ReadCall, StoreError, StoreWriter, answer_all,
 };
 use std::alloc::Global;
 use std::test::Fail;
-use store_base::{AliveBitSet, FileSlice, MemFile, MemSink, OwnedBytes};
+use store_base::{AliveBitSet, MemFile, MemSink, OwnedBytes};
+use store_testing::making::{closed, opened_bytes, opened_with_cache, written};
 
 // `x`, a stacked store of `abc`, and a document of no bytes.
 fn stacked(alloc: Global) -> Result<Vec<u8>, StoreError> {
@@ -39,18 +38,6 @@ fn damaged(alloc: Global) -> Result<Vec<u8>, StoreError> {
     }
 }
 
-fn opened(
-    alloc: Global,
-    bytes: Vec<u8>,
-    capacity: usize,
-) -> Result<StoreReader<MemFile>, StoreError> {
-    let file = FileSlice::new(MemFile::new(alloc, bytes)?);
-    match StoreReader::open(alloc, file, capacity) {
-        Ok(reader) => Ok(reader),
-        Err(refusal) => Err(refusal.error),
-    }
-}
-
 // Gets of the first, the last and again the first document, of none, and iterations over some, over those behind the first, and over
 // none.
 fn answers(
@@ -58,7 +45,7 @@ fn answers(
     bytes: Vec<u8>,
     capacity: usize,
 ) -> Result<(Vec<Answer>, CacheStats), StoreError> {
-    let mut reader = opened(alloc, bytes, capacity)?;
+    let mut reader = opened_with_cache(alloc, MemFile::new(alloc, bytes)?, capacity)?;
     let count = reader.num_docs();
     let behind = AliveBitSet::for_test_from_deleted_docs(alloc, &[0], count)?;
     let calls = [
@@ -191,7 +178,8 @@ fn a_damaged_block_is_answered_the_same(rt: HostRuntime) -> Result<(), Fail> {
 #[test]
 fn one_block_is_kept_behind_a_list_of_calls(rt: HostRuntime) -> Result<(), Fail> {
     let alloc = rt.alloc();
-    let mut reader = opened(alloc, written(alloc, 0, &[b"a", b"b"])?, 1)?;
+    let file = MemFile::new(alloc, written(alloc, 0, &[b"a", b"b"])?)?;
+    let mut reader = opened_with_cache(alloc, file, 1)?;
     let calls = [
         ReadCall::Bytes(1),
         ReadCall::Iter {

@@ -1,10 +1,10 @@
 //! Files and outputs that fail: each read and each write in turn.
 
-use crate::making::{closed, is_found, opened, written};
 use docstore::{Cause, Compressor, StoreError, StoreReader, StoreWriter};
 use std::alloc::Global;
 use std::test::Fail;
 use store_base::FileSlice;
+use store_testing::making::{closed, is_found, opened, written};
 use store_testing::{FailingFile, FailingSink, LyingFile};
 
 #[test]

@@ -1,12 +1,12 @@
 //! Footers alone, and files that have none.
 
-use crate::making::written;
 use docstore::{Decompressor, DocStoreFooter, DocStoreVersion, StoreError, StoreReader};
 use std::alloc::Global;
 use std::test::Fail;
 use store_base::{
     BinarySerializable, DecodeFault, FileSlice, FixedSize, MemFile, MemSink, NoMemory,
 };
+use store_testing::making::written;
 
 const BYTES: [u8; 28] = *b"\x03\0\0\0\x0b\0\0\0\0\0\0\0\0\x08\0\0\0\0\0\0\0\0\0\0\0\0\0\0";
 

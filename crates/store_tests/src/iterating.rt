@@ -1,11 +1,11 @@
 //! Going over a store: documents as values, blocks whose read fails, and iterators that are dropped early.
 
-use crate::making::{closed, is_found, opened, opened_bytes, written};
 use docstore::{Compressor, StoreError, StoreReader, StoreWriter};
 use std::alloc::Global;
 use std::test::Fail;
 use store_base::{AliveBitSet, Field, FileHandle, MemSink, NoMemory, RecordDocument, Schema};
 use store_testing::FailingFile;
+use store_testing::making::{closed, is_found, opened, opened_bytes, written};
 
 fn record(alloc: Global, field: u32, bytes: &[u8]) -> Result<RecordDocument, NoMemory> {
     let mut record = RecordDocument::new(alloc);

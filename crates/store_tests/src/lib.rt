@@ -12,8 +12,6 @@ mod footers;
 #[cfg(test)]
 mod iterating;
 #[cfg(test)]
-mod making;
-#[cfg(test)]
 mod merge_refusals;
 #[cfg(test)]
 mod merging;

@@ -3,12 +3,12 @@ ghost use Rattle.std.specs.Prelude.{◌≤◌, IfOk};
 ghost use Rattle.std.specs.List.{AllByRecursion};
 ghost use Rattle.store_merge.specs.Inputs.{HasWholeSet};
 
-use crate::making::{closed, is_found, opened_bytes, written};
 use docstore::{Compressor, StoreError, StoreReader, StoreWriter};
 use std::alloc::Global;
 use std::test::Fail;
 use store_base::{AliveBitSet, FileHandle, MemFile, MemSink};
 use store_merge::{MergeInput, merge};
+use store_testing::making::{closed, is_found, opened_bytes, written};
 
 /// A store of which nothing is deleted, with no set.
 pub fn whole<H: FileHandle>(reader: StoreReader<H>) -> MergeInput<H>

@@ -1,11 +1,11 @@
 //! What a writer and a reader answer about themselves.
 
-use crate::making::{closed, opened_bytes, written};
 use docstore::{
     Checkpoint, Compressor, DOC_STORE_VERSION, Decompressor, DocStoreVersion, StoreWriter,
 };
 use std::test::Fail;
 use store_base::{DecodeFault, MemSink};
+use store_testing::making::{closed, opened_bytes, written};
 
 #[test]
 fn a_writer_tells_of_itself(rt: HostRuntime) -> Result<(), Fail> {

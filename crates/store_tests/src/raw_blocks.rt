@@ -1,10 +1,10 @@
 //! Blocks that were not made of documents.
 
-use crate::making::opened_bytes;
 use docstore::{BlockCompressor, Compressor, StoreError};
 use std::alloc::Global;
 use std::test::Fail;
 use store_base::MemSink;
+use store_testing::making::opened_bytes;
 
 fn closed(compressor: BlockCompressor<MemSink>) -> Result<Vec<u8>, StoreError> {
     match compressor.close() {

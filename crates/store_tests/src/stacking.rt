@@ -1,10 +1,10 @@
 //! Stores stacked behind others: by block compressor, and where a read or a write fails.
 
-use crate::making::{closed, is_found, opened, opened_bytes, written};
 use docstore::{BlockCompressor, Cause, Compressor, DocStoreVersion, StoreError, StoreWriter};
 use std::alloc::Global;
 use std::test::Fail;
 use store_base::MemSink;
+use store_testing::making::{closed, is_found, opened, opened_bytes, written};
 use store_testing::{FailingFile, FailingSink};
 
 // The file of these stores, stacked by a block compressor of its own.

@@ -1,13 +1,12 @@
 //! Whole lists of calls, at several capacities.
 
-use crate::making::{opened_bytes, written};
 use docstore::{
-    Answer, ReadCall, StoreCommand, StoreError, StoreReader, answer_all, write_store,
-    write_store_with_period,
+    Answer, ReadCall, StoreCommand, StoreError, answer_all, write_store, write_store_with_period,
 };
 use std::alloc::Global;
 use std::test::Fail;
-use store_base::{Field, FileSlice, MemFile, MemSink, RecordDocument, Schema};
+use store_base::{Field, MemFile, MemSink, RecordDocument, Schema};
+use store_testing::making::{opened_bytes, opened_with_cache, written};
 
 type Commands = Vec<StoreCommand<RecordDocument, MemFile>>;
 
@@ -58,18 +57,6 @@ fn a_list_is_written_with_a_period_of_ones_own(rt: HostRuntime) -> Result<(), Fa
     Ok(())
 }
 
-fn cached(
-    alloc: Global,
-    bytes: Vec<u8>,
-    capacity: usize,
-) -> Result<StoreReader<MemFile>, StoreError> {
-    let file = FileSlice::new(MemFile::new(alloc, bytes)?);
-    match StoreReader::open(alloc, file, capacity) {
-        Ok(reader) => Ok(reader),
-        Err(refusal) => Err(refusal.error),
-    }
-}
-
 // The first byte of each document that was answered, 0 for an empty one, and each refusal's number.
 fn told(alloc: Global, answers: &[Answer]) -> Result<Vec<u32>, StoreError> {
     let mut told = Vec::new(alloc);
@@ -89,7 +76,8 @@ fn told(alloc: Global, answers: &[Answer]) -> Result<Vec<u32>, StoreError> {
 fn answers_are_the_same_at_every_capacity(rt: HostRuntime) -> Result<(), Fail> {
     let alloc = rt.alloc();
     for (capacity, hits) in [(0, 0), (1, 1), (100, 1)] {
-        let mut reader = cached(alloc, written(alloc, 0, &[b"a", b"b"])?, capacity)?;
+        let file = MemFile::new(alloc, written(alloc, 0, &[b"a", b"b"])?)?;
+        let mut reader = opened_with_cache(alloc, file, capacity)?;
         let calls = [
             ReadCall::Bytes(1),
             ReadCall::Iter {
