@@ -1,0 +1,7 @@
+//! Tests of mergers through the public calls: what no contract says of them.
+#![tactic(auto)]
+
+#[cfg(test)]
+mod merge_refusals;
+#[cfg(test)]
+mod merging;
