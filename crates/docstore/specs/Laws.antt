@@ -1,6 +1,6 @@
 -- What the formats promise.
-use Rattle.std.specs.Prelude.{◌≡◌, ℕ, ◌<◌, ◌≤◌, ◌^◌, List, [], ◌∷◌, ◌++◌, length, map}
-use Rattle.std.specs.List.{flat_map}
+use Rattle.std.specs.Prelude.{◌≡◌, ◌↔◌, ℕ, ◌+◌, ◌*◌, ◌<◌, ◌≤◌, ◌^◌, List, [], ◌∷◌, ◌++◌, length, map}
+use Rattle.std.specs.List.{flat_map, concat}
 use Rattle.docstore.specs.Block.{Slot, doc, block}
 use Rattle.docstore.specs.Slots.{slots}
 use Rattle.docstore.specs.Trace.{block_of}
@@ -20,6 +20,14 @@ StoresAreApart = (p q : ℕ) (bytes : List ℕ) (v w : ℕ) (bs cs : List StoreB
 -- The slots of a block that is made of documents are these documents.
 abbrev pub BlocksHoldDocuments : Type 0
 BlocksHoldDocuments = (docs : List (List ℕ)) → length (block docs) < 2 ^ 32 → slots (block_of docs ∷ []) ≡ map doc docs
+
+-- A block has the bytes of its documents, and four for each of them and for their number.
+abbrev pub BlocksHaveTheirLengths : Type 0
+BlocksHaveTheirLengths = (docs : List (List ℕ)) → length (block docs) ≡ length (concat docs) + 4 * length docs + 4
+
+-- So the block of one document, alone or behind an empty one, is short enough up to these lengths of the document.
+abbrev pub LongestDocuments : Type 0
+LongestDocuments = (doc : List ℕ) → ((length (block (doc ∷ [])) < 2 ^ 32) ↔ (length doc ≤ 4294967287)) × ((length (block ([] ∷ doc ∷ [])) < 2 ^ 32) ↔ (length doc ≤ 4294967283))
 
 -- what a writer has taken: the slots of its finished blocks, and then the pending documents
 abbrev pub taken : Writing → List Slot

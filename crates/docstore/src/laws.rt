@@ -4,7 +4,7 @@ ghost use Rattle.docstore.specs.LookLaws.{LooksAreRecent, LookUpsAreCounted, Wal
 ghost use Rattle.docstore.specs.Answers.{SlotsDecideAnswers};
 ghost use Rattle.docstore.specs.EndToEnd.{DocumentsHaveTheirIds, StoredDocumentsAreGot, WrittenListsAreFound};
 ghost use Rattle.docstore.specs.Run.{BlocksMeanTheirCalls};
-ghost use Rattle.docstore.specs.Laws.{FilesAreStores, StoresAreApart, BlocksHoldDocuments, WrittenDocumentsAreFound, DocumentsAreTakenInOrder, IdsAreGivenInOrder, FlushesKeepSlots, StoresAreStackedInOrder, StackedSlotsAreCounted, StackedFilesAreJoined, StackingIsAssociative, StackedAloneIsTheSame};
+ghost use Rattle.docstore.specs.Laws.{FilesAreStores, StoresAreApart, BlocksHoldDocuments, BlocksHaveTheirLengths, LongestDocuments, WrittenDocumentsAreFound, DocumentsAreTakenInOrder, IdsAreGivenInOrder, FlushesKeepSlots, StoresAreStackedInOrder, StackedSlotsAreCounted, StackedFilesAreJoined, StackingIsAssociative, StackedAloneIsTheSame};
 
 use store_base::StoredDocument;
 
@@ -21,6 +21,12 @@ pub fn stores_are_apart()
 /// The slots of a block that is made of documents are these documents.
 pub fn blocks_hold_documents()
     ensures { BlocksHoldDocuments }
+{}
+
+/// How long a block is, and which documents are too long for one.
+pub fn blocks_have_their_lengths()
+    ensures lengths { BlocksHaveTheirLengths }
+    ensures longest { LongestDocuments }
 {}
 
 /// Whatever store is found in the file of a close, its slots are what the writer had taken.
