@@ -5,6 +5,7 @@ ghost use Rattle.layered_index.specs.Checkpoint.{Follows};
 pub mod block;
 mod block_reading;
 mod fault;
+mod guide;
 pub mod layer_cursor;
 mod layers;
 pub mod looks;

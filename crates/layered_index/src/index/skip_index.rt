@@ -100,7 +100,7 @@ impl SkipIndex {
         ensures refused { IfErr result (RefusesOnlyUnless (HasIndex period source)) }
     {
         let (bottom, ends) = bottom_layer(alloc, &source, source.as_slice(), period as usize)?;
-        let tables = Tables::new(bottom.as_slice(), ends);
+        let tables = Tables::new(alloc, bottom.as_slice(), ends)?;
         Ok(SkipIndex {
             period,
             bottom,

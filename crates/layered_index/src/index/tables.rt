@@ -6,6 +6,7 @@ ghost use Rattle.layered_index.specs.LayerReading.{items};
 ghost use Rattle.layered_index.specs.Tables.{EndLists, no_ends, with_ends};
 
 use crate::index::Checkpoint;
+use crate::index::guide::Guide;
 use crate::index::layer_cursor::LayerCursor;
 use crate::index::looks::Looks;
 use std::alloc::Global;
@@ -86,15 +87,13 @@ impl Ends {
 }
 
 /// Where the first checkpoint begins, and where each ends. Both tables ascend, as the list is in line.
-///
-/// The pace is how many checkpoints there are to a document, in parts of 2^32. A seek guesses by it,
-/// and no answer depends on it.
+/// A seek begins where the guide says.
 #[derive(Drop)]
 pub(crate) struct Tables {
     doc: DocId,
     byte: usize,
     ends: Ends,
-    pace: u64,
+    guide: Guide,
 }
 
 impl Model for Tables {
@@ -120,14 +119,6 @@ fn start_of(layer: &[u8]) -> (DocId, usize)
     }
 }
 
-// How many checkpoints there are to a document, in parts of 2^32.
-fn pace_of(ends: &Ends) -> u64 {
-    let Some(last) = ends.docs.last() else {
-        return 0;
-    };
-    (ends.docs.len() as u64).saturating_mul(1 << 32) / (u64::from(*last) + 1)
-}
-
 // What is looked at next between two places: the probe if it lies there, and else the middle.
 fn next_look(low: usize, high: usize, probe: usize) -> usize
     requires { low < high }
@@ -143,19 +134,19 @@ fn next_look(low: usize, high: usize, probe: usize) -> usize
 
 impl Tables {
     /// Those of a layer whose checkpoints end there.
-    pub fn new(layer: &[u8], ends: Ends) -> Tables
+    pub fn new(alloc: Global, layer: &[u8], ends: Ends) -> Result<Tables, NoMemory>
         requires in_line { IsInLine (items 0 0 0 layer.now) }
         requires ends { ends ≡ with_ends no_ends (items 0 0 0 layer.now) }
-        ensures { result ≡ items 0 0 0 layer.now }
+        ensures { IfOk result (λ tables. tables ≡ items 0 0 0 layer.now) }
     {
         let (doc, byte) = start_of(layer);
-        let pace = pace_of(&ends);
-        Tables {
+        let guide = Guide::new(alloc, &ends.docs)?;
+        Ok(Tables {
             doc,
             byte,
             ends,
-            pace,
-        }
+            guide,
+        })
     }
 
     /// How many checkpoints there are.
@@ -191,27 +182,6 @@ impl Tables {
         self.ends.doc_end(i)
     }
 
-    // How many checkpoints so many documents have at the pace.
-    fn at_pace(&self, docs: DocId) -> usize {
-        (u64::from(docs).saturating_mul(self.pace) >> 32) as usize
-    }
-
-    // About where the target is: by the pace from the beginning, and by the pace from there.
-    fn guess(&self, target: DocId) -> usize {
-        let count = self.len();
-        if count == 0 {
-            return 0;
-        }
-        let near = self.at_pace(target).min(count - 1);
-        let doc_end = self.doc_end(near);
-        let off = self.at_pace(doc_end.abs_diff(target));
-        if doc_end > target {
-            near.saturating_sub(off)
-        } else {
-            near.saturating_add(off)
-        }
-    }
-
     // The index of the first checkpoint whose documents end past the target, or how many there are.
     //
     // It looks where the guess is, and from there on in growing steps until the target lies between
@@ -222,8 +192,8 @@ impl Tables {
     {
         let mut low = 0;
         let mut high = self.len();
-        let mut probe = self.guess(target);
-        let mut step: usize = 4;
+        let mut probe = self.guide.guess(target);
+        let mut step: usize = 2;
         while low < high {
             let look = next_look(low, high, probe);
             step = step.saturating_mul(2);

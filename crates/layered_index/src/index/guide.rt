@@ -1,0 +1,61 @@
+//! About where a list of checkpoints has a document.
+
+use std::alloc::Global;
+use store_base::{DocId, NoMemory};
+
+// How many checkpoints a stretch has, on the average.
+const STRETCH: usize = 64;
+
+/// The documents parted into equal stretches, and how many checkpoints end before each of them.
+///
+/// The pace is how many checkpoints there are to a document, in parts of 2^32; by it a stretch has
+/// 64 of them. A list of fewer has no stretches. All of it serves a guess, and no answer depends on it.
+#[derive(Drop)]
+pub(crate) struct Guide {
+    pace: u64,
+    starts: Vec<usize>,
+}
+
+// How many checkpoints there are to a document.
+fn pace_of(doc_ends: &[DocId]) -> u64 {
+    let Some(last) = doc_ends.last() else {
+        return 0;
+    };
+    (doc_ends.len() as u64).saturating_mul(1 << 32) / (u64::from(*last) + 1)
+}
+
+// How many checkpoints so many documents have at a pace.
+fn at_pace(pace: u64, docs: DocId) -> usize {
+    (u64::from(docs).saturating_mul(pace) >> 32) as usize
+}
+
+impl Guide {
+    /// That of checkpoints whose documents end there.
+    pub fn new(alloc: Global, doc_ends: &[DocId]) -> Result<Guide, NoMemory> {
+        let pace = pace_of(doc_ends);
+        let mut starts = Vec::new(alloc);
+        let stretches = doc_ends.len() / STRETCH;
+        if stretches > 0 {
+            starts.reserve_exact(stretches + 2)?;
+            for stretch in 0..stretches + 2 {
+                let first = stretch.saturating_mul(STRETCH);
+                starts.push(doc_ends.partition_point(|end| at_pace(pace, *end) < first))?;
+            }
+        }
+        Ok(Guide { pace, starts })
+    }
+
+    /// About how many checkpoints end before the document.
+    pub fn guess(&self, doc: DocId) -> usize {
+        let even = at_pace(self.pace, doc);
+        let stretch = even / STRETCH;
+        let Some(start) = self.starts.get(stretch) else {
+            return even;
+        };
+        let Some(end) = self.starts.get(stretch.saturating_add(1)) else {
+            return even;
+        };
+        let share = end.saturating_sub(*start).saturating_mul(even % STRETCH) / STRETCH;
+        start.saturating_add(share)
+    }
+}
