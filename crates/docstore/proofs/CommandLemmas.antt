@@ -1,5 +1,5 @@
 -- What a list of commands leaves.
-use Rattle.std.proofs.Common.{◌≡◌, ℕ, ◌+◌, ◌<◌, ◌≤◌, inl, List, [], ◌∷◌, ◌++◌, length, take, drop, get_or, set, Option, Some, None, Result, refl, sym, ◌∙◌, ap, subst, arith}
+use Rattle.std.proofs.Common.{◌≡◌, ℕ, ◌+◌, ◌<◌, ◌≤◌, inl, inr, List, [], ◌∷◌, ◌++◌, length, take, drop, get_or, set, Option, Some, None, Result, refl, sym, ◌∙◌, ap, subst, arith}
 use Rattle.std.proofs.lemmas.List.{take_more, drop-drop, get_or-drop, drop-set-lt}
 use Rattle.std.specs.Prelude.{IfSome}
 use Rattle.std.specs.List.{fold}
@@ -14,9 +14,9 @@ use Rattle.docstore.specs.declared.run.StoreCommand.TheVariants.{Doc, Bytes, Sta
 use Rattle.docstore.specs.StoreFile.{data_of}
 use Rattle.docstore.specs.Trace.{Step, effect}
 use Rattle.docstore.specs.BlockOutput.{BlockOutput, HasCause, AfterFailedClose, AfterClose, HoldsBlocks}
-use Rattle.docstore.specs.Writer.{Writing, AfterFailed, IsStoreWriter}
+use Rattle.docstore.specs.Writer.{Writing, AfterFailed, IsStoreWriter, blocks_of}
 use Rattle.docstore.specs.Run.{stage_of, IsStep, IsKept, IsCall, IsTrace, AreKept, AfterRun}
-use Rattle.docstore.proofs.RunSoFarLemmas.{IsRunSoFar, run_step}
+use Rattle.docstore.proofs.RunSoFarLemmas.{IsRunSoFar, run_step, run_closes}
 use Rattle.docstore.proofs.WriterLemmas.{cause_further}
 
 -- where a list of calls stands at its end
@@ -124,26 +124,41 @@ not_closed held failures w (Some first) cause risen content is le sound before w
     let same : HasCause cause failures w.output.failures held w.output.content = subst (λ (c : Cause). HasCause c failures w.output.failures held w.output.content) (sym h.0) was in
     subst (λ (n : ℕ). HasCause cause failures n held content) (sym h.2) (subst (λ (x : List ℕ). HasCause cause failures w.output.failures held x) (sym h.1) same)
 
-pub after_run : (held : List ℕ) (failures : ℕ) (w : Writing) (e : StoreError) (risen : ℕ) (content : List ℕ) → failures ≤ w.output.failures → IsStoreWriter w → (w.output.failure ≡ None → w.output.before ≡ held)
-    → HasFailedSince held failures w → AfterClose e w.output content risen → AfterRun held content failures risen e
-after_run held failures w Memory risen content le sound before was h =
-    let holds = sound.output.works h.0 in
-    (w.output.finished, holds.blocks, h.1 ∙ holds.written ∙ ap (λ (x : List ℕ). x ++ data_of w.output.finished) (before h.0))
-after_run held failures w (Failed cause) risen content le sound before was h = not_closed held failures w w.output.failure cause risen content refl le sound before was h
-after_run held failures w (ShortFile k) risen content le sound before was h = absurd h
-after_run held failures w (BadVersion k) risen content le sound before was h = absurd h
-after_run held failures w (BadBlockKind k) risen content le sound before was h = absurd h
-after_run held failures w BadOffset risen content le sound before was h = absurd h
-after_run held failures w BadIndex risen content le sound before was h = absurd h
-after_run held failures w (InvalidArgument k) risen content le sound before was h = absurd h
-after_run held failures w (DamagedDocument k) risen content le sound before was h = absurd h
-after_run held failures w BadDocument risen content le sound before was h = absurd h
-after_run held failures w Read risen content le sound before was h = absurd h
-after_run held failures w OldVersion risen content le sound before was h = absurd h
-after_run held failures w Unserializable risen content le sound before was h = absurd h
-after_run held failures w BlockTooLarge risen content le sound before was h = absurd h
-after_run held failures w TooManyDocs risen content le sound before was h = absurd h
-after_run held failures w (BadPeriod k) risen content le sound before was h = absurd h
+one_waits : (docs : List (List ℕ)) → length (blocks_of docs) ≤ 1
+one_waits [] = omega arith
+one_waits (d ∷ docs) = omega arith
+
+pub after_run : {D H : Type 0} (size period : ℕ) (doc_bytes : D → Option (List ℕ)) (commands left : List (StoreCommand D H)) (results : List (Result (Unit {0}) StoreError)) (held : List ℕ) (failures : ℕ) (w : Writing) (e : StoreError) (risen : ℕ) (content : List ℕ)
+    → failures ≤ w.output.failures → IsStoreWriter w → IsRun size period held doc_bytes commands left results w
+    → HasFailedSince held failures w → AfterClose e w.output content risen → AfterRun size doc_bytes commands left held content failures risen e
+after_run size period doc_bytes commands left results held failures w Memory risen content le sound run was h =
+    let made = run h.0 in
+    inr (record {
+      results = results;
+      trace = made.trace;
+      blocks = w.output.finished;
+      waiting = blocks_of w.pending;
+      calls = made.calls;
+      causes = made.causes;
+      cut = run_closes size period held made.trace w made.so_far;
+      one = one_waits w.pending;
+      output = h.1 ∙ (sound.output.works h.0).written ∙ ap (λ (x : List ℕ). x ++ data_of w.output.finished) made.so_far.before;
+    })
+after_run size period doc_bytes commands left results held failures w (Failed cause) risen content le sound run was h = not_closed held failures w w.output.failure cause risen content refl le sound (λ works. (run works).so_far.before) was h
+after_run size period doc_bytes commands left results held failures w (ShortFile k) risen content le sound run was h = absurd h
+after_run size period doc_bytes commands left results held failures w (BadVersion k) risen content le sound run was h = absurd h
+after_run size period doc_bytes commands left results held failures w (BadBlockKind k) risen content le sound run was h = absurd h
+after_run size period doc_bytes commands left results held failures w BadOffset risen content le sound run was h = absurd h
+after_run size period doc_bytes commands left results held failures w BadIndex risen content le sound run was h = absurd h
+after_run size period doc_bytes commands left results held failures w (InvalidArgument k) risen content le sound run was h = absurd h
+after_run size period doc_bytes commands left results held failures w (DamagedDocument k) risen content le sound run was h = absurd h
+after_run size period doc_bytes commands left results held failures w BadDocument risen content le sound run was h = absurd h
+after_run size period doc_bytes commands left results held failures w Read risen content le sound run was h = absurd h
+after_run size period doc_bytes commands left results held failures w OldVersion risen content le sound run was h = absurd h
+after_run size period doc_bytes commands left results held failures w Unserializable risen content le sound run was h = absurd h
+after_run size period doc_bytes commands left results held failures w BlockTooLarge risen content le sound run was h = absurd h
+after_run size period doc_bytes commands left results held failures w TooManyDocs risen content le sound run was h = absurd h
+after_run size period doc_bytes commands left results held failures w (BadPeriod k) risen content le sound run was h = absurd h
 
 -- ---- lists that are gone over
 

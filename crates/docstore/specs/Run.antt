@@ -1,5 +1,5 @@
 -- Whole lists of writing calls.
-use Rattle.std.specs.Prelude.{◌≡◌, ℕ, List, [], ◌∷◌, ◌++◌, Option, None, Result, Ok, Err, OnOk}
+use Rattle.std.specs.Prelude.{◌≡◌, ◌≤◌, ◌⊎◌, ℕ, List, [], ◌∷◌, ◌++◌, length, Option, None, Result, Ok, Err, OnOk}
 use Rattle.layered_index.specs.declared.error.StoreError.{StoreError}
 use Rattle.layered_index.specs.declared.error.StoreError.TheVariants.{Read, Memory, Failed}
 use Rattle.docstore.specs.declared.run.StoreCommand.{StoreCommand}
@@ -81,11 +81,23 @@ pub record IsWritten {D H : Type 0} (period size : ℕ) (doc_bytes : D → Optio
   pub slots_are : slots blocks ≡ meaning trace
   pub output : new ≡ old ++ file period 3 blocks
 
--- What a refused run leaves in the output. For want of memory whole blocks went out, or none.
-abbrev pub AfterRun : List ℕ → List ℕ → ℕ → ℕ → StoreError → Type 0
-AfterRun old new failures risen Memory = (bs : List StoreBlock) × AreBlocks bs × (new ≡ old ++ data_of bs)
-AfterRun old new failures risen (Failed cause) = HasCause cause failures risen old new
-AfterRun old new failures risen _ = ⊥
+-- The calls were made and memory was wanting for the file's end: behind what the output held are the finished blocks of theirs, and at most one block waited.
+pub record IsUnclosed {D H : Type 0} (size : ℕ) (doc_bytes : D → Option (List ℕ)) (commands left : List (StoreCommand D H)) (old new : List ℕ) : Type 0 where
+  pub results : List (Result (Unit {0}) StoreError)
+  pub trace : List Step
+  pub blocks : List StoreBlock
+  pub waiting : List StoreBlock
+  pub calls : IsTrace doc_bytes commands results trace
+  pub causes : HaveCauses size doc_bytes first_stage commands left results trace
+  pub cut : Blocks size trace (blocks ++ waiting)
+  pub one : length waiting ≤ 1
+  pub output : new ≡ old ++ data_of blocks
+
+-- What a refused run leaves. Where memory was wanting for the results, no call was made.
+abbrev pub AfterRun : {D H : Type 0} → ℕ → (D → Option (List ℕ)) → List (StoreCommand D H) → List (StoreCommand D H) → List ℕ → List ℕ → ℕ → ℕ → StoreError → Type 0
+AfterRun size doc_bytes commands left old new failures risen Memory = ((left ≡ commands) × (new ≡ old)) ⊎ IsUnclosed size doc_bytes commands left old new
+AfterRun size doc_bytes commands left old new failures risen (Failed cause) = HasCause cause failures risen old new
+AfterRun size doc_bytes commands left old new failures risen _ = ⊥
 
 -- The slots of the blocks that calls may leave are what the calls brought, whatever the block size.
 abbrev pub BlocksMeanTheirCalls : Type 0

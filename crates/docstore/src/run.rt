@@ -46,8 +46,8 @@ pub fn write_store<W: TerminatingWrite, D: Document, H: FileHandle>(
     ensures written { IfOk result (λ report. IsWritten CHECKPOINT_PERIOD block_size (λ d. D.doc_bytes d schema.now)
         commands.old commands.new report.results.items (W.content output) (W.content report.output)) }
     ensures terminated { IfOk result (λ report. W.terminated report.output ≡ true) }
-    ensures err { IfErr result (λ e. AfterRun (W.content output) (W.content e.output)
-        (W.failures output) (W.failures e.output) e.error) }
+    ensures err { IfErr result (λ e. AfterRun block_size (λ d. D.doc_bytes d schema.now) commands.old commands.new
+        (W.content output) (W.content e.output) (W.failures output) (W.failures e.output) e.error) }
 
     // Documents and bytes stay, and readers keep their stores.
     ensures kept { AreKept commands.old commands.new }
@@ -76,8 +76,8 @@ pub fn write_store_with_period<W: TerminatingWrite, D: Document, H: FileHandle>(
     ensures written { IfOk result (λ report. IsWritten period block_size (λ d. D.doc_bytes d schema.now)
         commands.old commands.new report.results.items (W.content output) (W.content report.output)) }
     ensures terminated { IfOk result (λ report. W.terminated report.output ≡ true) }
-    ensures err { IfErr result (λ e. AfterRun (W.content output) (W.content e.output)
-        (W.failures output) (W.failures e.output) e.error) }
+    ensures err { IfErr result (λ e. AfterRun block_size (λ d. D.doc_bytes d schema.now) commands.old commands.new
+        (W.content output) (W.content e.output) (W.failures output) (W.failures e.output) e.error) }
     ensures kept { AreKept commands.old commands.new }
 {
     let Ok(mut results) = Vec::with_capacity(alloc, commands.len()) else {

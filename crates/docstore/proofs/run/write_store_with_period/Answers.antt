@@ -1,4 +1,4 @@
-use Rattle.std.proofs.Common.{◌≡◌, ℕ, ◌+◌, List, [], ◌∷◌, ◌++◌, length, take, get_or, set, Result, Err, refl, sym, ◌∙◌, ap, subst, arith, length-append}
+use Rattle.std.proofs.Common.{◌≡◌, ℕ, ◌+◌, inl, List, [], ◌∷◌, ◌++◌, length, take, get_or, set, Result, Err, refl, sym, ◌∙◌, ap, subst, arith, length-append}
 use Rattle.std.specs.Prelude.{IfErr}
 use Rattle.std.proofs.lemmas.Grind.{common_steps}
 use Rattle.std.proofs.lemmas.List.{take_all, take_more_set, length-set}
@@ -70,17 +70,28 @@ loop-command-preserved g c =
       sound = c.make_call.ensures.sound;
     }
 
+pub returns-in_default-clause-err : goal.returns-in_default-clause-err
+returns-in_default-clause-err g c = inl (refl, refl)
+
 pub returns-in_err-output-clause-err : goal.returns-in_err-output-clause-err
 returns-in_err-output-clause-err g c =
+    let i = c.loop-command.command-index in
+    let olds : List (StoreCommand g.row.D.Denot g.row.H.Denot) = c.args.commands.now in
+    let commands : List (StoreCommand g.row.D.Denot g.row.H.Denot) = c.loop-command.commands in
+    let results = c.loop-command.results.items in
+    let doc_bytes = λ (d : g.row.D.Denot). g.D.Document.doc_bytes d c.args.schema.now in
     let held = g.W.TerminatingWrite.content c.args.output in
     let failures = g.W.TerminatingWrite.failures c.args.output in
     let writer = c.loop-command.writer in
     let e = c.in_err-output.field-0.0 in
     let given = err_from_is_err_and c.from_residual.result c.from_residual.ensures.1 in
-    let after : AfterRun held (g.W.TerminatingWrite.content e.output) failures (g.W.TerminatingWrite.failures e.output) e.error =
-    after_run held failures writer e.error (g.W.TerminatingWrite.failures e.output) (g.W.TerminatingWrite.content e.output)
-    c.loop-command.invariant.count c.loop-command.invariant.sound (λ works. (c.loop-command.invariant.run works).so_far.before) c.loop-command.invariant.failed c.in_err-output.ensures.err in
-    subst (λ r. IfErr r (λ e. AfterRun held (g.W.TerminatingWrite.content e.output) failures (g.W.TerminatingWrite.failures e.output) e.error)) (sym (given.1 ∙ ap Err given.2)) after
+    let run : IsRun c.args.block_size c.args.period held doc_bytes olds commands results writer =
+        subst (λ (cs : List (StoreCommand g.row.D.Denot g.row.H.Denot)). IsRun c.args.block_size c.args.period held doc_bytes cs commands results writer) (take_all i olds (omega arith))
+        (subst (λ (cs : List (StoreCommand g.row.D.Denot g.row.H.Denot)). IsRun c.args.block_size c.args.period held doc_bytes (take i olds) cs results writer) (take_all i commands (omega arith)) c.loop-command.invariant.run) in
+    let after : AfterRun c.args.block_size doc_bytes olds commands held (g.W.TerminatingWrite.content e.output) failures (g.W.TerminatingWrite.failures e.output) e.error =
+        after_run c.args.block_size c.args.period doc_bytes olds commands results held failures writer e.error (g.W.TerminatingWrite.failures e.output) (g.W.TerminatingWrite.content e.output)
+        c.loop-command.invariant.count c.loop-command.invariant.sound run c.loop-command.invariant.failed c.in_err-output.ensures.err in
+    subst (λ r. IfErr r (λ e. AfterRun c.args.block_size doc_bytes olds commands held (g.W.TerminatingWrite.content e.output) failures (g.W.TerminatingWrite.failures e.output) e.error)) (sym (given.1 ∙ ap Err given.2)) after
 
 pub returns-clause-written : goal.returns-clause-written
 returns-clause-written g c =
