@@ -35,7 +35,8 @@ pub struct WriteReport<W> {
 /// made.
 ///
 /// Where `close` is refused, so is the list; a call that is `Failed` comes to that. Room for the
-/// results is taken first.
+/// results is taken first: where there is none, no call is made. A list refused for want of memory
+/// later leaves the blocks of its calls in the output, but for the last one at most.
 pub fn write_store<W: TerminatingWrite, D: Document, H: FileHandle>(
     alloc: Global,
     output: W,

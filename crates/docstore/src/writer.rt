@@ -101,7 +101,7 @@ impl<W: TerminatingWrite> StoreWriter<W> {
         self.block_compressor.compressor()
     }
 
-    /// How many documents were taken.
+    /// How many documents were taken. Those that were pending when the writer failed aren't counted.
     pub fn num_docs(&self) -> u32
         ensures { result ≡ num_docs self.now }
     {

@@ -86,11 +86,11 @@ returns-in_err-output-clause-err g c =
     let e = c.in_err-output.field-0.0 in
     let given = err_from_is_err_and c.from_residual.result c.from_residual.ensures.1 in
     let run : IsRun c.args.block_size c.args.period held doc_bytes olds commands results writer =
-        subst (λ (cs : List (StoreCommand g.row.D.Denot g.row.H.Denot)). IsRun c.args.block_size c.args.period held doc_bytes cs commands results writer) (take_all i olds (omega arith))
-        (subst (λ (cs : List (StoreCommand g.row.D.Denot g.row.H.Denot)). IsRun c.args.block_size c.args.period held doc_bytes (take i olds) cs results writer) (take_all i commands (omega arith)) c.loop-command.invariant.run) in
+    subst (λ (cs : List (StoreCommand g.row.D.Denot g.row.H.Denot)). IsRun c.args.block_size c.args.period held doc_bytes cs commands results writer) (take_all i olds (omega arith))
+    (subst (λ (cs : List (StoreCommand g.row.D.Denot g.row.H.Denot)). IsRun c.args.block_size c.args.period held doc_bytes (take i olds) cs results writer) (take_all i commands (omega arith)) c.loop-command.invariant.run) in
     let after : AfterRun c.args.block_size doc_bytes olds commands held (g.W.TerminatingWrite.content e.output) failures (g.W.TerminatingWrite.failures e.output) e.error =
-        after_run c.args.block_size c.args.period doc_bytes olds commands results held failures writer e.error (g.W.TerminatingWrite.failures e.output) (g.W.TerminatingWrite.content e.output)
-        c.loop-command.invariant.count c.loop-command.invariant.sound run c.loop-command.invariant.failed c.in_err-output.ensures.err in
+    after_run c.args.block_size c.args.period doc_bytes olds commands results held failures writer e.error (g.W.TerminatingWrite.failures e.output) (g.W.TerminatingWrite.content e.output)
+    c.loop-command.invariant.count c.loop-command.invariant.sound run c.loop-command.invariant.failed c.in_err-output.ensures.err in
     subst (λ r. IfErr r (λ e. AfterRun c.args.block_size doc_bytes olds commands held (g.W.TerminatingWrite.content e.output) failures (g.W.TerminatingWrite.failures e.output) e.error)) (sym (given.1 ∙ ap Err given.2)) after
 
 pub returns-clause-written : goal.returns-clause-written
