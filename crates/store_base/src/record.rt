@@ -83,13 +83,17 @@ fn push_field(field: Field, bytes: &[u8], out: &mut Vec<u8>) -> Result<(), NoMem
 }
 
 // Appends the record's bytes. A refusal may leave a part of them.
-fn push_record(record: &RecordDocument, schema: &Schema, out: &mut Vec<u8>) -> Result<(), DocFault>
-    ensures ok { OnOk result (Appends (doc_bytes record.now schema.now) out.old.items out.new.items) }
-    ensures refused { IsErrOf result DocFault.Refused → doc_bytes record.now schema.now ≡ None }
+fn push_record(
+    document: &RecordDocument,
+    schema: &Schema,
+    out: &mut Vec<u8>,
+) -> Result<(), DocFault>
+    ensures ok { OnOk result (Appends (doc_bytes document.now schema.now) out.old.items out.new.items) }
+    ensures refused { IsErrOf result DocFault.Refused → doc_bytes document.now schema.now ≡ None }
     ensures kept { BeginsWith out.old.items out.new.items }
     ensures capacity { vec_capacity out.old ≤ vec_capacity out.new }
 {
-    let fields = record.fields();
+    let fields = document.fields();
     VInt(fields.len() as u64).serialize_into_vec(out)?;
     for (field, bytes) in fields {
         if !schema.has_field(*field) {
