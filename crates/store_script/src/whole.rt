@@ -20,6 +20,14 @@ fn answer_lines<W: Write>(alloc: Global, script: &[u8], output: &mut W) -> Resul
     Ok(())
 }
 
+// Keeps what is written until it is worth a call. Only memory can be wanting.
+fn buffered<W: Write + Drop>(alloc: Global, output: W) -> Result<BufWriter<W>, ToolFault> {
+    match BufWriter::new(alloc, output) {
+        Ok(output) => Ok(output),
+        Err(_) => Err(ToolFault::Memory),
+    }
+}
+
 /// Answers a script, line by line. The input is read to its end before anything is written.
 pub fn run<R: Read, W: Write + Drop>(
     alloc: Global,
@@ -27,7 +35,7 @@ pub fn run<R: Read, W: Write + Drop>(
     output: W,
 ) -> Result<(), ToolFault> {
     let script = read_whole(alloc, input)?;
-    let mut output = BufWriter::new(alloc, output)?;
+    let mut output = buffered(alloc, output)?;
     answer_lines(alloc, &script, &mut output)?;
     output.flush()?;
     Ok(())
@@ -48,7 +56,7 @@ pub fn dump<R: Read, W: Write + Drop>(
     output: W,
 ) -> Result<(), ToolFault> {
     let bytes = read_whole(alloc, input)?;
-    let mut output = BufWriter::new(alloc, output)?;
+    let mut output = buffered(alloc, output)?;
     dump_bytes(alloc, bytes, &mut output)?;
     output.flush()?;
     Ok(())
