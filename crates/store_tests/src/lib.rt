@@ -2,16 +2,10 @@
 #![tactic(auto)]
 
 #[cfg(test)]
-mod caching;
-#[cfg(test)]
 mod devices;
 #[cfg(test)]
 mod footers;
 #[cfg(test)]
-mod iterating;
-#[cfg(test)]
 mod questions;
 #[cfg(test)]
 mod raw_blocks;
-#[cfg(test)]
-mod stacking;
