@@ -11,7 +11,7 @@ use Rattle.layered_index.specs.declared.error.StoreError.{StoreError}
 use Rattle.layered_index.specs.declared.error.StoreError.TheVariants.{ShortFile, BadVersion, BadBlockKind, BadOffset, BadIndex, InvalidArgument, DamagedDocument, BadDocument, Read, Memory, OldVersion, Unserializable, BlockTooLarge, TooManyDocs, Failed, BadPeriod}
 use Rattle.docstore.specs.declared.run.StoreCommand.{StoreCommand}
 use Rattle.docstore.specs.declared.run.StoreCommand.TheVariants.{Doc, Bytes, Stack}
-use Rattle.docstore.specs.StoreFile.{data_of}
+use Rattle.store_reader.specs.StoreFile.{data_of}
 use Rattle.docstore.specs.Trace.{Step, effect}
 use Rattle.docstore.specs.BlockOutput.{BlockOutput, HasCause, AfterFailedClose, AfterClose, HoldsBlocks}
 use Rattle.docstore.specs.Writer.{Writing, AfterFailed, IsStoreWriter, blocks_of}

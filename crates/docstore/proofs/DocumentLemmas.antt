@@ -9,10 +9,10 @@ use Rattle.std.specs.Prelude.{slice_range}
 use Rattle.std.specs.Int.{w32, from_le_bytes}
 use Rattle.store_base.specs.Serialize.{fixed}
 use Rattle.store_base.specs.SerializeLemmas.{length-fixed}
-use Rattle.docstore.specs.Block.{starts_from, block, doc, damaged, u32_at, count_of, table_of, start_of, end_of, is_sound, slot}
+use Rattle.store_reader.specs.Block.{starts_from, block, doc, damaged, u32_at, count_of, table_of, start_of, end_of, is_sound, slot}
 use Rattle.docstore.specs.Laws.{BlocksHoldDocuments}
 use Rattle.docstore.proofs.PendingLemmas.{length-fixeds, length-starts_from, starts_from-append, concat-append, length-block}
-use Rattle.docstore.proofs.RefusedLemmas.{slice_between}
+use Rattle.store_reader.proofs.RefusedLemmas.{slice_between}
 
 -- ---- reading a number
 

@@ -2,13 +2,13 @@
 use Rattle.std.proofs.Common.{◌≡◌, ℕ, inl, inr, List, [], ◌∷◌, ◌++◌, map, refl, sym, ◌∙◌, ap, subst, append_assoc}
 use Rattle.std.proofs.lemmas.List.{append-nil, map-append}
 use Rattle.std.specs.List.{flat_map, AllByRecursion}
-use Rattle.docstore.specs.Block.{Slot, doc}
-use Rattle.docstore.specs.Slots.{slots}
-use Rattle.docstore.specs.StoreFile.{StoreBlock, IsStoreBlock}
+use Rattle.store_reader.specs.Block.{Slot, doc}
+use Rattle.store_reader.specs.Slots.{slots}
+use Rattle.store_reader.specs.StoreFile.{StoreBlock, IsStoreBlock}
 use Rattle.docstore.specs.Trace.{Step, Effect, adds, ends, may_end, no_effect, effect, slots_of, meaning, block_of, AreFlushed, AreJoined, BlocksBy, BlocksFrom}
 use Rattle.docstore.specs.Run.{BlocksMeanTheirCalls}
 use Rattle.docstore.proofs.DocumentLemmas.{blocks_hold_documents}
-use Rattle.docstore.proofs.StoreLemmas.{all-front}
+use Rattle.store_reader.proofs.StoreLemmas.{all-front}
 use Rattle.docstore.proofs.TakenLemmas.{slots-append}
 
 -- the slots of the blocks of some groups

@@ -1,18 +1,18 @@
 -- The output of a writer of blocks.
-use Rattle.std.proofs.Common.{◌≡◌, ℕ, ◌+◌, ◌-◌, ◌^◌, ◌<◌, ◌≤◌, List, [], ◌∷◌, ◌++◌, length, take, drop, replicate, Option, Some, None, refl, sym, ◌∙◌, ap, subst, arith, append_assoc, length-append, inr}
+use Rattle.std.proofs.Common.{◌≡◌, ℕ, ◌+◌, ◌-◌, ◌^◌, ◌<◌, ◌≤◌, List, [], ◌∷◌, ◌++◌, length, take, drop, Option, Some, None, refl, sym, ◌∙◌, ap, subst, arith, append_assoc, length-append}
 use Rattle.std.proofs.lemmas.List.{append-nil, drop-append-le, take-append-le, take-append-drop, length-drop}
 use Rattle.std.proofs.Math.ListN.{drop_of_length-le}
 use Rattle.std.specs.List.{AllByRecursion}
 use Rattle.layered_index.specs.declared.index.Checkpoint.{Checkpoint}
 use Rattle.layered_index.specs.declared.error.Cause.{Cause}
 use Rattle.layered_index.specs.Checkpoint.{IsInLineFrom, IsInLine}
-use Rattle.docstore.specs.StoreFile.{StoreBlock, IsStoreBlock, docs_in, AreBlocks, data_of, marks_from, marks, file, reserved_of, IsStore}
-use Rattle.docstore.specs.declared.compressors.Compressor.{Compressor}
-use Rattle.docstore.specs.declared.compressors.Compressor.TheVariants as packed
-use Rattle.docstore.specs.Footer.{footer, kind_of, unpacks}
+use Rattle.store_reader.specs.StoreFile.{StoreBlock, IsStoreBlock, docs_in, AreBlocks, data_of, marks_from, marks, file, reserved_of}
+use Rattle.store_reader.specs.declared.compressors.Compressor.{Compressor}
+use Rattle.store_reader.specs.declared.compressors.Compressor.TheVariants as packed
+use Rattle.store_reader.specs.Footer.{footer, kind_of, unpacks}
 use Rattle.layered_index.specs.Layers.{index_part}
 use Rattle.docstore.specs.BlockOutput.{BlockOutput, with_blocks, with_risen, IsSound, data_in, front_of, blocks_in, AreWritten, IsCompressing, compressing}
-use Rattle.docstore.proofs.StoreLemmas.{docs_in-cons, docs_in-append, data_of-append, data_fits, AreBlocks-append, marks_from-append, marks_in_line_from, marks_in_line, docs_in-blocks_at, blocks_from, blocks_none}
+use Rattle.store_reader.proofs.StoreLemmas.{docs_in-cons, docs_in-append, data_of-append, data_fits, AreBlocks-append, marks_from-append, marks_in_line_from, marks_in_line, docs_in-blocks_at, blocks_from, blocks_none}
 
 -- what is known once these blocks are written behind the others
 pub record AreAdded (period next_id : ℕ) (cs : List Checkpoint) (content : List ℕ) (written : ℕ) (bs : List StoreBlock) (bytes : List ℕ) (count : ℕ) : Type 0 where
@@ -147,12 +147,3 @@ closed_file compressor period next_id cs content written h =
     (λ i. (content_is i ++ index_part period (is.places i)) ++ footer 3 (len i) (kind_none compressor i) (reserved_of period 3))
     ∙ ap (λ (x : List ℕ). x ++ end) (append_assoc front (data_of bs) (index_part period (marks bs)))
     ∙ append_assoc front (data_of bs ++ index_part period (marks bs)) end
-
--- the file of a store is one
-pub file_is_store : (period : ℕ) (bs : List StoreBlock) → AreBlocks bs → 2 ≤ period → period ≤ 64 → IsStore period (file period 3 bs) 3 bs
-file_is_store period bs blocks least most = record {
-  blocks = blocks;
-  reserved = reserved_of period 3;
-  form = inr (refl, least, most, (replicate 14 0, refl, refl));
-  parts = refl;
-}

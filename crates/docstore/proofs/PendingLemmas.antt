@@ -8,7 +8,7 @@ use Rattle.std.specs.Prelude.{slice_range}
 use Rattle.std.specs.Result.{is_err}
 use Rattle.store_base.specs.Serialize.{fixed}
 use Rattle.store_base.specs.SerializeLemmas.{length-fixed}
-use Rattle.docstore.specs.Block.{starts_from, block}
+use Rattle.store_reader.specs.Block.{starts_from, block}
 use Rattle.docstore.specs.Trace.{weight}
 use Rattle.layered_index.specs.declared.error.StoreError.{StoreError}
 use Rattle.layered_index.specs.declared.error.StoreError.TheVariants.{Memory, BlockTooLarge}

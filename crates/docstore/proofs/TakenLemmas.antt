@@ -3,16 +3,16 @@ use Rattle.std.proofs.Common.{◌≡◌, ℕ, ◌^◌, ◌<◌, Bool, true, fals
 use Rattle.std.proofs.lemmas.List.{append-nil, map-append}
 use Rattle.std.proofs.lemmas.List.Concat.{flat_map-append}
 use Rattle.std.specs.List.{range_with_len, AllByRecursion}
-use Rattle.docstore.specs.Block.{Slot, doc, slot, block}
-use Rattle.docstore.specs.Slots.{slots}
-use Rattle.docstore.specs.StoreFile.{StoreBlock, IsStoreBlock, docs_in}
+use Rattle.store_reader.specs.Block.{Slot, doc, slot, block}
+use Rattle.store_reader.specs.Slots.{slots}
+use Rattle.store_reader.specs.StoreFile.{StoreBlock, IsStoreBlock, docs_in}
 use Rattle.docstore.specs.Trace.{weight, block_of}
 use Rattle.docstore.specs.Writer.{Writing, blocks_of, flushed}
 use Rattle.docstore.specs.Laws.{taken, file_of, WrittenDocumentsAreFound, DocumentsAreTakenInOrder, IdsAreGivenInOrder}
-use Rattle.docstore.proofs.ApartLemmas.{stores_are_apart}
+use Rattle.store_reader.proofs.ApartLemmas.{stores_are_apart}
 use Rattle.docstore.proofs.DocumentLemmas.{blocks_hold_documents}
-use Rattle.docstore.proofs.StoreLemmas.{docs_in-cons}
-use Rattle.docstore.proofs.StoreSlotLemmas.{range_len, map_len}
+use Rattle.store_reader.proofs.StoreLemmas.{docs_in-cons}
+use Rattle.store_reader.proofs.StoreSlotLemmas.{range_len, map_len}
 
 -- ---- flushing
 

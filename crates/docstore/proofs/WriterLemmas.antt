@@ -6,7 +6,7 @@ use Rattle.layered_index.specs.declared.error.Cause.TheVariants.{Write, Memory a
 use Rattle.layered_index.specs.declared.error.StoreError.{StoreError}
 use Rattle.layered_index.specs.declared.error.StoreError.TheVariants.{ShortFile, BadVersion, BadBlockKind, BadOffset, BadIndex, InvalidArgument, DamagedDocument, BadDocument, Read, Memory, OldVersion, Unserializable, BlockTooLarge, TooManyDocs, Failed, BadPeriod}
 use Rattle.layered_index.specs.Outcome.{behind_bytes}
-use Rattle.docstore.specs.StoreFile.{StoreBlock, data_of}
+use Rattle.store_reader.specs.StoreFile.{StoreBlock, data_of}
 use Rattle.docstore.specs.BlockOutput.{BlockOutput, with_blocks, with_risen, HasCause, AfterFailedClose, AfterClose}
 
 pub risen_further : (a b c : ℕ) → a ≤ b → HasRisen b c → HasRisen a c

@@ -1,15 +1,15 @@
 -- The finished blocks of a writer, and its output.
-use Rattle.std.specs.Prelude.{◌≡◌, ℕ, ◌-◌, ◌<◌, ◌≤◌, ◌^◌, ◌⊎◌, List, [], ◌∷◌, ◌++◌, length, take, drop, Option, Some, None}
+use Rattle.std.specs.Prelude.{◌≡◌, ℕ, ◌-◌, ◌<◌, ◌≤◌, ◌^◌, ◌⊎◌, List, ◌++◌, length, take, drop, Option, Some, None}
 use Rattle.std.specs.List.{sum_by}
 use Rattle.store_base.specs.Counts.{HasRisen}
-use Rattle.docstore.specs.declared.compressors.Compressor.{Compressor}
+use Rattle.store_reader.specs.declared.compressors.Compressor.{Compressor}
 use Rattle.layered_index.specs.declared.error.Cause.{Cause}
 use Rattle.layered_index.specs.declared.error.Cause.TheVariants.{Write, Memory as OutOfMemory}
 use Rattle.layered_index.specs.declared.error.StoreError.{StoreError}
 use Rattle.layered_index.specs.declared.error.StoreError.TheVariants.{Memory, Failed}
 use Rattle.layered_index.specs.declared.index.Checkpoint.{Checkpoint}
-use Rattle.layered_index.specs.Checkpoint.{doc_count, byte_len}
-use Rattle.docstore.specs.StoreFile.{StoreBlock, AreBlocks, docs_in, data_of, marks}
+use Rattle.layered_index.specs.Checkpoint.{doc_count}
+use Rattle.store_reader.specs.StoreFile.{StoreBlock, AreBlocks, docs_in, data_of, marks, blocks_at}
 
 -- How blocks are packed and the index is grouped; the finished blocks; why the writer has failed, if it has; what the output held when it was handed in, what it holds, and how often it failed.
 pub record BlockOutput : Type 0 where
@@ -84,11 +84,6 @@ abbrev pub IsEndRefusal : StoreError → List ℕ → List ℕ → ℕ → ℕ �
 IsEndRefusal e old new failures risen = ((e ≡ Memory) × (new ≡ old) × (risen ≡ failures)) ⊎ ((e ≡ Failed Write) × HasRisen failures risen)
 
 -- ---- how the blocks are told from the checkpoints and the output
-
--- the blocks that these checkpoints cut from the bytes
-unfoldable pub blocks_at : List Checkpoint → List ℕ → List StoreBlock
-blocks_at [] bytes = []
-blocks_at (c ∷ cs) bytes = record { count = doc_count c; bytes = take (byte_len c) bytes } ∷ blocks_at cs (drop (byte_len c) bytes)
 
 -- of what the output holds, the part that was written, and the part before it
 abbrev pub data_in : List ℕ → ℕ → List ℕ

@@ -3,11 +3,11 @@ use Rattle.std.specs.Prelude.{◌≡◌, ◌≢◌, ℕ, ◌+◌, ◌-◌, ◌<�
 use Rattle.store_base.specs.Counts.{HasRisen}
 use Rattle.layered_index.specs.declared.error.StoreError.{StoreError}
 use Rattle.layered_index.specs.declared.error.StoreError.TheVariants.{Read, Memory, OldVersion, Unserializable, BlockTooLarge, TooManyDocs}
-use Rattle.docstore.specs.declared.footer.DocStoreVersion.TheVariants.{V1}
+use Rattle.store_reader.specs.declared.footer.DocStoreVersion.TheVariants.{V1}
 use Rattle.docstore.specs.declared.run.StoreCommand.{StoreCommand}
 use Rattle.docstore.specs.declared.run.StoreCommand.TheVariants.{Doc, Bytes, Stack}
-use Rattle.docstore.specs.Block.{block}
-use Rattle.docstore.specs.Reading.{Reading, num_docs as docs_of}
+use Rattle.store_reader.specs.Block.{block}
+use Rattle.store_reader.specs.Reading.{Reading, num_docs as docs_of}
 use Rattle.docstore.specs.Trace.{Step, Effect, adds, ends, may_end, no_effect, effect, slots_of, weight}
 
 -- where a list of calls stands: how many documents were taken, and which wait for their block

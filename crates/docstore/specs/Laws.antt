@@ -1,21 +1,13 @@
 -- What the formats promise.
 use Rattle.std.specs.Prelude.{◌≡◌, ◌↔◌, ℕ, ◌+◌, ◌*◌, ◌<◌, ◌≤◌, ◌^◌, List, [], ◌∷◌, ◌++◌, length, map}
 use Rattle.std.specs.List.{flat_map, concat}
-use Rattle.docstore.specs.Block.{Slot, doc, block}
-use Rattle.docstore.specs.Slots.{slots}
+use Rattle.store_reader.specs.Block.{Slot, doc, block}
+use Rattle.store_reader.specs.Slots.{slots}
 use Rattle.docstore.specs.Trace.{block_of}
-use Rattle.docstore.specs.StoreFile.{StoreBlock, AreBlocks, file, reserved_of, IsStore}
-use Rattle.docstore.specs.Reading.{Reading, num_docs as docs_of}
+use Rattle.store_reader.specs.StoreFile.{StoreBlock, AreBlocks, file, reserved_of, IsStore}
+use Rattle.store_reader.specs.Reading.{Reading, num_docs as docs_of}
 use Rattle.docstore.specs.Stacking.{AreRead, with_store}
 use Rattle.docstore.specs.Writer.{Writing, num_docs, flushed, with_document}
-
--- The file that is written for blocks is a store of them.
-abbrev pub FilesAreStores : Type 0
-FilesAreStores = (period : ℕ) (bs : List StoreBlock) → 2 ≤ period → period ≤ 64 → AreBlocks bs → IsStore period (file period 3 bs) 3 bs
-
--- A file is a store of one version, one period and one list of blocks at most.
-abbrev pub StoresAreApart : Type 0
-StoresAreApart = (p q : ℕ) (bytes : List ℕ) (v w : ℕ) (bs cs : List StoreBlock) → IsStore p bytes v bs → IsStore q bytes w cs → (p ≡ q) × (v ≡ w) × (bs ≡ cs)
 
 -- The slots of a block that is made of documents are these documents.
 abbrev pub BlocksHoldDocuments : Type 0

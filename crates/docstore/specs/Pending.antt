@@ -5,7 +5,7 @@ use Rattle.store_base.specs.declared.fault.DocFault.{DocFault}
 use Rattle.store_base.specs.declared.fault.DocFault.TheVariants as fault
 use Rattle.layered_index.specs.declared.error.StoreError.{StoreError}
 use Rattle.layered_index.specs.declared.error.StoreError.TheVariants.{Memory, Unserializable, BlockTooLarge}
-use Rattle.docstore.specs.Block.{starts_from}
+use Rattle.store_reader.specs.Block.{starts_from}
 
 -- where a document ends: where the next one begins, or at the end
 abbrev pub first_or : List ℕ → ℕ → ℕ

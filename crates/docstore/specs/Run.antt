@@ -4,14 +4,14 @@ use Rattle.layered_index.specs.declared.error.StoreError.{StoreError}
 use Rattle.layered_index.specs.declared.error.StoreError.TheVariants.{Read, Memory, Failed}
 use Rattle.docstore.specs.declared.run.StoreCommand.{StoreCommand}
 use Rattle.docstore.specs.declared.run.StoreCommand.TheVariants.{Doc, Bytes, Stack}
-use Rattle.docstore.specs.StoreFile.{StoreBlock, AreBlocks, data_of, file, IsStore}
-use Rattle.docstore.specs.Slots.{slots}
+use Rattle.store_reader.specs.StoreFile.{StoreBlock, AreBlocks, data_of, file, IsStore}
+use Rattle.store_reader.specs.Slots.{slots}
 use Rattle.docstore.specs.BlockOutput.{HasCause}
 use Rattle.docstore.specs.Trace.{Step, Answer, accepted, read_failed, no_memory, refused, store, store_bytes, stack, Effect, adds, ends, may_end, no_effect, effect, meaning, Blocks}
 use Rattle.docstore.specs.Causes.{Stage, first_stage, CommandGets, HaveCauses}
 use Rattle.docstore.specs.Writer.{Writing, num_docs, flushed, with_document, with_failures}
-use Rattle.docstore.specs.Reading.{Reading}
-use Rattle.docstore.specs.Stacking.{AreRead, IsReadAtMostOnce, with_store}
+use Rattle.store_reader.specs.Reading.{Reading, IsReadAtMostOnce}
+use Rattle.docstore.specs.Stacking.{AreRead, with_store}
 
 -- what a trace says of a result
 abbrev pub answer_of : Result (Unit {0}) StoreError → Answer

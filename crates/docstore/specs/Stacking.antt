@@ -1,14 +1,13 @@
 -- Putting a store behind what a writer has.
-use Rattle.std.specs.Prelude.{◌≡◌, ◌≢◌, ℕ, ◌+◌, ◌≤◌, ◌^◌, ◌⊎◌, IsTrue, List, [], None}
+use Rattle.std.specs.Prelude.{◌≡◌, ◌≢◌, ℕ, ◌+◌, ◌≤◌, ◌^◌, IsTrue, List, [], None}
 use Rattle.store_base.specs.Counts.{HasRisen}
-use Rattle.store_base.specs.Files.{ReadsOnce}
 use Rattle.layered_index.specs.declared.error.StoreError.{StoreError}
 use Rattle.layered_index.specs.declared.error.StoreError.TheVariants.{Read, Memory, OldVersion, TooManyDocs, Failed}
-use Rattle.docstore.specs.declared.footer.DocStoreVersion.TheVariants.{V1}
+use Rattle.store_reader.specs.declared.footer.DocStoreVersion.TheVariants.{V1}
 use Rattle.layered_index.specs.declared.index.Checkpoint.{Checkpoint}
 use Rattle.layered_index.specs.Checkpoint.{checkpoint}
-use Rattle.docstore.specs.StoreFile.{StoreBlock, marks}
-use Rattle.docstore.specs.Reading.{Reading, num_docs as docs_of, with_file, store_of}
+use Rattle.store_reader.specs.StoreFile.{StoreBlock, marks}
+use Rattle.store_reader.specs.Reading.{Reading, num_docs as docs_of, store_of, IsReadOnce}
 use Rattle.docstore.specs.BlockOutput.{BlockOutput, with_blocks, AfterFailedBlock}
 use Rattle.docstore.specs.Writer.{Writing, num_docs, flushed, with_failures, AfterFailed}
 
@@ -16,15 +15,6 @@ use Rattle.docstore.specs.Writer.{Writing, num_docs, flushed, with_failures, Aft
 pub record AreRead (reader : Reading) (bs : List StoreBlock) : Type 0 where
   pub places : marks bs ≡ reader.checkpoints
   pub honest : IsTrue reader.file.honest → bs ≡ store_of reader
-
--- What one read of its data leaves of a reader: all but the counts of its file.
-pub record IsReadOnce (old new : Reading) : Type 0 where
-  pub once : ReadsOnce old.file new.file
-  pub others : new ≡ with_file old new.file
-
--- its data was read once, or not at all
-abbrev pub IsReadAtMostOnce : Reading → Reading → Type 0
-IsReadAtMostOnce old new = (new ≡ old) ⊎ IsReadOnce old new
 
 -- a checkpoint so many documents and bytes further on
 abbrev pub shifted : ℕ → ℕ → Checkpoint → Checkpoint

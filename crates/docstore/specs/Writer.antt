@@ -3,8 +3,8 @@ use Rattle.std.specs.Prelude.{◌≡◌, ℕ, ◌+◌, ◌-◌, ◌<◌, ◌≤�
 use Rattle.layered_index.specs.declared.error.Cause.{Cause}
 use Rattle.layered_index.specs.declared.error.StoreError.{StoreError}
 use Rattle.layered_index.specs.declared.error.StoreError.TheVariants.{Memory, Unserializable, BlockTooLarge, TooManyDocs, Failed}
-use Rattle.docstore.specs.Block.{block}
-use Rattle.docstore.specs.StoreFile.{StoreBlock, docs_in}
+use Rattle.store_reader.specs.Block.{block}
+use Rattle.store_reader.specs.StoreFile.{StoreBlock, docs_in}
 use Rattle.docstore.specs.Trace.{weight, block_of}
 use Rattle.docstore.specs.BlockOutput.{BlockOutput, with_blocks, IsSound, FailsFor}
 

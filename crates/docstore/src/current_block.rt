@@ -4,9 +4,9 @@ ghost use Rattle.std.specs.Prelude.{◌≡◌, ◌+◌, ◌*◌, ◌<◌, ◌≤
 ghost use Rattle.std.specs.List.{flat_map, concat};
 ghost use Rattle.store_base.specs.Documents.{BeginsWith};
 ghost use Rattle.store_base.specs.Serialize.{fixed};
-ghost use Rattle.docstore.specs.Block.{block};
+ghost use Rattle.store_reader.specs.Block.{block};
 ghost use Rattle.docstore.specs.Pending.{refusal_to_write, IsDocumentRefusal};
-ghost use Rattle.docstore.specs.StoreFile.{docs_in};
+ghost use Rattle.store_reader.specs.StoreFile.{docs_in};
 ghost use Rattle.docstore.specs.Trace.{weight, block_of};
 ghost use Rattle.docstore.specs.BlockOutput.{with_blocks, with_risen, IsSound, FailsFor};
 

@@ -1,22 +1,12 @@
-//! Laws of the formats.
-ghost use Rattle.docstore.specs.CacheSums.{StatsAreAdded};
-ghost use Rattle.docstore.specs.LookLaws.{LooksAreRecent, LookUpsAreCounted, WalksLookUp};
-ghost use Rattle.docstore.specs.Answers.{SlotsDecideAnswers};
-ghost use Rattle.docstore.specs.EndToEnd.{DocumentsHaveTheirIds, StoredDocumentsAreGot, WrittenListsAreFound};
+//! Laws of the formats, of stackings and of whole lists.
+ghost use Rattle.docstore.specs.EndToEnd.{DocumentsHaveTheirIds, WrittenListsAreFound};
 ghost use Rattle.docstore.specs.Run.{BlocksMeanTheirCalls};
-ghost use Rattle.docstore.specs.Laws.{FilesAreStores, StoresAreApart, BlocksHoldDocuments, BlocksHaveTheirLengths, LongestDocuments, WrittenDocumentsAreFound, DocumentsAreTakenInOrder, IdsAreGivenInOrder, FlushesKeepSlots, StoresAreStackedInOrder, StackedSlotsAreCounted, StackedFilesAreJoined, StackingIsAssociative, StackedAloneIsTheSame};
+ghost use Rattle.docstore.specs.Laws.{BlocksHoldDocuments, BlocksHaveTheirLengths, LongestDocuments, WrittenDocumentsAreFound, DocumentsAreTakenInOrder, IdsAreGivenInOrder, FlushesKeepSlots, StoresAreStackedInOrder, StackedSlotsAreCounted, StackedFilesAreJoined, StackingIsAssociative, StackedAloneIsTheSame};
 
-use store_base::StoredDocument;
-
-/// The file that is written for blocks is a store of them.
-pub fn files_are_stores()
-    ensures { FilesAreStores }
-{}
-
-/// A file is a store of one version, one period and one list of blocks at most.
-pub fn stores_are_apart()
-    ensures { StoresAreApart }
-{}
+pub use store_reader::laws::{
+    files_are_stores, look_ups_are_counted, looks_are_recent, slots_decide_answers,
+    stats_are_added, stored_documents_are_got, stores_are_apart, walks_look_up,
+};
 
 /// The slots of a block that is made of documents are these documents.
 pub fn blocks_hold_documents()
@@ -69,30 +59,9 @@ pub fn stacking_is_associative()
     ensures { StackingIsAssociative }
 {}
 
-/// What two caches did adds to the same in either order, and what three did in either grouping.
-pub fn stats_are_added()
-    ensures { StatsAreAdded }
-{}
-
 /// A store that is stacked alone is written as the file that it was read from, at one period.
 pub fn stacked_alone_is_the_same()
     ensures { StackedAloneIsTheSame }
-{}
-
-/// Blocks that are looked up one after the other take the cache through the definition's steps, and the file is read once for
-/// each that isn't kept.
-pub fn looks_are_recent()
-    ensures { LooksAreRecent }
-{}
-
-/// An iteration has looked up the blocks that the definition says for the number of its items.
-pub fn walks_look_up()
-    ensures { WalksLookUp }
-{}
-
-/// Hits and misses together are the number of look-ups, while both are below their greatest value.
-pub fn look_ups_are_counted()
-    ensures { LookUpsAreCounted }
 {}
 
 /// The slots of the blocks that calls may leave are what the calls brought, whatever the block size.
@@ -109,16 +78,4 @@ pub fn written_lists_are_found()
 /// The document that a call brought has the id that was next, whatever was called before and after.
 pub fn documents_have_their_ids()
     ensures { DocumentsHaveTheirIds }
-{}
-
-/// Where the slot of an id has the bytes of a document, `StoreReader::get` gives its stored form, 9 and 10 aside. Documents of
-/// the versions 2 and 3 are read as version 2.
-pub fn stored_documents_are_got<D: StoredDocument>()
-    ensures { StoredDocumentsAreGot D.doc_bytes (D.reading 2) D.stored }
-{}
-
-/// The slots decide what a list of reading calls answers where no read failed and memory was found: neither the cache nor its
-/// capacity, nor what was called before.
-pub fn slots_decide_answers()
-    ensures { SlotsDecideAnswers }
 {}

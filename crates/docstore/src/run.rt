@@ -4,14 +4,12 @@ ghost use Rattle.std.specs.Prelude.{◌≡◌, ◌≤◌, None, true, IfSome, If
 ghost use Rattle.docstore.specs.Run.{IsCall, IsKept, AreKept, IsWritten, AfterRun};
 ghost use Rattle.docstore.specs.Writer.{IsStoreWriter, AfterFailed};
 
-pub use crate::answers::{Answer, ReadCall, answer_all};
 use crate::close_error::CloseError;
-use crate::compressors::Compressor;
-use crate::reader::StoreReader;
 use crate::writer::StoreWriter;
 use layered_index::{CHECKPOINT_PERIOD, StoreError};
 use std::alloc::Global;
 use store_base::{Document, FileHandle, Schema, TerminatingWrite};
+use store_reader::{Compressor, StoreReader};
 
 /// A call of a writer.
 #[derive(Drop)]

@@ -3,23 +3,23 @@
 ghost use Rattle.std.specs.Prelude.{◌≡◌, ◌≢◌, ◌+◌, ◌<◌, ◌≤◌, ◌^◌, List, [], ◌∷◌, ◌++◌, length, map, true, None, OnOk, OnErr, IfOk, IfErr, IfSome, IsErrOf};
 ghost use Rattle.std.specs.List.{sum_by};
 ghost use Rattle.layered_index.specs.Checkpoint.{doc_count, docs_end, IsInLineFrom, Covers};
-ghost use Rattle.docstore.specs.Footer.{footer, kind_of, unpacks};
+ghost use Rattle.store_reader.specs.Footer.{footer, kind_of, unpacks};
 ghost use Rattle.layered_index.specs.Layers.{index_part};
-ghost use Rattle.docstore.specs.StoreFile.{StoreBlock, docs_in, file, reserved_of, IsStore};
-ghost use Rattle.docstore.specs.BlockOutput.{with_blocks, with_risen, blocks_at, IsSound, FailsFor, AfterBlock, AfterClose, IsEndRefusal};
-ghost use Rattle.docstore.specs.Reading.{num_docs as docs_of};
-ghost use Rattle.docstore.specs.Stacking.{AreRead, IsReadOnce, shifted, AfterStacking};
+ghost use Rattle.store_reader.specs.StoreFile.{StoreBlock, docs_in, file, reserved_of, IsStore, blocks_at};
+ghost use Rattle.docstore.specs.BlockOutput.{with_blocks, with_risen, IsSound, FailsFor, AfterBlock, AfterClose, IsEndRefusal};
+ghost use Rattle.store_reader.specs.Reading.{num_docs as docs_of, IsReadOnce};
+ghost use Rattle.docstore.specs.Stacking.{AreRead, shifted, AfterStacking};
 
 use crate::close_error::CloseError;
-use crate::compressors::{Compressor, Decompressor};
-use crate::footer::{DOC_STORE_VERSION, DocStoreFooter, DocStoreVersion};
-use crate::reader::StoreReader;
 use layered_index::{
     CHECKPOINT_PERIOD, Cause, Checkpoint, LayerCursor, SkipIndexBuilder, StoreError,
 };
 use std::alloc::Global;
 use std::marker::Model;
 use store_base::{BinarySerializable, CountingWriter, FileHandle, TerminatingWrite};
+use store_reader::{
+    Compressor, DOC_STORE_VERSION, Decompressor, DocStoreFooter, DocStoreVersion, StoreReader,
+};
 
 /// Writes the blocks of a store to an output.
 #[derive(Drop)]
@@ -195,7 +195,7 @@ impl<W: TerminatingWrite> BlockCompressor<W> {
         if let Some(cause) = self.failure {
             return Err(StoreError::from(cause));
         }
-        let data = reader.read_data(self.alloc)?;
+        let data = reader.block_data(self.alloc)?;
         self.write_blocks(data.as_slice(), reader.block_checkpoints())?;
         Ok(())
     }

@@ -2,22 +2,21 @@
 
 ghost use Rattle.std.specs.Prelude.{◌≡◌, ◌+◌, ◌-◌, ◌*◌, ◌<◌, ◌≤◌, ◌↔◌, ◌^◌, ◌⊎◌, List, [], ◌++◌, length, true, None, is_some, OnOk, IfOk, IfErr, IfSome, IsErrOf, MatchResult};
 ghost use Rattle.std.specs.List.{concat};
-ghost use Rattle.docstore.specs.StoreFile.{StoreBlock, docs_in, file, IsStore};
+ghost use Rattle.store_reader.specs.StoreFile.{StoreBlock, docs_in, file, IsStore};
 ghost use Rattle.docstore.specs.Trace.{weight};
 ghost use Rattle.docstore.specs.BlockOutput.{with_blocks, with_risen, IsSound, FailsFor, AfterClose};
 ghost use Rattle.docstore.specs.Writer.{num_docs, blocks_of, flushed, flushed_if_full, with_document, with_failures, HasIdLeft, HasNoIdLeft, IsTooLarge, HasTooMuch, IsStoreWriter, Takes, AfterRefusal, AfterDocument};
-ghost use Rattle.docstore.specs.Stacking.{AreRead, IsReadOnce, IsReadAtMostOnce, with_store, IsOld, HasTooMany, AfterStack};
+ghost use Rattle.store_reader.specs.Reading.{IsReadOnce, IsReadAtMostOnce};
+ghost use Rattle.docstore.specs.Stacking.{AreRead, with_store, IsOld, HasTooMany, AfterStack};
 
 use crate::close_error::CloseError;
-use crate::compressors::Compressor;
 use crate::current_block::CurrentBlock;
-use crate::footer::DocStoreVersion;
-use crate::reader::StoreReader;
 use crate::store_compressor::BlockCompressor;
 use layered_index::{CHECKPOINT_PERIOD, Cause, StoreError};
 use std::alloc::Global;
 use std::marker::Model;
 use store_base::{Document, FileHandle, Schema, TerminatingWrite};
+use store_reader::{Compressor, DocStoreVersion, StoreReader};
 
 /// Writes a store. Blocks go out while documents are added; the index stays in memory until `close`.
 #[derive(Drop)]

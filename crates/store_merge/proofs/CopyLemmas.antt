@@ -12,16 +12,16 @@ use Rattle.layered_index.specs.Checkpoint.{docs_end}
 use Rattle.layered_index.specs.declared.error.StoreError.{StoreError}
 use Rattle.layered_index.specs.declared.error.StoreError.TheVariants.{Read, Memory, DamagedDocument}
 use Rattle.layered_index.specs.declared.index.Checkpoint.{Checkpoint}
-use Rattle.docstore.specs.Answering.{AnswersFrom, AnswersTruly}
-use Rattle.docstore.specs.Block.{Slot, doc, damaged}
-use Rattle.docstore.specs.BlockOutput.{blocks_at}
-use Rattle.docstore.specs.declared.walk.Walk.{Walk}
-use Rattle.docstore.specs.Iteration.{is_in, alive}
-use Rattle.docstore.specs.LookingUp.{LooksUp, Takes}
-use Rattle.docstore.specs.Reading.{Reading, IsSameStore, num_docs, store_of}
-use Rattle.docstore.specs.Slots.{slots}
+use Rattle.store_reader.specs.Answering.{AnswersFrom, AnswersTruly}
+use Rattle.store_reader.specs.StoreFile.{blocks_at}
+use Rattle.store_reader.specs.Block.{Slot, doc, damaged}
+use Rattle.store_reader.specs.declared.walk.Walk.{Walk}
+use Rattle.store_reader.specs.Iteration.{is_in, alive}
+use Rattle.store_reader.specs.LookingUp.{LooksUp, Takes}
+use Rattle.store_reader.specs.Reading.{Reading, IsSameStore, num_docs, store_of}
+use Rattle.store_reader.specs.Slots.{slots}
 use Rattle.docstore.specs.Trace.{weight}
-use Rattle.docstore.specs.Walking.{GivesNext, IsTaken as IsBlockTaken, IsWalk, LooksAlong}
+use Rattle.store_reader.specs.Walking.{GivesNext, IsTaken as IsBlockTaken, IsWalk, LooksAlong}
 use Rattle.docstore.specs.Writer.{Writing, flushed, with_document, with_failures}
 use Rattle.docstore.specs.Laws.{taken}
 use Rattle.store_merge.specs.Bringing.{IsCopied, with_documents}

@@ -6,9 +6,9 @@ use Rattle.std.specs.Prelude.{IfSome, slice_get}
 use Rattle.std.specs.List.{AllByRecursion}
 use Rattle.layered_index.specs.declared.error.StoreError.{StoreError}
 use Rattle.layered_index.specs.declared.error.StoreError.TheVariants.{ShortFile, BadVersion, BadBlockKind, BadOffset, BadIndex, InvalidArgument, DamagedDocument, BadDocument, Read, Memory, OldVersion, Unserializable, BlockTooLarge, TooManyDocs, Failed, BadPeriod}
-use Rattle.docstore.specs.Block.{Slot}
+use Rattle.store_reader.specs.Block.{Slot}
 use Rattle.docstore.specs.Laws.{taken, StackedSlotsAreCounted}
-use Rattle.docstore.specs.Reading.{Reading}
+use Rattle.store_reader.specs.Reading.{Reading}
 use Rattle.docstore.specs.Writer.{Writing}
 use Rattle.store_merge.specs.declared.input.MergeInput.{MergeInput}
 use Rattle.store_merge.specs.declared.merge_error.MergeError.{MergeError}

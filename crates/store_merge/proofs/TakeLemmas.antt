@@ -6,12 +6,12 @@ use Rattle.std.proofs.lemmas.List.{take-append-drop}
 use Rattle.layered_index.specs.declared.error.Cause.{Cause}
 use Rattle.layered_index.specs.declared.error.StoreError.{StoreError}
 use Rattle.layered_index.specs.declared.error.StoreError.TheVariants.{ShortFile, BadVersion, BadBlockKind, BadOffset, BadIndex, InvalidArgument, DamagedDocument, BadDocument, Read, Memory, OldVersion, Unserializable, BlockTooLarge, TooManyDocs, Failed, BadPeriod}
-use Rattle.docstore.specs.Block.{Slot, doc}
-use Rattle.docstore.specs.Iteration.{alive}
+use Rattle.store_reader.specs.Block.{Slot, doc}
+use Rattle.store_reader.specs.Iteration.{alive}
 use Rattle.docstore.specs.Laws.{taken}
-use Rattle.docstore.specs.Reading.{Reading, store_of}
-use Rattle.docstore.specs.Slots.{slots}
-use Rattle.docstore.specs.Walking.{set_of as set_of_lent}
+use Rattle.store_reader.specs.Reading.{Reading, store_of}
+use Rattle.store_reader.specs.Slots.{slots}
+use Rattle.store_reader.specs.Walking.{set_of as set_of_lent}
 use Rattle.docstore.specs.Writer.{Writing, AfterFailed}
 use Rattle.store_merge.specs.declared.input.MergeInput.{MergeInput}
 use Rattle.store_merge.specs.Bringing.{stacked, copied, IsCopied}

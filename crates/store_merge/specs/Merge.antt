@@ -4,7 +4,7 @@ use Rattle.std.specs.List.{flat_map}
 use Rattle.layered_index.specs.declared.error.Cause.{Cause}
 use Rattle.layered_index.specs.declared.error.StoreError.{StoreError}
 use Rattle.layered_index.specs.declared.error.StoreError.TheVariants.{Failed}
-use Rattle.docstore.specs.Block.{Slot}
+use Rattle.store_reader.specs.Block.{Slot}
 use Rattle.docstore.specs.Laws.{taken}
 use Rattle.docstore.specs.Writer.{Writing, with_failures}
 use Rattle.store_merge.specs.declared.input.MergeInput.{MergeInput}

@@ -3,11 +3,11 @@ use Rattle.std.specs.Prelude.{◌≡◌, ◌⊎◌, ℕ, ◌-◌, ◌<◌, ◌�
 use Rattle.store_base.specs.Counts.{HasRisen}
 use Rattle.layered_index.specs.declared.error.StoreError.{StoreError}
 use Rattle.layered_index.specs.declared.error.StoreError.TheVariants.{DamagedDocument, Read, Memory, BlockTooLarge, TooManyDocs, Failed}
-use Rattle.docstore.specs.Block.{Slot, doc, damaged}
-use Rattle.docstore.specs.Iteration.{is_in, alive}
+use Rattle.store_reader.specs.Block.{Slot, doc, damaged}
+use Rattle.store_reader.specs.Iteration.{is_in, alive}
 use Rattle.docstore.specs.Laws.{taken}
-use Rattle.docstore.specs.Reading.{Reading, num_docs as docs_of, store_of}
-use Rattle.docstore.specs.Slots.{slots}
+use Rattle.store_reader.specs.Reading.{Reading, num_docs as docs_of, store_of}
+use Rattle.store_reader.specs.Slots.{slots}
 use Rattle.docstore.specs.Stacking.{HasTooMany, IsFlushed}
 use Rattle.docstore.specs.Writer.{Writing, num_docs, IsTooLarge, AfterFailed}
 use Rattle.store_merge.specs.declared.input.MergeInput.{MergeInput}

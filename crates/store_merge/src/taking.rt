@@ -1,7 +1,7 @@
 //! Takes one input of a merge.
 ghost use Rattle.std.specs.Prelude.{◌≡◌, ◌≢◌, ◌≤◌, OnOk, IfErr};
 ghost use Rattle.docstore.specs.Laws.{taken};
-ghost use Rattle.docstore.specs.Reading.{IsSameStore};
+ghost use Rattle.store_reader.specs.Reading.{IsSameStore};
 ghost use Rattle.docstore.specs.Writer.{IsStoreWriter};
 ghost use Rattle.store_merge.specs.Inputs.{CanBeTaken, IsInputKept, IsInputTaken, IsStacked};
 ghost use Rattle.store_merge.specs.Refusals.{RefusesInput, RefusesStore, HasGrown};

@@ -1,7 +1,7 @@
 -- Both follow from the length of a block.
 use Rattle.std.specs.Prelude.{◌≡◌, ℕ, ◌+◌, List, [], ◌∷◌, length}
 use Rattle.std.proofs.Common.{arith, length-append}
-use Rattle.docstore.specs.Block.{block}
+use Rattle.store_reader.specs.Block.{block}
 use Rattle.docstore.proofs.PendingLemmas.{length-block}
 use Rattle.docstore.proofs.laws.blocks_have_their_lengths.Goals as goal
 

@@ -7,7 +7,7 @@ use Rattle.layered_index.specs.declared.error.StoreError.{StoreError}
 use Rattle.docstore.specs.declared.run.StoreCommand.{StoreCommand}
 use Rattle.docstore.specs.Causes.{first_stage, HaveCauses}
 use Rattle.docstore.specs.Run.{AreKept, IsTrace, AfterRun}
-use Rattle.docstore.specs.StoreFile.{docs_in, file, IsStore}
+use Rattle.store_reader.specs.StoreFile.{docs_in, file, IsStore}
 use Rattle.docstore.specs.Trace.{Blocks}
 use Rattle.docstore.specs.Writer.{flushed}
 use Rattle.docstore.proofs.CommandLemmas.{IsRun, none_failed, run_by_more, all_kept, kept_more, failed_more, after_run, front_more, rest_more}

@@ -1,7 +1,7 @@
 use Rattle.std.proofs.Common.{◌≡◌, Bool, true, Bor, Option, List, [], ◌∷◌, refl, sym, subst}
 use Rattle.std.specs.List.{list_all, range_with_len}
-use Rattle.docstore.specs.Iteration.{is_in}
-use Rattle.docstore.specs.Walking.{set_of}
+use Rattle.store_reader.specs.Iteration.{is_in}
+use Rattle.store_reader.specs.Walking.{set_of}
 use Rattle.store_merge.proofs.choosing.are_all_alive.Goals as goal
 
 each_passes : {X : Type 0} (xs : List X) → list_all (λ _. true) xs ≡ true

@@ -1,8 +1,8 @@
 use Rattle.std.proofs.Common.{◌≡◌, ℕ, Bool, Bor, Option, Some, None, Err, List, refl, sym, ◌∙◌, ap, subst, arith, rules}
 use Rattle.std.specs.Prelude.{IfErr}
 use Rattle.std.proofs.lemmas.Result.{err_from_is_err_and}
-use Rattle.docstore.specs.Reading.{Reading, IsSameStore}
-use Rattle.docstore.specs.Walking.{set_of, set_in, GivesNext}
+use Rattle.store_reader.specs.Reading.{Reading, IsSameStore}
+use Rattle.store_reader.specs.Walking.{set_of, set_in, GivesNext}
 use Rattle.store_merge.specs.Refusals.{StopsAt}
 use Rattle.store_merge.proofs.CopyLemmas.{IsBegun, begins, copied_next, below_next, failed_next, copied_all, stops, same_on}
 use Rattle.store_merge.proofs.copying.copy_documents.Goals as goal

@@ -1,8 +1,8 @@
 use Rattle.std.proofs.Common.{◌≡◌, ◌≤◌, length, take}
-use Rattle.docstore.specs.Iteration.{alive}
-use Rattle.docstore.specs.Reading.{IsSameStore, store_of}
-use Rattle.docstore.specs.Slots.{slots}
-use Rattle.docstore.specs.Walking.{set_of, set_in}
+use Rattle.store_reader.specs.Iteration.{alive}
+use Rattle.store_reader.specs.Reading.{IsSameStore, store_of}
+use Rattle.store_reader.specs.Slots.{slots}
+use Rattle.store_reader.specs.Walking.{set_of, set_in}
 use Rattle.docstore.specs.Writer.{IsStoreWriter}
 use Rattle.store_merge.specs.Bringing.{IsCopied}
 use Rattle.store_merge.proofs.CopyLemmas.{HasFailedRead}

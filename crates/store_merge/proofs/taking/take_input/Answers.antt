@@ -1,5 +1,5 @@
 use Rattle.std.proofs.Common.{◌≡◌, sym}
-use Rattle.docstore.specs.Walking.{set_of as set_of_lent}
+use Rattle.store_reader.specs.Walking.{set_of as set_of_lent}
 use Rattle.store_merge.specs.Bringing.{IsCopied}
 use Rattle.store_merge.specs.Choice.{alive_of}
 use Rattle.store_merge.specs.Inputs.{IsStacked, IsInputTaken}

@@ -1,6 +1,6 @@
 use Rattle.std.proofs.Common.{ℕ, List, [], ◌∷◌, ◌++◌, length, ap, arith}
 use Rattle.std.proofs.lemmas.Grind.{common_steps}
-use Rattle.docstore.specs.Block.{block}
+use Rattle.store_reader.specs.Block.{block}
 use Rattle.docstore.proofs.PendingLemmas.{length-block-pushed}
 use Rattle.docstore.proofs.current_block.CurrentBlock.has_room.Goals as goal
 

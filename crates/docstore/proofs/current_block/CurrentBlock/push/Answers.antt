@@ -1,7 +1,7 @@
 use Rattle.std.proofs.Common.{◌≡◌, ℕ, ◌+◌, ◌*◌, ◌^◌, ◌<◌, ◌≤◌, List, [], ◌∷◌, ◌++◌, length, ◌∙◌, ap, arith}
 use Rattle.std.specs.Prelude.{vec_capacity}
 use Rattle.std.proofs.lemmas.Grind.{common_steps}
-use Rattle.docstore.specs.Block.{block}
+use Rattle.store_reader.specs.Block.{block}
 use Rattle.docstore.specs.Pending.{documents_at}
 use Rattle.docstore.proofs.PendingLemmas.{length-block-pushed, documents_pushed, pushed}
 use Rattle.docstore.proofs.current_block.CurrentBlock.push.Goals as goal

@@ -1,7 +1,7 @@
 use Rattle.std.proofs.Common.{ℕ, ◌+◌, ◌*◌, ◌^◌, ◌<◌, ◌≤◌, List, [], ◌∷◌, ◌++◌, length, sym, ◌∙◌, ap, subst}
 use Rattle.std.specs.Prelude.{vec_capacity}
 use Rattle.std.proofs.lemmas.Result.{on_ok_weaker, IfErr-weaker}
-use Rattle.docstore.specs.Block.{block}
+use Rattle.store_reader.specs.Block.{block}
 use Rattle.docstore.specs.Pending.{documents_at, IsDocumentRefusal}
 use Rattle.docstore.proofs.PendingLemmas.{length-block-pushed, documents_pushed, pushed, from_ok, refusal_weaker}
 use Rattle.docstore.proofs.current_block.CurrentBlock.push_document.Goals as goal

@@ -1,11 +1,10 @@
 use Rattle.std.proofs.Common.{◌≡◌, ℕ, List, length, sym, ◌∙◌, ap, subst}
 use Rattle.layered_index.specs.declared.index.Checkpoint.{Checkpoint}
 use Rattle.layered_index.specs.Checkpoint.{Covers}
-use Rattle.docstore.specs.StoreFile.{StoreBlock, marks}
-use Rattle.docstore.specs.BlockOutput.{blocks_at}
-use Rattle.docstore.specs.Reading.{Reading}
+use Rattle.store_reader.specs.StoreFile.{StoreBlock, marks, blocks_at}
+use Rattle.store_reader.specs.Reading.{Reading}
 use Rattle.docstore.specs.Stacking.{AreRead}
-use Rattle.docstore.proofs.SeenLemmas.{store_seen}
+use Rattle.store_reader.proofs.SeenLemmas.{store_seen}
 use Rattle.docstore.proofs.store_compressor.BlockCompressor.stack_reader.Goals as goal
 
 pub returns-clause-stacked : goal.returns-clause-stacked

@@ -1,5 +1,5 @@
 use Rattle.docstore.proofs.OutputLemmas.{begins, sound}
-use Rattle.docstore.proofs.StoreLemmas.{blocks_none}
+use Rattle.store_reader.proofs.StoreLemmas.{blocks_none}
 use Rattle.docstore.proofs.store_compressor.BlockCompressor.with_period.Goals as goal
 
 pub invariant_of-result : goal.invariant_of-result

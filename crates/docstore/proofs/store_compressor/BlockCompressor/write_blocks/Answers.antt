@@ -6,8 +6,8 @@ use Rattle.layered_index.specs.declared.error.Cause.{Cause}
 use Rattle.layered_index.specs.declared.index.Checkpoint.{Checkpoint}
 use Rattle.layered_index.specs.Checkpoint.{doc_count}
 use Rattle.layered_index.specs.Layers.{Index}
-use Rattle.docstore.specs.StoreFile.{docs_in, marks_from}
-use Rattle.docstore.specs.BlockOutput.{BlockOutput, IsCompressing, compressing, blocks_at}
+use Rattle.store_reader.specs.StoreFile.{docs_in, marks_from, blocks_at}
+use Rattle.docstore.specs.BlockOutput.{BlockOutput, IsCompressing, compressing}
 use Rattle.docstore.specs.Stacking.{shifted}
 use Rattle.docstore.proofs.OutputLemmas.{sound, failed, seen_added}
 use Rattle.docstore.proofs.StackingLemmas.{AreCut, are_cut}

@@ -1,7 +1,7 @@
 use Rattle.std.proofs.Common.{◌≡◌, ◌<◌, ◌≤◌, List, [], ◌∷◌, length, None, sym, ◌∙◌, ap, arith, length-append}
 use Rattle.std.proofs.lemmas.Grind.{common_steps}
-use Rattle.docstore.specs.Block.{block}
-use Rattle.docstore.specs.StoreFile.{StoreBlock, data_of}
+use Rattle.store_reader.specs.Block.{block}
+use Rattle.store_reader.specs.StoreFile.{StoreBlock, data_of}
 use Rattle.docstore.specs.Trace.{block_of}
 use Rattle.docstore.specs.Writer.{Writing}
 use Rattle.docstore.specs.BlockOutput.{BlockOutput, with_blocks, with_risen, AfterClose}

@@ -1,7 +1,0 @@
-use Rattle.std.proofs.Common.{◌≡◌}
-use Rattle.docstore.specs.CacheSums.{stats_sum}
-use Rattle.docstore.proofs.cache_stats.CacheStatsSum.sum.Given as goal
-
--- what the taken ones add to
-abbrev pub invariant-loop-stats : goal.invariant-loop-stats
-invariant-loop-stats g l = l.sum ≡ stats_sum l.yielded

@@ -1,5 +1,0 @@
-use Rattle.docstore.proofs.EndToEndLemmas.{stored_documents_are_got}
-use Rattle.docstore.proofs.laws.stored_documents_are_got.Goals as goal
-
-pub returns : goal.returns
-returns g c = stored_documents_are_got g.D.Document.doc_bytes (g.D.DocumentDeserialize.reading 2) g.D.StoredDocument.stored g.met.D.StoredDocument.read_back

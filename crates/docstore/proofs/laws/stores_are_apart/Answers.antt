@@ -1,5 +1,0 @@
-use Rattle.docstore.proofs.ApartLemmas.{stores_are_apart}
-use Rattle.docstore.proofs.laws.stores_are_apart.Goals as goal
-
-pub returns : goal.returns
-returns c = stores_are_apart

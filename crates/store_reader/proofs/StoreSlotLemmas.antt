@@ -1,0 +1,82 @@
+-- The slots of the store that a reader sees.
+use Rattle.std.proofs.Common.{◌≡◌, ℕ, zero, suc, ◌+◌, ◌-◌, ◌<◌, ◌≤◌, true, false, List, [], ◌∷◌, ◌++◌, length, map, nat_lt, Some, None, refl, ap, ◌∙◌, arith, length-append}
+use Rattle.std.specs.Prelude.{slice_get}
+use Rattle.std.specs.List.{range_with_len}
+use Rattle.std.proofs.lemmas.Bool.{ltb-true, ltb-false}
+use Rattle.layered_index.specs.declared.index.Checkpoint.{Checkpoint}
+use Rattle.layered_index.specs.Checkpoint.{IsInLineFrom, docs_end, doc_count, first_past}
+use Rattle.store_reader.specs.Block.{Slot, slot}
+use Rattle.store_reader.specs.Slots.{slots}
+use Rattle.store_reader.specs.Reading.{part_of}
+use Rattle.store_reader.proofs.SeenLemmas.{blocks_of}
+
+-- the slots of one block
+slots_in : List ℕ → Checkpoint → List Slot
+slots_in content c = map (slot (part_of content c)) (range_with_len 0 (doc_count c))
+
+pub range_len : (a n : ℕ) → length (range_with_len a n) ≡ n
+range_len a zero = refl
+range_len a (suc n) = ap suc (range_len (a + 1) n)
+
+pub map_len : {A B : Type 0} (f : A → B) (xs : List A) → length (map f xs) ≡ length xs
+map_len f [] = refl
+map_len f (x ∷ xs) = ap suc (map_len f xs)
+
+length-slots_in : (content : List ℕ) (c : Checkpoint) → length (slots_in content c) ≡ doc_count c
+unfolding slots_in
+length-slots_in content c = map_len (slot (part_of content c)) (range_with_len 0 (doc_count c)) ∙ range_len 0 (doc_count c)
+
+get_mapped : (f : ℕ → Slot) (a n k : ℕ) → k < n → slice_get (map f (range_with_len a n)) k ≡ Some (f (a + k))
+get_mapped f a zero k lt = absurd (omega arith)
+get_mapped f a (suc n) zero lt = let e : a + 0 ≡ a = omega arith in rw e refl
+get_mapped f a (suc n) (suc k) lt = let e : a + suc k ≡ (a + 1) + k = omega arith in rw e (get_mapped f (a + 1) n k (omega arith))
+
+get_front : (xs ys : List Slot) (k : ℕ) → k < length xs → slice_get (xs ++ ys) k ≡ slice_get xs k
+get_front [] ys k lt = absurd (omega arith)
+get_front (x ∷ xs) ys zero lt = refl
+get_front (x ∷ xs) ys (suc k) lt = get_front xs ys k (omega arith)
+
+get_back : (xs ys : List Slot) (k : ℕ) → slice_get (xs ++ ys) (length xs + k) ≡ slice_get ys k
+get_back [] ys k = ap (slice_get ys) (omega arith)
+get_back (x ∷ xs) ys k = let e : suc (length xs) + k ≡ suc (length xs + k) = omega arith in rw e (get_back xs ys k)
+
+get_past : (xs : List Slot) (k : ℕ) → length xs ≤ k → slice_get xs k ≡ None
+get_past [] k le = refl
+get_past (x ∷ xs) zero le = absurd (omega arith)
+get_past (x ∷ xs) (suc k) le = get_past xs k (omega arith)
+
+-- the slot of a document is that of its place in the block that a seek finds
+pub slot_sought : (content : List ℕ) (doc byte : ℕ) (cs : List Checkpoint) (id : ℕ) (c : Checkpoint) → IsInLineFrom doc byte cs → doc ≤ id → first_past cs id ≡ Some c
+    → slice_get (slots (blocks_of content cs)) (id - doc) ≡ Some (slot (part_of content c) (id - c.doc_range.start))
+unfolding slots_in
+slot_sought content doc byte [] id c r le e = absurd cc
+slot_sought content doc byte (x ∷ cs) id c r le e =
+    let order = r.2.doc_order in let start = r.0 in
+    let size = length-slots_in content x in
+    (elim (nat_lt id x.doc_range.end) as (λ y. nat_lt id x.doc_range.end ≡ y → slice_get (slots_in content x ++ slots (blocks_of content cs)) (id - doc) ≡ Some (slot (part_of content c) (id - c.doc_range.start))) [
+      | true ↦ λ t.
+          let e' = rw t at e in let same : x ≡ c = cc in
+          let below = ltb-true _ _ t in
+          let place : 0 + (id - doc) ≡ id - x.doc_range.start = omega arith in
+          get_front (slots_in content x) (slots (blocks_of content cs)) (id - doc) (omega arith)
+          ∙ get_mapped (slot (part_of content x)) 0 (doc_count x) (id - doc) (omega arith)
+          ∙ ap (λ (j : ℕ). Some (slot (part_of content x) j)) place
+          ∙ ap (λ (y : Checkpoint). Some (slot (part_of content y) (id - y.doc_range.start))) same
+      | false ↦ λ t.
+          let above = ltb-false _ _ t in
+          let place : id - doc ≡ length (slots_in content x) + (id - x.doc_range.end) = omega arith in
+          ap (slice_get (slots_in content x ++ slots (blocks_of content cs))) place
+          ∙ get_back (slots_in content x) (slots (blocks_of content cs)) (id - x.doc_range.end)
+          ∙ slot_sought content x.doc_range.end x.byte_range.end cs id c r.3 above (rw t at e)
+    ]) refl
+
+pub length-slots_of : (content : List ℕ) (doc byte : ℕ) (cs : List Checkpoint) → IsInLineFrom doc byte cs → doc + length (slots (blocks_of content cs)) ≡ docs_end doc cs
+unfolding slots_in
+length-slots_of content doc byte [] r = omega arith
+length-slots_of content doc byte (c ∷ cs) r =
+    let order = r.2.doc_order in let start = r.0 in
+    omega (arith, length-append (slots_in content c) (slots (blocks_of content cs)), length-slots_in content c, length-slots_of content c.doc_range.end c.byte_range.end cs r.3)
+
+-- there is none at or past the count
+pub slot_past : (content : List ℕ) (byte : ℕ) (cs : List Checkpoint) (id : ℕ) → IsInLineFrom 0 byte cs → docs_end 0 cs ≤ id → slice_get (slots (blocks_of content cs)) id ≡ None
+slot_past content byte cs id r le = get_past (slots (blocks_of content cs)) id (omega (arith, length-slots_of content 0 byte cs r))

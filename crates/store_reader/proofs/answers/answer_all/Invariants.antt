@@ -1,0 +1,14 @@
+use Rattle.std.proofs.Common.{take}
+use Rattle.std.specs.Prelude.{IsTrue}
+use Rattle.store_reader.specs.Answers.{AreAnswers, keys_of_calls}
+use Rattle.store_reader.specs.LookLaws.{AreLookUps}
+use Rattle.store_reader.specs.Reading.{IsSameStore, store_of}
+use Rattle.store_reader.specs.Slots.{slots}
+use Rattle.store_reader.proofs.answers.answer_all.Given as goal
+
+abbrev pub invariant-loop-call : goal.invariant-loop-call
+invariant-loop-call g l = record {
+  same : IsSameStore l.fn.reader l.reader;
+  looks : AreLookUps (keys_of_calls l.fn.reader.checkpoints (take l.call-index l.calls)) l.fn.reader l.reader;
+  so_far : IsTrue l.fn.reader.file.honest → AreAnswers (slots (store_of l.fn.reader)) (take l.call-index l.calls) l.answers.items;
+}

@@ -1,0 +1,5 @@
+use Rattle.store_reader.proofs.SameAnswerLemmas.{slots_decide_answers}
+use Rattle.store_reader.proofs.laws.slots_decide_answers.Goals as goal
+
+pub returns : goal.returns
+returns c = slots_decide_answers

@@ -1,0 +1,5 @@
+use Rattle.store_reader.proofs.LookedLemmas.{walks_look_up}
+use Rattle.store_reader.proofs.laws.walks_look_up.Goals as goal
+
+pub returns : goal.returns
+returns c = walks_look_up

@@ -1,0 +1,40 @@
+use Rattle.std.proofs.Common.{refl, inl}
+use Rattle.store_reader.specs.Opening.{IsOpened}
+use Rattle.store_reader.specs.contracts.reader.StoreReader.{the_view}
+use denote.Param.{param}
+use Rattle.store_reader.proofs.OpenedLemmas.{opened_is_store}
+use Rattle.store_reader.proofs.RefusedLemmas.{refused_is_none}
+use Rattle.store_reader.proofs.HandedLemmas.{handed_back, accepted_handed, opening_failed}
+use Rattle.store_reader.proofs.reader.StoreReader.open.Goals as goal
+
+opened : (g : _) (c : goal.After-narrow g) → IsOpened c.args.file c.args.cache_num_blocks (the_view (param 0 g.row.H) g.H.FileHandle (record { file = c.narrow.result; index = c.in-Ok.found.1; version = c.in-Ok.found.0.doc_store_version; decompressor = c.in-Ok.found.0.decompressor; cache = c.in-Ok-new.cache }))
+opened g c = record {
+  footer = c.in-Ok.found.0;
+  after = c.read_store.new.file;
+  opens = c.in-Ok.ensures;
+  part = λ i. record { content = c.narrow.ensures.content i; honest = c.narrow.ensures.honest i; failures = c.narrow.ensures.failures i; reads = c.narrow.ensures.reads i };
+  version = refl;
+  decompressor = refl;
+  cache = c.in-Ok-new.ensures;
+}
+
+pub returns-clause-honest : goal.returns-clause-honest
+returns-clause-honest g c honest = opened_is_store _ _ _ honest (opened g c)
+
+pub returns-clause-opened : goal.returns-clause-opened
+returns-clause-opened g c = opened g c
+
+pub returns-in-Err-clause-refused : goal.returns-in-Err-clause-refused
+returns-in-Err-clause-refused g c = inl c.in-Err.ensures
+
+pub returns-in-Err-clause-honest : goal.returns-in-Err-clause-honest
+returns-in-Err-clause-honest g c honest = refused_is_none _ _ _ honest c.in-Err.ensures
+
+pub returns-in-Err-clause-handed_back : goal.returns-in-Err-clause-handed_back
+returns-in-Err-clause-handed_back g c = handed_back _ _ _ c.in-Err.ensures
+
+pub returns-in-Err-clause-failed : goal.returns-in-Err-clause-failed
+returns-in-Err-clause-failed g c is = opening_failed _ _ _ is c.in-Err.ensures
+
+pub returns-in-Err-new-clause-handed_back : goal.returns-in-Err-new-clause-handed_back
+returns-in-Err-new-clause-handed_back g c = accepted_handed _ _ _ c.in-Ok.ensures

@@ -1,0 +1,77 @@
+-- What a list of reading calls answers.
+use Rattle.std.specs.Prelude.{◌≡◌, ℕ, ◌≤◌, Bool, nat_lt, if◌then◌else◌, List, [], ◌∷◌, length, slice_get, Option, Some, None, IfSome, Result, Err}
+use Rattle.std.specs.List.{AllByRecursion, flat_map}
+use Rattle.store_base.specs.AliveBitSet.{is_alive_at}
+use Rattle.store_reader.specs.declared.answers.Answer.{Answer}
+use Rattle.store_reader.specs.declared.answers.Answer.TheVariants.{Got, Listed}
+use Rattle.store_reader.specs.declared.answers.ReadCall.{ReadCall}
+use Rattle.store_reader.specs.declared.answers.ReadCall.TheVariants.{Bytes, Iter}
+use Rattle.layered_index.specs.declared.error.StoreError.{StoreError}
+use Rattle.layered_index.specs.declared.error.StoreError.TheVariants.{Read, Memory}
+use Rattle.layered_index.specs.declared.index.Checkpoint.{Checkpoint}
+use Rattle.layered_index.specs.Checkpoint.{docs_end, first_past}
+use Rattle.store_reader.specs.Answering.{AnswersTruly}
+use Rattle.store_reader.specs.Block.{Slot}
+use Rattle.store_reader.specs.Iteration.{looked_along}
+use Rattle.store_reader.specs.Listing.{first_alive, AreItems}
+
+-- the set of a call, or none
+abbrev pub set_here : Option (List Bool) → Option (ℕ → Bool)
+set_here None = None
+set_here (Some alive) = Some (is_alive_at alive)
+
+-- The set of an iteration reaches so many ids.
+abbrev pub CanAnswer : ℕ → ReadCall → Type 0
+CanAnswer count (Bytes id) = Unit {0}
+CanAnswer count (Iter alive take) = IfSome alive (λ set. count ≤ length set)
+
+-- A document's slot answers a get; the first slots whose ids are alive answer an iteration, one by one; 9 and 10 aside.
+abbrev pub IsAnswer : List Slot → ReadCall → Answer → Type 0
+IsAnswer all (Bytes id) (Got result) = AnswersTruly id (slice_get all id) result
+IsAnswer all (Iter alive take) (Listed v) = AreItems (first_alive take all (set_here alive)) v.items
+IsAnswer all _ _ = ⊥
+
+abbrev pub AreAnswers : List Slot → List ReadCall → List Answer → Type 0
+AreAnswers all [] [] = Unit {0}
+AreAnswers all (call ∷ calls) (answer ∷ answers) = IsAnswer all call answer × AreAnswers all calls answers
+AreAnswers all _ _ = ⊥
+
+-- the key of a block, if there is one
+abbrev pub key_of : Option Checkpoint → List ℕ
+key_of None = []
+key_of (Some c) = c.byte_range.start ∷ []
+
+-- The keys that a call looks up: that of the document's block, none for an id at or past the count; or those of an iteration that is
+-- dropped after so many items.
+abbrev pub keys_of_call : List Checkpoint → ReadCall → List ℕ
+keys_of_call cs (Bytes id) = if nat_lt id (docs_end 0 cs) then key_of (first_past cs id) else []
+keys_of_call cs (Iter alive take) = looked_along cs (set_here alive) take
+
+abbrev pub keys_of_calls : List Checkpoint → List ReadCall → List ℕ
+keys_of_calls cs calls = flat_map (keys_of_call cs) calls
+
+-- No read failed, and memory was found.
+abbrev pub HasCome : Result (List ℕ) StoreError → Type 0
+HasCome (Err Read) = ⊥
+HasCome (Err Memory) = ⊥
+HasCome _ = Unit {0}
+
+abbrev pub AllCame : Answer → Type 0
+AllCame (Got result) = HasCome result
+AllCame (Listed v) = AllByRecursion HasCome v.items
+
+-- The same answer.
+abbrev pub IsSameAnswer : Answer → Answer → Type 0
+IsSameAnswer (Got a) (Got b) = a ≡ b
+IsSameAnswer (Listed v) (Listed w) = v.items ≡ w.items
+IsSameAnswer _ _ = ⊥
+
+abbrev pub AreSameAnswers : List Answer → List Answer → Type 0
+AreSameAnswers [] [] = Unit {0}
+AreSameAnswers (a ∷ answers) (b ∷ others) = IsSameAnswer a b × AreSameAnswers answers others
+AreSameAnswers _ _ = ⊥
+
+-- The slots decide the answers where no read failed and memory was found: not the cache, nor what was called before.
+abbrev pub SlotsDecideAnswers : Type 0
+SlotsDecideAnswers = (all : List Slot) (calls : List ReadCall) (answers others : List Answer) → AreAnswers all calls answers → AreAnswers all calls others
+    → AllByRecursion AllCame answers → AllByRecursion AllCame others → AreSameAnswers answers others

@@ -1,0 +1,37 @@
+-- What going over a store gives, and which blocks it looks up.
+use Rattle.std.specs.Prelude.{ℕ, ◌-◌, Bool, true, if◌then◌else◌, nat_le, List, [], ◌∷◌, map, Option, Some, None}
+use Rattle.std.specs.List.{filter, count_by, enumerate_from, range_with_len}
+use Rattle.layered_index.specs.declared.index.Checkpoint.{Checkpoint}
+use Rattle.layered_index.specs.Checkpoint.{doc_count}
+use Rattle.store_reader.specs.Block.{Slot}
+use Rattle.store_reader.specs.StoreFile.{StoreBlock, marks}
+
+-- whether an id is in the set; without a set each is
+abbrev pub is_in : Option (ℕ → Bool) → ℕ → Bool
+is_in None id = true
+is_in (Some set) id = set id
+
+-- the slots whose id is in the set, in order
+abbrev pub alive : List Slot → Option (ℕ → Bool) → List Slot
+alive all set = map (λ x. x.1) (filter (λ x. is_in set x.0) (enumerate_from 0 all))
+
+-- how many ids of a block are in the set
+abbrev pub alive_count : Option (ℕ → Bool) → Checkpoint → ℕ
+alive_count set c = count_by (is_in set) (range_with_len c.doc_range.start (doc_count c))
+
+-- The first byte of each block up to the one that has the last of so many ids of the set.
+abbrev pub looked_along : List Checkpoint → Option (ℕ → Bool) → ℕ → List ℕ
+looked_along [] set count = []
+looked_along (c ∷ cs) set count = c.byte_range.start ∷ (if nat_le count (alive_count set c) then [] else looked_along cs set (count - alive_count set c))
+
+-- the keys that an iterator looks up that is dropped after so many items
+abbrev pub looked : List StoreBlock → Option (ℕ → Bool) → ℕ → List ℕ
+looked bs set count = looked_along (marks bs) set count
+
+-- how many ids below this one are in the set
+abbrev pub alive_below : Option (ℕ → Bool) → ℕ → ℕ
+alive_below set id = count_by (is_in set) (range_with_len 0 id)
+
+-- the keys of these blocks, in order
+abbrev pub keys_along : List Checkpoint → List ℕ
+keys_along cs = map (λ c. c.byte_range.start) cs

@@ -1,0 +1,107 @@
+//! Whole lists of reading calls.
+ghost use Rattle.std.specs.Prelude.{◌≤◌, IsTrue, IfOk, IfSome, IsOkUnless, length};
+ghost use Rattle.std.specs.List.{AllByRecursion};
+ghost use Rattle.store_reader.specs.Answers.{CanAnswer, IsAnswer, AreAnswers, keys_of_call, keys_of_calls};
+ghost use Rattle.store_reader.specs.Iteration.{looked_along};
+ghost use Rattle.store_reader.specs.Listing.{AreItems, first_alive};
+ghost use Rattle.store_reader.specs.LookLaws.{AreLookUps};
+ghost use Rattle.store_reader.specs.Reading.{IsSameStore, num_docs, store_of};
+ghost use Rattle.store_reader.specs.Slots.{slots};
+ghost use Rattle.store_reader.specs.Walking.{set_of};
+
+use crate::reader::StoreReader;
+use layered_index::StoreError;
+use std::alloc::Global;
+use store_base::{AliveBitSet, DocId, FileHandle, OwnedBytes};
+
+/// A call of a reader.
+#[derive(Drop)]
+pub enum ReadCall {
+    /// `StoreReader::get_document_bytes`
+    Bytes(DocId),
+    /// `StoreReader::iter_raw`, of which so many items are taken before it is dropped.
+    Iter {
+        alive: Option<AliveBitSet>,
+        take: usize,
+    },
+}
+
+/// What a call of a reader gave.
+#[derive(Drop)]
+pub enum Answer {
+    Got(Result<OwnedBytes, StoreError>),
+    Listed(Vec<Result<OwnedBytes, StoreError>>),
+}
+
+/// Makes the calls in order. A refused document is its answer, and the next call made.
+///
+/// The blocks of the documents and of the iterations are looked up in this order, and the file is read once for each that the
+/// cache doesn't keep. `Memory` comes only where the lists of answers can't grow.
+pub fn answer_all<H: FileHandle>(
+    alloc: Global,
+    reader: &mut StoreReader<H>,
+    calls: &[ReadCall],
+) -> Result<Vec<Answer>, StoreError>
+    requires { AllByRecursion (CanAnswer (num_docs reader.old)) calls.now }
+    ensures answers { IfOk result (λ v. IsTrue reader.old.file.honest
+        → AreAnswers (slots (store_of reader.old)) calls.now v.items) }
+    ensures looks { IfOk result (λ v. AreLookUps (keys_of_calls reader.old.checkpoints calls.now) reader.old reader.new) }
+    ensures memory { IsOkUnless result StoreError.Memory }
+    ensures same_store { IsSameStore reader.old reader.new }
+{
+    let mut answers = Vec::new(alloc);
+    for call in calls {
+        let answer = answer_one(alloc, reader, call)?;
+        answers.push(answer)?;
+    }
+    Ok(answers)
+}
+
+// Makes one call.
+fn answer_one<H: FileHandle>(
+    alloc: Global,
+    reader: &mut StoreReader<H>,
+    call: &ReadCall,
+) -> Result<Answer, StoreError>
+    requires { CanAnswer (num_docs reader.old) call.now }
+    ensures answer { IfOk result (λ answer. IsTrue reader.old.file.honest
+        → IsAnswer (slots (store_of reader.old)) call.now answer) }
+    ensures looks { IfOk result (λ answer. AreLookUps (keys_of_call reader.old.checkpoints call.now) reader.old reader.new) }
+    ensures memory { IsOkUnless result StoreError.Memory }
+    ensures same_store { IsSameStore reader.old reader.new }
+{
+    match call {
+        ReadCall::Bytes(doc_id) => Ok(Answer::Got(reader.get_document_bytes(alloc, *doc_id))),
+        ReadCall::Iter { alive, take } => {
+            let items = list_items(alloc, reader, alive.as_ref(), *take)?;
+            Ok(Answer::Listed(items))
+        }
+    }
+}
+
+// The first items of an iteration, which is dropped then.
+fn list_items<H: FileHandle>(
+    alloc: Global,
+    reader: &mut StoreReader<H>,
+    alive: Option<&AliveBitSet>,
+    count: usize,
+) -> Result<Vec<Result<OwnedBytes, StoreError>>, StoreError>
+    requires { IfSome alive (λ set. num_docs reader.old ≤ length set.now) }
+    ensures items { IfOk result (λ v. IsTrue reader.old.file.honest
+        → AreItems (first_alive count (slots (store_of reader.old)) (set_of alive.entry)) v.items) }
+    ensures looks { IfOk result (λ v. AreLookUps (looked_along reader.old.checkpoints (set_of alive.entry) count)
+        reader.old reader.new) }
+    ensures memory { IsOkUnless result StoreError.Memory }
+    ensures same_store { IsSameStore reader.old reader.new }
+{
+    let most = count.min(reader.num_docs() as usize);
+    let mut items = Vec::new(alloc);
+    let mut iter = reader.iter_raw(alloc, alive);
+    while items.len() < most {
+        let Some(item) = iter.next() else {
+            return Ok(items);
+        };
+        items.push(item)?;
+    }
+    Ok(items)
+}

@@ -1,0 +1,24 @@
+//! Reading a range of a file.
+ghost use Rattle.std.specs.Prelude.{◌≤◌, length};
+ghost use Rattle.store_reader.specs.FileReading.{Comes};
+
+use layered_index::StoreError;
+use std::alloc::Global;
+use std::ops::Range;
+use store_base::{FileHandle, FileSlice, OwnedBytes};
+
+// Reads a range of a file, by one read.
+pub(crate) fn read_part<H: FileHandle>(
+    file: &mut FileSlice<H>,
+    alloc: Global,
+    range: Range<u64>,
+) -> Result<OwnedBytes, StoreError>
+    requires order { range.start ≤ range.end }
+    requires within { range.end ≤ length file.old.content }
+    ensures { Comes file.old range.start range.end result file.new }
+{
+    match file.read_range(alloc, range) {
+        Ok(bytes) => Ok(bytes),
+        Err(fault) => Err(StoreError::from(fault)),
+    }
+}

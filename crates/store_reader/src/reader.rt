@@ -1,0 +1,305 @@
+//! The reader of a store.
+ghost use Rattle.std.specs.Prelude.{◌≡◌, ◌<◌, ◌≤◌, Err, IsTrue, IfOk, IfErr, IfSome, IsErrOf, MatchResult, ◌⊎◌, ◌↔◌, length, slice_get, take};
+ghost use Rattle.store_base.specs.Counts.{HasRisen};
+ghost use Rattle.store_reader.specs.Answering.{IsAnswered, AnswersTruly};
+ghost use Rattle.layered_index.specs.Checkpoint.{Covers};
+ghost use Rattle.store_reader.specs.Documents.{document_version, IsGot, ReadsTruly};
+ghost use Rattle.store_reader.specs.Footer.{version_number};
+ghost use Rattle.store_reader.specs.Kept.{last_key};
+ghost use Rattle.layered_index.specs.Layers.{index_part};
+ghost use Rattle.store_reader.specs.Opening.{IsOpened, IsRefused, RefusesNoStore};
+ghost use Rattle.store_reader.specs.Reading.{IsReadOnce, IsSameStore, IsSeen, num_docs, store_of};
+ghost use Rattle.store_reader.specs.Slots.{slots};
+ghost use Rattle.store_reader.specs.StoreFile.{IsStore};
+ghost use Rattle.store_reader.specs.Walking.{set_of, set_in, IsEntered, IsWalk, LooksAlong};
+
+use crate::cache::BlockCache;
+use crate::cache_stats::CacheStats;
+use crate::compressors::Decompressor;
+use crate::documents::read_document;
+use crate::footer::DocStoreVersion;
+use crate::iter::{DocIter, Items, RawIter, sets_of};
+use crate::look_up::{Entered, look_up_block, look_up_document};
+use crate::open_error::OpenError;
+use crate::opening::read_store;
+use crate::store_index::StoreIndex;
+use crate::walk::{DocWalk, first_walk};
+use layered_index::{LayerCursor, StoreError};
+use std::alloc::Global;
+use std::marker::{Model, PhantomData};
+use store_base::{
+    AliveBitSet, DocId, DocumentDeserialize, FileHandle, FileSlice, OwnedBytes, StoreSpaceUsage,
+};
+
+/// How many blocks a reader's cache may keep where its user has no number of its own.
+pub const DOCSTORE_CACHE_CAPACITY: usize = 100;
+
+/// Reads the documents of a store.
+#[derive(Drop)]
+pub struct StoreReader<H: FileHandle> {
+    file: FileSlice<H>,
+    index: StoreIndex,
+    version: DocStoreVersion,
+    decompressor: Decompressor,
+    cache: BlockCache,
+}
+
+impl<H: FileHandle> Model for StoreReader<H> {
+    ghost use Rattle.store_reader.specs.Reading.{Reading, IsReader};
+
+    ghost Value = { Reading };
+
+    ghost view = { λ r. record {
+      file = r.file;
+      checkpoints = r.index.checkpoints;
+      period = r.index.period;
+      version = r.version;
+      decompressor = r.decompressor;
+      cache = r.cache;
+    } };
+
+    ghost invariant = { λ r. IsReader r.file r.index.checkpoints r.index.period r.cache };
+}
+
+impl<H: FileHandle> StoreReader<H> {
+    /// Opens a store, with a cache of at most so many blocks. The first refusal counts: those of
+    /// `DocStoreFooter::extract_footer`, then an offset past the bytes before the footer, then a
+    /// failed read, a want of memory, and bytes that are not the index of checkpoints that cover the
+    /// data. The cache is made last. A refusal hands the file back.
+    pub fn open(
+        alloc: Global,
+        mut file: FileSlice<H>,
+        cache_num_blocks: usize,
+    ) -> Result<StoreReader<H>, OpenError<H>>
+        ensures opened { IfOk result (λ r. IsOpened file cache_num_blocks r) }
+        ensures refused { IfErr result (λ e. IsRefused file e.error e.file) }
+
+        // What follows.
+        ensures honest { IsTrue file.honest → MatchResult result
+            (λ r. IsStore r.period file.content (version_number r.version) (store_of r))
+            (λ e. RefusesNoStore file.content e.error) }
+        ensures handed_back { IfErr result (λ e. e.file.content ≡ file.content) }
+        ensures failed { IfErr result (λ e. e.error ≡ StoreError.Read → HasRisen file.failures e.file.failures) }
+    {
+        let (footer, index) = match read_store(&mut file, alloc) {
+            Ok(found) => found,
+            Err(error) => return Err(OpenError { error, file }),
+        };
+        let cache = match BlockCache::new(alloc, cache_num_blocks) {
+            Ok(cache) => cache,
+            Err(error) => {
+                let error = StoreError::from(error);
+                return Err(OpenError { error, file });
+            }
+        };
+        Ok(StoreReader {
+            file: file.narrow(0..footer.offset),
+            index,
+            version: footer.doc_store_version,
+            decompressor: footer.decompressor,
+            cache,
+        })
+    }
+
+    /// The bytes of a document. Its block is looked up by its first byte, and read where it isn't kept.
+    pub fn get_document_bytes(
+        &mut self,
+        alloc: Global,
+        doc_id: DocId,
+    ) -> Result<OwnedBytes, StoreError>
+        ensures no_document { IsErrOf result (StoreError.InvalidArgument doc_id) ↔ (num_docs self.old ≤ doc_id) }
+        ensures no_read { num_docs self.old ≤ doc_id → self.new ≡ self.old }
+        ensures answered { doc_id < num_docs self.old → IsAnswered self.old doc_id result self.new }
+
+        // What follows.
+        ensures honest { IsTrue self.old.file.honest
+            → AnswersTruly doc_id (slice_get (slots (store_of self.old)) doc_id) result }
+        ensures failed { IsErrOf result StoreError.Read
+            → HasRisen self.old.file.failures self.new.file.failures }
+        ensures same_store { IsSameStore self.old self.new }
+    {
+        let Some(checkpoint) = self.index.seek(doc_id) else {
+            return Err(StoreError::InvalidArgument(doc_id));
+        };
+        look_up_document(
+            &mut self.file,
+            &mut self.cache,
+            alloc,
+            &checkpoint,
+            doc_id,
+            doc_id - checkpoint.doc_range.start,
+        )
+    }
+
+    /// A document, read from its bytes. Those of version 3 are read as version 2.
+    pub fn get<D: DocumentDeserialize>(
+        &mut self,
+        alloc: Global,
+        doc_id: DocId,
+    ) -> Result<D, StoreError>
+        ensures no_document { IsErrOf result (StoreError.InvalidArgument doc_id) ↔ (num_docs self.old ≤ doc_id) }
+        ensures no_read { num_docs self.old ≤ doc_id → self.new ≡ self.old }
+        ensures got { doc_id < num_docs self.old
+            → IsGot (D.reading (document_version self.old.version)) self.old doc_id result self.new }
+
+        // What follows.
+        ensures honest { IsTrue self.old.file.honest → ReadsTruly (D.reading (document_version self.old.version))
+            doc_id (slice_get (slots (store_of self.old)) doc_id) result }
+        ensures failed { IsErrOf result StoreError.Read
+            → HasRisen self.old.file.failures self.new.file.failures }
+        ensures same_store { IsSameStore self.old self.new }
+    {
+        let bytes = self.get_document_bytes(alloc, doc_id);
+        read_document(alloc, self.version, bytes)
+    }
+
+    // Looks the block up that has a document, for all of its documents.
+    pub(crate) fn enter(&mut self, alloc: Global, doc_id: DocId) -> Entered
+        requires { doc_id < num_docs self.old }
+        ensures entered { IsEntered self.old doc_id result self.new }
+        ensures covers { Covers self.old.checkpoints (length self.old.file.content) }
+    {
+        let checkpoint = self.index.seek(doc_id).unwrap();
+        let block = look_up_block(&mut self.file, &mut self.cache, alloc, &checkpoint);
+        Entered {
+            first: checkpoint.doc_range.start,
+            end: checkpoint.doc_range.end,
+            block,
+        }
+    }
+
+    /// The bytes of each document that is alive, in the order of the ids; without a set of each.
+    /// Each block is looked up once, at its first document, also where all of its documents are
+    /// dead; the first block here.
+    pub fn iter_raw<'a>(
+        &'a mut self,
+        alloc: Global,
+        alive: Option<&'a AliveBitSet>,
+    ) -> RawIter<'a, H>
+        requires { IfSome alive (λ set. num_docs self.old ≤ length set.now) }
+        ensures same_reader { result.reader.ghost_name ≡ self.entry.ghost_name }
+        ensures alive { set_in result.alive.now ≡ set_of alive.entry }
+        ensures next { result.walk.next ≡ 0 }
+        ensures walk { IsWalk result.reader.now result.walk }
+        ensures first_block { LooksAlong (take 1 self.old.checkpoints)
+            self.old (Err StoreError.Memory) result.reader.now result.walk.block }
+        ensures same_store { IsSameStore self.old result.reader.now }
+        ensures place { result.walk.place ≡ length (take 1 self.old.checkpoints) }
+    {
+        let walk = first_walk(self, alloc);
+        Items {
+            reader: self,
+            alloc,
+            alive: sets_of(alive),
+            walk,
+        }
+    }
+
+    /// Each document that is alive, in the order of the ids; without a set each. Otherwise as
+    /// `iter_raw`. Documents of version 3 are read as version 2.
+    pub fn iter<'a, D: DocumentDeserialize>(
+        &'a mut self,
+        alloc: Global,
+        alive: Option<&'a AliveBitSet>,
+    ) -> DocIter<'a, H, D>
+        requires { IfSome alive (λ set. num_docs self.old ≤ length set.now) }
+        ensures same_reader { result.reader.ghost_name ≡ self.entry.ghost_name }
+        ensures alive { set_in result.alive.now ≡ set_of alive.entry }
+        ensures next { result.walk.raw.next ≡ 0 }
+        ensures walk { IsWalk result.reader.now result.walk.raw }
+        ensures first_block { LooksAlong (take 1 self.old.checkpoints)
+            self.old (Err StoreError.Memory) result.reader.now result.walk.raw.block }
+        ensures same_store { IsSameStore self.old result.reader.now }
+        ensures place { result.walk.raw.place ≡ length (take 1 self.old.checkpoints) }
+    {
+        let raw = first_walk(self, alloc);
+        Items {
+            reader: self,
+            alloc,
+            alive: sets_of(alive),
+            walk: DocWalk {
+                raw,
+                document: PhantomData,
+            },
+        }
+    }
+
+    /// How many documents the store has.
+    pub fn num_docs(&self) -> DocId
+        ensures count { result ≡ num_docs self.now }
+        ensures covers { Covers self.now.checkpoints (length self.now.file.content) }
+        ensures slots { result ≡ length (slots (store_of self.now)) }
+    {
+        self.index.num_docs()
+    }
+
+    /// How the store's documents are spelled.
+    pub fn version(&self) -> DocStoreVersion
+        ensures { result ≡ self.now.version }
+    {
+        self.version
+    }
+
+    /// How many checkpoints a full block of the store's index has, at least 2 and at most 64.
+    pub fn period(&self) -> u8
+        ensures period { result ≡ self.now.period }
+        ensures two { 2 ≤ result }
+        ensures few { result ≤ 64 }
+    {
+        self.index.period()
+    }
+
+    /// What the cache did so far.
+    pub fn cache_stats(&self) -> CacheStats
+        ensures entries { result.num_entries ≡ length self.now.cache.kept }
+        ensures hits { result.cache_hits ≡ self.now.cache.hits }
+        ensures misses { result.cache_misses ≡ self.now.cache.misses }
+        ensures few { result.num_entries ≤ self.now.cache.capacity }
+    {
+        CacheStats {
+            num_entries: self.cache.len(),
+            cache_hits: self.cache.hits(),
+            cache_misses: self.cache.misses(),
+        }
+    }
+
+    /// The first byte of the kept block that was not used for the longest time.
+    pub fn peek_lru(&self) -> Option<usize>
+        ensures { result ≡ last_key self.now.cache }
+    {
+        self.cache.peek_lru()
+    }
+
+    /// How the store's blocks are unpacked.
+    pub fn decompressor(&self) -> Decompressor
+        ensures { result ≡ self.now.decompressor }
+    {
+        self.decompressor
+    }
+
+    /// How many bytes the data and the index take.
+    pub fn space_usage(&self) -> StoreSpaceUsage
+        ensures { result ≡ (length self.now.file.content, length (index_part self.now.period self.now.checkpoints)) }
+    {
+        StoreSpaceUsage::new(self.file.len(), self.index.len())
+    }
+
+    /// Where the blocks lie, in order.
+    pub fn block_checkpoints(&self) -> LayerCursor<'_>
+        ensures checkpoints { result ≡ self.now.checkpoints }
+        ensures store { IsSeen self.now }
+    {
+        self.index.checkpoints()
+    }
+
+    /// The data of all blocks, by one read of the file. The cache is neither asked nor filled.
+    pub fn block_data(&mut self, alloc: Global) -> Result<OwnedBytes, StoreError>
+        ensures covers { IfOk result (λ bytes. Covers self.old.checkpoints (length bytes)) }
+        ensures bytes { IsTrue self.old.file.honest → IfOk result (λ bytes. bytes ≡ self.old.file.content) }
+        ensures causes { IfErr result (λ e. (e ≡ StoreError.Read) ⊎ (e ≡ StoreError.Memory)) }
+        ensures failed { IsErrOf result StoreError.Read → HasRisen self.old.file.failures self.new.file.failures }
+        ensures once { IsReadOnce self.old self.new }
+    {
+        Ok(self.file.read_bytes(alloc)?)
+    }
+}

@@ -1,0 +1,125 @@
+//! The index of a store, whose checkpoints cover the data.
+ghost use Rattle.std.specs.Prelude.{◌≡◌, ◌≤◌, length, MatchResult};
+ghost use Rattle.layered_index.specs.Checkpoint.{docs_end, first_past};
+ghost use Rattle.store_reader.specs.Covering.{goes_on, covered_to, IsIndexOf, HasIndexOf};
+ghost use Rattle.layered_index.specs.Layers.{Index, index_part};
+ghost use Rattle.layered_index.specs.Refusal.{RefusesOnlyUnless};
+
+use layered_index::{Checkpoint, LayerCursor, SkipIndex, StoreError};
+use std::alloc::Global;
+use std::marker::Model;
+use store_base::{DocId, OwnedBytes};
+
+// Whether a checkpoint begins at this document and this byte, and has one of each.
+fn goes_on(doc: DocId, byte: usize, checkpoint: &Checkpoint) -> bool
+    ensures { result ≡ goes_on doc byte checkpoint.now }
+{
+    checkpoint.doc_range.start == doc
+        && checkpoint.byte_range.start == byte
+        && doc < checkpoint.doc_range.end
+        && byte < checkpoint.byte_range.end
+}
+
+// Where checkpoints end, if they begin at the first document and the first byte and none is empty.
+fn covered_to(checkpoints: LayerCursor<'_>) -> Option<(DocId, usize)>
+    ensures { result ≡ covered_to 0 0 checkpoints.entry }
+{
+    let mut doc = 0;
+    let mut byte = 0;
+    for checkpoint in checkpoints {
+        if !goes_on(doc, byte, &checkpoint) {
+            return None;
+        }
+        doc = checkpoint.doc_range.end;
+        byte = checkpoint.byte_range.end;
+    }
+    Some((doc, byte))
+}
+
+/// The index of a store: how its blocks lie, how many documents they have, and how many bytes it
+/// takes in the file.
+#[derive(Drop)]
+pub(crate) struct StoreIndex {
+    index: SkipIndex,
+    period: u8,
+    num_docs: DocId,
+    len: u64,
+}
+
+impl Model for StoreIndex {
+    ghost use Rattle.std.specs.Prelude.{◌≡◌, length};
+    ghost use Rattle.layered_index.specs.Checkpoint.{docs_end};
+    ghost use Rattle.layered_index.specs.Layers.{Index, index_part};
+
+    ghost Value = { Index };
+
+    ghost view = { λ s. s.index };
+
+    ghost invariant = { λ s. (s.period ≡ s.index.period)
+        × (s.num_docs ≡ docs_end 0 s.index.checkpoints)
+        × (s.len ≡ length (index_part s.index.period s.index.checkpoints)) };
+}
+
+impl StoreIndex {
+    /// Reads an index. It is refused unless the bytes are the index of checkpoints that cover so many
+    /// bytes.
+    pub fn read(
+        alloc: Global,
+        bytes: OwnedBytes,
+        period: u8,
+        covered: u64,
+    ) -> Result<StoreIndex, StoreError>
+        requires two { 2 ≤ period }
+        requires few { period ≤ 64 }
+        ensures { MatchResult result
+            (λ index. (index.period ≡ period) × IsIndexOf period bytes covered index.checkpoints)
+            (RefusesOnlyUnless (HasIndexOf period bytes covered)) }
+    {
+        let len = bytes.len() as u64;
+        let index = SkipIndex::open_with_period(alloc, bytes, period)?;
+        match covered_to(index.checkpoints()) {
+            Some((num_docs, end)) if end as u64 == covered => Ok(StoreIndex {
+                index,
+                period,
+                num_docs,
+                len,
+            }),
+            _ => Err(StoreError::BadIndex),
+        }
+    }
+
+    /// How many documents the blocks have.
+    pub fn num_docs(&self) -> DocId
+        ensures { result ≡ docs_end 0 self.now.checkpoints }
+    {
+        self.num_docs
+    }
+
+    /// How many checkpoints a full block of a layer has.
+    pub fn period(&self) -> u8
+        ensures { result ≡ self.now.period }
+    {
+        self.period
+    }
+
+    /// How many bytes the index takes in the file.
+    pub fn len(&self) -> u64
+        ensures { result ≡ length (index_part self.now.period self.now.checkpoints) }
+    {
+        self.len
+    }
+
+    /// The first checkpoint whose documents end past the target.
+    pub fn seek(&self, target: DocId) -> Option<Checkpoint>
+        ensures { result ≡ first_past self.now.checkpoints target }
+    {
+        self.index.seek(target)
+    }
+
+    /// The checkpoints, in order.
+    pub fn checkpoints(&self) -> LayerCursor<'_>
+        ensures { result ≡ self.now.checkpoints }
+    {
+        self.index.checkpoints()
+    }
+}
