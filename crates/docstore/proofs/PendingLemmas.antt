@@ -83,21 +83,21 @@ documents_from starts bytes docs s b = (λ i. documents_at (s i) (b i)) ∙ docu
 
 -- ---- pending documents
 
-pub weight-pending : (starts bytes : List ℕ) (capacity : ℕ) → IsPending starts bytes capacity → weight (documents_at starts bytes) ≡ length bytes + 8 * length starts
-weight-pending starts bytes capacity h =
+pub weight-pending : (starts bytes : List ℕ) (limit capacity : ℕ) → IsPending starts bytes limit capacity → weight (documents_at starts bytes) ≡ length bytes + 8 * length starts
+weight-pending starts bytes limit capacity h =
     omega (arith, length-concat (documents_at starts bytes), ap length h.joined, length-documents_at starts bytes)
 
-pub length-concat-pending : (starts bytes : List ℕ) (capacity : ℕ) → IsPending starts bytes capacity → length (concat (documents_at starts bytes)) ≡ length bytes
-length-concat-pending starts bytes capacity h = ap length (sym h.joined)
+pub length-concat-pending : (starts bytes : List ℕ) (limit capacity : ℕ) → IsPending starts bytes limit capacity → length (concat (documents_at starts bytes)) ≡ length bytes
+length-concat-pending starts bytes limit capacity h = ap length (sym h.joined)
 
 -- the length of the block with one more document
-pub length-block-pushed : (starts bytes : List ℕ) (capacity : ℕ) (d : List ℕ) → IsPending starts bytes capacity → length (block (documents_at starts bytes ++ d ∷ [])) ≡ length bytes + length d + 4 * (length starts + 2)
-length-block-pushed starts bytes capacity d h =
+pub length-block-pushed : (starts bytes : List ℕ) (limit capacity : ℕ) (d : List ℕ) → IsPending starts bytes limit capacity → length (block (documents_at starts bytes ++ d ∷ [])) ≡ length bytes + length d + 4 * (length starts + 2)
+length-block-pushed starts bytes limit capacity d h =
     let docs = documents_at starts bytes in
     omega (arith, length-block (docs ++ d ∷ []), ap length (concat-append docs (d ∷ [])), length-append (concat docs) (d ++ []), length-append d [], length-append docs (d ∷ []), ap length h.joined, length-documents_at starts bytes)
 
-pub documents_pushed : (starts bytes : List ℕ) (capacity : ℕ) (d : List ℕ) → IsPending starts bytes capacity → documents_at (starts ++ length bytes ∷ []) (bytes ++ d) ≡ documents_at starts bytes ++ d ∷ []
-documents_pushed starts bytes capacity d h =
+pub documents_pushed : (starts bytes : List ℕ) (limit capacity : ℕ) (d : List ℕ) → IsPending starts bytes limit capacity → documents_at (starts ++ length bytes ∷ []) (bytes ++ d) ≡ documents_at starts bytes ++ d ∷ []
+documents_pushed starts bytes limit capacity d h =
     let docs = documents_at starts bytes in
     let place : 0 + length (concat docs) ≡ length bytes = omega (arith, ap length h.joined) in
     let starts_is : starts ++ length bytes ∷ [] ≡ starts_from 0 (docs ++ d ∷ []) =
@@ -106,32 +106,36 @@ documents_pushed starts bytes capacity d h =
     (λ i. h.joined i ++ sym (append-nil d) i) ∙ sym (concat-append docs (d ∷ [])) in
     documents_from (starts ++ length bytes ∷ []) (bytes ++ d) (docs ++ d ∷ []) starts_is bytes_is
 
--- one more document, where the bytes have room for it and the table
-pub pushed : (starts bytes : List ℕ) (capacity : ℕ) (d : List ℕ) (more : ℕ) → IsPending starts bytes capacity → length bytes + length d + 4 * (length starts + 2) < 2 ^ 32 → length bytes + length d + 4 * (length starts + 2) ≤ more → IsPending (starts ++ length bytes ∷ []) (bytes ++ d) more
-pushed starts bytes capacity d more h fits room =
+-- one more document, where the limit leaves room for it and the table
+pub pushed : (starts bytes : List ℕ) (limit capacity : ℕ) (d : List ℕ) (more room : ℕ) → IsPending starts bytes limit capacity → length bytes + length d + 4 * (length starts + 2) ≤ more → more < 2 ^ 32 → more ≤ room → IsPending (starts ++ length bytes ∷ []) (bytes ++ d) more room
+pushed starts bytes limit capacity d more room h within small fits =
     let docs = documents_at starts bytes in
     let place : 0 + length (concat docs) ≡ length bytes = omega (arith, ap length h.joined) in
     let starts_is : starts ++ length bytes ∷ [] ≡ starts_from 0 (docs ++ d ∷ []) =
     (λ i. h.places i ++ sym place i ∷ []) ∙ sym (starts_from-append 0 docs (d ∷ [])) in
     let bytes_is : bytes ++ d ≡ concat (docs ++ d ∷ []) =
     (λ i. h.joined i ++ sym (append-nil d) i) ∙ sym (concat-append docs (d ∷ [])) in
-    let same : docs ++ d ∷ [] ≡ documents_at (starts ++ length bytes ∷ []) (bytes ++ d) = sym (documents_pushed starts bytes capacity d h) in
+    let same : docs ++ d ∷ [] ≡ documents_at (starts ++ length bytes ∷ []) (bytes ++ d) = sym (documents_pushed starts bytes limit capacity d h) in
     let starts_len = length-append starts (length bytes ∷ []) in
     let bytes_len = length-append bytes d in
     record {
       places = starts_is ∙ ap (starts_from 0) same;
       joined = bytes_is ∙ ap concat same;
       fits = omega arith;
-      room = λ some. omega arith;
+      small = small;
+      room = fits;
+      within = λ some. omega arith;
     }
 
-pub none_pending : (capacity : ℕ) → IsPending [] [] capacity
+pub none_pending : (limit capacity : ℕ) → limit < 2 ^ 32 → limit ≤ capacity → IsPending [] [] limit capacity
 unfolding documents_at
-none_pending capacity = record {
+none_pending limit capacity small room = record {
   places = refl;
   joined = refl;
   fits = omega arith;
-  room = λ some. absurd (omega arith);
+  small = small;
+  room = room;
+  within = λ some. absurd (omega arith);
 }
 
 pub documents_none : (bytes : List ℕ) → documents_at [] bytes ≡ []
@@ -139,14 +143,14 @@ unfolding documents_at
 documents_none bytes = refl
 
 -- the bytes with their table are the block
-pub block_is : (starts bytes : List ℕ) (capacity : ℕ) → IsPending starts bytes capacity → (bytes ++ flat_map (fixed 4) starts) ++ fixed 4 (length starts) ≡ block (documents_at starts bytes)
-block_is starts bytes capacity h =
+pub block_is : (starts bytes : List ℕ) (limit capacity : ℕ) → IsPending starts bytes limit capacity → (bytes ++ flat_map (fixed 4) starts) ++ fixed 4 (length starts) ≡ block (documents_at starts bytes)
+block_is starts bytes limit capacity h =
     let docs = documents_at starts bytes in
     let count : length starts ≡ length docs = sym (length-documents_at starts bytes) in
     λ i. (h.joined i ++ flat_map (fixed 4) (h.places i)) ++ fixed 4 (count i)
 
-pub length-block-pending : (starts bytes : List ℕ) (capacity : ℕ) → IsPending starts bytes capacity → length (block (documents_at starts bytes)) ≡ length bytes + 4 * length starts + 4
-length-block-pending starts bytes capacity h =
+pub length-block-pending : (starts bytes : List ℕ) (limit capacity : ℕ) → IsPending starts bytes limit capacity → length (block (documents_at starts bytes)) ≡ length bytes + 4 * length starts + 4
+length-block-pending starts bytes limit capacity h =
     omega (arith, length-block (documents_at starts bytes), ap length h.joined, length-documents_at starts bytes)
 
 -- a document of which no block can be made weighs, with eight bytes, what the block size leaves to 2^32

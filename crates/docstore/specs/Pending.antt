@@ -17,12 +17,20 @@ unfoldable pub documents_at : List ℕ → List ℕ → List (List ℕ)
 documents_at [] bytes = []
 documents_at (start ∷ starts) bytes = slice_range bytes start (first_or starts (length bytes)) ∷ documents_at starts bytes
 
--- The places and the bytes are those of the documents, of which a block can be made, and there is room for the block's table.
-pub record IsPending (starts bytes : List ℕ) (capacity : ℕ) : Type 0 where
+-- The places and the bytes are those of the documents, of which a block can be made. A block of this limit has its place in 32 bits and in the room, and that of the documents is no longer.
+pub record IsPending (starts bytes : List ℕ) (limit capacity : ℕ) : Type 0 where
   pub places : starts ≡ starts_from 0 (documents_at starts bytes)
   pub joined : bytes ≡ concat (documents_at starts bytes)
   pub fits : length bytes + 4 * length starts + 4 < 2 ^ 32
-  pub room : 0 < length starts → length bytes + 4 * length starts + 4 ≤ capacity
+  pub small : limit < 2 ^ 32
+  pub room : limit ≤ capacity
+  pub within : 0 < length starts → length bytes + 4 * length starts + 4 ≤ limit
+
+-- A block so long is within the limit, which is within the room and below 2^32.
+pub record HasRoom (long capacity limit : ℕ) : Type 0 where
+  pub within : long ≤ limit
+  pub small : limit < 2 ^ 32
+  pub room : limit ≤ capacity
 
 -- the refusal of a document that wrote no bytes
 abbrev pub refusal_to_write : DocFault → StoreError

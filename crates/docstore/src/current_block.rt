@@ -1,18 +1,19 @@
 //! The documents that wait for their block.
 
-ghost use Rattle.std.specs.Prelude.{◌≡◌, ◌+◌, ◌*◌, ◌<◌, ◌≤◌, ◌↔◌, ◌^◌, ℕ, List, [], ◌∷◌, ◌++◌, length, IsTrue, Some, None, OnOk, OnErr, IfErr, vec_len, vec_capacity};
+ghost use Rattle.std.specs.Prelude.{◌≡◌, ◌+◌, ◌*◌, ◌<◌, ◌≤◌, ◌↔◌, ◌^◌, ℕ, List, [], ◌∷◌, ◌++◌, length, ◌⊎◌, Some, OnOk, OnErr, IfOk, IfErr, IsErrOf, vec_len, vec_capacity};
 ghost use Rattle.std.specs.List.{flat_map, concat};
 ghost use Rattle.store_base.specs.Documents.{BeginsWith};
 ghost use Rattle.store_base.specs.Serialize.{fixed};
 ghost use Rattle.store_reader.specs.Block.{block};
-ghost use Rattle.docstore.specs.Pending.{refusal_to_write, IsDocumentRefusal};
+ghost use Rattle.docstore.specs.Pending.{refusal_to_write, HasRoom, IsDocumentRefusal};
 ghost use Rattle.store_reader.specs.StoreFile.{docs_in};
 ghost use Rattle.docstore.specs.Trace.{weight, block_of};
 ghost use Rattle.docstore.specs.BlockOutput.{with_blocks, with_risen, IsSound, FailsFor};
 
 use crate::store_compressor::BlockCompressor;
+use byteorder::{ByteOrder, LittleEndian};
 use layered_index::{Cause, StoreError};
-use std::alloc::{AllocError, Global};
+use std::alloc::Global;
 use std::marker::Model;
 use store_base::{DocFault, Document, Schema, TerminatingWrite};
 
@@ -24,6 +25,8 @@ const BLOCK_LIMIT: usize = 0x1_0000_0000;
 pub(crate) struct CurrentBlock {
     bytes: Vec<u8>,
     starts: Vec<u32>,
+    // How long the block may become with the room that there is. One test against it is enough for most documents.
+    limit: usize,
 }
 
 /// Clauses see the documents.
@@ -35,7 +38,7 @@ impl Model for CurrentBlock {
 
     ghost view = { λ b. documents_at b.starts.items b.bytes.items };
 
-    ghost invariant = { λ b. IsPending b.starts.items b.bytes.items (vec_capacity b.bytes) };
+    ghost invariant = { λ b. IsPending b.starts.items b.bytes.items b.limit (vec_capacity b.bytes) };
 }
 
 impl CurrentBlock {
@@ -46,6 +49,7 @@ impl CurrentBlock {
         CurrentBlock {
             bytes: Vec::new(alloc),
             starts: Vec::new(alloc),
+            limit: 0,
         }
     }
 
@@ -63,24 +67,17 @@ impl CurrentBlock {
         self.bytes.len() + 8 * self.starts.len()
     }
 
-    /// Whether the block stays below its limit with this document.
-    pub(crate) fn has_room(&self, document: &[u8]) -> bool
-        ensures { IsTrue result ↔ (length (block (self.now ++ document.now ∷ [])) < 2 ^ 32) }
-    {
-        document.len() < BLOCK_LIMIT
-            && self.bytes.len() + document.len() + 4 * (self.starts.len() + 2) < BLOCK_LIMIT
-    }
-
     /// Adds a document at the end. `Err` leaves the documents as they were.
-    pub(crate) fn push(&mut self, document: &[u8]) -> Result<(), AllocError>
-        requires { length (block (self.old ++ document.now ∷ [])) < 2 ^ 32 }
+    pub(crate) fn push(&mut self, document: &[u8]) -> Result<(), StoreError>
         ensures ok { OnOk result (self.new ≡ self.old ++ document.now ∷ []) }
         ensures err { OnErr result (self.new ≡ self.old) }
+        ensures too_large { IsErrOf result StoreError.BlockTooLarge ↔ (2 ^ 32 ≤ length (block (self.old ++ document.now ∷ []))) }
+        ensures causes { IfErr result (λ e. (e ≡ StoreError.BlockTooLarge) ⊎ (e ≡ StoreError.Memory)) }
     {
-        let start = self.bytes.len() as u32;
-        self.bytes
-            .reserve(document.len() + 4 * (self.starts.len() + 2))?;
-        self.starts.push(start)?;
+        let start = self.bytes.len();
+        let table = 4 * (self.starts.len() + 2);
+        self.limit = with_room(&mut self.bytes, self.limit, document.len(), table)?;
+        self.starts.push(start as u32)?;
         self.bytes.extend_from_slice(document).unwrap();
         Ok(())
     }
@@ -99,11 +96,22 @@ impl CurrentBlock {
             (λ doc. 2 ^ 32 ≤ length (block (self.old ++ doc ∷ []))) e) }
     {
         let start = self.bytes.len();
-        let appended = append_document(&mut self.bytes, &mut self.starts, document, schema);
-        if appended.is_err() {
-            self.bytes.truncate(start);
+        match append_document(
+            &mut self.bytes,
+            &mut self.starts,
+            self.limit,
+            document,
+            schema,
+        ) {
+            Ok(limit) => {
+                self.limit = limit;
+                Ok(())
+            }
+            Err(refusal) => {
+                self.bytes.truncate(start);
+                Err(refusal)
+            }
         }
-        appended
     }
 
     /// Writes them as a block. Afterwards none waits, whatever the result.
@@ -143,13 +151,53 @@ impl CurrentBlock {
 fn append_table(bytes: &mut Vec<u8>, starts: &[u32])
     requires room { vec_len bytes.old + 4 * length starts.now + 4 ≤ vec_capacity bytes.old }
     requires few { length starts.now < 2 ^ 32 }
-    ensures { bytes.new.items ≡ bytes.old.items ++ flat_map (fixed 4) starts.now ++ fixed 4 (length starts.now) }
+    ensures items { bytes.new.items ≡ bytes.old.items ++ flat_map (fixed 4) starts.now ++ fixed 4 (length starts.now) }
+    ensures capacity { vec_capacity bytes.old ≤ vec_capacity bytes.new }
 {
-    for start in starts {
-        bytes.extend_from_slice(&start.to_le_bytes()).unwrap();
-    }
+    let end = bytes.len();
+    bytes.resize(end + 4 * starts.len(), 0).unwrap();
+    LittleEndian::write_u32_into(starts, &mut bytes[end..]);
     let count = starts.len() as u32;
     bytes.extend_from_slice(&count.to_le_bytes()).unwrap();
+}
+
+// The limit, where it leaves room behind the bytes for so many more and a table; else room is made, and the limit that comes of it.
+fn with_room(
+    bytes: &mut Vec<u8>,
+    limit: usize,
+    more: usize,
+    table: usize,
+) -> Result<usize, StoreError>
+    requires table { table < 2 ^ 60 }
+    requires small { limit < 2 ^ 32 }
+    requires room { limit ≤ vec_capacity bytes.old }
+    ensures ok { IfOk result (HasRoom (length bytes.old.items + more + table) (vec_capacity bytes.new)) }
+    ensures items { bytes.new.items ≡ bytes.old.items }
+    ensures capacity { vec_capacity bytes.old ≤ vec_capacity bytes.new }
+    ensures too_large { IsErrOf result StoreError.BlockTooLarge ↔ (2 ^ 32 ≤ length bytes.old.items + more + table) }
+    ensures causes { IfErr result (λ e. (e ≡ StoreError.BlockTooLarge) ⊎ (e ≡ StoreError.Memory)) }
+{
+    if more < limit.saturating_sub(bytes.len() + table) {
+        return Ok(limit);
+    }
+    make_room(bytes, more, table)
+}
+
+// Room behind the bytes for so many more and a table, and the limit that comes of it.
+#[cold]
+fn make_room(bytes: &mut Vec<u8>, more: usize, table: usize) -> Result<usize, StoreError>
+    requires { table < 2 ^ 60 }
+    ensures ok { IfOk result (HasRoom (length bytes.old.items + more + table) (vec_capacity bytes.new)) }
+    ensures items { bytes.new.items ≡ bytes.old.items }
+    ensures capacity { vec_capacity bytes.old ≤ vec_capacity bytes.new }
+    ensures too_large { IsErrOf result StoreError.BlockTooLarge ↔ (2 ^ 32 ≤ length bytes.old.items + more + table) }
+    ensures causes { IfErr result (λ e. (e ≡ StoreError.BlockTooLarge) ⊎ (e ≡ StoreError.Memory)) }
+{
+    if more >= BLOCK_LIMIT || bytes.len() + more + table >= BLOCK_LIMIT {
+        return Err(StoreError::BlockTooLarge);
+    }
+    bytes.reserve(more + table)?;
+    Ok(bytes.capacity().min(BLOCK_LIMIT - 1))
 }
 
 // Why a document gave no bytes.
@@ -166,16 +214,18 @@ fn no_bytes(fault: DocFault) -> StoreError
 fn append_document<D: Document>(
     bytes: &mut Vec<u8>,
     starts: &mut Vec<u32>,
+    limit: usize,
     document: &D,
     schema: &Schema,
-) -> Result<(), StoreError>
+) -> Result<usize, StoreError>
     requires few_bytes { length bytes.old.items < 2 ^ 32 }
     requires few_docs { length starts.old.items < 2 ^ 32 }
-    ensures ok { OnOk result ((doc : List ℕ) × (D.doc_bytes document.now schema.now ≡ Some doc)
+    requires limit { limit < 2 ^ 32 }
+    requires room { limit ≤ vec_capacity bytes.old }
+    ensures ok { IfOk result (λ room. (doc : List ℕ) × (D.doc_bytes document.now schema.now ≡ Some doc)
         × (bytes.new.items ≡ bytes.old.items ++ doc)
         × (starts.new.items ≡ starts.old.items ++ length bytes.old.items ∷ [])
-        × (length bytes.old.items + length doc + 4 * (length starts.old.items + 2) < 2 ^ 32)
-        × (length bytes.old.items + length doc + 4 * (length starts.old.items + 2) ≤ vec_capacity bytes.new)) }
+        × HasRoom (length bytes.old.items + length doc + 4 * (length starts.old.items + 2)) (vec_capacity bytes.new) room) }
     ensures begins { OnErr result (BeginsWith bytes.old.items bytes.new.items) }
     ensures starts { OnErr result (starts.new.items ≡ starts.old.items) }
     ensures capacity { vec_capacity bytes.old ≤ vec_capacity bytes.new }
@@ -187,10 +237,7 @@ fn append_document<D: Document>(
         return Err(no_bytes(fault));
     }
     let table = 4 * (starts.len() + 2);
-    if bytes.len() + table >= BLOCK_LIMIT {
-        return Err(StoreError::BlockTooLarge);
-    }
-    bytes.reserve(table)?;
+    let room = with_room(bytes, limit, 0, table)?;
     starts.push(start)?;
-    Ok(())
+    Ok(room)
 }

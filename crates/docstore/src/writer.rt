@@ -204,9 +204,6 @@ impl<W: TerminatingWrite> StoreWriter<W> {
         ensures sound { IsStoreWriter self.new }
     {
         self.check_id_left()?;
-        if !self.current_block.has_room(document) {
-            return Err(StoreError::BlockTooLarge);
-        }
         self.current_block.push(document)?;
         flush_if_full(
             &mut self.current_block,

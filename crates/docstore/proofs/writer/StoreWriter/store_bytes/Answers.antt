@@ -5,8 +5,8 @@ use Rattle.docstore.specs.Writer.{Writing}
 use Rattle.docstore.proofs.PendingLemmas.{limit}
 use Rattle.docstore.proofs.writer.StoreWriter.store_bytes.Goals as goal
 
-pub returns-then-not-has_room-clause-limit : goal.returns-then-not-has_room-clause-limit
-returns-then-not-has_room-clause-limit g c = λ _.
+pub returns-in_err-push-clause-limit : goal.returns-in_err-push-clause-limit
+returns-in_err-push-clause-limit g c = λ is.
     let size : c.self.inside.block_size ≡ c.args.self.now.block_size = ap (λ (w : Writing). w.block_size) c.self.view_is in
-    let large : 2 ^ 32 ≤ length (block (c.self.inside.current_block ++ c.args.document.now ∷ [])) = grind (arith, common_steps) in
+    let large : 2 ^ 32 ≤ length (block (c.self.inside.current_block ++ c.args.document.now ∷ [])) = grind (arith, common_steps, is) in
     omega (arith, size, limit c.self.inside.current_block c.args.document.now c.self.inside.block_size c.self.invariant.light large)
