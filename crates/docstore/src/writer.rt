@@ -102,7 +102,10 @@ impl<W: TerminatingWrite> StoreWriter<W> {
 
     /// How many documents were taken. Those that were pending when the writer failed aren't counted.
     pub fn num_docs(&self) -> u32
-        ensures { result ≡ num_docs self.now }
+        ensures count { result ≡ num_docs self.now }
+
+        // What every writer keeps, whoever hands it over.
+        ensures sound { IsStoreWriter self.now }
     {
         self.block_compressor.num_docs() + self.current_block.len()
     }

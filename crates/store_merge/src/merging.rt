@@ -53,7 +53,6 @@ pub fn merge<W: TerminatingWrite, H: FileHandle>(
     inputs: &mut [MergeInput<H>],
 ) -> Result<(), MergeError>
     requires sets { AllByRecursion HasWholeSet inputs.old }
-    requires sound { IsStoreWriter writer.old }
 
     // The lowest input of version 1 is named, and nothing is taken.
     ensures old_version { IfSome (first_old inputs.old) (λ place.
@@ -84,6 +83,8 @@ pub fn merge<W: TerminatingWrite, H: FileHandle>(
 {
     // So what is stacked of an honest file is each of its slots.
     laws::stacked_slots_are_counted();
+    // By its clause the writer is sound.
+    writer.num_docs();
     if let Some(input) = first_old(inputs) {
         return Err(MergeError {
             error: StoreError::OldVersion,
