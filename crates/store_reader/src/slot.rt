@@ -48,6 +48,7 @@ pub fn block_read_index(block: &[u8], doc_pos: u32) -> Option<Range<usize>>
 }
 
 // The document at a position of a block, whose bytes it shares.
+#[inline(always)]
 pub(crate) fn document_in(
     block: &OwnedBytes,
     doc_id: DocId,

@@ -11,6 +11,7 @@ use crate::index::looks::Steps;
 use std::marker::Model;
 
 // The next checkpoint of a block, how many are left in it, and what follows it.
+#[inline(always)]
 #[tactic(auto, unfolding(crate::specs::LayerReading::next_in_block))]
 fn next_in_block(
     left: usize,
@@ -28,6 +29,7 @@ fn next_in_block(
 }
 
 // The same, where behind a block the next one begins.
+#[inline(always)]
 #[tactic(auto, unfolding(crate::specs::LayerReading::next_at))]
 fn next_front(
     left: usize,
@@ -93,6 +95,7 @@ impl<'a> Iterator for LayerCursor<'a> {
 
     ghost remaining = { item_count (λ s. s) };
 
+    #[inline(always)]
     fn next(&mut self) -> Option<Checkpoint> {
         let (checkpoint, left, rest) = next_front(self.left, self.doc, self.byte, self.rest)?;
         self.left = left;
