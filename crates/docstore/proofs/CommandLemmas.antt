@@ -4,18 +4,20 @@ use Rattle.std.proofs.lemmas.List.{take_more, drop-drop, get_or-drop, drop-set-l
 use Rattle.std.specs.Prelude.{IfSome}
 use Rattle.std.specs.List.{fold}
 use Rattle.std.proofs.lemmas.List.Sums.{fold-append}
+use Rattle.store_base.specs.Outputs.{Termination}
 use Rattle.docstore.specs.Causes.{Stage, first_stage, stage_after, CommandGets, HaveCauses}
 use Rattle.docstore.proofs.CauseLemmas.{stage_then}
 use Rattle.layered_index.specs.declared.error.Cause.{Cause}
+use Rattle.layered_index.specs.declared.error.Cause.TheVariants.{Write, Memory as OutOfMemory}
 use Rattle.layered_index.specs.declared.error.StoreError.{StoreError}
 use Rattle.layered_index.specs.declared.error.StoreError.TheVariants.{ShortFile, BadVersion, BadBlockKind, BadOffset, BadIndex, InvalidArgument, DamagedDocument, BadDocument, Read, Memory, OldVersion, Unserializable, BlockTooLarge, TooManyDocs, Failed, BadPeriod}
 use Rattle.docstore.specs.declared.run.StoreCommand.{StoreCommand}
 use Rattle.docstore.specs.declared.run.StoreCommand.TheVariants.{Doc, Bytes, Stack}
 use Rattle.store_reader.specs.StoreFile.{data_of}
 use Rattle.docstore.specs.Trace.{Step, effect}
-use Rattle.docstore.specs.BlockOutput.{BlockOutput, HasCause, AfterFailedClose, AfterClose, HoldsBlocks}
+use Rattle.docstore.specs.BlockOutput.{BlockOutput, HasCause, HasNotEnded, AfterFailedClose, AfterClose, HoldsBlocks}
 use Rattle.docstore.specs.Writer.{Writing, AfterFailed, IsStoreWriter, blocks_of}
-use Rattle.docstore.specs.Run.{stage_of, IsStep, IsKept, IsCall, IsTrace, AreKept, AfterRun}
+use Rattle.docstore.specs.Run.{stage_of, IsStep, IsKept, IsCall, IsTrace, AreKept, Told, AfterRun}
 use Rattle.docstore.proofs.RunSoFarLemmas.{IsRunSoFar, run_step, run_closes}
 use Rattle.docstore.proofs.WriterLemmas.{cause_further}
 
@@ -116,49 +118,63 @@ failed_more held failures old new le sound before was h = go new.output.failure 
     go None h = tt
     go (Some cause) h = failed_by held failures old new old.output.failure cause le sound before was h
 
+not_asked : (cause : Cause) (old new : Termination) → new ≡ old → HasNotEnded cause old new
+not_asked Write old new same = inl same
+not_asked OutOfMemory old new same = same
+
 -- a writer that is not closed
-not_closed : (held : List ℕ) (failures : ℕ) (w : Writing) (first : Option Cause) (cause : Cause) (risen : ℕ) (content : List ℕ) → w.output.failure ≡ first → failures ≤ w.output.failures → IsStoreWriter w → (w.output.failure ≡ None → w.output.before ≡ held)
-    → IfSome first (λ c. HasCause c failures w.output.failures held w.output.content) → AfterFailedClose first cause w.output content risen → HasCause cause failures risen held content
-not_closed held failures w None cause risen content is le sound before was h = since held failures w.output cause risen content le (before is) (sound.output.works is) h
-not_closed held failures w (Some first) cause risen content is le sound before was h =
-    let same : HasCause cause failures w.output.failures held w.output.content = subst (λ (c : Cause). HasCause c failures w.output.failures held w.output.content) (sym h.0) was in
-    subst (λ (n : ℕ). HasCause cause failures n held content) (sym h.2) (subst (λ (x : List ℕ). HasCause cause failures w.output.failures held x) (sym h.1) same)
+not_closed : (held : Told) (w : Writing) (first : Option Cause) (cause : Cause) (new : Told) → w.output.failure ≡ first → held.failures ≤ w.output.failures → w.output.termination ≡ held.termination → IsStoreWriter w → (w.output.failure ≡ None → w.output.before ≡ held.content)
+    → IfSome first (λ c. HasCause c held.failures w.output.failures held.content w.output.content) → AfterFailedClose first cause w.output new.content new.termination new.failures
+    → HasCause cause held.failures new.failures held.content new.content × HasNotEnded cause held.termination new.termination
+not_closed held w None cause new is le ends sound before was h = (
+  since held.content held.failures w.output cause new.failures new.content le (before is) (sound.output.works is) h.0,
+  subst (λ (t : Termination). HasNotEnded cause t new.termination) ends h.1,
+)
+not_closed held w (Some first) cause new is le ends sound before was h =
+    let same : HasCause cause held.failures w.output.failures held.content w.output.content = subst (λ (c : Cause). HasCause c held.failures w.output.failures held.content w.output.content) (sym h.0) was in (
+      subst (λ (n : ℕ). HasCause cause held.failures n held.content new.content) (sym h.2) (subst (λ (x : List ℕ). HasCause cause held.failures w.output.failures held.content x) (sym h.1) same),
+      not_asked cause held.termination new.termination (h.3 ∙ ends),
+    )
 
 one_waits : (docs : List (List ℕ)) → length (blocks_of docs) ≤ 1
 one_waits [] = omega arith
 one_waits (d ∷ docs) = omega arith
 
-pub after_run : {D H : Type 0} (size period : ℕ) (doc_bytes : D → Option (List ℕ)) (commands left : List (StoreCommand D H)) (results : List (Result (Unit {0}) StoreError)) (held : List ℕ) (failures : ℕ) (w : Writing) (e : StoreError) (risen : ℕ) (content : List ℕ)
-    → failures ≤ w.output.failures → IsStoreWriter w → IsRun size period held doc_bytes commands left results w
-    → HasFailedSince held failures w → AfterClose e w.output content risen → AfterRun size doc_bytes commands left held content failures risen e
-after_run size period doc_bytes commands left results held failures w Memory risen content le sound run was h =
+pub after_run : {D H : Type 0} (size period : ℕ) (doc_bytes : D → Option (List ℕ)) (commands left : List (StoreCommand D H)) (results : List (Result (Unit {0}) StoreError)) (held : Told) (w : Writing) (e : StoreError) (new : Told)
+    → held.failures ≤ w.output.failures → w.output.termination ≡ held.termination → IsStoreWriter w → IsRun size period held.content doc_bytes commands left results w
+    → HasFailedSince held.content held.failures w → AfterClose e w.output new.content new.termination new.failures → AfterRun size doc_bytes commands left held new e
+after_run size period doc_bytes commands left results held w Memory new le ends sound run was h =
     let made = run h.0 in
-    inr (record {
-      results = results;
-      trace = made.trace;
-      blocks = w.output.finished;
-      waiting = blocks_of w.pending;
-      calls = made.calls;
-      causes = made.causes;
-      cut = run_closes size period held made.trace w made.so_far;
-      one = one_waits w.pending;
-      output = h.1 ∙ (sound.output.works h.0).written ∙ ap (λ (x : List ℕ). x ++ data_of w.output.finished) made.so_far.before;
-    })
-after_run size period doc_bytes commands left results held failures w (Failed cause) risen content le sound run was h = not_closed held failures w w.output.failure cause risen content refl le sound (λ works. (run works).so_far.before) was h
-after_run size period doc_bytes commands left results held failures w (ShortFile k) risen content le sound run was h = absurd h
-after_run size period doc_bytes commands left results held failures w (BadVersion k) risen content le sound run was h = absurd h
-after_run size period doc_bytes commands left results held failures w (BadBlockKind k) risen content le sound run was h = absurd h
-after_run size period doc_bytes commands left results held failures w BadOffset risen content le sound run was h = absurd h
-after_run size period doc_bytes commands left results held failures w BadIndex risen content le sound run was h = absurd h
-after_run size period doc_bytes commands left results held failures w (InvalidArgument k) risen content le sound run was h = absurd h
-after_run size period doc_bytes commands left results held failures w (DamagedDocument k) risen content le sound run was h = absurd h
-after_run size period doc_bytes commands left results held failures w BadDocument risen content le sound run was h = absurd h
-after_run size period doc_bytes commands left results held failures w Read risen content le sound run was h = absurd h
-after_run size period doc_bytes commands left results held failures w OldVersion risen content le sound run was h = absurd h
-after_run size period doc_bytes commands left results held failures w Unserializable risen content le sound run was h = absurd h
-after_run size period doc_bytes commands left results held failures w BlockTooLarge risen content le sound run was h = absurd h
-after_run size period doc_bytes commands left results held failures w TooManyDocs risen content le sound run was h = absurd h
-after_run size period doc_bytes commands left results held failures w (BadPeriod k) risen content le sound run was h = absurd h
+    inr (
+      record {
+        results = results;
+        trace = made.trace;
+        blocks = w.output.finished;
+        waiting = blocks_of w.pending;
+        calls = made.calls;
+        causes = made.causes;
+        cut = run_closes size period held.content made.trace w made.so_far;
+        one = one_waits w.pending;
+        output = h.1 ∙ (sound.output.works h.0).written ∙ ap (λ (x : List ℕ). x ++ data_of w.output.finished) made.so_far.before;
+      },
+      h.3 ∙ ends,
+    )
+after_run size period doc_bytes commands left results held w (Failed cause) new le ends sound run was h =
+    not_closed held w w.output.failure cause new refl le ends sound (λ works. (run works).so_far.before) was h
+after_run size period doc_bytes commands left results held w (ShortFile k) new le ends sound run was h = absurd h
+after_run size period doc_bytes commands left results held w (BadVersion k) new le ends sound run was h = absurd h
+after_run size period doc_bytes commands left results held w (BadBlockKind k) new le ends sound run was h = absurd h
+after_run size period doc_bytes commands left results held w BadOffset new le ends sound run was h = absurd h
+after_run size period doc_bytes commands left results held w BadIndex new le ends sound run was h = absurd h
+after_run size period doc_bytes commands left results held w (InvalidArgument k) new le ends sound run was h = absurd h
+after_run size period doc_bytes commands left results held w (DamagedDocument k) new le ends sound run was h = absurd h
+after_run size period doc_bytes commands left results held w BadDocument new le ends sound run was h = absurd h
+after_run size period doc_bytes commands left results held w Read new le ends sound run was h = absurd h
+after_run size period doc_bytes commands left results held w OldVersion new le ends sound run was h = absurd h
+after_run size period doc_bytes commands left results held w Unserializable new le ends sound run was h = absurd h
+after_run size period doc_bytes commands left results held w BlockTooLarge new le ends sound run was h = absurd h
+after_run size period doc_bytes commands left results held w TooManyDocs new le ends sound run was h = absurd h
+after_run size period doc_bytes commands left results held w (BadPeriod k) new le ends sound run was h = absurd h
 
 -- ---- lists that are gone over
 

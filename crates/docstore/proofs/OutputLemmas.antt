@@ -1,8 +1,9 @@
 -- The output of a writer of blocks.
 use Rattle.std.proofs.Common.{◌≡◌, ℕ, ◌+◌, ◌-◌, ◌^◌, ◌<◌, ◌≤◌, List, [], ◌∷◌, ◌++◌, length, take, drop, Option, Some, None, refl, sym, ◌∙◌, ap, subst, arith, append_assoc, length-append}
-use Rattle.std.proofs.lemmas.List.{append-nil, drop-append-le, take-append-le, take-append-drop, length-drop}
+use Rattle.std.proofs.lemmas.List.{take_all, append-nil, drop-append-le, take-append-le, take-append-drop, length-drop}
 use Rattle.std.proofs.Math.ListN.{drop_of_length-le}
 use Rattle.std.specs.List.{AllByRecursion}
+use Rattle.store_base.specs.Outputs.{Termination}
 use Rattle.layered_index.specs.declared.index.Checkpoint.{Checkpoint}
 use Rattle.layered_index.specs.declared.error.Cause.{Cause}
 use Rattle.layered_index.specs.Checkpoint.{IsInLineFrom, IsInLine}
@@ -11,7 +12,7 @@ use Rattle.store_reader.specs.declared.compressors.Compressor.{Compressor}
 use Rattle.store_reader.specs.declared.compressors.Compressor.TheVariants as packed
 use Rattle.store_reader.specs.Footer.{footer, kind_of, unpacks}
 use Rattle.layered_index.specs.Layers.{index_part}
-use Rattle.docstore.specs.BlockOutput.{BlockOutput, with_blocks, with_risen, IsSound, data_in, front_of, blocks_in, AreWritten, IsCompressing, compressing}
+use Rattle.docstore.specs.BlockOutput.{BlockOutput, new_output, with_blocks, with_risen, IsSound, data_in, front_of, blocks_in, AreWritten, IsCompressing, compressing}
 use Rattle.store_reader.proofs.StoreLemmas.{docs_in-cons, docs_in-append, data_of-append, data_fits, AreBlocks-append, marks_from-append, marks_in_line_from, marks_in_line, docs_in-blocks_at, blocks_from, blocks_none}
 
 -- what is known once these blocks are written behind the others
@@ -78,8 +79,8 @@ is_added period next_id cs content written b h one few =
 pub docs_seen : (period next_id : ℕ) (cs : List Checkpoint) (content : List ℕ) (written : ℕ) (failure : Option Cause) → IsCompressing period next_id cs content written failure → docs_in (blocks_in cs content written) ≡ next_id
 docs_seen period next_id cs content written failure h = docs_in-blocks_at cs (data_in content written) ∙ sym h.ids
 
-pub sound : (compressor : Compressor) (period next_id : ℕ) (cs : List Checkpoint) (content : List ℕ) (written failures : ℕ) (failure : Option Cause) → IsCompressing period next_id cs content written failure → IsSound (compressing compressor period cs content written failures failure)
-sound compressor period next_id cs content written failures failure h = record {
+pub sound : (compressor : Compressor) (period next_id : ℕ) (cs : List Checkpoint) (content : List ℕ) (written : ℕ) (termination : Termination) (failures : ℕ) (failure : Option Cause) → IsCompressing period next_id cs content written failure → IsSound (compressing compressor period cs content written termination failures failure)
+sound compressor period next_id cs content written termination failures failure h = record {
   least = h.least;
   most = h.most;
   ids = omega (arith, docs_seen period next_id cs content written failure h, h.few_ids);
@@ -117,18 +118,24 @@ begins period content failure least most =
 
 -- ---- a block that is written
 
-pub block_added : (compressor : Compressor) (period next_id : ℕ) (cs : List Checkpoint) (content : List ℕ) (written failures : ℕ) (failure : Option Cause) (now : BlockOutput) (count : ℕ) (bytes : List ℕ) → compressing compressor period cs content written failures failure ≡ now → IsCompressing period next_id cs content written failure → now.failure ≡ None → 0 < length bytes → length bytes < 2 ^ 32 → 0 < count → docs_in now.finished + count < 2 ^ 32 → AreAdded period next_id cs content written (record { count = count; bytes = bytes } ∷ []) bytes count
-block_added compressor period next_id cs content written failures failure now count bytes view_is h works some few some_docs few_docs =
+-- a writer that has written nothing
+pub first_seen : (compressor : Compressor) (period : ℕ) (content : List ℕ) (termination : Termination) (failures : ℕ) → compressing compressor period [] content 0 termination failures None ≡ new_output compressor period content termination failures
+first_seen compressor period content termination failures =
+    let all : front_of content 0 ≡ content = take_all (length content - 0) content (omega arith) in
+    λ i. record { compressor = compressor; period = period; finished = blocks_none (data_in content 0) i; failure = None; before = all i; content = content; termination = termination; failures = failures }
+
+pub block_added : (compressor : Compressor) (period next_id : ℕ) (cs : List Checkpoint) (content : List ℕ) (written : ℕ) (termination : Termination) (failures : ℕ) (failure : Option Cause) (now : BlockOutput) (count : ℕ) (bytes : List ℕ) → compressing compressor period cs content written termination failures failure ≡ now → IsCompressing period next_id cs content written failure → now.failure ≡ None → 0 < length bytes → length bytes < 2 ^ 32 → 0 < count → docs_in now.finished + count < 2 ^ 32 → AreAdded period next_id cs content written (record { count = count; bytes = bytes } ∷ []) bytes count
+block_added compressor period next_id cs content written termination failures failure now count bytes view_is h works some few some_docs few_docs =
     let none : failure ≡ None = ap (λ (out : BlockOutput). out.failure) view_is ∙ works in
     let inv : IsCompressing period next_id cs content written None = subst (IsCompressing period next_id cs content written) none h in
     let docs : docs_in now.finished ≡ next_id = sym (ap (λ (out : BlockOutput). docs_in out.finished) view_is) ∙ docs_seen period next_id cs content written failure h in
     is_added period next_id cs content written (record { count = count; bytes = bytes }) inv (record { some_docs = some_docs; some_bytes = some; few_bytes = few }) (omega (arith, docs, few_docs))
 
 -- what is seen once blocks are added
-pub seen_added : (compressor : Compressor) (period next_id : ℕ) (cs : List Checkpoint) (content : List ℕ) (written failures new_failures : ℕ) (failure : Option Cause) (now : BlockOutput) (bs : List StoreBlock) (bytes : List ℕ) (count : ℕ) → compressing compressor period cs content written failures failure ≡ now → AreAdded period next_id cs content written bs bytes count → bytes ≡ data_of bs → compressing compressor period (cs ++ marks_from next_id written bs) (content ++ bytes) (written + length bytes) new_failures failure ≡ with_risen new_failures (with_blocks now bs)
-seen_added compressor period next_id cs content written failures new_failures failure now bs bytes count view_is a bytes_is =
-    let step : compressing compressor period (cs ++ marks_from next_id written bs) (content ++ bytes) (written + length bytes) new_failures failure ≡ with_risen new_failures (with_blocks (compressing compressor period cs content written failures failure) bs) =
-    λ i. record { compressor = compressor; period = period; finished = a.finished i; failure = failure; before = a.before i; content = content ++ bytes_is i; failures = new_failures } in
+pub seen_added : (compressor : Compressor) (period next_id : ℕ) (cs : List Checkpoint) (content : List ℕ) (written : ℕ) (termination : Termination) (failures new_failures : ℕ) (failure : Option Cause) (now : BlockOutput) (bs : List StoreBlock) (bytes : List ℕ) (count : ℕ) → compressing compressor period cs content written termination failures failure ≡ now → AreAdded period next_id cs content written bs bytes count → bytes ≡ data_of bs → compressing compressor period (cs ++ marks_from next_id written bs) (content ++ bytes) (written + length bytes) termination new_failures failure ≡ with_risen new_failures (with_blocks now bs)
+seen_added compressor period next_id cs content written termination failures new_failures failure now bs bytes count view_is a bytes_is =
+    let step : compressing compressor period (cs ++ marks_from next_id written bs) (content ++ bytes) (written + length bytes) termination new_failures failure ≡ with_risen new_failures (with_blocks (compressing compressor period cs content written termination failures failure) bs) =
+    λ i. record { compressor = compressor; period = period; finished = a.finished i; failure = failure; before = a.before i; content = content ++ bytes_is i; termination = termination; failures = new_failures } in
     step ∙ ap (λ (out : BlockOutput). with_risen new_failures (with_blocks out bs)) view_is
 
 -- ---- the end of a file

@@ -3,6 +3,7 @@ use Rattle.std.proofs.Common.{◌≡◌, ℕ, ◌+◌, ◌^◌, ◌<◌, List, [
 use Rattle.std.proofs.lemmas.List.Sums.{sum_by-cons}
 use Rattle.std.specs.List.{sum_by, AllByRecursion}
 use Rattle.store_reader.specs.declared.compressors.Compressor.{Compressor}
+use Rattle.store_base.specs.Outputs.{Termination}
 use Rattle.layered_index.specs.declared.error.Cause.{Cause}
 use Rattle.layered_index.specs.declared.index.Checkpoint.{Checkpoint}
 use Rattle.layered_index.specs.Checkpoint.{checkpoint, doc_count, IsWithinLimits, IsInLineFrom, IsInLine, docs_end, Covers}
@@ -84,8 +85,8 @@ pub record AreCut (period next_id : ℕ) (cs : List Checkpoint) (content : List 
   pub joined : bytes ≡ data_of (blocks_at more bytes)
   pub some : 0 < length more → 0 < length bytes
 
-pub are_cut : (compressor : Compressor) (period next_id : ℕ) (cs : List Checkpoint) (content : List ℕ) (written failures : ℕ) (failure : Option Cause) (now : BlockOutput) (more : List Checkpoint) (bytes : List ℕ) → compressing compressor period cs content written failures failure ≡ now → IsCompressing period next_id cs content written failure → now.failure ≡ None → Covers more (length bytes) → docs_in now.finished + docs_end 0 more < 2 ^ 32 → AreCut period next_id cs content written more bytes
-are_cut compressor period next_id cs content written failures failure now more bytes view_is h works covers few =
+pub are_cut : (compressor : Compressor) (period next_id : ℕ) (cs : List Checkpoint) (content : List ℕ) (written : ℕ) (termination : Termination) (failures : ℕ) (failure : Option Cause) (now : BlockOutput) (more : List Checkpoint) (bytes : List ℕ) → compressing compressor period cs content written termination failures failure ≡ now → IsCompressing period next_id cs content written failure → now.failure ≡ None → Covers more (length bytes) → docs_in now.finished + docs_end 0 more < 2 ^ 32 → AreCut period next_id cs content written more bytes
+are_cut compressor period next_id cs content written termination failures failure now more bytes view_is h works covers few =
     let bs = blocks_at more bytes in
     let seen = store_seen bytes more covers in
     let none : failure ≡ None = ap (λ (out : BlockOutput). out.failure) view_is ∙ works in

@@ -1,13 +1,14 @@
 -- What a refused `close` leaves.
 use Rattle.std.proofs.Common.{◌≡◌, ℕ, ◌<◌, ◌≤◌, List, ◌++◌, length, Option, None, sym, ◌∙◌, ap, subst, arith, append_assoc, length-append}
 use Rattle.store_base.specs.Counts.{HasRisen}
+use Rattle.store_base.specs.Outputs.{Termination}
 use Rattle.layered_index.specs.declared.error.Cause.{Cause}
 use Rattle.layered_index.specs.declared.error.Cause.TheVariants.{Write, Memory as OutOfMemory}
 use Rattle.layered_index.specs.declared.error.StoreError.{StoreError}
 use Rattle.layered_index.specs.declared.error.StoreError.TheVariants.{ShortFile, BadVersion, BadBlockKind, BadOffset, BadIndex, InvalidArgument, DamagedDocument, BadDocument, Read, Memory, OldVersion, Unserializable, BlockTooLarge, TooManyDocs, Failed, BadPeriod}
 use Rattle.layered_index.specs.Outcome.{behind_bytes}
 use Rattle.store_reader.specs.StoreFile.{StoreBlock, data_of}
-use Rattle.docstore.specs.BlockOutput.{BlockOutput, with_blocks, with_risen, HasCause, AfterFailedClose, AfterClose}
+use Rattle.docstore.specs.BlockOutput.{BlockOutput, with_blocks, with_risen, HasCause, HasNotEnded, AfterFailedClose, AfterClose}
 
 pub risen_further : (a b c : ℕ) → a ≤ b → HasRisen b c → HasRisen a c
 risen_further a b c le h = record { no_lower = omega (arith, h.no_lower); risen = λ lt. omega (arith, h.risen lt) }
@@ -22,26 +23,30 @@ cause_further OutOfMemory failures risen last old bytes mid new le is h = record
 }
 
 -- a refusal behind blocks that went out in the same call
-pub closed_behind : (e : StoreError) (old mid : BlockOutput) (bs : List StoreBlock) (content : List ℕ) (failures : ℕ) → mid ≡ with_risen mid.failures (with_blocks old bs) → old.failures ≤ mid.failures → old.failure ≡ None → 0 < length (data_of bs) → AfterClose e mid content failures → AfterClose (behind_bytes e) old content failures
-closed_behind Memory old mid bs content failures is le none some h =
+pub closed_behind : (e : StoreError) (old mid : BlockOutput) (bs : List StoreBlock) (content : List ℕ) (termination : Termination) (failures : ℕ) → mid ≡ with_risen mid.failures (with_blocks old bs) → old.failures ≤ mid.failures → old.failure ≡ None → 0 < length (data_of bs) → AfterClose e mid content termination failures → AfterClose (behind_bytes e) old content termination failures
+closed_behind Memory old mid bs content termination failures is le none some h =
     let grown : content ≡ old.content ++ data_of bs = h.1 ∙ ap (λ (out : BlockOutput). out.content) is in
-    subst (λ (f : Option Cause). AfterFailedClose f OutOfMemory old content failures) (sym none) (record { more = data_of bs; some = some; parts = grown })
-closed_behind (Failed cause) old mid bs content failures is le none some h =
+    let ends : termination ≡ old.termination = h.3 ∙ ap (λ (out : BlockOutput). out.termination) is in
+    subst (λ (f : Option Cause). AfterFailedClose f OutOfMemory old content termination failures) (sym none) (record { more = data_of bs; some = some; parts = grown }, ends)
+closed_behind (Failed cause) old mid bs content termination failures is le none some h =
     let mid_none : mid.failure ≡ None = ap (λ (out : BlockOutput). out.failure) is ∙ none in
-    let why : HasCause cause mid.failures failures mid.content content = subst (λ (f : Option Cause). AfterFailedClose f cause mid content failures) mid_none h in
-    subst (λ (f : Option Cause). AfterFailedClose f cause old content failures) (sym none)
-    (cause_further cause old.failures mid.failures failures old.content (data_of bs) mid.content content le (ap (λ (out : BlockOutput). out.content) is) why)
-closed_behind (ShortFile n) old mid bs content failures is le none some h = absurd h
-closed_behind (BadVersion n) old mid bs content failures is le none some h = absurd h
-closed_behind (BadBlockKind n) old mid bs content failures is le none some h = absurd h
-closed_behind BadOffset old mid bs content failures is le none some h = absurd h
-closed_behind BadIndex old mid bs content failures is le none some h = absurd h
-closed_behind (InvalidArgument n) old mid bs content failures is le none some h = absurd h
-closed_behind (DamagedDocument n) old mid bs content failures is le none some h = absurd h
-closed_behind BadDocument old mid bs content failures is le none some h = absurd h
-closed_behind Read old mid bs content failures is le none some h = absurd h
-closed_behind OldVersion old mid bs content failures is le none some h = absurd h
-closed_behind Unserializable old mid bs content failures is le none some h = absurd h
-closed_behind BlockTooLarge old mid bs content failures is le none some h = absurd h
-closed_behind TooManyDocs old mid bs content failures is le none some h = absurd h
-closed_behind (BadPeriod n) old mid bs content failures is le none some h = absurd h
+    let why : HasCause cause mid.failures failures mid.content content × HasNotEnded cause mid.termination termination = subst (λ (f : Option Cause). AfterFailedClose f cause mid content termination failures) mid_none h in
+    let ends : mid.termination ≡ old.termination = ap (λ (out : BlockOutput). out.termination) is in
+    subst (λ (f : Option Cause). AfterFailedClose f cause old content termination failures) (sym none) (
+      cause_further cause old.failures mid.failures failures old.content (data_of bs) mid.content content le (ap (λ (out : BlockOutput). out.content) is) why.0,
+      subst (λ (t : Termination). HasNotEnded cause t termination) ends why.1,
+    )
+closed_behind (ShortFile n) old mid bs content termination failures is le none some h = absurd h
+closed_behind (BadVersion n) old mid bs content termination failures is le none some h = absurd h
+closed_behind (BadBlockKind n) old mid bs content termination failures is le none some h = absurd h
+closed_behind BadOffset old mid bs content termination failures is le none some h = absurd h
+closed_behind BadIndex old mid bs content termination failures is le none some h = absurd h
+closed_behind (InvalidArgument n) old mid bs content termination failures is le none some h = absurd h
+closed_behind (DamagedDocument n) old mid bs content termination failures is le none some h = absurd h
+closed_behind BadDocument old mid bs content termination failures is le none some h = absurd h
+closed_behind Read old mid bs content termination failures is le none some h = absurd h
+closed_behind OldVersion old mid bs content termination failures is le none some h = absurd h
+closed_behind Unserializable old mid bs content termination failures is le none some h = absurd h
+closed_behind BlockTooLarge old mid bs content termination failures is le none some h = absurd h
+closed_behind TooManyDocs old mid bs content termination failures is le none some h = absurd h
+closed_behind (BadPeriod n) old mid bs content termination failures is le none some h = absurd h

@@ -1,7 +1,8 @@
 -- The finished blocks of a writer, and its output.
-use Rattle.std.specs.Prelude.{◌≡◌, ℕ, ◌-◌, ◌<◌, ◌≤◌, ◌^◌, ◌⊎◌, List, ◌++◌, length, take, drop, Option, Some, None}
+use Rattle.std.specs.Prelude.{◌≡◌, ℕ, ◌-◌, ◌<◌, ◌≤◌, ◌^◌, ◌⊎◌, List, [], ◌++◌, length, take, drop, Option, Some, None}
 use Rattle.std.specs.List.{sum_by}
-use Rattle.store_base.specs.Counts.{HasRisen}
+use Rattle.store_base.specs.Counts.{HasRisen, raised}
+use Rattle.store_base.specs.Outputs.{Termination}
 use Rattle.store_reader.specs.declared.compressors.Compressor.{Compressor}
 use Rattle.layered_index.specs.declared.error.Cause.{Cause}
 use Rattle.layered_index.specs.declared.error.Cause.TheVariants.{Write, Memory as OutOfMemory}
@@ -11,7 +12,7 @@ use Rattle.layered_index.specs.declared.index.Checkpoint.{Checkpoint}
 use Rattle.layered_index.specs.Checkpoint.{doc_count}
 use Rattle.store_reader.specs.StoreFile.{StoreBlock, AreBlocks, docs_in, data_of, marks, blocks_at}
 
--- How blocks are packed and the index is grouped; the finished blocks; why the writer has failed, if it has; what the output held when it was handed in, what it holds, and how often it failed.
+-- How blocks are packed and the index is grouped; the finished blocks; why the writer has failed, if it has; what the output held when it was handed in, what it holds, its ends, and how often it failed.
 pub record BlockOutput : Type 0 where
   pub compressor : Compressor
   pub period : ℕ
@@ -19,7 +20,21 @@ pub record BlockOutput : Type 0 where
   pub failure : Option Cause
   pub before : List ℕ
   pub content : List ℕ
+  pub termination : Termination
   pub failures : ℕ
+
+-- nothing written yet by this writer to an output
+abbrev pub new_output : Compressor → ℕ → List ℕ → Termination → ℕ → BlockOutput
+new_output compressor period content termination failures = record {
+  compressor = compressor;
+  period = period;
+  finished = [];
+  failure = None;
+  before = content;
+  content = content;
+  termination = termination;
+  failures = failures;
+}
 
 -- these blocks behind the finished ones
 abbrev pub with_blocks : BlockOutput → List StoreBlock → BlockOutput
@@ -68,20 +83,26 @@ abbrev pub AfterBlock : BlockOutput → BlockOutput → StoreError → Type 0
 AfterBlock old new (Failed cause) = AfterFailedBlock old.failure cause old new
 AfterBlock old new _ = ⊥
 
+-- The output was not asked to end; or once, as the last thing, which failed.
+abbrev pub HasNotEnded : Cause → Termination → Termination → Type 0
+HasNotEnded Write old new = (new ≡ old) ⊎ (new ≡ record old { calls = raised old.calls 1 })
+HasNotEnded OutOfMemory old new = new ≡ old
+
 -- what a refused `close` leaves in the output
-abbrev pub AfterFailedClose : Option Cause → Cause → BlockOutput → List ℕ → ℕ → Type 0
-AfterFailedClose None cause old content failures = HasCause cause old.failures failures old.content content
-AfterFailedClose (Some first) cause old content failures = (cause ≡ first) × (content ≡ old.content) × (failures ≡ old.failures)
+abbrev pub AfterFailedClose : Option Cause → Cause → BlockOutput → List ℕ → Termination → ℕ → Type 0
+AfterFailedClose None cause old content termination failures = HasCause cause old.failures failures old.content content × HasNotEnded cause old.termination termination
+AfterFailedClose (Some first) cause old content termination failures = (cause ≡ first) × (content ≡ old.content) × (failures ≡ old.failures) × (termination ≡ old.termination)
 
 -- For want of memory nothing went out; otherwise the writer had failed, or fails now.
-abbrev pub AfterClose : StoreError → BlockOutput → List ℕ → ℕ → Type 0
-AfterClose Memory old content failures = (old.failure ≡ None) × (content ≡ old.content) × (failures ≡ old.failures)
-AfterClose (Failed cause) old content failures = AfterFailedClose old.failure cause old content failures
-AfterClose _ old content failures = ⊥
+abbrev pub AfterClose : StoreError → BlockOutput → List ℕ → Termination → ℕ → Type 0
+AfterClose Memory old content termination failures = (old.failure ≡ None) × (content ≡ old.content) × (failures ≡ old.failures) × (termination ≡ old.termination)
+AfterClose (Failed cause) old content termination failures = AfterFailedClose old.failure cause old content termination failures
+AfterClose _ old content termination failures = ⊥
 
 -- The end of a file was refused: for want of memory before anything was written, or as the output failed.
-abbrev pub IsEndRefusal : StoreError → List ℕ → List ℕ → ℕ → ℕ → Type 0
-IsEndRefusal e old new failures risen = ((e ≡ Memory) × (new ≡ old) × (risen ≡ failures)) ⊎ ((e ≡ Failed Write) × HasRisen failures risen)
+abbrev pub IsEndRefusal : StoreError → List ℕ → List ℕ → Termination → Termination → ℕ → ℕ → Type 0
+IsEndRefusal e old new termination ended failures risen =
+    ((e ≡ Memory) × (new ≡ old) × (risen ≡ failures) × (ended ≡ termination)) ⊎ ((e ≡ Failed Write) × HasRisen failures risen × HasNotEnded Write termination ended)
 
 -- ---- how the blocks are told from the checkpoints and the output
 
@@ -111,13 +132,14 @@ pub record IsCompressing (period next_id : ℕ) (cs : List Checkpoint) (content 
   pub works : failure ≡ None → AreWritten cs content written
 
 -- what is seen of a writer with these checkpoints and this output
-abbrev pub compressing : Compressor → ℕ → List Checkpoint → List ℕ → ℕ → ℕ → Option Cause → BlockOutput
-compressing compressor period cs content written failures failure = record {
+abbrev pub compressing : Compressor → ℕ → List Checkpoint → List ℕ → ℕ → Termination → ℕ → Option Cause → BlockOutput
+compressing compressor period cs content written termination failures failure = record {
   compressor = compressor;
   period = period;
   finished = blocks_in cs content written;
   failure = failure;
   before = front_of content written;
   content = content;
+  termination = termination;
   failures = failures;
 }

@@ -1,12 +1,13 @@
 -- Whole lists of writing calls.
 use Rattle.std.specs.Prelude.{◌≡◌, ◌≤◌, ◌⊎◌, ℕ, List, [], ◌∷◌, ◌++◌, length, Option, None, Result, Ok, Err, OnOk}
+use Rattle.store_base.specs.Outputs.{Termination}
 use Rattle.layered_index.specs.declared.error.StoreError.{StoreError}
 use Rattle.layered_index.specs.declared.error.StoreError.TheVariants.{Read, Memory, Failed}
 use Rattle.docstore.specs.declared.run.StoreCommand.{StoreCommand}
 use Rattle.docstore.specs.declared.run.StoreCommand.TheVariants.{Doc, Bytes, Stack}
 use Rattle.store_reader.specs.StoreFile.{StoreBlock, AreBlocks, data_of, file, IsStore}
 use Rattle.store_reader.specs.Slots.{slots}
-use Rattle.docstore.specs.BlockOutput.{HasCause}
+use Rattle.docstore.specs.BlockOutput.{HasCause, HasNotEnded}
 use Rattle.docstore.specs.Trace.{Step, Answer, accepted, read_failed, no_memory, refused, store, store_bytes, stack, Effect, adds, ends, may_end, no_effect, effect, meaning, Blocks}
 use Rattle.docstore.specs.Causes.{Stage, first_stage, CommandGets, HaveCauses}
 use Rattle.docstore.specs.Writer.{Writing, num_docs, flushed, with_document, with_failures}
@@ -93,11 +94,20 @@ pub record IsUnclosed {D H : Type 0} (size : ℕ) (doc_bytes : D → Option (Lis
   pub one : length waiting ≤ 1
   pub output : new ≡ old ++ data_of blocks
 
--- What a refused run leaves. Where memory was wanting for the results, no call was made.
-abbrev pub AfterRun : {D H : Type 0} → ℕ → (D → Option (List ℕ)) → List (StoreCommand D H) → List (StoreCommand D H) → List ℕ → List ℕ → ℕ → ℕ → StoreError → Type 0
-AfterRun size doc_bytes commands left old new failures risen Memory = ((left ≡ commands) × (new ≡ old)) ⊎ IsUnclosed size doc_bytes commands left old new
-AfterRun size doc_bytes commands left old new failures risen (Failed cause) = HasCause cause failures risen old new
-AfterRun size doc_bytes commands left old new failures risen _ = ⊥
+-- what is told of an output: what it holds, its ends, and how often it failed
+pub record Told : Type 0 where
+  pub content : List ℕ
+  pub termination : Termination
+  pub failures : ℕ
+
+abbrev pub told : List ℕ → Termination → ℕ → Told
+told content termination failures = record { content = content; termination = termination; failures = failures }
+
+-- What a refused run leaves. Where memory was wanting for the results, no call was made, and the output is as it came.
+abbrev pub AfterRun : {D H : Type 0} → ℕ → (D → Option (List ℕ)) → List (StoreCommand D H) → List (StoreCommand D H) → Told → Told → StoreError → Type 0
+AfterRun size doc_bytes commands left old new Memory = ((left ≡ commands) × (new ≡ old)) ⊎ (IsUnclosed size doc_bytes commands left old.content new.content × (new.termination ≡ old.termination))
+AfterRun size doc_bytes commands left old new (Failed cause) = HasCause cause old.failures new.failures old.content new.content × HasNotEnded cause old.termination new.termination
+AfterRun size doc_bytes commands left old new _ = ⊥
 
 -- The slots of the blocks that calls may leave are what the calls brought, whatever the block size.
 abbrev pub BlocksMeanTheirCalls : Type 0

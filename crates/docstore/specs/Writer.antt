@@ -14,6 +14,10 @@ pub record Writing : Type 0 where
   pub pending : List (List ℕ)
   pub output : BlockOutput
 
+-- nothing taken yet
+abbrev pub new_writing : ℕ → BlockOutput → Writing
+new_writing size output = record { block_size = size; pending = []; output = output }
+
 -- how many documents were taken
 abbrev pub num_docs : Writing → ℕ
 num_docs w = docs_in w.output.finished + length w.pending

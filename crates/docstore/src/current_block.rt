@@ -125,6 +125,7 @@ impl CurrentBlock {
         ensures emptied { self.new ≡ [] }
         ensures written { OnOk result (output.new ≡ with_risen output.new.failures (with_blocks output.old (block_of self.old ∷ []))) }
         ensures err { IfErr result (λ cause. FailsFor cause output.old output.new) }
+        ensures termination { output.new.termination ≡ output.old.termination }
         ensures count { output.old.failures ≤ output.new.failures }
         ensures sound { IsSound output.new }
     {

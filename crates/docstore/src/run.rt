@@ -1,7 +1,8 @@
 //! Whole lists of calls.
 
 ghost use Rattle.std.specs.Prelude.{◌≡◌, ◌≤◌, None, true, IfSome, IfOk, IfErr};
-ghost use Rattle.docstore.specs.Run.{IsCall, IsKept, AreKept, IsWritten, AfterRun};
+ghost use Rattle.store_base.specs.Outputs.{terminated_once};
+ghost use Rattle.docstore.specs.Run.{told, IsCall, IsKept, AreKept, IsWritten, AfterRun};
 ghost use Rattle.docstore.specs.Writer.{IsStoreWriter, AfterFailed};
 
 use crate::close_error::CloseError;
@@ -33,7 +34,7 @@ pub struct WriteReport<W> {
 /// made.
 ///
 /// Where `close` is refused, so is the list; a call that is `Failed` comes to that. Room for the
-/// results is taken first: where there is none, no call is made. A list refused for want of memory
+/// results is taken first: where there is none, no call is made and the output is as it came. A list refused for want of memory
 /// later leaves the blocks of its calls in the output, but for the last one at most.
 pub fn write_store<W: TerminatingWrite, D: Document, H: FileHandle>(
     alloc: Global,
@@ -44,9 +45,11 @@ pub fn write_store<W: TerminatingWrite, D: Document, H: FileHandle>(
 ) -> Result<WriteReport<W>, CloseError<W>>
     ensures written { IfOk result (λ report. IsWritten CHECKPOINT_PERIOD block_size (λ d. D.doc_bytes d schema.now)
         commands.old commands.new report.results.items (W.content output) (W.content report.output)) }
-    ensures terminated { IfOk result (λ report. W.terminated report.output ≡ true) }
+    ensures terminated { IfOk result (λ report. W.termination report.output
+        ≡ terminated_once true (W.content report.output) (W.termination output)) }
     ensures err { IfErr result (λ e. AfterRun block_size (λ d. D.doc_bytes d schema.now) commands.old commands.new
-        (W.content output) (W.content e.output) (W.failures output) (W.failures e.output) e.error) }
+        (told (W.content output) (W.termination output) (W.failures output))
+        (told (W.content e.output) (W.termination e.output) (W.failures e.output)) e.error) }
 
     // Documents and bytes stay, and readers keep their stores.
     ensures kept { AreKept commands.old commands.new }
@@ -74,9 +77,11 @@ pub fn write_store_with_period<W: TerminatingWrite, D: Document, H: FileHandle>(
     requires most { period ≤ 64 }
     ensures written { IfOk result (λ report. IsWritten period block_size (λ d. D.doc_bytes d schema.now)
         commands.old commands.new report.results.items (W.content output) (W.content report.output)) }
-    ensures terminated { IfOk result (λ report. W.terminated report.output ≡ true) }
+    ensures terminated { IfOk result (λ report. W.termination report.output
+        ≡ terminated_once true (W.content report.output) (W.termination output)) }
     ensures err { IfErr result (λ e. AfterRun block_size (λ d. D.doc_bytes d schema.now) commands.old commands.new
-        (W.content output) (W.content e.output) (W.failures output) (W.failures e.output) e.error) }
+        (told (W.content output) (W.termination output) (W.failures output))
+        (told (W.content e.output) (W.termination e.output) (W.failures e.output)) e.error) }
     ensures kept { AreKept commands.old commands.new }
 {
     let Ok(mut results) = Vec::with_capacity(alloc, commands.len()) else {
@@ -107,6 +112,7 @@ fn make_call<W: TerminatingWrite, D: Document, H: FileHandle>(
     ensures failed { IfSome writer.new.output.failure (λ cause.
         AfterFailed writer.old.output.failure cause writer.old writer.new) }
     ensures kept { IsKept command.old command.new }
+    ensures termination { writer.new.output.termination ≡ writer.old.output.termination }
     ensures count { writer.old.output.failures ≤ writer.new.output.failures }
     ensures sound { IsStoreWriter writer.new }
 {

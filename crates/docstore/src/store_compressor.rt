@@ -6,7 +6,8 @@ ghost use Rattle.layered_index.specs.Checkpoint.{doc_count, docs_end, IsInLineFr
 ghost use Rattle.store_reader.specs.Footer.{footer, kind_of, unpacks};
 ghost use Rattle.layered_index.specs.Layers.{index_part};
 ghost use Rattle.store_reader.specs.StoreFile.{StoreBlock, docs_in, file, reserved_of, IsStore, blocks_at};
-ghost use Rattle.docstore.specs.BlockOutput.{with_blocks, with_risen, IsSound, FailsFor, AfterBlock, AfterClose, IsEndRefusal};
+ghost use Rattle.store_base.specs.Outputs.{terminated_once};
+ghost use Rattle.docstore.specs.BlockOutput.{new_output, with_blocks, with_risen, IsSound, FailsFor, AfterBlock, AfterClose, IsEndRefusal};
 ghost use Rattle.store_reader.specs.Reading.{num_docs as docs_of, IsReadOnce};
 ghost use Rattle.docstore.specs.Stacking.{AreRead, shifted, AfterStacking};
 
@@ -39,7 +40,7 @@ impl<W: TerminatingWrite> Model for BlockCompressor<W> {
     ghost Value = { BlockOutput };
 
     ghost view = { λ s. compressing s.compressor s.index.period s.index.checkpoints (W.content s.writer.output)
-        s.writer.written (W.failures s.writer.output) s.failure };
+        s.writer.written (W.termination s.writer.output) (W.failures s.writer.output) s.failure };
 
     ghost invariant = { λ s. IsCompressing s.index.period s.first_doc_in_block s.index.checkpoints
         (W.content s.writer.output) s.writer.written s.failure };
@@ -48,13 +49,8 @@ impl<W: TerminatingWrite> Model for BlockCompressor<W> {
 impl<W: TerminatingWrite> BlockCompressor<W> {
     /// A writer of no blocks yet, with an index of the usual period. It takes no memory.
     pub fn new(alloc: Global, compressor: Compressor, output: W) -> BlockCompressor<W>
-        ensures compressor { result.compressor ≡ compressor }
-        ensures period { result.period ≡ CHECKPOINT_PERIOD }
-        ensures finished { result.finished ≡ [] }
-        ensures failure { result.failure ≡ None }
-        ensures before { result.before ≡ W.content output }
-        ensures content { result.content ≡ W.content output }
-        ensures failures { result.failures ≡ W.failures output }
+        ensures output { result ≡ new_output compressor CHECKPOINT_PERIOD
+            (W.content output) (W.termination output) (W.failures output) }
         ensures sound { IsSound result }
     {
         BlockCompressor::with_period(alloc, compressor, output, CHECKPOINT_PERIOD as u8)
@@ -69,13 +65,8 @@ impl<W: TerminatingWrite> BlockCompressor<W> {
     ) -> BlockCompressor<W>
         requires least { 2 ≤ period }
         requires most { period ≤ 64 }
-        ensures compressor { result.compressor ≡ compressor }
-        ensures period { result.period ≡ period }
-        ensures finished { result.finished ≡ [] }
-        ensures failure { result.failure ≡ None }
-        ensures before { result.before ≡ W.content output }
-        ensures content { result.content ≡ W.content output }
-        ensures failures { result.failures ≡ W.failures output }
+        ensures output { result ≡ new_output compressor period
+            (W.content output) (W.termination output) (W.failures output) }
         ensures sound { IsSound result }
     {
         BlockCompressor {
@@ -129,6 +120,7 @@ impl<W: TerminatingWrite> BlockCompressor<W> {
         ensures failed { IfSome self.old.failure (λ cause. IsErrOf result (StoreError.Failed cause) × (self.new ≡ self.old)) }
         ensures err { IfErr result (AfterBlock self.old self.new) }
 
+        ensures termination { self.new.termination ≡ self.old.termination }
         ensures count { self.old.failures ≤ self.new.failures }
         ensures sound { IsSound self.new }
     {
@@ -149,6 +141,7 @@ impl<W: TerminatingWrite> BlockCompressor<W> {
         ensures written { OnOk result (self.new ≡ with_risen self.new.failures
             (with_blocks self.old (record { count = num_docs_in_block; bytes = bytes.now } ∷ []))) }
         ensures err { IfErr result (λ cause. FailsFor cause self.old self.new) }
+        ensures termination { self.new.termination ≡ self.old.termination }
         ensures count { self.old.failures ≤ self.new.failures }
         ensures sound { IsSound self.new }
     {
@@ -189,6 +182,7 @@ impl<W: TerminatingWrite> BlockCompressor<W> {
         ensures err { IfErr result (AfterStacking reader.old reader.new self.old self.new) }
 
         ensures read { self.old.failure ≡ None → IsReadOnce reader.old reader.new }
+        ensures termination { self.new.termination ≡ self.old.termination }
         ensures count { self.old.failures ≤ self.new.failures }
         ensures sound { IsSound self.new }
     {
@@ -208,6 +202,7 @@ impl<W: TerminatingWrite> BlockCompressor<W> {
         ensures written { OnOk result (self.new ≡ with_risen self.new.failures
             (with_blocks self.old (blocks_at checkpoints.entry bytes.now))) }
         ensures err { IfErr result (λ cause. FailsFor cause self.old self.new) }
+        ensures termination { self.new.termination ≡ self.old.termination }
         ensures count { self.old.failures ≤ self.new.failures }
         ensures sound { IsSound self.new }
     {
@@ -231,15 +226,17 @@ impl<W: TerminatingWrite> BlockCompressor<W> {
         Ok(())
     }
 
-    /// Writes the index and the footer, and ends the output.
+    /// Writes the index and the footer, and ends the output: once, behind all that was written.
     ///
     /// `Memory` means that no byte of this call went out.
     pub fn close(self) -> Result<W, CloseError<W>>
         ensures file { IfOk result (λ output. W.content output ≡ self.before ++ file self.period 3 self.finished) }
         ensures store { OnOk result (IsStore self.period (file self.period 3 self.finished) 3 self.finished) }
-        ensures terminated { IfOk result (λ output. W.terminated output ≡ true) }
+        ensures terminated { IfOk result (λ output. W.termination output
+            ≡ terminated_once true (W.content output) self.termination) }
         ensures works { OnOk result (self.failure ≡ None) }
-        ensures err { IfErr result (λ e. AfterClose e.error self (W.content e.output) (W.failures e.output)) }
+        ensures err { IfErr result (λ e.
+            AfterClose e.error self (W.content e.output) (W.termination e.output) (W.failures e.output)) }
     {
         let BlockCompressor {
             compressor,
@@ -275,8 +272,10 @@ fn write_end<W: TerminatingWrite>(
     ensures ok { OnOk result (W.content writer.new.output ≡ W.content writer.old.output
         ++ index_part index.period index.checkpoints
         ++ footer 3 writer.old.written (kind_of (unpacks compressor)) (reserved_of index.period 3)) }
-    ensures terminated { OnOk result (W.terminated writer.new.output ≡ true) }
+    ensures terminated { OnOk result (W.termination writer.new.output
+        ≡ terminated_once true (W.content writer.new.output) (W.termination writer.old.output)) }
     ensures err { IfErr result (λ e. IsEndRefusal e (W.content writer.old.output) (W.content writer.new.output)
+        (W.termination writer.old.output) (W.termination writer.new.output)
         (W.failures writer.old.output) (W.failures writer.new.output)) }
 {
     let footer = DocStoreFooter::with_period(

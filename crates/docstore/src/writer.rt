@@ -4,8 +4,9 @@ ghost use Rattle.std.specs.Prelude.{◌≡◌, ◌+◌, ◌-◌, ◌*◌, ◌<�
 ghost use Rattle.std.specs.List.{concat};
 ghost use Rattle.store_reader.specs.StoreFile.{StoreBlock, docs_in, file, IsStore};
 ghost use Rattle.docstore.specs.Trace.{weight};
-ghost use Rattle.docstore.specs.BlockOutput.{with_blocks, with_risen, IsSound, FailsFor, AfterClose};
-ghost use Rattle.docstore.specs.Writer.{num_docs, blocks_of, flushed, flushed_if_full, with_document, with_failures, HasIdLeft, HasNoIdLeft, IsTooLarge, HasTooMuch, IsStoreWriter, Takes, AfterRefusal, AfterDocument};
+ghost use Rattle.store_base.specs.Outputs.{terminated_once};
+ghost use Rattle.docstore.specs.BlockOutput.{new_output, with_blocks, with_risen, IsSound, FailsFor, AfterClose};
+ghost use Rattle.docstore.specs.Writer.{new_writing, num_docs, blocks_of, flushed, flushed_if_full, with_document, with_failures, HasIdLeft, HasNoIdLeft, IsTooLarge, HasTooMuch, IsStoreWriter, Takes, AfterRefusal, AfterDocument};
 ghost use Rattle.store_reader.specs.Reading.{IsReadOnce, IsReadAtMostOnce};
 ghost use Rattle.docstore.specs.Stacking.{AreRead, with_store, IsOld, HasTooMany, AfterStack};
 
@@ -45,15 +46,8 @@ impl<W: TerminatingWrite> StoreWriter<W> {
         compressor: Compressor,
         block_size: usize,
     ) -> StoreWriter<W>
-        ensures block_size { result.block_size ≡ block_size }
-        ensures pending { result.pending ≡ [] }
-        ensures compressor { result.output.compressor ≡ compressor }
-        ensures period { result.output.period ≡ CHECKPOINT_PERIOD }
-        ensures finished { result.output.finished ≡ [] }
-        ensures failure { result.output.failure ≡ None }
-        ensures before { result.output.before ≡ W.content output }
-        ensures content { result.output.content ≡ W.content output }
-        ensures failures { result.output.failures ≡ W.failures output }
+        ensures writer { result ≡ new_writing block_size (new_output compressor CHECKPOINT_PERIOD
+            (W.content output) (W.termination output) (W.failures output)) }
         ensures sound { IsStoreWriter result }
     {
         StoreWriter::with_period(
@@ -75,15 +69,8 @@ impl<W: TerminatingWrite> StoreWriter<W> {
     ) -> StoreWriter<W>
         requires least { 2 ≤ period }
         requires most { period ≤ 64 }
-        ensures block_size { result.block_size ≡ block_size }
-        ensures pending { result.pending ≡ [] }
-        ensures compressor { result.output.compressor ≡ compressor }
-        ensures period { result.output.period ≡ period }
-        ensures finished { result.output.finished ≡ [] }
-        ensures failure { result.output.failure ≡ None }
-        ensures before { result.output.before ≡ W.content output }
-        ensures content { result.output.content ≡ W.content output }
-        ensures failures { result.output.failures ≡ W.failures output }
+        ensures writer { result ≡ new_writing block_size (new_output compressor period
+            (W.content output) (W.termination output) (W.failures output)) }
         ensures sound { IsStoreWriter result }
     {
         StoreWriter {
@@ -166,6 +153,7 @@ impl<W: TerminatingWrite> StoreWriter<W> {
         // After an error: as it was, or failed for good.
         ensures err { IfErr result (AfterDocument self.old self.new) }
 
+        ensures termination { self.new.output.termination ≡ self.old.output.termination }
         ensures count { self.old.output.failures ≤ self.new.output.failures }
         ensures sound { IsStoreWriter self.new }
     {
@@ -203,6 +191,7 @@ impl<W: TerminatingWrite> StoreWriter<W> {
         // After an error: as it was, or failed for good.
         ensures err { IfErr result (AfterRefusal self.old self.new) }
 
+        ensures termination { self.new.output.termination ≡ self.old.output.termination }
         ensures count { self.old.output.failures ≤ self.new.output.failures }
         ensures sound { IsStoreWriter self.new }
     {
@@ -240,6 +229,7 @@ impl<W: TerminatingWrite> StoreWriter<W> {
         ensures read { OnOk result (IsReadOnce reader.old reader.new) }
         ensures kept { IsReadAtMostOnce reader.old reader.new }
 
+        ensures termination { self.new.output.termination ≡ self.old.output.termination }
         ensures count { self.old.output.failures ≤ self.new.output.failures }
         ensures sound { IsStoreWriter self.new }
     {
@@ -257,7 +247,8 @@ impl<W: TerminatingWrite> StoreWriter<W> {
         Ok(())
     }
 
-    /// Writes the pending documents, the index and the footer, and ends the output.
+    /// Writes the pending documents, the index and the footer, and ends the output: once, behind all that
+    /// was written. No other call ends it.
     ///
     /// `Memory` means that no byte of this call went out.
     pub fn close(self) -> Result<W, CloseError<W>>
@@ -265,9 +256,11 @@ impl<W: TerminatingWrite> StoreWriter<W> {
             ≡ self.output.before ++ file self.output.period 3 (flushed self).output.finished) }
         ensures store { OnOk result (IsStore self.output.period
             (file self.output.period 3 (flushed self).output.finished) 3 (flushed self).output.finished) }
-        ensures terminated { IfOk result (λ output. W.terminated output ≡ true) }
+        ensures terminated { IfOk result (λ output. W.termination output
+            ≡ terminated_once true (W.content output) self.output.termination) }
         ensures works { OnOk result (self.output.failure ≡ None) }
-        ensures err { IfErr result (λ e. AfterClose e.error self.output (W.content e.output) (W.failures e.output)) }
+        ensures err { IfErr result (λ e.
+            AfterClose e.error self.output (W.content e.output) (W.termination e.output) (W.failures e.output)) }
     {
         let StoreWriter {
             mut current_block,
@@ -302,6 +295,7 @@ fn flush_if_full<W: TerminatingWrite>(
     ensures err { IfErr result (λ cause. FailsFor cause output.old output.new) }
     ensures light { weight documents.new ≤ block_size }
     ensures few { docs_in output.new.finished + length documents.new < 2 ^ 32 }
+    ensures termination { output.new.termination ≡ output.old.termination }
     ensures count { output.old.failures ≤ output.new.failures }
     ensures sound { IsSound output.new }
 {
@@ -324,6 +318,7 @@ fn flush<W: TerminatingWrite>(
     ensures written { OnOk result (output.new
         ≡ with_risen output.new.failures (with_blocks output.old (blocks_of documents.old))) }
     ensures err { IfErr result (λ cause. FailsFor cause output.old output.new) }
+    ensures termination { output.new.termination ≡ output.old.termination }
     ensures count { output.old.failures ≤ output.new.failures }
     ensures sound { IsSound output.new }
 {

@@ -1,7 +1,8 @@
 //! An output in memory.
 
-ghost use Rattle.std.specs.Prelude.{◌≡◌, ◌++◌, ◌≤◌, [], true, false, is_ok, if◌then◌else◌, IsOk, OnOk, OnErr};
+ghost use Rattle.std.specs.Prelude.{◌≡◌, ◌++◌, ◌≤◌, [], is_ok, IsOk, OnOk, OnErr};
 ghost use Rattle.store_base.specs.Counts.{HasRisen};
+ghost use Rattle.store_base.specs.Outputs.{never_terminated, terminated_once};
 
 use crate::fault::WriteFault;
 use crate::writer::TerminatingWrite;
@@ -12,29 +13,35 @@ use std::marker::Model;
 #[derive(Drop)]
 pub struct MemSink {
     bytes: Vec<u8>,
-    terminated: bool,
+    ends: u64,
+    ended_at: Option<usize>,
     failures: u64,
 }
 
-/// Clauses see what was written, whether it was terminated, and how often a write failed.
+/// Clauses see what was written, its ends, and how often a write failed.
 impl Model for MemSink {
     ghost use Rattle.store_base.specs.Outputs.{Output};
 
     ghost Value = { Output };
 
-    ghost view = { λ s. record { content = s.bytes.items; terminated = s.terminated; failures = s.failures } };
+    ghost view = { λ s. record {
+      content = s.bytes.items;
+      termination = record { calls = s.ends; at = s.ended_at };
+      failures = s.failures;
+    } };
 }
 
 impl MemSink {
     /// Nothing written. It takes no memory.
     pub fn new(alloc: Global) -> MemSink
         ensures content { result.content ≡ [] }
-        ensures terminated { result.terminated ≡ false }
+        ensures termination { result.termination ≡ never_terminated }
         ensures failures { result.failures ≡ 0 }
     {
         MemSink {
             bytes: Vec::new(alloc),
-            terminated: false,
+            ends: 0,
+            ended_at: None,
             failures: 0,
         }
     }
@@ -58,13 +65,13 @@ impl MemSink {
 impl TerminatingWrite for MemSink {
     ghost content = { λ s. s.content };
 
-    ghost terminated = { λ s. s.terminated };
+    ghost termination = { λ s. s.termination };
 
     ghost failures = { λ s. s.failures };
 
     fn write_all(&mut self, bytes: &[u8]) -> Result<(), WriteFault>
         ensures ok { OnOk result (self.new.content ≡ self.old.content ++ bytes.now) }
-        ensures terminated { self.new.terminated ≡ self.old.terminated }
+        ensures termination { self.new.termination ≡ self.old.termination }
         ensures count { self.old.failures ≤ self.new.failures }
         ensures fault { OnErr result (HasRisen self.old.failures self.new.failures) }
 
@@ -82,7 +89,8 @@ impl TerminatingWrite for MemSink {
     }
 
     fn terminate(&mut self) -> Result<(), WriteFault>
-        ensures terminated { self.new.terminated ≡ (if is_ok result then true else self.old.terminated) }
+        ensures termination { self.new.termination
+            ≡ terminated_once (is_ok result) self.old.content self.old.termination }
         ensures content { OnOk result (self.new.content ≡ self.old.content) }
         ensures count { self.old.failures ≤ self.new.failures }
         ensures fault { OnErr result (HasRisen self.old.failures self.new.failures) }
@@ -91,7 +99,8 @@ impl TerminatingWrite for MemSink {
         ensures succeeds { IsOk result }
         ensures steady { self.new.failures ≡ self.old.failures }
     {
-        self.terminated = true;
+        self.ends = self.ends.saturating_add(1);
+        self.ended_at = Some(self.bytes.len());
         Ok(())
     }
 }

@@ -31,9 +31,12 @@ pub trait BinarySerializable: Drop {
     /// Writes the value's bytes at the end of the output.
     fn serialize<W: TerminatingWrite>(&self, output: &mut W) -> Result<(), WriteFault>
         ensures ok { OnOk result (W.content output.new ≡ W.content output.old ++ encoding self.now) }
-        ensures terminated { W.terminated output.new ≡ W.terminated output.old }
+        ensures termination { W.termination output.new ≡ W.termination output.old }
         ensures count { W.failures output.old ≤ W.failures output.new }
-        ensures fault { OnErr result (HasRisen (W.failures output.old) (W.failures output.new)) };
+        ensures fault { OnErr result (HasRisen (W.failures output.old) (W.failures output.new)) }
+
+        // So what was written is read again.
+        ensures value { OnOk result (is_value self.now) };
 
     /// Reads a value from the front of the bytes, and moves past it. A refusal leaves the input.
     fn deserialize(alloc: Global, bytes: &mut &[u8]) -> Result<Self, DecodeFault>

@@ -1,7 +1,8 @@
 //! Outputs that are written at their end.
 
-ghost use Rattle.std.specs.Prelude.{◌≡◌, ◌++◌, ◌≤◌, ℕ, List, Bool, true, length, is_ok, if◌then◌else◌, OnOk, OnErr};
+ghost use Rattle.std.specs.Prelude.{◌≡◌, ◌++◌, ◌≤◌, ℕ, List, length, is_ok, if◌then◌else◌, OnOk, OnErr};
 ghost use Rattle.store_base.specs.Counts.{HasRisen, raised};
+ghost use Rattle.store_base.specs.Outputs.{Termination, terminated_once};
 
 use crate::fault::WriteFault;
 use std::marker::Model;
@@ -13,8 +14,9 @@ pub trait TerminatingWrite: Drop {
     /// What was written.
     ghost content: { Self → List ℕ };
 
-    /// Whether a `terminate` answered Ok.
-    ghost terminated: { Self → Bool };
+    /// How often `terminate` was called, up to the greatest u64, and how many bytes stood there when it
+    /// last answered Ok. Bytes that are written behind an end leave it where it is, so they are not ended.
+    ghost termination: { Self → Termination };
 
     /// How often a call failed. A count that stands at its greatest value is taken to have risen.
     ghost failures: { Self → ℕ };
@@ -22,13 +24,14 @@ pub trait TerminatingWrite: Drop {
     /// Writes the bytes at the end.
     fn write_all(&mut self, bytes: &[u8]) -> Result<(), WriteFault>
         ensures ok { OnOk result (content self.new ≡ content self.old ++ bytes.now) }
-        ensures terminated { terminated self.new ≡ terminated self.old }
+        ensures termination { termination self.new ≡ termination self.old }
         ensures count { failures self.old ≤ failures self.new }
         ensures fault { OnErr result (HasRisen (failures self.old) (failures self.new)) };
 
     /// Ends the output: nothing will be written behind this.
     fn terminate(&mut self) -> Result<(), WriteFault>
-        ensures terminated { terminated self.new ≡ (if is_ok result then true else terminated self.old) }
+        ensures termination { termination self.new
+            ≡ terminated_once (is_ok result) (content self.old) (termination self.old) }
         ensures content { OnOk result (content self.new ≡ content self.old) }
         ensures count { failures self.old ≤ failures self.new }
         ensures fault { OnErr result (HasRisen (failures self.old) (failures self.new)) };
@@ -78,13 +81,13 @@ impl<W: TerminatingWrite> CountingWriter<W> {
 impl<W: TerminatingWrite> TerminatingWrite for CountingWriter<W> {
     ghost content = { λ c. W.content c.output };
 
-    ghost terminated = { λ c. W.terminated c.output };
+    ghost termination = { λ c. W.termination c.output };
 
     ghost failures = { λ c. W.failures c.output };
 
     fn write_all(&mut self, bytes: &[u8]) -> Result<(), WriteFault>
         ensures ok { OnOk result (W.content self.new.output ≡ W.content self.old.output ++ bytes.now) }
-        ensures terminated { W.terminated self.new.output ≡ W.terminated self.old.output }
+        ensures termination { W.termination self.new.output ≡ W.termination self.old.output }
         ensures count { W.failures self.old.output ≤ W.failures self.new.output }
         ensures fault { OnErr result (HasRisen (W.failures self.old.output) (W.failures self.new.output)) }
         ensures written { self.new.written
@@ -96,8 +99,8 @@ impl<W: TerminatingWrite> TerminatingWrite for CountingWriter<W> {
     }
 
     fn terminate(&mut self) -> Result<(), WriteFault>
-        ensures terminated { W.terminated self.new.output
-            ≡ (if is_ok result then true else W.terminated self.old.output) }
+        ensures termination { W.termination self.new.output
+            ≡ terminated_once (is_ok result) (W.content self.old.output) (W.termination self.old.output) }
         ensures content { OnOk result (W.content self.new.output ≡ W.content self.old.output) }
         ensures count { W.failures self.old.output ≤ W.failures self.new.output }
         ensures fault { OnErr result (HasRisen (W.failures self.old.output) (W.failures self.new.output)) }

@@ -2,7 +2,6 @@
 
 ghost use Rattle.std.specs.Prelude.{◌≡◌, ◌≤◌, ◌<◌, ◌+◌, length, OnOk, IfOk, IfErr};
 ghost use Rattle.store_reader.specs.Footer.{version_number};
-ghost use Rattle.store_reader.specs.FooterReading.{ReadsVersion, IsPeriodOf};
 
 use crate::compressors::Decompressor;
 use layered_index::CHECKPOINT_PERIOD;
@@ -32,6 +31,8 @@ impl fmt::Display for DocStoreVersion {
 }
 
 impl DocStoreVersion {
+    ghost use Rattle.store_reader.specs.FooterReading.{IsPeriodOf};
+
     // Its number in a file.
     fn number(&self) -> u32
         ensures { result ≡ version_number self.now }
@@ -46,6 +47,8 @@ impl DocStoreVersion {
     // The period of a file of this version, by the first reserved byte.
     fn period(&self, byte: u8) -> Result<u8, DecodeFault>
         ensures ok { IfOk result (λ period. IsPeriodOf self.now byte period) }
+        ensures least { IfOk result (λ period. 2 ≤ period) }
+        ensures most { IfOk result (λ period. period ≤ 64) }
         ensures err { IfErr result (λ fault. (fault ≡ DecodeFault.Period byte)
             × (version_number self.now ≡ 3) × (2 ≤ byte → 64 < byte)) }
     {
@@ -104,6 +107,8 @@ pub struct DocStoreFooter {
     pub decompressor: Decompressor,
     /// How many checkpoints a full block of the index has. Versions 1 and 2 have 8.
     pub period: u8,
+    pub ghost least: { 2 ≤ period },
+    pub ghost most: { period ≤ 64 },
 }
 
 impl DocStoreFooter {
@@ -113,12 +118,10 @@ impl DocStoreFooter {
         decompressor: Decompressor,
         doc_store_version: DocStoreVersion,
     ) -> DocStoreFooter
-        ensures { result ≡ record {
-          offset = offset;
-          doc_store_version = doc_store_version;
-          decompressor = decompressor;
-          period = CHECKPOINT_PERIOD;
-        } }
+        ensures offset { result.offset ≡ offset }
+        ensures version { result.doc_store_version ≡ doc_store_version }
+        ensures decompressor { result.decompressor ≡ decompressor }
+        ensures period { result.period ≡ CHECKPOINT_PERIOD }
     {
         DocStoreFooter::with_period(
             offset,
@@ -137,12 +140,10 @@ impl DocStoreFooter {
     ) -> DocStoreFooter
         requires least { 2 ≤ period }
         requires most { period ≤ 64 }
-        ensures { result ≡ record {
-          offset = offset;
-          doc_store_version = doc_store_version;
-          decompressor = decompressor;
-          period = period;
-        } }
+        ensures offset { result.offset ≡ offset }
+        ensures version { result.doc_store_version ≡ doc_store_version }
+        ensures decompressor { result.decompressor ≡ decompressor }
+        ensures period { result.period ≡ period }
     {
         DocStoreFooter {
             offset,

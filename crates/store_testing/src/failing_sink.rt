@@ -1,7 +1,8 @@
 //! An output one of whose calls fails.
 
-ghost use Rattle.std.specs.Prelude.{◌≡◌, [], false, IsErr};
-ghost use Rattle.store_base.specs.Counts.{HasRisen};
+ghost use Rattle.std.specs.Prelude.{◌≡◌, ◌↔◌, [], IsErr, IsTrue, length};
+ghost use Rattle.store_base.specs.Counts.{HasRisen, raised};
+ghost use Rattle.store_base.specs.Outputs.{IsTerminated, never_terminated};
 
 use std::alloc::Global;
 use std::marker::Model;
@@ -11,7 +12,8 @@ use store_base::{TerminatingWrite, WriteFault};
 #[derive(Drop)]
 pub struct FailingSink {
     bytes: Vec<u8>,
-    terminated: bool,
+    ends: u64,
+    ended_at: Option<usize>,
     failures: u64,
     calls: u64,
     failing_call: u64,
@@ -23,18 +25,23 @@ impl Model for FailingSink {
 
     ghost Value = { Output };
 
-    ghost view = { λ s. record { content = s.bytes.items; terminated = s.terminated; failures = s.failures } };
+    ghost view = { λ s. record {
+      content = s.bytes.items;
+      termination = record { calls = s.ends; at = s.ended_at };
+      failures = s.failures;
+    } };
 }
 
 impl FailingSink {
     /// An empty output whose call of this number fails. Writes and ends count together; the first is number 1, and number
     /// 0 never comes.
     pub fn new(alloc: Global, failing_call: u64) -> FailingSink
-        ensures { result ≡ record { content = []; terminated = false; failures = 0 } }
+        ensures { result ≡ record { content = []; termination = never_terminated; failures = 0 } }
     {
         FailingSink {
             bytes: Vec::new(alloc),
-            terminated: false,
+            ends: 0,
+            ended_at: None,
             failures: 0,
             calls: 0,
             failing_call,
@@ -48,11 +55,18 @@ impl FailingSink {
         &self.bytes
     }
 
-    /// Whether a `terminate` answered Ok.
+    /// Whether a `terminate` answered Ok and nothing was written behind it.
     pub fn is_terminated(&self) -> bool
-        ensures { result ≡ self.now.terminated }
+        ensures { IsTrue result ↔ IsTerminated self.now.content self.now.termination }
     {
-        self.terminated
+        self.ended_at == Some(self.bytes.len())
+    }
+
+    /// How often `terminate` was called, up to the greatest u64.
+    pub fn ends(&self) -> u64
+        ensures { result ≡ self.now.termination.calls }
+    {
+        self.ends
     }
 
     /// How many calls there were, up to the greatest u64.
@@ -71,7 +85,7 @@ impl FailingSink {
     fn fail(&mut self) -> Result<(), WriteFault>
         ensures fault { IsErr result }
         ensures content { self.new.content ≡ self.old.content }
-        ensures terminated { self.new.terminated ≡ self.old.terminated }
+        ensures termination { self.new.termination ≡ self.old.termination }
         ensures count { HasRisen self.old.failures self.new.failures }
     {
         self.failures = self.failures.saturating_add(1);
@@ -82,7 +96,7 @@ impl FailingSink {
 impl TerminatingWrite for FailingSink {
     ghost content = { λ s. s.content };
 
-    ghost terminated = { λ s. s.terminated };
+    ghost termination = { λ s. s.termination };
 
     ghost failures = { λ s. s.failures };
 
@@ -98,10 +112,11 @@ impl TerminatingWrite for FailingSink {
     }
 
     fn terminate(&mut self) -> Result<(), WriteFault> {
+        self.ends = self.ends.saturating_add(1);
         if self.is_failing() {
             return self.fail();
         }
-        self.terminated = true;
+        self.ended_at = Some(self.bytes.len());
         Ok(())
     }
 }

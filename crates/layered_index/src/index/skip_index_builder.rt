@@ -234,7 +234,7 @@ fn write_layers<W: TerminatingWrite>(
     ensures ok { OnOk result (W.content output.new ≡
         W.content output.old ++ concat (reverse (texts_of layers.now))) }
     ensures fault { OnErr result (HasRisen (W.failures output.old) (W.failures output.new)) }
-    ensures terminated { W.terminated output.new ≡ W.terminated output.old }
+    ensures termination { W.termination output.new ≡ W.termination output.old }
     ensures count { W.failures output.old ≤ W.failures output.new }
 {
     for closed in layers.iter().rev() {
@@ -313,7 +313,7 @@ impl SkipIndexBuilder {
         ensures write { result ≡ Err (StoreError.Failed Cause.Write) →
             HasRisen (W.failures output.old) (W.failures output.new) }
 
-        ensures terminated { W.terminated output.new ≡ W.terminated output.old }
+        ensures termination { W.termination output.new ≡ W.termination output.old }
         ensures count { W.failures output.old ≤ W.failures output.new }
     {
         let mut layers = self.layers;

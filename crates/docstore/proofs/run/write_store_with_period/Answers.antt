@@ -6,10 +6,10 @@ use Rattle.std.proofs.lemmas.Result.{err_from_is_err_and}
 use Rattle.layered_index.specs.declared.error.StoreError.{StoreError}
 use Rattle.docstore.specs.declared.run.StoreCommand.{StoreCommand}
 use Rattle.docstore.specs.Causes.{first_stage, HaveCauses}
-use Rattle.docstore.specs.Run.{AreKept, IsTrace, AfterRun}
+use Rattle.docstore.specs.Run.{told, stage_of, AreKept, IsTrace, AfterRun}
 use Rattle.store_reader.specs.StoreFile.{docs_in, file, IsStore}
 use Rattle.docstore.specs.Trace.{Blocks}
-use Rattle.docstore.specs.Writer.{flushed}
+use Rattle.docstore.specs.Writer.{Writing, flushed}
 use Rattle.docstore.proofs.CommandLemmas.{IsRun, none_failed, run_by_more, all_kept, kept_more, failed_more, after_run, front_more, rest_more}
 use Rattle.docstore.proofs.MeaningLemmas.{blocks_mean_their_calls}
 use Rattle.docstore.proofs.RunSoFarLemmas.{run_begins, run_closes}
@@ -21,16 +21,18 @@ returns-in_default-clause-kept g c = all_kept c.args.commands.now
 pub loop-command-init : goal.loop-command-init
 loop-command-init g c =
     let writer = c.with_period-writer.result in
+    let new = c.with_period-writer.ensures.writer in
     record {
       run = λ works. record {
         trace = [];
         calls = subst (λ (rs : List (Result (Unit {0}) StoreError)). IsTrace {D = g.row.D.Denot} {H = g.row.H.Denot} (λ d. g.D.Document.doc_bytes d c.args.schema.now) [] rs []) (sym c.in-Ok.ensures.items) tt;
         causes = subst (λ (rs : List (Result (Unit {0}) StoreError)). HaveCauses {D = g.row.D.Denot} {H = g.row.H.Denot} c.args.block_size (λ d. g.D.Document.doc_bytes d c.args.schema.now) first_stage [] [] rs []) (sym c.in-Ok.ensures.items) tt;
-        stage = λ i. record { count = docs_in (c.with_period-writer.ensures.finished i) + length (c.with_period-writer.ensures.pending i); pending = c.with_period-writer.ensures.pending i };
-        so_far = run_begins c.args.block_size c.args.period (g.W.TerminatingWrite.content c.args.output) writer c.with_period-writer.ensures.block_size c.with_period-writer.ensures.period c.with_period-writer.ensures.before c.with_period-writer.ensures.pending c.with_period-writer.ensures.finished;
+        stage = ap stage_of c.with_period-writer.ensures.writer;
+        so_far = run_begins c.args.block_size c.args.period (g.W.TerminatingWrite.content c.args.output) writer (ap (λ (w : Writing). w.block_size) new) (ap (λ (w : Writing). w.output.period) new) (ap (λ (w : Writing). w.output.before) new) (ap (λ (w : Writing). w.pending) new) (ap (λ (w : Writing). w.output.finished) new);
       };
-      failed = none_failed (g.W.TerminatingWrite.content c.args.output) (g.W.TerminatingWrite.failures c.args.output) writer c.with_period-writer.ensures.failure;
-      count = omega (arith, c.with_period-writer.ensures.failures);
+      failed = none_failed (g.W.TerminatingWrite.content c.args.output) (g.W.TerminatingWrite.failures c.args.output) writer (ap (λ (w : Writing). w.output.failure) new);
+      termination = ap (λ (w : Writing). w.output.termination) new;
+      count = omega (arith, ap (λ (w : Writing). w.output.failures) new);
       kept = tt;
       rest = refl;
       len = ap length c.in-Ok.ensures.items;
@@ -60,6 +62,7 @@ loop-command-preserved g c =
           (subst (λ (cs : List (StoreCommand g.row.D.Denot g.row.H.Denot)). IsRun c.args.block_size c.args.period held doc_bytes (take i olds ++ command ∷ []) cs (results ++ c.make_call.result ∷ []) new) (sym left)
           (run_by_more c.args.block_size c.args.period held doc_bytes (take i olds) (take i commands) results command after c.make_call.result old new c.make_call.ensures.made c.loop-command.invariant.run)));
       failed = failed_more held (g.W.TerminatingWrite.failures c.args.output) old new c.loop-command.invariant.count c.loop-command.invariant.sound (λ works. (c.loop-command.invariant.run works).so_far.before) c.loop-command.invariant.failed c.make_call.ensures.failed;
+      termination = c.make_call.ensures.termination ∙ c.loop-command.invariant.termination;
       count = omega (arith, c.loop-command.invariant.count, c.make_call.ensures.count);
       kept = subst (λ (cs : List (StoreCommand g.row.D.Denot g.row.H.Denot)). AreKept cs (take (i + 1) (set commands i after))) (sym front)
           (subst (AreKept (take i olds ++ command ∷ [])) (sym left)
@@ -80,18 +83,19 @@ returns-in_err-output-clause-err g c =
     let commands : List (StoreCommand g.row.D.Denot g.row.H.Denot) = c.loop-command.commands in
     let results = c.loop-command.results.items in
     let doc_bytes = λ (d : g.row.D.Denot). g.D.Document.doc_bytes d c.args.schema.now in
-    let held = g.W.TerminatingWrite.content c.args.output in
-    let failures = g.W.TerminatingWrite.failures c.args.output in
+    let output = g.W.TerminatingWrite in
+    let tells = λ (w : g.row.W.Denot). told (output.content w) (output.termination w) (output.failures w) in
+    let held = tells c.args.output in
     let writer = c.loop-command.writer in
     let e = c.in_err-output.field-0.0 in
     let given = err_from_is_err_and c.from_residual.result c.from_residual.ensures.1 in
-    let run : IsRun c.args.block_size c.args.period held doc_bytes olds commands results writer =
-    subst (λ (cs : List (StoreCommand g.row.D.Denot g.row.H.Denot)). IsRun c.args.block_size c.args.period held doc_bytes cs commands results writer) (take_all i olds (omega arith))
-    (subst (λ (cs : List (StoreCommand g.row.D.Denot g.row.H.Denot)). IsRun c.args.block_size c.args.period held doc_bytes (take i olds) cs results writer) (take_all i commands (omega arith)) c.loop-command.invariant.run) in
-    let after : AfterRun c.args.block_size doc_bytes olds commands held (g.W.TerminatingWrite.content e.output) failures (g.W.TerminatingWrite.failures e.output) e.error =
-    after_run c.args.block_size c.args.period doc_bytes olds commands results held failures writer e.error (g.W.TerminatingWrite.failures e.output) (g.W.TerminatingWrite.content e.output)
-    c.loop-command.invariant.count c.loop-command.invariant.sound run c.loop-command.invariant.failed c.in_err-output.ensures.err in
-    subst (λ r. IfErr r (λ e. AfterRun c.args.block_size doc_bytes olds commands held (g.W.TerminatingWrite.content e.output) failures (g.W.TerminatingWrite.failures e.output) e.error)) (sym (given.1 ∙ ap Err given.2)) after
+    let run : IsRun c.args.block_size c.args.period held.content doc_bytes olds commands results writer =
+    subst (λ (cs : List (StoreCommand g.row.D.Denot g.row.H.Denot)). IsRun c.args.block_size c.args.period held.content doc_bytes cs commands results writer) (take_all i olds (omega arith))
+    (subst (λ (cs : List (StoreCommand g.row.D.Denot g.row.H.Denot)). IsRun c.args.block_size c.args.period held.content doc_bytes (take i olds) cs results writer) (take_all i commands (omega arith)) c.loop-command.invariant.run) in
+    let after : AfterRun c.args.block_size doc_bytes olds commands held (tells e.output) e.error =
+    after_run c.args.block_size c.args.period doc_bytes olds commands results held writer e.error (tells e.output)
+    c.loop-command.invariant.count c.loop-command.invariant.termination c.loop-command.invariant.sound run c.loop-command.invariant.failed c.in_err-output.ensures.err in
+    subst (λ r. IfErr r (λ e. AfterRun c.args.block_size doc_bytes olds commands held (tells e.output) e.error)) (sym (given.1 ∙ ap Err given.2)) after
 
 pub returns-clause-written : goal.returns-clause-written
 returns-clause-written g c =

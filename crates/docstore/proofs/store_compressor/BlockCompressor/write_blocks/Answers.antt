@@ -14,7 +14,7 @@ use Rattle.docstore.proofs.StackingLemmas.{AreCut, are_cut}
 use Rattle.docstore.proofs.store_compressor.BlockCompressor.write_blocks.Goals as goal
 
 pub returns-then-is_err-clause-sound : goal.returns-then-is_err-clause-sound
-returns-then-is_err-clause-sound g c = sound _ _ _ _ _ _ _ _ (failed _ _ _ _ _ _ _ _ _ c.self.invariant)
+returns-then-is_err-clause-sound g c = sound _ _ _ _ _ _ _ _ _ (failed _ _ _ _ _ _ _ _ _ c.self.invariant)
 
 pub register_all-registered-requires-clause-in_line : goal.register_all-registered-requires-clause-in_line
 register_all-registered-requires-clause-in_line g c =
@@ -26,7 +26,7 @@ register_all-registered-requires-clause-in_line g c =
     let bytes = c.args.bytes.now in
     let bs = blocks_at c.args.checkpoints bytes in
     let a : AreCut period first cs content written c.args.checkpoints bytes =
-    are_cut c.self.inside.compressor period first cs content written (g.W.TerminatingWrite.failures c.self.inside.writer.output) c.self.inside.failure c.args.self.now c.args.checkpoints bytes c.self.view_is c.self.invariant c.requires.works c.requires.covers c.requires.few_docs in
+    are_cut c.self.inside.compressor period first cs content written (g.W.TerminatingWrite.termination c.self.inside.writer.output) (g.W.TerminatingWrite.failures c.self.inside.writer.output) c.self.inside.failure c.args.self.now c.args.checkpoints bytes c.self.view_is c.self.invariant c.requires.works c.requires.covers c.requires.few_docs in
     rw (c.written_bytes-start.ensures, a.places) a.added.runs
 
 pub returns-then-is_err-2-clause-err : goal.returns-then-is_err-2-clause-err
@@ -41,7 +41,7 @@ returns-then-is_err-2-clause-err g c =
     let bytes = c.args.bytes.now in
     let bs = blocks_at c.args.checkpoints bytes in
     let a : AreCut period first cs content written c.args.checkpoints bytes =
-    are_cut c.self.inside.compressor period first cs content written (g.W.TerminatingWrite.failures c.self.inside.writer.output) c.self.inside.failure c.args.self.now c.args.checkpoints bytes c.self.view_is c.self.invariant c.requires.works c.requires.covers c.requires.few_docs in
+    are_cut c.self.inside.compressor period first cs content written (g.W.TerminatingWrite.termination c.self.inside.writer.output) (g.W.TerminatingWrite.failures c.self.inside.writer.output) c.self.inside.failure c.args.self.now c.args.checkpoints bytes c.self.view_is c.self.invariant c.requires.works c.requires.covers c.requires.few_docs in
     record {
       worked = c.requires.works;
       failure = refl;
@@ -62,7 +62,7 @@ invariant_of-self-then-is_err-2 g c = record {
 }
 
 pub returns-then-is_err-2-clause-sound : goal.returns-then-is_err-2-clause-sound
-returns-then-is_err-2-clause-sound g c = sound _ _ _ _ _ _ _ _ (invariant_of-self-then-is_err-2 g c)
+returns-then-is_err-2-clause-sound g c = sound _ _ _ _ _ _ _ _ _ (invariant_of-self-then-is_err-2 g c)
 
 pub invariant_of-self-else-is_err-2 : goal.invariant_of-self-else-is_err-2
 invariant_of-self-else-is_err-2 g c =
@@ -74,7 +74,7 @@ invariant_of-self-else-is_err-2 g c =
     let bytes = c.args.bytes.now in
     let bs = blocks_at c.args.checkpoints bytes in
     let a : AreCut period first cs content written c.args.checkpoints bytes =
-    are_cut c.self.inside.compressor period first cs content written (g.W.TerminatingWrite.failures c.self.inside.writer.output) c.self.inside.failure c.args.self.now c.args.checkpoints bytes c.self.view_is c.self.invariant c.requires.works c.requires.covers c.requires.few_docs in
+    are_cut c.self.inside.compressor period first cs content written (g.W.TerminatingWrite.termination c.self.inside.writer.output) (g.W.TerminatingWrite.failures c.self.inside.writer.output) c.self.inside.failure c.args.self.now c.args.checkpoints bytes c.self.view_is c.self.invariant c.requires.works c.requires.covers c.requires.few_docs in
     let content_is : g.W.TerminatingWrite.content c.write_all.new.self.output ≡ content ++ bytes = grind (arith, common_steps) in
     let raised_is : c.write_all.new.self.written ≡ raised written (length bytes) = grind (arith, common_steps) in
     let sum_is : raised written (length bytes) ≡ written + length bytes = omega (arith, a.added.fits) in
@@ -97,7 +97,7 @@ returns-clause-written g c =
     let bytes = c.args.bytes.now in
     let bs = blocks_at c.args.checkpoints bytes in
     let a : AreCut period first cs content written c.args.checkpoints bytes =
-    are_cut c.self.inside.compressor period first cs content written (g.W.TerminatingWrite.failures c.self.inside.writer.output) c.self.inside.failure c.args.self.now c.args.checkpoints bytes c.self.view_is c.self.invariant c.requires.works c.requires.covers c.requires.few_docs in
+    are_cut c.self.inside.compressor period first cs content written (g.W.TerminatingWrite.termination c.self.inside.writer.output) (g.W.TerminatingWrite.failures c.self.inside.writer.output) c.self.inside.failure c.args.self.now c.args.checkpoints bytes c.self.view_is c.self.invariant c.requires.works c.requires.covers c.requires.few_docs in
     let content_is : g.W.TerminatingWrite.content c.write_all.new.self.output ≡ content ++ bytes = grind (arith, common_steps) in
     let raised_is : c.write_all.new.self.written ≡ raised written (length bytes) = grind (arith, common_steps) in
     let sum_is : raised written (length bytes) ≡ written + length bytes = omega (arith, a.added.fits) in
@@ -107,8 +107,8 @@ returns-clause-written g c =
     ap (λ (index : Index). index.checkpoints) index_is ∙ ap (λ (n : ℕ). cs ++ map (shifted first n) c.args.checkpoints) c.written_bytes-start.ensures ∙ ap (λ (xs : List Checkpoint). cs ++ xs) a.places in
     let period_is : c.register_all-registered.new.index.period ≡ period = c.register_all-registered.ensures.period in
     let risen = g.W.TerminatingWrite.failures c.write_all.new.self.output in
-    (λ i. compressing c.self.inside.compressor (period_is i) (cs_is i) (content_is i) (written_is i) risen c.self.inside.failure)
-    ∙ seen_added c.self.inside.compressor period first cs content written (g.W.TerminatingWrite.failures c.self.inside.writer.output) risen c.self.inside.failure c.args.self.now bs bytes (docs_in bs) c.self.view_is a.added a.joined
+    (λ i. compressing c.self.inside.compressor (period_is i) (cs_is i) (content_is i) (written_is i) (c.write_all.ensures.termination i) risen c.self.inside.failure)
+    ∙ seen_added c.self.inside.compressor period first cs content written (g.W.TerminatingWrite.termination c.self.inside.writer.output) (g.W.TerminatingWrite.failures c.self.inside.writer.output) risen c.self.inside.failure c.args.self.now bs bytes (docs_in bs) c.self.view_is a.added a.joined
 
 pub returns-clause-sound : goal.returns-clause-sound
-returns-clause-sound g c = sound _ _ _ _ _ _ _ _ (invariant_of-self-else-is_err-2 g c)
+returns-clause-sound g c = sound _ _ _ _ _ _ _ _ _ (invariant_of-self-else-is_err-2 g c)

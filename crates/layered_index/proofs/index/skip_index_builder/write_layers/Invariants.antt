@@ -9,6 +9,6 @@ invariant-loop-closed g l =
     let left = reverse (texts_of l.closed-iterator.iter.rest.now) in
     record {
       content : g.W.TerminatingWrite.content l.output ++ concat left ≡ g.W.TerminatingWrite.content l.fn.output ++ concat (reverse (texts_of l.layers));
-      terminated : g.W.TerminatingWrite.terminated l.output ≡ g.W.TerminatingWrite.terminated l.fn.output;
+      termination : g.W.TerminatingWrite.termination l.output ≡ g.W.TerminatingWrite.termination l.fn.output;
       count : g.W.TerminatingWrite.failures l.fn.output ≤ g.W.TerminatingWrite.failures l.output;
     }

@@ -1,5 +1,6 @@
-use Rattle.std.proofs.Common.{◌≡◌, ◌≤◌, ◌++◌, length, map, take}
-use Rattle.std.specs.List.{flat_map}
+use Rattle.std.proofs.Common.{◌≡◌, ◌≤◌, ◌^◌, ◌++◌, length, map, take}
+use Rattle.std.specs.List.{flat_map, AllByRecursion}
+use Rattle.store_base.specs.Reading.{IsBelow}
 use Rattle.store_base.specs.VInt.{number}
 use Rattle.store_base.specs.Numbers.{values}
 use Rattle.store_base.proofs.serialize.VecVIntBinarySerializable.serialize.Given as goal
@@ -10,6 +11,7 @@ invariant-loop-value g l =
     let output = g.W.TerminatingWrite in
     record {
       content : output.content l.output ≡ output.content l.fn.output ++ number (length (values l.self)) ++ flat_map number (map (λ v. v.0) (take l.value-index l.value-items));
-      terminated : output.terminated l.output ≡ output.terminated l.fn.output;
+      termination : output.termination l.output ≡ output.termination l.fn.output;
       count : output.failures l.fn.output ≤ output.failures l.output;
+      below : AllByRecursion (IsBelow (2 ^ 64)) (map (λ v. v.0) (take l.value-index l.value-items));
     }

@@ -43,4 +43,6 @@ returns c =
       doc_store_version = c.in_ok-doc_store_version.doc_store_version;
       decompressor = c.in_ok-decompressor.decompressor;
       period = c.in_ok-period.period;
+      least = c.in_ok-period.ensures.least;
+      most = c.in_ok-period.ensures.most;
     }) _ _ _ h c.in_ok-decompressor.ensures.ok c.in_ok-period.ensures.ok
