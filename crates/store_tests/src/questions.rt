@@ -1,7 +1,8 @@
 //! What a writer and a reader answer about themselves.
 
 use docstore::{
-    Checkpoint, Compressor, DOC_STORE_VERSION, Decompressor, DocStoreVersion, StoreWriter,
+    CHECKPOINT_PERIOD, Checkpoint, Compressor, DOC_STORE_VERSION, Decompressor, DocStoreVersion,
+    StoreWriter,
 };
 use std::test::Fail;
 use store_base::{DecodeFault, MemSink};
@@ -57,6 +58,11 @@ fn versions_have_an_order_and_a_text(rt: HostRuntime) -> Result<(), Fail> {
     )?;
     assert_eq!(rt; texts.as_str(), "V1 V2 V3");
     assert!(rt; DocStoreVersion::V1 < DocStoreVersion::V2);
+    assert!(rt; DocStoreVersion::V2 < DocStoreVersion::V3);
+    assert!(rt; DocStoreVersion::V1 < DocStoreVersion::V3);
+    assert!(rt; !(DocStoreVersion::V3 < DocStoreVersion::V2));
+    assert!(rt; !(DocStoreVersion::V2 < DocStoreVersion::V1));
+    assert_eq!(rt; CHECKPOINT_PERIOD, 8);
     assert!(rt; DocStoreVersion::V2 < DocStoreVersion::V3);
     assert_eq!(rt; DOC_STORE_VERSION, DocStoreVersion::V3);
     Ok(())

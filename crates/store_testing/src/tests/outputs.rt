@@ -15,6 +15,31 @@ fn a_sink_keeps_what_is_written(rt: HostRuntime) -> Result<(), Fail> {
     Ok(())
 }
 
+#[test]
+fn an_empty_write_succeeds_and_writes_nothing(rt: HostRuntime) -> Result<(), Fail> {
+    let mut sink = MemSink::new(rt.alloc());
+    sink.write_all(b"")?;
+    assert_eq!(rt; sink.as_slice(), b"".as_slice());
+    sink.write_all(b"ab")?;
+    sink.write_all(b"")?;
+    assert_eq!(rt; sink.as_slice(), b"ab".as_slice());
+    Ok(())
+}
+
+#[test]
+fn bytes_behind_an_end_are_not_ended(rt: HostRuntime) -> Result<(), Fail> {
+    let mut output = FailingSink::new(rt.alloc(), 0);
+    output.write_all(b"ab")?;
+    output.terminate()?;
+    assert!(rt; output.is_terminated());
+    output.write_all(b"c")?;
+    assert!(rt; !output.is_terminated());
+    output.terminate()?;
+    assert!(rt; output.is_terminated());
+    assert_eq!(rt; output.ends(), 2);
+    Ok(())
+}
+
 // Writes three numbers and ends the output.
 fn write_numbers<W: TerminatingWrite>(output: &mut W) -> Result<(), WriteFault> {
     VInt(1).serialize(output)?;
