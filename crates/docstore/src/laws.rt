@@ -4,8 +4,9 @@ ghost use Rattle.docstore.specs.Run.{BlocksMeanTheirCalls};
 ghost use Rattle.docstore.specs.Laws.{BlocksHoldDocuments, BlocksHaveTheirLengths, LongestDocuments, WrittenDocumentsAreFound, DocumentsAreTakenInOrder, IdsAreGivenInOrder, FlushesKeepSlots, StoresAreStackedInOrder, StackedSlotsAreCounted, StackedFilesAreJoined, StackingIsAssociative, StackedAloneIsTheSame};
 
 pub use store_reader::laws::{
-    files_are_stores, look_ups_are_counted, looks_are_recent, slots_decide_answers,
-    stats_are_added, stored_documents_are_got, stores_are_apart, walks_look_up,
+    answers_are_exact, files_are_stores, look_ups_are_counted, looks_are_recent,
+    slots_decide_answers, stats_are_added, stored_documents_are_got, stores_are_apart,
+    walks_look_up,
 };
 
 /// The slots of a block that is made of documents are these documents.

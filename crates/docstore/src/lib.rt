@@ -18,6 +18,6 @@ pub use store_compressor::BlockCompressor;
 pub use store_reader::{
     Answer, CacheStats, Compressor, DOC_STORE_VERSION, DOCSTORE_CACHE_CAPACITY, Decompressor,
     DocIter, DocStoreFooter, DocStoreVersion, DocWalk, Items, OpenError, RawIter, ReadCall,
-    StoreReader, Walk, answer_all, block_read_index,
+    StoreReader, Walk, answer_all, any_lacks_memory, block_read_index,
 };
 pub use writer::StoreWriter;

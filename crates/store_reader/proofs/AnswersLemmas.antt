@@ -1,22 +1,25 @@
 -- What calls of a reader answer, as far as they were made.
-use Rattle.std.proofs.Common.{◌≡◌, ℕ, ◌+◌, ◌<◌, ◌≤◌, true, false, List, [], ◌∷◌, ◌++◌, length, take, get_or, refl, sym, ◌∙◌, ap, subst}
-use Rattle.std.proofs.lemmas.Bool.{ltb-true, ltb-false}
+use Rattle.std.proofs.Common.{◌≡◌, ◌⊎◌, inl, inr, ℕ, ◌+◌, ◌<◌, ◌≤◌, ◌↔◌, true, false, List, [], ◌∷◌, ◌++◌, length, take, get_or, refl, sym, ◌∙◌, ap, subst}
+use Rattle.std.proofs.lemmas.Bool.{cases_lt, ltb-true, ltb-false}
 use Rattle.std.proofs.lemmas.Grind.{flat_map-append}
 use Rattle.std.proofs.lemmas.List.{append-nil, take_more}
-use Rattle.std.specs.Prelude.{nat_lt, IsTrue, Result}
-use Rattle.std.specs.List.{flat_map}
+use Rattle.std.specs.Prelude.{nat_lt, IsTrue, IfErr, Result, Ok, Err}
+use Rattle.std.specs.List.{AllByRecursion, AllZip, flat_map}
 use Rattle.layered_index.specs.declared.error.StoreError.{StoreError}
+use Rattle.layered_index.specs.declared.error.StoreError.TheVariants.{InvalidArgument, Read, Memory}
 use Rattle.layered_index.specs.declared.index.Checkpoint.{Checkpoint}
 use Rattle.store_reader.specs.declared.answers.Answer.{Answer}
+use Rattle.store_reader.specs.declared.answers.Answer.TheVariants.{Got}
 use Rattle.store_reader.specs.declared.answers.ReadCall.{ReadCall}
 use Rattle.store_reader.specs.declared.answers.ReadCall.TheVariants.{Bytes}
-use Rattle.store_reader.specs.Answering.{IsAnswered}
+use Rattle.store_reader.specs.Answering.{IsAnswered, AnswersFrom}
 use Rattle.store_reader.specs.Block.{Slot}
 use Rattle.store_reader.specs.LookLaws.{AreLookUps}
 use Rattle.store_reader.specs.Reading.{Reading, IsSameStore, num_docs, store_of}
 use Rattle.store_reader.specs.Slots.{slots}
-use Rattle.store_reader.specs.Answers.{IsAnswer, AreAnswers, keys_of_call, keys_of_calls}
-use Rattle.store_reader.proofs.ListingLemmas.{same_slots}
+use Rattle.store_reader.specs.Answers.{IsAnswer, AreAnswers, IsNotPast, RefusesPast, keys_of_call, keys_of_calls}
+use Rattle.store_reader.proofs.AnsweringLemmas.{not_none_such}
+use Rattle.store_reader.proofs.ListingLemmas.{same_slots, same_count}
 use Rattle.store_reader.proofs.RecentLemmas.{no_looks, look_once, looks_then}
 
 answers_push : (all : List Slot) (calls : List ReadCall) (answers : List Answer) (call : ReadCall) (answer : Answer) → AreAnswers all calls answers → IsAnswer all call answer → AreAnswers all (calls ++ call ∷ []) (answers ++ answer ∷ [])
@@ -56,3 +59,43 @@ looks_more first old new calls i call lt at same so_far is =
     ap (flat_map keys) next ∙ flat_map-append keys (take i calls) (call ∷ []) ∙ ap (λ (ks : List ℕ). flat_map keys (take i calls) ++ ks) (append-nil (keys call)) in
     subst (λ (ks : List ℕ). AreLookUps ks first new) (sym joined)
     (looks_then (keys_of_calls first.checkpoints (take i calls)) (keys call) first old new so_far (subst (λ (cs : List Checkpoint). AreLookUps (keys_of_call cs call) old new) same.checkpoints is))
+
+-- ---- ids at or past the count
+
+-- a get of one is refused as that, and as no other
+pub past_of_get : (id : ℕ) (call : ReadCall) (result : Result (List ℕ) StoreError) (old new : Reading) → call ≡ Bytes id → (result ≡ Err (InvalidArgument id) ↔ (num_docs old ≤ id)) → (id < num_docs old → IsAnswered old id result new)
+    → RefusesPast (num_docs old) call (Got result)
+past_of_get id call result old new is past some = subst (λ (c : ReadCall). RefusesPast (num_docs old) c (Got result)) (sym is) (λ other. (told other, refused other))
+  where
+    told : (other : ℕ) → result ≡ Err (InvalidArgument other) → (other ≡ id) × (num_docs old ≤ id)
+    told other e = elim (cases_lt id (num_docs old)) [
+      | inl lt ↦ absurd (not_none_such old new id other result (some lt) e)
+      | inr le ↦ let here = past.1 le in (cc, le)
+    ]
+
+    refused : (other : ℕ) → (other ≡ id) × (num_docs old ≤ id) → result ≡ Err (InvalidArgument other)
+    refused other h = let here = past.1 h.1 in let same = h.0 in cc
+
+-- an item is none of these, since its id is below the count
+pub item_not_past : (id place : ℕ) (block item : Result (List ℕ) StoreError) → IfErr block (λ e. (e ≡ Read) ⊎ (e ≡ Memory)) → AnswersFrom id place block item → IsNotPast item
+item_not_past id place (Ok b) (Ok bytes) only answer other is = cc
+item_not_past id place (Ok b) (Err e) only answer other is = elim answer [ inl bad ↦ let why = bad.0 in cc | inr memory ↦ cc ]
+item_not_past id place (Err e) item only answer other is = elim only [ inl read ↦ cc | inr memory ↦ cc ]
+
+pub items_not_past : (items : List (Result (List ℕ) StoreError)) (item : Result (List ℕ) StoreError) → AllByRecursion IsNotPast items → IsNotPast item → AllByRecursion IsNotPast (items ++ item ∷ [])
+items_not_past [] item h is = (is, tt)
+items_not_past (x ∷ items) item h is = (h.0, items_not_past items item h.1 is)
+
+zip_push : {A B : Type 0} (R : A → B → Type 0) (xs : List A) (ys : List B) (x : A) (y : B) → AllZip R xs ys → R x y → AllZip R (xs ++ x ∷ []) (ys ++ y ∷ [])
+zip_push R [] [] x y h is = (is, tt)
+zip_push R (a ∷ xs) (b ∷ ys) x y h is = (h.0, zip_push R xs ys x y h.1 is)
+zip_push R [] (b ∷ ys) x y h is = absurd h
+zip_push R (a ∷ xs) [] x y h is = absurd h
+
+-- one more call
+pub past_more : (first old : Reading) (calls : List ReadCall) (i : ℕ) (call : ReadCall) (answers : List Answer) (answer : Answer) → i < length calls → call ≡ get_or calls i call → IsSameStore first old
+    → AllZip (RefusesPast (num_docs first)) (take i calls) answers → RefusesPast (num_docs old) call answer → AllZip (RefusesPast (num_docs first)) (take (i + 1) calls) (answers ++ answer ∷ [])
+past_more first old calls i call answers answer lt at same so_far is =
+    let next : take (i + 1) calls ≡ take i calls ++ call ∷ [] = take_more calls i call lt ∙ ap (λ (c : ReadCall). take i calls ++ c ∷ []) (sym at) in
+    subst (λ (cs : List ReadCall). AllZip (RefusesPast (num_docs first)) cs (answers ++ answer ∷ [])) (sym next)
+    (zip_push (RefusesPast (num_docs first)) (take i calls) answers call answer so_far (subst (λ (n : ℕ). RefusesPast n call answer) (same_count first old same) is))

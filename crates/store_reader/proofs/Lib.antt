@@ -20,4 +20,6 @@ pub mod ListingLemmas
 pub mod ListedLemmas
 pub mod AnswersLemmas
 pub mod SameAnswerLemmas
+pub mod ExactLemmas
+pub mod FailedLemmas
 pub mod StoredLemmas

@@ -1,5 +1,5 @@
 -- What a list of reading calls answers.
-use Rattle.std.specs.Prelude.{◌≡◌, ℕ, ◌≤◌, Bool, nat_lt, if◌then◌else◌, List, [], ◌∷◌, length, slice_get, Option, Some, None, IfSome, Result, Err}
+use Rattle.std.specs.Prelude.{◌≡◌, ◌↔◌, ℕ, ◌≤◌, Bool, nat_lt, if◌then◌else◌, List, [], ◌∷◌, length, map, slice_get, Contains, Option, Some, None, IfSome, Result, Ok, Err, IsErrOf}
 use Rattle.std.specs.List.{AllByRecursion, flat_map}
 use Rattle.store_base.specs.AliveBitSet.{is_alive_at}
 use Rattle.store_reader.specs.declared.answers.Answer.{Answer}
@@ -7,11 +7,11 @@ use Rattle.store_reader.specs.declared.answers.Answer.TheVariants.{Got, Listed}
 use Rattle.store_reader.specs.declared.answers.ReadCall.{ReadCall}
 use Rattle.store_reader.specs.declared.answers.ReadCall.TheVariants.{Bytes, Iter}
 use Rattle.layered_index.specs.declared.error.StoreError.{StoreError}
-use Rattle.layered_index.specs.declared.error.StoreError.TheVariants.{Read, Memory}
+use Rattle.layered_index.specs.declared.error.StoreError.TheVariants.{InvalidArgument, DamagedDocument, Read, Memory}
 use Rattle.layered_index.specs.declared.index.Checkpoint.{Checkpoint}
 use Rattle.layered_index.specs.Checkpoint.{docs_end, first_past}
 use Rattle.store_reader.specs.Answering.{AnswersTruly}
-use Rattle.store_reader.specs.Block.{Slot}
+use Rattle.store_reader.specs.Block.{Slot, doc, damaged}
 use Rattle.store_reader.specs.Iteration.{looked_along}
 use Rattle.store_reader.specs.Listing.{first_alive, AreItems}
 
@@ -35,6 +35,25 @@ abbrev pub AreAnswers : List Slot → List ReadCall → List Answer → Type 0
 AreAnswers all [] [] = Unit {0}
 AreAnswers all (call ∷ calls) (answer ∷ answers) = IsAnswer all call answer × AreAnswers all calls answers
 AreAnswers all _ _ = ⊥
+
+-- It is not refused as an id at or past the count.
+abbrev pub IsNotPast : Result (List ℕ) StoreError → Type 0
+IsNotPast result = (id : ℕ) → ¬ IsErrOf result (InvalidArgument id)
+
+-- A get is refused as one of this id, and of no other, exactly where the id is at or past the count; no item of an iteration is.
+abbrev pub RefusesPast : ℕ → ReadCall → Answer → Type 0
+RefusesPast count (Bytes id) (Got result) = (other : ℕ) → IsErrOf result (InvalidArgument other) ↔ ((other ≡ id) × (count ≤ id))
+RefusesPast count (Iter alive take) (Listed v) = AllByRecursion IsNotPast v.items
+RefusesPast count _ _ = ⊥
+
+-- the result of a get, or the items of an iteration
+abbrev pub results_of : Answer → List (Result (List ℕ) StoreError)
+results_of (Got result) = result ∷ []
+results_of (Listed v) = v.items
+
+-- Some get or some item was refused by this.
+abbrev pub HasRefusal : List Answer → StoreError → Type 0
+HasRefusal answers e = Contains (flat_map results_of answers) (Err e)
 
 -- the key of a block, if there is one
 abbrev pub key_of : Option Checkpoint → List ℕ
@@ -75,3 +94,19 @@ AreSameAnswers _ _ = ⊥
 abbrev pub SlotsDecideAnswers : Type 0
 SlotsDecideAnswers = (all : List Slot) (calls : List ReadCall) (answers others : List Answer) → AreAnswers all calls answers → AreAnswers all calls others
     → AllByRecursion AllCame answers → AllByRecursion AllCame others → AreSameAnswers answers others
+
+-- what a slot answers: its bytes, or the refusal of this id where there is no slot or it is damaged
+abbrev pub exact_result : ℕ → Option Slot → Result (List ℕ) StoreError
+exact_result id None = Err (InvalidArgument id)
+exact_result id (Some damaged) = Err (DamagedDocument id)
+exact_result id (Some (doc bytes)) = Ok bytes
+
+-- what the slots answer a call: the result of a get, or an item for each of the first slots whose ids are alive
+abbrev pub exact_results : List Slot → ReadCall → List (Result (List ℕ) StoreError)
+exact_results all (Bytes id) = exact_result id (slice_get all id) ∷ []
+exact_results all (Iter alive take) = map (λ x. exact_result x.0 (Some x.1)) (first_alive take all (set_here alive))
+
+-- Where no read failed and memory was found, the slots and the calls say exactly what is answered.
+abbrev pub AnswersAreExact : Type 0
+AnswersAreExact = (all : List Slot) (calls : List ReadCall) (answers : List Answer) → AreAnswers all calls answers → ¬ HasRefusal answers Read → ¬ HasRefusal answers Memory
+    → map results_of answers ≡ map (exact_results all) calls

@@ -1,7 +1,8 @@
 //! Whole lists of reading calls.
-ghost use Rattle.std.specs.Prelude.{◌≤◌, IsTrue, IfOk, IfSome, IsOkUnless, length};
-ghost use Rattle.std.specs.List.{AllByRecursion};
-ghost use Rattle.store_reader.specs.Answers.{CanAnswer, IsAnswer, AreAnswers, keys_of_call, keys_of_calls};
+ghost use Rattle.std.specs.Prelude.{◌≤◌, ◌↔◌, Contains, IsTrue, IfOk, IfSome, IsErrOf, IsOkUnless, length};
+ghost use Rattle.std.specs.List.{AllByRecursion, AllZip};
+ghost use Rattle.store_base.specs.Counts.{HasRisen};
+ghost use Rattle.store_reader.specs.Answers.{CanAnswer, IsAnswer, AreAnswers, HasRefusal, IsNotPast, RefusesPast, keys_of_call, keys_of_calls, results_of};
 ghost use Rattle.store_reader.specs.Iteration.{looked_along};
 ghost use Rattle.store_reader.specs.Listing.{AreItems, first_alive};
 ghost use Rattle.store_reader.specs.LookLaws.{AreLookUps};
@@ -33,10 +34,38 @@ pub enum Answer {
     Listed(Vec<Result<OwnedBytes, StoreError>>),
 }
 
+impl Answer {
+    /// Whether memory was refused to the get, or to an item of the iteration.
+    pub fn lacks_memory(&self) -> bool
+        ensures { IsTrue result ↔ Contains (results_of self.now) (Err StoreError.Memory) }
+    {
+        match self {
+            Answer::Got(outcome) => is_want_of_memory(outcome),
+            Answer::Listed(items) => items.iter().any(is_want_of_memory),
+        }
+    }
+}
+
+// Whether memory was refused.
+fn is_want_of_memory(outcome: &Result<OwnedBytes, StoreError>) -> bool
+    ensures { IsTrue result ↔ IsErrOf outcome.now StoreError.Memory }
+{
+    matches!(outcome, Err(StoreError::Memory))
+}
+
+/// Whether memory was refused to a get, or to an item of an iteration.
+pub fn any_lacks_memory(answers: &[Answer]) -> bool
+    ensures { IsTrue result ↔ HasRefusal answers.now StoreError.Memory }
+{
+    answers.iter().any(Answer::lacks_memory)
+}
+
 /// Makes the calls in order. A refused document is its answer, and the next call made.
 ///
 /// The blocks of the documents and of the iterations are looked up in this order, and the file is read once for each that the
-/// cache doesn't keep. `Memory` comes only where the lists of answers can't grow.
+/// cache doesn't keep. `Memory` comes only where the lists of answers can't grow. A get is answered by
+/// `InvalidArgument` exactly where its id is at or past the count. Where any answer or item is `Read`, the file's count
+/// of failures has risen in the call.
 pub fn answer_all<H: FileHandle>(
     alloc: Global,
     reader: &mut StoreReader<H>,
@@ -45,6 +74,9 @@ pub fn answer_all<H: FileHandle>(
     requires { AllByRecursion (CanAnswer (num_docs reader.old)) calls.now }
     ensures answers { IfOk result (λ v. IsTrue reader.old.file.honest
         → AreAnswers (slots (store_of reader.old)) calls.now v.items) }
+    ensures past { IfOk result (λ v. AllZip (RefusesPast (num_docs reader.old)) calls.now v.items) }
+    ensures failed { IfOk result (λ v. HasRefusal v.items StoreError.Read
+        → HasRisen reader.old.file.failures reader.new.file.failures) }
     ensures looks { IfOk result (λ v. AreLookUps (keys_of_calls reader.old.checkpoints calls.now) reader.old reader.new) }
     ensures memory { IsOkUnless result StoreError.Memory }
     ensures same_store { IsSameStore reader.old reader.new }
@@ -66,6 +98,9 @@ fn answer_one<H: FileHandle>(
     requires { CanAnswer (num_docs reader.old) call.now }
     ensures answer { IfOk result (λ answer. IsTrue reader.old.file.honest
         → IsAnswer (slots (store_of reader.old)) call.now answer) }
+    ensures past { IfOk result (RefusesPast (num_docs reader.old) call.now) }
+    ensures failed { IfOk result (λ answer. Contains (results_of answer) (Err StoreError.Read)
+        → HasRisen reader.old.file.failures reader.new.file.failures) }
     ensures looks { IfOk result (λ answer. AreLookUps (keys_of_call reader.old.checkpoints call.now) reader.old reader.new) }
     ensures memory { IsOkUnless result StoreError.Memory }
     ensures same_store { IsSameStore reader.old reader.new }
@@ -89,6 +124,9 @@ fn list_items<H: FileHandle>(
     requires { IfSome alive (λ set. num_docs reader.old ≤ length set.now) }
     ensures items { IfOk result (λ v. IsTrue reader.old.file.honest
         → AreItems (first_alive count (slots (store_of reader.old)) (set_of alive.entry)) v.items) }
+    ensures past { IfOk result (λ v. AllByRecursion IsNotPast v.items) }
+    ensures failed { IfOk result (λ v. Contains v.items (Err StoreError.Read)
+        → HasRisen reader.old.file.failures reader.new.file.failures) }
     ensures looks { IfOk result (λ v. AreLookUps (looked_along reader.old.checkpoints (set_of alive.entry) count)
         reader.old reader.new) }
     ensures memory { IsOkUnless result StoreError.Memory }

@@ -1,7 +1,7 @@
 //! What a file tells of its store, what look-ups do, and what decides an answer.
 ghost use Rattle.store_reader.specs.CacheSums.{StatsAreAdded};
 ghost use Rattle.store_reader.specs.LookLaws.{LooksAreRecent, LookUpsAreCounted, WalksLookUp};
-ghost use Rattle.store_reader.specs.Answers.{SlotsDecideAnswers};
+ghost use Rattle.store_reader.specs.Answers.{AnswersAreExact, SlotsDecideAnswers};
 ghost use Rattle.store_reader.specs.Laws.{FilesAreStores, StoresAreApart, StoredDocumentsAreGot};
 
 use store_base::StoredDocument;
@@ -47,4 +47,10 @@ pub fn stored_documents_are_got<D: StoredDocument>()
 /// capacity, nor what was called before.
 pub fn slots_decide_answers()
     ensures { SlotsDecideAnswers }
+{}
+
+/// Where no read failed and memory was found, what a list of reading calls answers is a function of the slots and the calls: a
+/// document's bytes, or the refusal of the id where there is no document or it is damaged.
+pub fn answers_are_exact()
+    ensures { AnswersAreExact }
 {}

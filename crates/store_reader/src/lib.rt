@@ -19,7 +19,7 @@ pub mod slot;
 mod store_index;
 pub mod walk;
 
-pub use answers::{Answer, ReadCall, answer_all};
+pub use answers::{Answer, ReadCall, answer_all, any_lacks_memory};
 pub use cache_stats::CacheStats;
 pub use compressors::{Compressor, Decompressor};
 pub use footer::{DOC_STORE_VERSION, DocStoreFooter, DocStoreVersion};

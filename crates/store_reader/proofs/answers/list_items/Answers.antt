@@ -1,8 +1,16 @@
-use Rattle.std.proofs.Common.{rules, ◌≡◌, ℕ, Bool, Bor, Option, Some, None, List, [], ◌∷◌, length, min, sym, ◌∙◌, ap, subst, arith, length-append}
+use Rattle.std.proofs.Common.{rules, ◌≡◌, ◌+◌, ◌-◌, ℕ, Bool, Bor, Option, Some, None, List, [], ◌∷◌, length, min, sym, ◌∙◌, ap, subst, arith, length-append}
+use Rattle.std.specs.List.{AllByRecursion, Contains}
+use Rattle.std.specs.Prelude.{Result, Err}
+use Rattle.store_base.specs.Counts.{HasRisen}
+use Rattle.layered_index.specs.declared.error.StoreError.{StoreError}
+use Rattle.layered_index.specs.declared.error.StoreError.TheVariants.{Read}
+use Rattle.store_reader.specs.Answers.{IsNotPast}
 use Rattle.store_reader.specs.Listing.{AreItems}
 use Rattle.store_reader.specs.Reading.{num_docs, store_of}
 use Rattle.store_reader.specs.Slots.{slots}
 use Rattle.store_reader.specs.Walking.{set_of, set_in, GivesNext}
+use Rattle.store_reader.proofs.AnswersLemmas.{item_not_past, items_not_past}
+use Rattle.store_reader.proofs.FailedLemmas.{item_failed}
 use Rattle.store_reader.proofs.ListedLemmas.{IsListedTo, listed_on, looked_enough, looked_all}
 use Rattle.store_reader.proofs.ListingLemmas.{alive_so_far, listed_more, below_more, listed_end, listed_enough}
 use Rattle.store_reader.proofs.RecentLemmas.{same_on}
@@ -19,6 +27,9 @@ loop-iter-preserved g c =
     let gives : GivesNext set old.reader.now old.walk (Some c.in-Some.item) new.reader.now new.walk =
     subst (λ (x : Option (ℕ → Bool)). GivesNext x old.reader.now old.walk (Some c.in-Some.item) new.reader.now new.walk) c.loop-iter.invariant.set steps.0 in
     let pushed = c.in_ok-push.ensures.items in
+    let listed : IsListedTo first set (length c.loop-iter.items.items + 1) new.reader.now new.walk =
+    listed_on first set (length c.loop-iter.items.items) old.reader.now old.walk c.in-Some.item new.reader.now new.walk c.loop-iter.invariant.same.checkpoints c.loop-iter.invariant.looks gives in
+    let not_past = item_not_past gives.last (gives.last - new.walk.first) new.walk.block c.in-Some.item gives.walk.only gives.gives.answers in
     record {
       name = steps.2 ∙ c.loop-iter.invariant.name;
       walk = c.in-Some.ensures.goes.keeps;
@@ -26,8 +37,10 @@ loop-iter-preserved g c =
       set = ap (λ (a : Bor (List (List Bool))). set_in a.now) steps.1 ∙ c.loop-iter.invariant.set;
       listed = λ honest. subst (AreItems (alive_so_far set (slots (store_of first)) new.walk.next)) (sym pushed)
           (listed_more first old.reader.now new.reader.now set old.walk new.walk c.in-Some.item c.loop-iter.items.items docs c.loop-iter.invariant.same gives c.loop-iter.invariant.listed honest);
-      looks = subst (λ (n : ℕ). IsListedTo first set n new.reader.now new.walk) (sym (ap length pushed ∙ length-append c.loop-iter.items.items (c.in-Some.item ∷ [])))
-          (listed_on first set (length c.loop-iter.items.items) old.reader.now old.walk c.in-Some.item new.reader.now new.walk c.loop-iter.invariant.same.checkpoints c.loop-iter.invariant.looks gives);
+      looks = subst (λ (n : ℕ). IsListedTo first set n new.reader.now new.walk) (sym (ap length pushed ∙ length-append c.loop-iter.items.items (c.in-Some.item ∷ []))) listed;
+      past = subst (AllByRecursion IsNotPast) (sym pushed) (items_not_past c.loop-iter.items.items c.in-Some.item c.loop-iter.invariant.past not_past);
+      failed = subst (λ (xs : List (Result (List ℕ) StoreError)). Contains xs (Err Read) → HasRisen first.file.failures new.reader.now.file.failures) (sym pushed)
+          (item_failed first old.reader.now new.reader.now set (length c.loop-iter.items.items + 1) old.walk new.walk c.in-Some.item c.loop-iter.items.items listed gives c.loop-iter.invariant.failed);
       below = below_more first old.reader.now new.reader.now set old.walk new.walk c.in-Some.item docs c.loop-iter.invariant.same gives;
       few = omega (arith, ap length pushed, length-append c.loop-iter.items.items (c.in-Some.item ∷ []));
     }

@@ -1,5 +1,9 @@
 use Rattle.std.proofs.Common.{◌≡◌, ◌≤◌, ◌-◌, length}
-use Rattle.std.specs.Prelude.{IsTrue}
+use Rattle.std.specs.List.{AllByRecursion, Contains}
+use Rattle.std.specs.Prelude.{IsTrue, Err}
+use Rattle.store_base.specs.Counts.{HasRisen}
+use Rattle.layered_index.specs.declared.error.StoreError.TheVariants.{Read}
+use Rattle.store_reader.specs.Answers.{IsNotPast}
 use Rattle.store_reader.specs.Listing.{AreItems}
 use Rattle.store_reader.specs.Reading.{IsSameStore, store_of}
 use Rattle.store_reader.specs.Slots.{slots}
@@ -17,6 +21,8 @@ invariant-loop-iter g l = record {
   listed : IsTrue l.fn.reader.file.honest → AreItems (alive_so_far (set_of l.alive) (slots (store_of l.fn.reader)) l.iter.walk.next) l.items.items;
   below : l.iter.walk.next ≤ length (slots (store_of l.fn.reader));
   looks : IsListedTo l.fn.reader (set_of l.alive) (length l.items.items) l.iter.reader.now l.iter.walk;
+  past : AllByRecursion IsNotPast l.items.items;
+  failed : Contains l.items.items (Err Read) → HasRisen l.fn.reader.file.failures l.iter.reader.now.file.failures;
   few : length l.items.items ≤ l.most;
 }
 

@@ -1,0 +1,76 @@
+-- Where an answer is a failed read, the file's count of failures has risen.
+use Rattle.std.proofs.Common.{◌≡◌, ◌⊎◌, inl, inr, ℕ, ◌-◌, ◌≤◌, Bool, List, [], ◌∷◌, ◌++◌, take, Option, Some, sym, ap, ◌∙◌, subst, arith}
+use Rattle.std.proofs.lemmas.List.Elements.{Contains-append_cases, Contains-push_cases}
+use Rattle.std.proofs.lemmas.Grind.{flat_map-append}
+use Rattle.std.proofs.lemmas.List.{append-nil}
+use Rattle.std.specs.List.{Contains, flat_map}
+use Rattle.std.specs.Prelude.{Result, Ok, Err}
+use Rattle.store_base.specs.Counts.{HasRisen}
+use Rattle.layered_index.specs.declared.error.StoreError.{StoreError}
+use Rattle.layered_index.specs.declared.error.StoreError.TheVariants.{Read, Memory}
+use Rattle.layered_index.specs.declared.index.Checkpoint.{Checkpoint}
+use Rattle.store_reader.specs.declared.answers.Answer.{Answer}
+use Rattle.store_reader.specs.declared.walk.Walk.{Walk}
+use Rattle.store_reader.specs.Answering.{IsLookedUp, AnswersFrom}
+use Rattle.store_reader.specs.Answers.{HasRefusal, results_of}
+use Rattle.store_reader.specs.LookingUp.{Takes}
+use Rattle.store_reader.specs.Reading.{Reading, IsSameStore}
+use Rattle.store_reader.specs.Walking.{IsTaken, LooksAlong, GivesNext}
+use Rattle.store_reader.proofs.AnsweringLemmas.{has_failed}
+use Rattle.store_reader.proofs.ListedLemmas.{IsListedTo}
+use Rattle.store_reader.proofs.RecentLemmas.{same_store, same_along}
+
+-- a count that has risen since later has since before
+risen_before : (a b c : ℕ) → a ≤ b → HasRisen b c → HasRisen a c
+risen_before a b c le h = record { no_lower = omega (arith, h.no_lower); risen = λ few. omega (arith, h.risen few) }
+
+-- and where it goes on
+risen_on : (a b c : ℕ) → HasRisen a b → b ≤ c → HasRisen a c
+risen_on a b c h le = record { no_lower = omega (arith, h.no_lower); risen = λ few. omega (arith, h.risen (omega (arith, few))) }
+
+failed_once : (r : Reading) (id : ℕ) (c : Checkpoint) (block : Result (List ℕ) StoreError) (mid : Reading) → IsTaken r id c block mid → block ≡ Err Read → HasRisen r.file.failures mid.file.failures
+failed_once r id c block mid t is = came (subst (λ (b : Result (List ℕ) StoreError). Takes t.came b) is t.taken)
+  where
+    came : Takes t.came (Err Read) → HasRisen r.file.failures mid.file.failures
+    came (inl same) = has_failed r mid id c (subst (λ (x : Result (List ℕ) StoreError). IsLookedUp r id c x mid) same t.looked)
+    came (inr memory) = absurd cc
+
+-- look-ups one after the other: a failed read that is taken at the end was taken at the beginning, or the count has risen
+failed_along : (cs : List Checkpoint) (r : Reading) (b : Result (List ℕ) StoreError) (r' : Reading) (b' : Result (List ℕ) StoreError) → LooksAlong cs r b r' b' → b' ≡ Err Read → (b ≡ Err Read) ⊎ HasRisen r.file.failures r'.file.failures
+failed_along [] r b r' b' l is = inl (sym l.1 ∙ is)
+failed_along (c ∷ cs) r b r' b' l is = inr (elim (failed_along cs l.0 l.1 r' b' l.3 is) [
+  | inl here ↦ risen_on r.file.failures l.0.file.failures r'.file.failures (failed_once r c.doc_range.start c l.1 l.0 l.2 here) (same_along cs l.0 l.1 r' b' l.3).failures
+  | inr later ↦ risen_before r.file.failures l.0.file.failures r'.file.failures (same_store r c.doc_range.start c l.2.came l.0 l.2.looked).failures later
+])
+
+-- a document is answered by a failed read only where its block is
+block_failed : (id place : ℕ) (block item : Result (List ℕ) StoreError) → AnswersFrom id place block item → item ≡ Err Read → block ≡ Err Read
+block_failed id place (Ok b) (Ok bytes) answer is = absurd cc
+block_failed id place (Ok b) (Err e) answer is = absurd (elim answer [ inl bad ↦ let why = bad.0 in cc | inr memory ↦ cc ])
+block_failed id place (Err e) item answer is = sym answer ∙ is
+
+-- one more item
+pub item_failed : (first old new : Reading) (set : Option (ℕ → Bool)) (count : ℕ) (from to : Walk) (item : Result (List ℕ) StoreError) (items : List (Result (List ℕ) StoreError)) → IsListedTo first set count new to → GivesNext set old from (Some item) new to
+    → (Contains items (Err Read) → HasRisen first.file.failures old.file.failures) → Contains (items ++ item ∷ []) (Err Read) → HasRisen first.file.failures new.file.failures
+item_failed first old new set count from to item items listed gives before some = elim (Contains-push_cases items item (Err Read) some) [
+  | inl earlier ↦ risen_on first.file.failures old.file.failures new.file.failures (before earlier) gives.same.failures
+  | inr here ↦ elim (failed_along (take to.place first.checkpoints) first (Err Memory) new to.block listed.looks (block_failed gives.last (gives.last - to.first) to.block item gives.gives.answers here)) [
+    | inl memory ↦ absurd cc
+    | inr risen ↦ risen
+  ]
+]
+
+-- a get
+pub get_failed : (result : Result (List ℕ) StoreError) (a b : ℕ) → (result ≡ Err Read → HasRisen a b) → Contains (result ∷ []) (Err Read) → HasRisen a b
+get_failed result a b failed some = elim (Contains-push_cases [] result (Err Read) some) [ inl none ↦ absurd (let lt = none.1 in omega arith) | inr is ↦ failed is ]
+
+-- one more answer
+pub answer_failed : (first old new : Reading) (answers : List Answer) (answer : Answer) → IsSameStore first old → IsSameStore old new → (HasRefusal answers Read → HasRisen first.file.failures old.file.failures)
+    → (Contains (results_of answer) (Err Read) → HasRisen old.file.failures new.file.failures) → HasRefusal (answers ++ answer ∷ []) Read → HasRisen first.file.failures new.file.failures
+answer_failed first old new answers answer before after so_far here some =
+    let joined : flat_map results_of (answers ++ answer ∷ []) ≡ flat_map results_of answers ++ results_of answer =
+    flat_map-append results_of answers (answer ∷ []) ∙ ap (λ (xs : List (Result (List ℕ) StoreError)). flat_map results_of answers ++ xs) (append-nil (results_of answer)) in
+    elim (Contains-append_cases (flat_map results_of answers) (results_of answer) (Err Read) (subst (λ (xs : List (Result (List ℕ) StoreError)). Contains xs (Err Read)) joined some)) [
+      | inl earlier ↦ risen_on first.file.failures old.file.failures new.file.failures (so_far earlier) after.failures
+      | inr now ↦ risen_before first.file.failures old.file.failures new.file.failures before.failures (here now)
+    ]
