@@ -38,14 +38,14 @@ slot_at r id c covers seeks =
     ∙ slot_sought r.file.content 0 0 r.checkpoints id c covers.in_line (omega arith) seeks
 
 module _ (old new : Reading) (id : ℕ) where
-  none_such : (other : ℕ) (c : Checkpoint) (came result : Result (List ℕ) StoreError) → IsLookedUp old id c came new → AnswersFrom id (id - c.doc_range.start) came result → result ≡ Err (InvalidArgument other) → ⊥
-  none_such other c (Ok block) (Ok bytes) looked answer e = cc
-  none_such other c (Ok block) (Err f) looked answer e = elim answer [ inl d ↦ let is = d.0 in cc | inr m ↦ cc ]
-  none_such other c (Err f) result looked answer e = elim (why_none old new id c f looked) [ inl r ↦ cc | inr m ↦ cc ]
+  none_such : (c : Checkpoint) (came result : Result (List ℕ) StoreError) → IsLookedUp old id c came new → AnswersFrom id (id - c.doc_range.start) came result → result ≡ Err (InvalidArgument id) → ⊥
+  none_such c (Ok block) (Ok bytes) looked answer e = cc
+  none_such c (Ok block) (Err f) looked answer e = elim answer [ inl d ↦ let is = d.0 in cc | inr m ↦ cc ]
+  none_such c (Err f) result looked answer e = elim (why_none old new id c f looked) [ inl r ↦ cc | inr m ↦ cc ]
 
-  -- a document that there is is not refused as none, nor as another
-  pub not_none_such : (other : ℕ) (result : Result (List ℕ) StoreError) → IsAnswered old id result new → result ≡ Err (InvalidArgument other) → ⊥
-  not_none_such other result a e = none_such other a.checkpoint a.came result a.looked a.answer e
+  -- a document that there is is not refused as none
+  pub not_none_such : (result : Result (List ℕ) StoreError) → IsAnswered old id result new → result ≡ Err (InvalidArgument id) → ⊥
+  not_none_such result a e = none_such a.checkpoint a.came result a.looked a.answer e
 
   failed : (c : Checkpoint) (came result : Result (List ℕ) StoreError) → IsLookedUp old id c came new → AnswersFrom id (id - c.doc_range.start) came result → result ≡ Err Read → HasRisen old.file.failures new.file.failures
   failed c (Ok block) (Ok bytes) looked answer e = absurd cc

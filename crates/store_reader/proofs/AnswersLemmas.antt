@@ -1,15 +1,14 @@
 -- What calls of a reader answer, as far as they were made.
-use Rattle.std.proofs.Common.{◌≡◌, ◌⊎◌, inl, inr, ℕ, ◌+◌, ◌<◌, ◌≤◌, ◌↔◌, true, false, List, [], ◌∷◌, ◌++◌, length, take, get_or, refl, sym, ◌∙◌, ap, subst}
-use Rattle.std.proofs.lemmas.Bool.{cases_lt, ltb-true, ltb-false}
+use Rattle.std.proofs.Common.{◌≡◌, ◌⊎◌, inl, inr, ℕ, ◌+◌, ◌<◌, ◌≤◌, true, false, List, [], ◌∷◌, ◌++◌, length, take, get_or, refl, sym, ◌∙◌, ap, subst}
+use Rattle.std.proofs.lemmas.Bool.{ltb-true, ltb-false}
 use Rattle.std.proofs.lemmas.Grind.{flat_map-append}
 use Rattle.std.proofs.lemmas.List.{append-nil, take_more}
 use Rattle.std.specs.Prelude.{nat_lt, IsTrue, IfErr, Result, Ok, Err}
 use Rattle.std.specs.List.{AllByRecursion, AllZip, flat_map}
 use Rattle.layered_index.specs.declared.error.StoreError.{StoreError}
-use Rattle.layered_index.specs.declared.error.StoreError.TheVariants.{InvalidArgument, Read, Memory}
+use Rattle.layered_index.specs.declared.error.StoreError.TheVariants.{Read, Memory}
 use Rattle.layered_index.specs.declared.index.Checkpoint.{Checkpoint}
 use Rattle.store_reader.specs.declared.answers.Answer.{Answer}
-use Rattle.store_reader.specs.declared.answers.Answer.TheVariants.{Got}
 use Rattle.store_reader.specs.declared.answers.ReadCall.{ReadCall}
 use Rattle.store_reader.specs.declared.answers.ReadCall.TheVariants.{Bytes}
 use Rattle.store_reader.specs.Answering.{IsAnswered, AnswersFrom}
@@ -18,7 +17,6 @@ use Rattle.store_reader.specs.LookLaws.{AreLookUps}
 use Rattle.store_reader.specs.Reading.{Reading, IsSameStore, num_docs, store_of}
 use Rattle.store_reader.specs.Slots.{slots}
 use Rattle.store_reader.specs.Answers.{IsAnswer, AreAnswers, IsNotPast, RefusesPast, keys_of_call, keys_of_calls}
-use Rattle.store_reader.proofs.AnsweringLemmas.{not_none_such}
 use Rattle.store_reader.proofs.ListingLemmas.{same_slots, same_count}
 use Rattle.store_reader.proofs.RecentLemmas.{no_looks, look_once, looks_then}
 
@@ -61,20 +59,6 @@ looks_more first old new calls i call lt at same so_far is =
     (looks_then (keys_of_calls first.checkpoints (take i calls)) (keys call) first old new so_far (subst (λ (cs : List Checkpoint). AreLookUps (keys_of_call cs call) old new) same.checkpoints is))
 
 -- ---- ids at or past the count
-
--- a get of one is refused as that, and as no other
-pub past_of_get : (id : ℕ) (call : ReadCall) (result : Result (List ℕ) StoreError) (old new : Reading) → call ≡ Bytes id → (result ≡ Err (InvalidArgument id) ↔ (num_docs old ≤ id)) → (id < num_docs old → IsAnswered old id result new)
-    → RefusesPast (num_docs old) call (Got result)
-past_of_get id call result old new is past some = subst (λ (c : ReadCall). RefusesPast (num_docs old) c (Got result)) (sym is) (λ other. (told other, refused other))
-  where
-    told : (other : ℕ) → result ≡ Err (InvalidArgument other) → (other ≡ id) × (num_docs old ≤ id)
-    told other e = elim (cases_lt id (num_docs old)) [
-      | inl lt ↦ absurd (not_none_such old new id other result (some lt) e)
-      | inr le ↦ let here = past.1 le in (cc, le)
-    ]
-
-    refused : (other : ℕ) → (other ≡ id) × (num_docs old ≤ id) → result ≡ Err (InvalidArgument other)
-    refused other h = let here = past.1 h.1 in let same = h.0 in cc
 
 -- an item is none of these, since its id is below the count
 pub item_not_past : (id place : ℕ) (block item : Result (List ℕ) StoreError) → IfErr block (λ e. (e ≡ Read) ⊎ (e ≡ Memory)) → AnswersFrom id place block item → IsNotPast item

@@ -60,10 +60,6 @@ item_failed first old new set count from to item items listed gives before some 
   ]
 ]
 
--- a get
-pub get_failed : (result : Result (List ℕ) StoreError) (a b : ℕ) → (result ≡ Err Read → HasRisen a b) → Contains (result ∷ []) (Err Read) → HasRisen a b
-get_failed result a b failed some = elim (Contains-push_cases [] result (Err Read) some) [ inl none ↦ absurd (let lt = none.1 in omega arith) | inr is ↦ failed is ]
-
 -- one more answer
 pub answer_failed : (first old new : Reading) (answers : List Answer) (answer : Answer) → IsSameStore first old → IsSameStore old new → (HasRefusal answers Read → HasRisen first.file.failures old.file.failures)
     → (Contains (results_of answer) (Err Read) → HasRisen old.file.failures new.file.failures) → HasRefusal (answers ++ answer ∷ []) Read → HasRisen first.file.failures new.file.failures

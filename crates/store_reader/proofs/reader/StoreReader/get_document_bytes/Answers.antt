@@ -58,7 +58,7 @@ pub returns-in_default-clause-honest : goal.returns-in_default-clause-honest
 returns-in_default-clause-honest g c honest = none_truly c.args.self.now c.args.self.now c.args.doc_id (rw (← c.self.view_is) c.self.invariant.covers) (past g c)
 
 pub returns-clause-no_document : goal.returns-clause-no_document
-returns-clause-no_document g c = (λ e. absurd (not_none_such _ _ _ _ _ (answered g c) e), λ le. let lt = below g c in absurd (omega arith))
+returns-clause-no_document g c = (λ e. absurd (not_none_such _ _ _ _ (answered g c) e), λ le. let lt = below g c in absurd (omega arith))
 
 pub returns-clause-no_read : goal.returns-clause-no_read
 returns-clause-no_read g c le = let lt = below g c in absurd (omega arith)
