@@ -77,7 +77,8 @@ zip_push R [] (b ∷ ys) x y h is = absurd h
 zip_push R (a ∷ xs) [] x y h is = absurd h
 
 -- one more call
-pub past_more : (first old : Reading) (calls : List ReadCall) (i : ℕ) (call : ReadCall) (answers : List Answer) (answer : Answer) → i < length calls → call ≡ get_or calls i call → IsSameStore first old
+pub past_more : (first old : Reading) (calls : List ReadCall) (i : ℕ) (call : ReadCall) (answers : List Answer) (answer : Answer)
+    → i < length calls → call ≡ get_or calls i call → IsSameStore first old
     → AllZip (RefusesPast (num_docs first)) (take i calls) answers → RefusesPast (num_docs old) call answer → AllZip (RefusesPast (num_docs first)) (take (i + 1) calls) (answers ++ answer ∷ [])
 past_more first old calls i call answers answer lt at same so_far is =
     let next : take (i + 1) calls ≡ take i calls ++ call ∷ [] = take_more calls i call lt ∙ ap (λ (c : ReadCall). take i calls ++ c ∷ []) (sym at) in

@@ -33,7 +33,8 @@ exact_items (x ∷ xs) (r ∷ rs) h no_read no_memory =
 exact_items [] (r ∷ rs) h no_read no_memory = absurd h
 exact_items (x ∷ xs) [] h no_read no_memory = absurd h
 
-exact_answer : (all : List Slot) (call : ReadCall) (answer : Answer) → IsAnswer all call answer → ¬ Contains (results_of answer) (Err Read) → ¬ Contains (results_of answer) (Err Memory) → results_of answer ≡ exact_results all call
+exact_answer : (all : List Slot) (call : ReadCall) (answer : Answer) → IsAnswer all call answer
+    → ¬ Contains (results_of answer) (Err Read) → ¬ Contains (results_of answer) (Err Memory) → results_of answer ≡ exact_results all call
 exact_answer all (Bytes id) (Got r) h no_read no_memory =
     ap (λ (x : Result (List ℕ) StoreError). x ∷ []) (exact id (slice_get all id) r h (λ is. no_read (contains_first r [] (Err Read) is)) (λ is. no_memory (contains_first r [] (Err Memory) is)))
 exact_answer all (Iter alive take) (Listed v) h no_read no_memory = exact_items (first_alive take all (set_here alive)) v.items h no_read no_memory
@@ -45,8 +46,8 @@ answers_are_exact all [] [] h no_read no_memory = refl
 answers_are_exact all (call ∷ calls) (a ∷ answers) h no_read no_memory =
     let here = results_of a in
     let later = flat_map results_of answers in
-    let first = exact_answer all call a h.0 (λ some. no_read (Contains-append_left here later (Err Read) some)) (λ some. no_memory (Contains-append_left here later (Err Memory) some)) in
-    let others = answers_are_exact all calls answers h.1 (λ some. no_read (Contains-append_right here later (Err Read) some)) (λ some. no_memory (Contains-append_right here later (Err Memory) some)) in
+    let first = exact_answer all call a h.0 (λ c. no_read (Contains-append_left here later (Err Read) c)) (λ c. no_memory (Contains-append_left here later (Err Memory) c)) in
+    let others = answers_are_exact all calls answers h.1 (λ c. no_read (Contains-append_right here later (Err Read) c)) (λ c. no_memory (Contains-append_right here later (Err Memory) c)) in
     λ i. first i ∷ others i
 answers_are_exact all [] (a ∷ answers) h no_read no_memory = absurd h
 answers_are_exact all (call ∷ calls) [] h no_read no_memory = absurd h

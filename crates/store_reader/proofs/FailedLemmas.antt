@@ -36,7 +36,8 @@ failed_once r id c block mid t is = came (subst (λ (b : Result (List ℕ) Store
     came (inr memory) = absurd cc
 
 -- look-ups one after the other: a failed read that is taken at the end was taken at the beginning, or the count has risen
-failed_along : (cs : List Checkpoint) (r : Reading) (b : Result (List ℕ) StoreError) (r' : Reading) (b' : Result (List ℕ) StoreError) → LooksAlong cs r b r' b' → b' ≡ Err Read → (b ≡ Err Read) ⊎ HasRisen r.file.failures r'.file.failures
+failed_along : (cs : List Checkpoint) (r : Reading) (b : Result (List ℕ) StoreError) (r' : Reading) (b' : Result (List ℕ) StoreError) → LooksAlong cs r b r' b'
+    → b' ≡ Err Read → (b ≡ Err Read) ⊎ HasRisen r.file.failures r'.file.failures
 failed_along [] r b r' b' l is = inl (sym l.1 ∙ is)
 failed_along (c ∷ cs) r b r' b' l is = inr (elim (failed_along cs l.0 l.1 r' b' l.3 is) [
   | inl here ↦ risen_on r.file.failures l.0.file.failures r'.file.failures (failed_once r c.doc_range.start c l.1 l.0 l.2 here) (same_along cs l.0 l.1 r' b' l.3).failures
@@ -50,18 +51,19 @@ block_failed id place (Ok b) (Err e) answer is = absurd (elim answer [ inl bad �
 block_failed id place (Err e) item answer is = sym answer ∙ is
 
 -- one more item
-pub item_failed : (first old new : Reading) (set : Option (ℕ → Bool)) (count : ℕ) (from to : Walk) (item : Result (List ℕ) StoreError) (items : List (Result (List ℕ) StoreError)) → IsListedTo first set count new to → GivesNext set old from (Some item) new to
+pub item_failed : (first old new : Reading) (set : Option (ℕ → Bool)) (count : ℕ) (from to : Walk) (item : Result (List ℕ) StoreError) (items : List (Result (List ℕ) StoreError))
+    → IsListedTo first set count new to → GivesNext set old from (Some item) new to
     → (Contains items (Err Read) → HasRisen first.file.failures old.file.failures) → Contains (items ++ item ∷ []) (Err Read) → HasRisen first.file.failures new.file.failures
 item_failed first old new set count from to item items listed gives before some = elim (Contains-push_cases items item (Err Read) some) [
   | inl earlier ↦ risen_on first.file.failures old.file.failures new.file.failures (before earlier) gives.same.failures
-  | inr here ↦ elim (failed_along (take to.place first.checkpoints) first (Err Memory) new to.block listed.looks (block_failed gives.last (gives.last - to.first) to.block item gives.gives.answers here)) [
-    | inl memory ↦ absurd cc
-    | inr risen ↦ risen
-  ]
+  | inr here ↦
+      let block = block_failed gives.last (gives.last - to.first) to.block item gives.gives.answers here in
+      elim (failed_along (take to.place first.checkpoints) first (Err Memory) new to.block listed.looks block) [ inl memory ↦ absurd cc | inr risen ↦ risen ]
 ]
 
 -- one more answer
-pub answer_failed : (first old new : Reading) (answers : List Answer) (answer : Answer) → IsSameStore first old → IsSameStore old new → (HasRefusal answers Read → HasRisen first.file.failures old.file.failures)
+pub answer_failed : (first old new : Reading) (answers : List Answer) (answer : Answer) → IsSameStore first old → IsSameStore old new
+    → (HasRefusal answers Read → HasRisen first.file.failures old.file.failures)
     → (Contains (results_of answer) (Err Read) → HasRisen old.file.failures new.file.failures) → HasRefusal (answers ++ answer ∷ []) Read → HasRisen first.file.failures new.file.failures
 answer_failed first old new answers answer before after so_far here some =
     let joined : flat_map results_of (answers ++ answer ∷ []) ≡ flat_map results_of answers ++ results_of answer =

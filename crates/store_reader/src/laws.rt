@@ -49,8 +49,8 @@ pub fn slots_decide_answers()
     ensures { SlotsDecideAnswers }
 {}
 
-/// Where no read failed and memory was found, what a list of reading calls answers is a function of the slots and the calls: a
-/// document's bytes, or the refusal of the id where there is no document or it is damaged.
+/// Where no read failed and memory was found, what a list of reading calls answers is a function of the slots and the
+/// calls: a document's bytes, or the refusal of the id where there is no document or it is damaged.
 pub fn answers_are_exact()
     ensures { AnswersAreExact }
 {}

@@ -26,5 +26,6 @@ loop-call-preserved g c =
       past = subst (AllZip (RefusesPast (num_docs first)) (take (i + 1) calls)) (sym c.in_ok-push.ensures.items)
           (past_more first old calls i c.call-item.result answers c.in_ok-answer.answer (omega arith) c.call-item.is c.loop-call.invariant.same c.loop-call.invariant.past c.in_ok-answer.ensures.past);
       failed = subst (λ (xs : List Answer). HasRefusal xs Read → HasRisen first.file.failures c.answer_one.new.reader.file.failures) (sym c.in_ok-push.ensures.items)
-          (answer_failed first old c.answer_one.new.reader answers c.in_ok-answer.answer c.loop-call.invariant.same c.answer_one.ensures.same_store c.loop-call.invariant.failed c.in_ok-answer.ensures.failed);
+          (answer_failed first old c.answer_one.new.reader answers c.in_ok-answer.answer c.loop-call.invariant.same c.answer_one.ensures.same_store
+          c.loop-call.invariant.failed c.in_ok-answer.ensures.failed);
     }

@@ -27,7 +27,8 @@ none_lacks (a ∷ answers) none some = elim (Contains-append_cases (results_of a
   | inr later ↦ none_lacks answers (λ k d from lt. none (suc k) d (omega arith) (omega arith)) later
 ]
 
-told : (answers : List Answer) (r : Bool) → MatchBool r ((k : ℕ) × (k < length answers) × HoldsAt Lacks answers k) (AllWithin (λ a. ¬ Lacks a) answers 0 (length answers)) → IsTrue r ↔ HasRefusal answers Memory
+told : (answers : List Answer) (r : Bool) → MatchBool r ((k : ℕ) × (k < length answers) × HoldsAt Lacks answers k) (AllWithin (λ a. ¬ Lacks a) answers 0 (length answers))
+    → IsTrue r ↔ HasRefusal answers Memory
 told answers true h = (λ _. lacks_at answers h.0 (Got (Err Memory)) h.1 (h.2 (Got (Err Memory))), λ _. refl)
 told answers false h = (λ e. absurd (false≢true e), λ some. absurd (none_lacks answers h some))
 
