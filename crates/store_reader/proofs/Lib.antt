@@ -23,3 +23,4 @@ pub mod SameAnswerLemmas
 pub mod ExactLemmas
 pub mod FailedLemmas
 pub mod StoredLemmas
+pub mod OpenedCovers

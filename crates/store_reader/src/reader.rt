@@ -78,6 +78,7 @@ impl<H: FileHandle> StoreReader<H> {
         ensures honest { IsTrue file.honest → MatchResult result
             (λ r. IsStore r.period file.content (version_number r.version) (store_of r))
             (λ e. RefusesNoStore file.content e.error) }
+        ensures seen { IfOk result IsSeen }
         ensures handed_back { IfErr result (λ e. e.file.content ≡ file.content) }
         ensures failed { IfErr result (λ e. e.error ≡ StoreError.Read → HasRisen file.failures e.file.failures) }
     {

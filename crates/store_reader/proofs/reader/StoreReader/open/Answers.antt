@@ -2,6 +2,8 @@ use Rattle.std.proofs.Common.{refl, inl}
 use Rattle.store_reader.specs.Opening.{IsOpened}
 use Rattle.store_reader.specs.contracts.reader.StoreReader.{the_view}
 use denote.Param.{param}
+use Rattle.store_reader.proofs.OpenedCovers.{opened_covers}
+use Rattle.store_reader.proofs.SeenLemmas.{store_seen}
 use Rattle.store_reader.proofs.OpenedLemmas.{opened_is_store}
 use Rattle.store_reader.proofs.RefusedLemmas.{refused_is_none}
 use Rattle.store_reader.proofs.HandedLemmas.{handed_back, accepted_handed, opening_failed}
@@ -38,3 +40,9 @@ returns-in-Err-clause-failed g c is = opening_failed _ _ _ is c.in-Err.ensures
 
 pub returns-in-Err-new-clause-handed_back : goal.returns-in-Err-new-clause-handed_back
 returns-in-Err-new-clause-handed_back g c = accepted_handed _ _ _ c.in-Ok.ensures
+
+pub returns-clause-seen : goal.returns-clause-seen
+returns-clause-seen g c =
+    let covers = opened_covers _ _ _ (opened g c) in
+    let seen = store_seen _ _ covers in
+    record { blocks = seen.blocks; marks_are = seen.marks_are; data_is = seen.data_is }
