@@ -1,11 +1,12 @@
 -- Halving: what is known below and above the middle.
-use Rattle.std.proofs.Common.{◌≡◌, ℕ, zero, suc, ◌+◌, ◌/◌, ◌<◌, ◌≤◌, ltb, List, [], ◌∷◌, length, Option, Some, None, refl, ◌∙◌, ap, arith}
+use Rattle.std.proofs.Common.{◌≡◌, ℕ, zero, suc, ◌+◌, ◌/◌, ◌<◌, ◌≤◌, ltb, List, [], ◌∷◌, length, Some, None, refl, ◌∙◌, ap, arith}
 use Rattle.std.proofs.lemmas.Bool.{cond-true, cond-false, lt-ltb, le-ltb}
 use Rattle.std.specs.Prelude.{slice_get}
 use Rattle.layered_index.specs.declared.index.Checkpoint.{Checkpoint}
 use Rattle.layered_index.specs.Checkpoint.{IsInLineFrom, IsInLine, first_past}
 use Rattle.layered_index.specs.Layers.{digit_count}
 use Rattle.layered_index.proofs.IndexLemmas.{digit_count-le, digit_count_more}
+use Rattle.layered_index.specs.Seeking.{NoneBelow, EndsPast}
 use Rattle.layered_index.specs.LineLemmas.{in_line_somewhere}
 use Rattle.layered_index.proofs.DigitLemmas.{below_digits}
 
@@ -16,20 +17,16 @@ past_here c cs target lt = cond-true (ltb target c.doc_range.end) (Some c) (firs
 past_later : (c : Checkpoint) (cs : List Checkpoint) (target : ℕ) → c.doc_range.end ≤ target → first_past (c ∷ cs) target ≡ first_past cs target
 past_later c cs target le = cond-false (ltb target c.doc_range.end) (Some c) (first_past cs target) (le-ltb target c.doc_range.end le)
 
--- none of the first so many ends past the target
-abbrev pub NoneBelow : List Checkpoint → ℕ → ℕ → Type 0
-NoneBelow cs target low = (i : ℕ) (c : Checkpoint) → i < low → slice_get cs i ≡ Some c → c.doc_range.end ≤ target
-
--- the one with this index does, if there is one
-abbrev pub EndsPast : ℕ → Option Checkpoint → Type 0
-EndsPast target None = Unit {0}
-EndsPast target (Some c) = target < c.doc_range.end
-
 -- none stands behind the last
 pub past_end : (cs : List Checkpoint) (target n : ℕ) → length cs ≤ n → EndsPast target (slice_get cs n)
 past_end [] target n le = tt
 past_end (c ∷ cs) target zero le = absurd (omega arith)
 past_end (c ∷ cs) target (suc n) le = past_end cs target n (omega arith)
+
+pub none_behind : (cs : List Checkpoint) (n : ℕ) → length cs ≤ n → slice_get cs n ≡ None
+none_behind [] n le = refl
+none_behind (c ∷ cs) zero le = absurd (omega arith)
+none_behind (c ∷ cs) (suc n) le = none_behind cs n (omega arith)
 
 -- then it is the answer
 pub first_at : (cs : List Checkpoint) (target high : ℕ) → NoneBelow cs target high → EndsPast target (slice_get cs high) → first_past cs target ≡ slice_get cs high

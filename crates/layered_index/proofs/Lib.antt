@@ -14,6 +14,7 @@ pub mod WalkLemmas
 pub mod LayerTextLemmas
 pub mod DigitLemmas
 pub mod HalvingLemmas
+pub mod NearLemmas
 pub mod PassLemmas
 pub mod SplitLemmas
 pub mod SplitLoopLemmas

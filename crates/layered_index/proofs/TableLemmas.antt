@@ -63,15 +63,3 @@ later_between doc byte docs bytes cs start before (suc i) d b view some from e f
     ap (λ (all : List Checkpoint). slice_get all (suc i)) (sym view)
     ∙ behind doc byte docs bytes i before.0 before.1 d b (ap (slice_get docs) at ∙ e) (ap (slice_get bytes) at ∙ f) g h
     ∙ (λ j. Some (checkpoint (sym from j).0 d (sym from j).1 b))
-
--- where the documents of one end
-end_between : (doc byte : ℕ) (docs bytes : List ℕ) (i d : ℕ) → length docs ≡ length bytes → slice_get docs i ≡ Some d → (c : Checkpoint) × (slice_get (between doc byte docs bytes) i ≡ Some c) × (d ≡ c.doc_range.end)
-end_between doc byte [] bytes i d e f = absurd (no_item i d f)
-end_between doc byte (x ∷ docs) [] i d e f = absurd (omega arith)
-end_between doc byte (x ∷ docs) (y ∷ bytes) zero d e f = (checkpoint doc x byte y, refl, sym (some_is x d f))
-end_between doc byte (x ∷ docs) (y ∷ bytes) (suc i) d e f = end_between x y docs bytes i d (omega arith) f
-
-pub doc_end_in : (doc byte : ℕ) (docs bytes : List ℕ) (cs : List Checkpoint) (i d : ℕ) → between doc byte docs bytes ≡ cs → length docs ≡ length bytes → slice_get docs i ≡ Some d → (c : Checkpoint) × (slice_get cs i ≡ Some c) × (d ≡ c.doc_range.end)
-doc_end_in doc byte docs bytes cs i d view e f =
-    let found = end_between doc byte docs bytes i d e f in
-    (found.0, ap (λ (all : List Checkpoint). slice_get all i) (sym view) ∙ found.1, found.2)

@@ -9,3 +9,4 @@ pub mod Building
 pub mod Refusal
 pub mod Outcome
 pub mod Laws
+pub mod Seeking

@@ -9,7 +9,7 @@ pub mod laws;
 pub use error::{Cause, StoreError};
 pub use index::block::CheckpointBlock;
 pub use index::layer_cursor::LayerCursor;
-pub use index::looks::{Looks, Steps, seek_over};
+pub use index::looks::{Looks, Steps, seek_near, seek_over};
 pub use index::skip_index::SkipIndex;
 pub use index::skip_index_builder::SkipIndexBuilder;
 pub use index::{CHECKPOINT_PERIOD, Checkpoint};

@@ -12,7 +12,7 @@ use crate::error::StoreError;
 use crate::index::fault::IndexFault;
 use crate::index::layer_cursor::LayerCursor;
 use crate::index::layers::{digit_count, walk_down};
-use crate::index::looks::{Steps, seek_over};
+use crate::index::looks::{Steps, seek_near, seek_over};
 use crate::index::split::split;
 use crate::index::tables::{Ends, TableLooks, Tables};
 use crate::index::{CHECKPOINT_PERIOD, Checkpoint};
@@ -112,7 +112,11 @@ impl SkipIndex {
     pub fn seek(&self, target: DocId) -> Option<Checkpoint>
         ensures { result ≡ first_past self.now.checkpoints target }
     {
-        self.tables.first_past(target)
+        let mut looks = TableLooks {
+            tables: &self.tables,
+            count: 0,
+        };
+        seek_near(&mut looks, target, self.tables.guess(target))
     }
 
     /// The same, and counts each checkpoint that is looked at.

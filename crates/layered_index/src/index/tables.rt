@@ -1,7 +1,6 @@
 //! A list of checkpoints, decoded once and looked at by index.
-ghost use Rattle.std.specs.Prelude.{◌≡◌, ◌<◌, ◌≤◌, List, ℕ, [], ◌∷◌, ◌++◌, length, slice_get, Some, IfOk};
-ghost use Rattle.layered_index.specs.declared.index.Checkpoint.{Checkpoint};
-ghost use Rattle.layered_index.specs.Checkpoint.{IsInLine, IsInLineFrom, first_past};
+ghost use Rattle.std.specs.Prelude.{◌≡◌, ◌<◌, [], ◌∷◌, ◌++◌, length, slice_get, Some, IfOk};
+ghost use Rattle.layered_index.specs.Checkpoint.{IsInLine, IsInLineFrom};
 ghost use Rattle.layered_index.specs.LayerReading.{items};
 ghost use Rattle.layered_index.specs.Tables.{EndLists, no_ends, with_ends};
 
@@ -43,14 +42,6 @@ impl Ends {
         ensures { result ≡ length self.now.docs }
     {
         self.docs.len()
-    }
-
-    // Where the documents end of the one with this index.
-    fn doc_end(&self, i: usize) -> DocId
-        requires { i < length self.now.docs }
-        ensures { slice_get self.now.docs i ≡ Some result }
-    {
-        self.docs[i]
     }
 
     // The two ends with this index.
@@ -119,19 +110,6 @@ fn start_of(layer: &[u8]) -> (DocId, usize)
     }
 }
 
-// What is looked at next between two places: the probe if it lies there, and else the middle.
-fn next_look(low: usize, high: usize, probe: usize) -> usize
-    requires { low < high }
-    ensures least { low ≤ result }
-    ensures most { result < high }
-{
-    if low <= probe && probe < high {
-        probe
-    } else {
-        low + (high - low) / 2
-    }
-}
-
 impl Tables {
     /// Those of a layer whose checkpoints end there.
     pub fn new(alloc: Global, layer: &[u8], ends: Ends) -> Result<Tables, NoMemory>
@@ -174,49 +152,9 @@ impl Tables {
         }
     }
 
-    // Where the documents of the checkpoint with this index end.
-    fn doc_end(&self, i: usize) -> DocId
-        requires { i < length self.now }
-        ensures { (c : Checkpoint) × (slice_get self.now i ≡ Some c) × (result ≡ c.doc_range.end) }
-    {
-        self.ends.doc_end(i)
-    }
-
-    // The index of the first checkpoint whose documents end past the target, or how many there are.
-    //
-    // It looks where the guess is, and from there on in growing steps until the target lies between
-    // two looks. Then it halves.
-    fn place(&self, target: DocId) -> usize
-        ensures few { result ≤ length self.now }
-        ensures answer { slice_get self.now result ≡ first_past self.now target }
-    {
-        let mut low = 0;
-        let mut high = self.len();
-        let mut probe = self.guide.guess(target);
-        let mut step: usize = 2;
-        while low < high {
-            let look = next_look(low, high, probe);
-            step = step.saturating_mul(2);
-            if self.doc_end(look) > target {
-                high = look;
-                probe = look.saturating_sub(step);
-            } else {
-                low = look + 1;
-                probe = look.saturating_add(step);
-            }
-        }
-        low
-    }
-
-    /// The first checkpoint whose documents end past the target.
-    pub fn first_past(&self, target: DocId) -> Option<Checkpoint>
-        ensures { result ≡ first_past self.now target }
-    {
-        let place = self.place(target);
-        if place == self.len() {
-            return None;
-        }
-        Some(self.get(place))
+    /// About how many checkpoints end before the document.
+    pub fn guess(&self, doc: DocId) -> usize {
+        self.guide.guess(doc)
     }
 }
 

@@ -2,7 +2,8 @@ use Rattle.std.proofs.Common.{◌≡◌, ◌+◌, ◌-◌, ◌/◌, List, Some, 
 use Rattle.std.specs.Prelude.{slice_get}
 use Rattle.layered_index.specs.declared.index.Checkpoint.{Checkpoint}
 use Rattle.layered_index.proofs.DigitLemmas.{binary_digits}
-use Rattle.layered_index.proofs.HalvingLemmas.{EndsPast, first_at, none_up_to, half_left}
+use Rattle.layered_index.specs.Seeking.{EndsPast}
+use Rattle.layered_index.proofs.HalvingLemmas.{first_at, none_up_to, half_left}
 use Rattle.layered_index.proofs.index.looks.seek_over.Goals as goal
 
 pub loop-low-preserved-then-checkpoint-target : goal.loop-low-preserved-then-checkpoint-target

@@ -2,7 +2,7 @@ use Rattle.std.proofs.Common.{◌≡◌, ◌≤◌, ◌<◌, ◌+◌, ◌-◌, l
 use Rattle.std.specs.Prelude.{slice_get}
 use Rattle.layered_index.specs.Layers.{digit_count}
 use Rattle.store_base.specs.Counts.{raised}
-use Rattle.layered_index.proofs.HalvingLemmas.{NoneBelow, EndsPast}
+use Rattle.layered_index.specs.Seeking.{NoneBelow, EndsPast}
 use Rattle.layered_index.proofs.index.looks.seek_over.Given as goal
 
 -- nothing below low ends past the target, and the one at high does
