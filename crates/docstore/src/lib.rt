@@ -11,7 +11,7 @@ pub mod writer;
 pub use close_error::CloseError;
 pub use layered_index::{
     CHECKPOINT_PERIOD, Cause, Checkpoint, CheckpointBlock, LayerCursor, Looks, SkipIndex,
-    SkipIndexBuilder, Steps, StoreError, seek_over,
+    SkipIndexBuilder, Steps, StoreError, seek_near, seek_over,
 };
 pub use run::{StoreCommand, WriteReport, write_store, write_store_with_period};
 pub use store_compressor::BlockCompressor;

@@ -3,7 +3,9 @@
 ghost use Rattle.std.specs.Prelude.{◌≤◌};
 
 use crate::tests::index::line::Line;
-use docstore::{Checkpoint, CheckpointBlock, Looks, SkipIndex, Steps, StoreError, seek_over};
+use docstore::{
+    Checkpoint, CheckpointBlock, Looks, SkipIndex, Steps, StoreError, seek_near, seek_over,
+};
 use std::alloc::Global;
 use std::test::Fail;
 use store_base::OwnedBytes;
@@ -206,6 +208,97 @@ fn one_checkpoint_takes_one_look_and_none_takes_none(rt: HostRuntime) -> Result<
             );
             assert_eq!(rt; steps.count(), looks);
         }
+    }
+    Ok(())
+}
+
+// Whether a seek of an index counts as many looks as a source of the test's own notes over the same list.
+fn is_counted(alloc: Global, count: u32, target: u32) -> Result<bool, StoreError> {
+    let line = Line::of_equal(alloc, count, 2, 1)?;
+    let index = opened(alloc, &line, 8)?;
+    let mut steps = Steps::new();
+    let found = index.seek_counted(target, &mut steps);
+    let mut source = noting(alloc, line);
+    Ok(found == seek_over(&mut source, target) && steps.count() == source.places.len() as u64)
+}
+
+fn is_counted_throughout(alloc: Global, count: u32) -> Result<bool, StoreError> {
+    for target in 0..count.saturating_mul(2).saturating_add(2) {
+        if !is_counted(alloc, count, target)? {
+            return Ok(false);
+        }
+    }
+    Ok(true)
+}
+
+#[test]
+fn a_seek_counts_the_looks_that_a_source_notes(rt: HostRuntime) -> Result<(), Fail> {
+    let alloc = rt.alloc();
+    for count in 0..41 {
+        assert!(rt; is_counted_throughout(alloc, count)?, "{count}");
+    }
+    for target in [0, 777, 1998, 1999, 2000, u32::MAX] {
+        assert!(rt; is_counted(alloc, 1000, target)?, "{target}");
+    }
+    Ok(())
+}
+
+// How many looks a seek from this guess on takes, if it answers as the walk from the beginning does.
+fn looks_from(source: &mut NotingList, target: u32, guess: usize) -> Option<usize> {
+    source.places.clear();
+    let found = seek_near(source, target, guess);
+    let is_right = found.as_ref() == linear(source.block.checkpoints(), target);
+    is_right.then_some(source.places.len())
+}
+
+// Whether it looks at no more than half as many again as the length has binary digits, or two; and at one.
+fn is_sought_from(source: &mut NotingList, target: u32, guess: usize) -> bool {
+    let Some(looks) = looks_from(source, target, guess) else {
+        return false;
+    };
+    let len = source.block.len();
+    let digits = (usize::BITS - len.leading_zeros()) as usize;
+    looks <= (digits + digits / 2).max(2) && (looks > 0) == (len > 0)
+}
+
+fn is_sought_from_everywhere(source: &mut NotingList, target: u32) -> bool {
+    for guess in 0..source.block.len().saturating_add(2) {
+        if !is_sought_from(source, target, guess) {
+            return false;
+        }
+    }
+    is_sought_from(source, target, usize::MAX)
+}
+
+#[test]
+fn every_guess_is_sought_from_in_few_looks(rt: HostRuntime) -> Result<(), Fail> {
+    let alloc = rt.alloc();
+    for count in 0..41 {
+        let mut source = noting(alloc, Line::of_equal(alloc, count, 1, 1)?);
+        for target in 0..count + 2 {
+            assert!(rt;
+                is_sought_from_everywhere(&mut source, target),
+                "{count}, {target}"
+            );
+        }
+    }
+    Ok(())
+}
+
+#[test]
+fn a_guess_near_the_answer_takes_few_looks(rt: HostRuntime) -> Result<(), Fail> {
+    let alloc = rt.alloc();
+    let mut source = noting(alloc, Line::of_equal(alloc, 1000, 1, 1)?);
+    for (target, guess) in [
+        (0, 0),
+        (1, 0),
+        (499, 500),
+        (500, 500),
+        (997, 999),
+        (1000, 1000),
+    ] {
+        let looks = looks_from(&mut source, target, guess);
+        assert!(rt; looks.is_some_and(|looks| looks <= 6), "{target}, {guess}");
     }
     Ok(())
 }
