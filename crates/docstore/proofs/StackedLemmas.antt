@@ -26,7 +26,7 @@ stores_are_stacked_in_order w bs blocks =
     ∙ ap (λ (x : List Slot). x ++ slots bs) (slots_flushed w.output.finished w.pending (last_fits w.output.finished w.pending (all-front front bs blocks.each)))
 
 -- the marks end where the documents do
-marks_end : (id byte : ℕ) (bs : List StoreBlock) → docs_end id (marks_from id byte bs) ≡ id + docs_in bs
+pub marks_end : (id byte : ℕ) (bs : List StoreBlock) → docs_end id (marks_from id byte bs) ≡ id + docs_in bs
 marks_end id byte [] = omega arith
 marks_end id byte (b ∷ bs) = omega (arith, docs_in-cons b bs, marks_end (id + b.count) (byte + length b.bytes) bs)
 

@@ -1,0 +1,9 @@
+-- The one refusal that nothing rules out.
+use Rattle.std.specs.Prelude.{◌≡◌, ◌⊎◌}
+use Rattle.layered_index.specs.declared.error.Cause.{Cause}
+use Rattle.layered_index.specs.declared.error.StoreError.{StoreError}
+use Rattle.layered_index.specs.declared.error.StoreError.TheVariants.{Memory, Failed}
+
+-- Memory was wanting, or a growth of the output was refused.
+abbrev pub IsWant : StoreError → Type 0
+IsWant e = (e ≡ Memory) ⊎ ((cause : Cause) × (e ≡ Failed cause))
