@@ -1,1 +1,2 @@
 mod StackingLemmas
+mod ListLemmas

@@ -1,5 +1,4 @@
-use Rattle.std.proofs.Common.{refl, ◌∙◌, ap, arith}
-use Rattle.docstore.specs.BlockOutput.{BlockOutput}
+use Rattle.std.proofs.Common.{refl, ◌∙◌, arith}
 use Rattle.headline.proofs.StackingLemmas.{first_docs, mid_docs, has_two, file_of_two, store_of_two}
 use Rattle.headline.proofs.stacking.stacked.Goals as goal
 
