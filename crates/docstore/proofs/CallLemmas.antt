@@ -2,10 +2,10 @@
 use Rattle.std.proofs.Common.{◌≡◌, ℕ, List, [], Option, Some, None, Result, Ok, Err, refl, sym, ◌∙◌, ap}
 use Rattle.std.specs.Prelude.{IfSome, IfErr, IsErrOf, OnOk}
 use Rattle.std.proofs.lemmas.List.{append-nil}
-use Rattle.layered_index.specs.declared.error.Cause.{Cause}
-use Rattle.layered_index.specs.declared.error.StoreError.{StoreError}
-use Rattle.layered_index.specs.declared.error.StoreError.TheVariants.{ShortFile, BadVersion, BadBlockKind, BadOffset, BadIndex, InvalidArgument, DamagedDocument, BadDocument, Read, Memory, OldVersion, Unserializable, BlockTooLarge, TooManyDocs, Failed, BadPeriod}
-use Rattle.store_reader.specs.StoreFile.{StoreBlock}
+use Rattle.store_base.specs.declared.error.Cause.{Cause}
+use Rattle.store_base.specs.declared.error.StoreError.{StoreError}
+use Rattle.store_base.specs.declared.error.StoreError.TheVariants.{ShortFile, BadVersion, BadBlockKind, BadOffset, BadIndex, InvalidArgument, DamagedDocument, BadDocument, Read, Memory, OldVersion, Unserializable, BlockTooLarge, TooManyDocs, Failed, BadPeriod}
+use Rattle.store_format.specs.StoreFile.{StoreBlock}
 use Rattle.docstore.specs.Trace.{Call, Answer, read_failed, no_memory, refused, store, store_bytes, stack, no_effect, effect_of}
 use Rattle.docstore.specs.Writer.{Writing, flushed, with_failures, AfterFailed, AfterRefusal, AfterDocument, Takes}
 use Rattle.store_reader.specs.Reading.{Reading}

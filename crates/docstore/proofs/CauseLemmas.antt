@@ -2,20 +2,20 @@
 use Rattle.std.proofs.Common.{◌≡◌, ℕ, ◌+◌, ◌-◌, ◌≤◌, ◌^◌, ◌⊎◌, inl, inr, Bool, true, false, if◌then◌else◌, nat_lt, List, [], ◌∷◌, ◌++◌, length, Option, Some, None, Result, Ok, Err, refl, ◌∙◌, ap, arith, length-append}
 use Rattle.std.specs.Prelude.{◌≢◌, ◌↔◌, IfErr, IsErrOf, OnOk, MatchOption}
 use Rattle.std.proofs.lemmas.Bool.{cases_lt}
-use Rattle.layered_index.specs.declared.error.Cause.{Cause}
-use Rattle.layered_index.specs.declared.error.StoreError.{StoreError}
-use Rattle.layered_index.specs.declared.error.StoreError.TheVariants.{ShortFile, BadVersion, BadBlockKind, BadOffset, BadIndex, InvalidArgument, DamagedDocument, BadDocument, Read, Memory, OldVersion, Unserializable, BlockTooLarge, TooManyDocs, Failed, BadPeriod}
-use Rattle.store_reader.specs.declared.footer.DocStoreVersion.{DocStoreVersion}
-use Rattle.store_reader.specs.declared.footer.DocStoreVersion.TheVariants.{V1, V2, V3}
-use Rattle.store_reader.specs.Block.{block}
-use Rattle.store_reader.specs.StoreFile.{docs_in}
+use Rattle.store_base.specs.declared.error.Cause.{Cause}
+use Rattle.store_base.specs.declared.error.StoreError.{StoreError}
+use Rattle.store_base.specs.declared.error.StoreError.TheVariants.{ShortFile, BadVersion, BadBlockKind, BadOffset, BadIndex, InvalidArgument, DamagedDocument, BadDocument, Read, Memory, OldVersion, Unserializable, BlockTooLarge, TooManyDocs, Failed, BadPeriod}
+use Rattle.store_format.specs.declared.version.DocStoreVersion.{DocStoreVersion}
+use Rattle.store_format.specs.declared.version.DocStoreVersion.TheVariants.{V1, V2, V3}
+use Rattle.store_format.specs.Block.{block}
+use Rattle.store_format.specs.StoreFile.{docs_in}
 use Rattle.docstore.specs.Trace.{Effect, adds, ends, may_end, no_effect, slots_of, weight}
 use Rattle.docstore.specs.Writer.{Writing, num_docs, blocks_of, flushed, HasIdLeft, IsTooLarge, HasTooMuch, IsStoreWriter, AfterFailed, AfterRefusal, AfterDocument, Takes}
 use Rattle.store_reader.specs.Reading.{Reading, num_docs as docs_of}
 use Rattle.docstore.specs.Stacking.{IsOld, HasTooMany, AfterStack, with_store}
 use Rattle.docstore.specs.Causes.{stage_after, HasId, HasRoom, BytesGet, DocumentGets, CanStack, StoreGets}
 use Rattle.docstore.specs.Run.{stage_of, after_effect}
-use Rattle.store_reader.proofs.StoreLemmas.{docs_in-append}
+use Rattle.store_format.proofs.StoreLemmas.{docs_in-append}
 use Rattle.docstore.proofs.TakenLemmas.{length-slots}
 
 -- a writer that works after a call has not failed in it

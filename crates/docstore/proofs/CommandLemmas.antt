@@ -7,13 +7,13 @@ use Rattle.std.proofs.lemmas.List.Sums.{fold-append}
 use Rattle.store_base.specs.Outputs.{Termination}
 use Rattle.docstore.specs.Causes.{Stage, first_stage, stage_after, CommandGets, HaveCauses}
 use Rattle.docstore.proofs.CauseLemmas.{stage_then}
-use Rattle.layered_index.specs.declared.error.Cause.{Cause}
-use Rattle.layered_index.specs.declared.error.Cause.TheVariants.{Write, Memory as OutOfMemory}
-use Rattle.layered_index.specs.declared.error.StoreError.{StoreError}
-use Rattle.layered_index.specs.declared.error.StoreError.TheVariants.{ShortFile, BadVersion, BadBlockKind, BadOffset, BadIndex, InvalidArgument, DamagedDocument, BadDocument, Read, Memory, OldVersion, Unserializable, BlockTooLarge, TooManyDocs, Failed, BadPeriod}
+use Rattle.store_base.specs.declared.error.Cause.{Cause}
+use Rattle.store_base.specs.declared.error.Cause.TheVariants.{Write, Memory as OutOfMemory}
+use Rattle.store_base.specs.declared.error.StoreError.{StoreError}
+use Rattle.store_base.specs.declared.error.StoreError.TheVariants.{ShortFile, BadVersion, BadBlockKind, BadOffset, BadIndex, InvalidArgument, DamagedDocument, BadDocument, Read, Memory, OldVersion, Unserializable, BlockTooLarge, TooManyDocs, Failed, BadPeriod}
 use Rattle.docstore.specs.declared.run.StoreCommand.{StoreCommand}
 use Rattle.docstore.specs.declared.run.StoreCommand.TheVariants.{Doc, Bytes, Stack}
-use Rattle.store_reader.specs.StoreFile.{data_of}
+use Rattle.store_format.specs.StoreFile.{data_of}
 use Rattle.docstore.specs.Trace.{Step, effect}
 use Rattle.docstore.specs.BlockOutput.{BlockOutput, HasCause, HasNotEnded, AfterFailedClose, AfterClose, HoldsBlocks}
 use Rattle.docstore.specs.Writer.{Writing, AfterFailed, IsStoreWriter, blocks_of}

@@ -4,7 +4,8 @@ use Rattle.std.proofs.lemmas.List.{append-nil, map-append, take-append-le, take_
 use Rattle.std.proofs.lemmas.List.Concat.{flat_map-append}
 use Rattle.std.proofs.lemmas.List.Sums.{sum_by-append}
 use Rattle.std.specs.List.{flat_map, AllByRecursion}
-use Rattle.docstore.specs.Trace.{weight, without_last, block_of, AreFlushed}
+use Rattle.docstore.specs.Trace.{weight, without_last, AreFlushed}
+use Rattle.store_format.specs.StoreFile.{block_of}
 
 -- ---- groups that were cut, and what is pending behind them
 

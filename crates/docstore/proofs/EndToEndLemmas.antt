@@ -1,12 +1,12 @@
 -- What was stored is found and read again.
 use Rattle.std.proofs.Common.{◌≡◌, List, [], ◌∷◌, ◌++◌, length, slice_get, Some, refl, ◌∙◌, ap}
 use Rattle.std.proofs.lemmas.List.Concat.{flat_map-append}
-use Rattle.store_reader.specs.Block.{Slot, doc}
+use Rattle.store_format.specs.Block.{Slot, doc}
 use Rattle.docstore.specs.Trace.{Step, Effect, effect, slots_of, meaning}
 use Rattle.docstore.specs.EndToEnd.{DocumentsHaveTheirIds, WrittenListsAreFound}
-use Rattle.store_reader.specs.Slots.{slots}
-use Rattle.store_reader.specs.StoreFile.{file}
-use Rattle.store_reader.proofs.ApartLemmas.{stores_are_apart}
+use Rattle.store_format.specs.Slots.{slots}
+use Rattle.store_format.specs.StoreFile.{file}
+use Rattle.store_format.proofs.ApartLemmas.{stores_are_apart}
 use Rattle.docstore.proofs.MeaningLemmas.{blocks_mean_their_calls}
 
 -- what stands behind a list stands at its length

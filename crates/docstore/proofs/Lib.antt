@@ -1,7 +1,6 @@
 pub mod PendingLemmas
 pub mod OutputLemmas
 pub mod WriterLemmas
-pub mod DocumentLemmas
 pub mod TakenLemmas
 pub mod StackingLemmas
 pub mod StackedLemmas

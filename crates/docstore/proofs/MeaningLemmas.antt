@@ -2,13 +2,14 @@
 use Rattle.std.proofs.Common.{◌≡◌, ℕ, inl, inr, List, [], ◌∷◌, ◌++◌, map, refl, sym, ◌∙◌, ap, subst, append_assoc}
 use Rattle.std.proofs.lemmas.List.{append-nil, map-append}
 use Rattle.std.specs.List.{flat_map, AllByRecursion}
-use Rattle.store_reader.specs.Block.{Slot, doc}
-use Rattle.store_reader.specs.Slots.{slots}
-use Rattle.store_reader.specs.StoreFile.{StoreBlock, IsStoreBlock}
-use Rattle.docstore.specs.Trace.{Step, Effect, adds, ends, may_end, no_effect, effect, slots_of, meaning, block_of, AreFlushed, AreJoined, BlocksBy, BlocksFrom}
+use Rattle.store_format.specs.Block.{Slot, doc}
+use Rattle.store_format.specs.Slots.{slots}
+use Rattle.store_format.specs.StoreFile.{StoreBlock, IsStoreBlock}
+use Rattle.docstore.specs.Trace.{Step, Effect, adds, ends, may_end, no_effect, effect, slots_of, meaning, AreFlushed, AreJoined, BlocksBy, BlocksFrom}
+use Rattle.store_format.specs.StoreFile.{block_of}
 use Rattle.docstore.specs.Run.{BlocksMeanTheirCalls}
-use Rattle.docstore.proofs.DocumentLemmas.{blocks_hold_documents}
-use Rattle.store_reader.proofs.StoreLemmas.{all-front}
+use Rattle.store_format.proofs.DocumentLemmas.{blocks_hold_documents}
+use Rattle.store_format.proofs.StoreLemmas.{all-front}
 use Rattle.docstore.proofs.TakenLemmas.{slots-append}
 
 -- the slots of the blocks of some groups

@@ -5,15 +5,15 @@ use Rattle.std.proofs.Math.ListN.{drop_of_length-le}
 use Rattle.std.specs.List.{AllByRecursion}
 use Rattle.store_base.specs.Outputs.{Termination}
 use Rattle.layered_index.specs.declared.index.Checkpoint.{Checkpoint}
-use Rattle.layered_index.specs.declared.error.Cause.{Cause}
+use Rattle.store_base.specs.declared.error.Cause.{Cause}
 use Rattle.layered_index.specs.Checkpoint.{IsInLineFrom, IsInLine}
-use Rattle.store_reader.specs.StoreFile.{StoreBlock, IsStoreBlock, docs_in, AreBlocks, data_of, marks_from, marks, file, reserved_of}
-use Rattle.store_reader.specs.declared.compressors.Compressor.{Compressor}
-use Rattle.store_reader.specs.declared.compressors.Compressor.TheVariants as packed
-use Rattle.store_reader.specs.Footer.{footer, kind_of, unpacks}
+use Rattle.store_format.specs.StoreFile.{StoreBlock, IsStoreBlock, docs_in, AreBlocks, data_of, marks_from, marks, file, reserved_of}
+use Rattle.store_format.specs.declared.kinds.Compressor.{Compressor}
+use Rattle.store_format.specs.declared.kinds.Compressor.TheVariants as packed
+use Rattle.store_format.specs.Footer.{footer, kind_of, unpacks}
 use Rattle.layered_index.specs.Layers.{index_part}
 use Rattle.docstore.specs.BlockOutput.{BlockOutput, new_output, with_blocks, with_risen, IsSound, data_in, front_of, blocks_in, AreWritten, IsCompressing, compressing}
-use Rattle.store_reader.proofs.StoreLemmas.{docs_in-cons, docs_in-append, data_of-append, data_fits, AreBlocks-append, marks_from-append, marks_in_line_from, marks_in_line, docs_in-blocks_at, blocks_from, blocks_none}
+use Rattle.store_format.proofs.StoreLemmas.{docs_in-cons, docs_in-append, data_of-append, data_fits, AreBlocks-append, marks_from-append, marks_in_line_from, marks_in_line, docs_in-blocks_at, blocks_from, blocks_none}
 
 -- what is known once these blocks are written behind the others
 pub record AreAdded (period next_id : ℕ) (cs : List Checkpoint) (content : List ℕ) (written : ℕ) (bs : List StoreBlock) (bytes : List ℕ) (count : ℕ) : Type 0 where

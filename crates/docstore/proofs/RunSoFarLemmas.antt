@@ -4,8 +4,9 @@ use Rattle.std.proofs.lemmas.List.{append-nil, map-append}
 use Rattle.std.proofs.lemmas.Bool.{cases_lt, lt-ltb, le-ltb}
 use Rattle.std.proofs.lemmas.List.Concat.{flat_map-append}
 use Rattle.std.specs.List.{flat_map, AllByRecursion}
-use Rattle.store_reader.specs.StoreFile.{StoreBlock}
-use Rattle.docstore.specs.Trace.{Step, Effect, adds, ends, may_end, no_effect, effect, weight, block_of, AreFlushed, BlocksBy, BlocksFrom, AreJoined, Blocks}
+use Rattle.store_format.specs.StoreFile.{StoreBlock}
+use Rattle.docstore.specs.Trace.{Step, Effect, adds, ends, may_end, no_effect, effect, weight, AreFlushed, BlocksBy, BlocksFrom, AreJoined, Blocks}
+use Rattle.store_format.specs.StoreFile.{block_of}
 use Rattle.docstore.specs.Writer.{Writing, blocks_of, flushed, with_document, with_failures}
 use Rattle.docstore.specs.Stacking.{with_store}
 use Rattle.docstore.specs.Run.{after_effect}

@@ -4,13 +4,13 @@ use Rattle.std.proofs.lemmas.List.{append-nil}
 use Rattle.std.specs.List.{flat_map}
 use Rattle.layered_index.specs.declared.index.Checkpoint.{Checkpoint}
 use Rattle.layered_index.specs.Checkpoint.{docs_end}
-use Rattle.store_reader.specs.Block.{Slot}
-use Rattle.store_reader.specs.Slots.{slots}
-use Rattle.store_reader.specs.StoreFile.{StoreBlock, docs_in, marks_from, file, file_with}
+use Rattle.store_format.specs.Block.{Slot}
+use Rattle.store_format.specs.Slots.{slots}
+use Rattle.store_format.specs.StoreFile.{StoreBlock, docs_in, marks_from, file, file_with}
 use Rattle.docstore.specs.Writer.{Writing, blocks_of, flushed}
 use Rattle.docstore.specs.Stacking.{with_store}
 use Rattle.docstore.specs.Laws.{stacked, FlushesKeepSlots, StoresAreStackedInOrder, StackedSlotsAreCounted, StackedFilesAreJoined, StackingIsAssociative, StackedAloneIsTheSame}
-use Rattle.store_reader.proofs.StoreLemmas.{docs_in-cons, all-front}
+use Rattle.store_format.proofs.StoreLemmas.{docs_in-cons, all-front}
 use Rattle.docstore.proofs.TakenLemmas.{slots-append, slots_flushed, last_fits, length-slots}
 
 -- ---- slots

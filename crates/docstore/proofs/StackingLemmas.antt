@@ -2,16 +2,16 @@
 use Rattle.std.proofs.Common.{◌≡◌, ℕ, ◌+◌, ◌^◌, ◌<◌, List, [], ◌∷◌, ◌++◌, length, map, Option, None, refl, sym, ◌∙◌, ap, subst, arith}
 use Rattle.std.proofs.lemmas.List.Sums.{sum_by-cons}
 use Rattle.std.specs.List.{sum_by, AllByRecursion}
-use Rattle.store_reader.specs.declared.compressors.Compressor.{Compressor}
+use Rattle.store_format.specs.declared.kinds.Compressor.{Compressor}
 use Rattle.store_base.specs.Outputs.{Termination}
-use Rattle.layered_index.specs.declared.error.Cause.{Cause}
+use Rattle.store_base.specs.declared.error.Cause.{Cause}
 use Rattle.layered_index.specs.declared.index.Checkpoint.{Checkpoint}
 use Rattle.layered_index.specs.Checkpoint.{checkpoint, doc_count, IsWithinLimits, IsInLineFrom, IsInLine, docs_end, Covers}
 use Rattle.layered_index.specs.LineLemmas.{in_line-split, in_line-join, in_line_from}
-use Rattle.store_reader.specs.StoreFile.{StoreBlock, IsStoreBlock, docs_in, data_of, marks_from, marks, blocks_at}
+use Rattle.store_format.specs.StoreFile.{StoreBlock, IsStoreBlock, docs_in, data_of, marks_from, marks, blocks_at}
 use Rattle.docstore.specs.BlockOutput.{BlockOutput, IsCompressing, compressing}
 use Rattle.docstore.specs.Stacking.{shifted}
-use Rattle.store_reader.proofs.StoreLemmas.{length-data_of-cons, docs_in-blocks_at}
+use Rattle.store_format.proofs.StoreLemmas.{length-data_of-cons, docs_in-blocks_at}
 use Rattle.docstore.proofs.OutputLemmas.{AreAdded, are_added, docs_seen}
 use Rattle.store_reader.proofs.SeenLemmas.{store_seen}
 

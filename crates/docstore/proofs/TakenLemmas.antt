@@ -3,15 +3,16 @@ use Rattle.std.proofs.Common.{◌≡◌, ℕ, ◌^◌, ◌<◌, Bool, true, fals
 use Rattle.std.proofs.lemmas.List.{append-nil, map-append}
 use Rattle.std.proofs.lemmas.List.Concat.{flat_map-append}
 use Rattle.std.specs.List.{range_with_len, AllByRecursion}
-use Rattle.store_reader.specs.Block.{Slot, doc, slot, block}
-use Rattle.store_reader.specs.Slots.{slots}
-use Rattle.store_reader.specs.StoreFile.{StoreBlock, IsStoreBlock, docs_in}
-use Rattle.docstore.specs.Trace.{weight, block_of}
+use Rattle.store_format.specs.Block.{Slot, doc, slot, block}
+use Rattle.store_format.specs.Slots.{slots}
+use Rattle.store_format.specs.StoreFile.{StoreBlock, IsStoreBlock, docs_in}
+use Rattle.docstore.specs.Trace.{weight}
+use Rattle.store_format.specs.StoreFile.{block_of}
 use Rattle.docstore.specs.Writer.{Writing, blocks_of, flushed}
 use Rattle.docstore.specs.Laws.{taken, file_of, WrittenDocumentsAreFound, DocumentsAreTakenInOrder, IdsAreGivenInOrder}
-use Rattle.store_reader.proofs.ApartLemmas.{stores_are_apart}
-use Rattle.docstore.proofs.DocumentLemmas.{blocks_hold_documents}
-use Rattle.store_reader.proofs.StoreLemmas.{docs_in-cons}
+use Rattle.store_format.proofs.ApartLemmas.{stores_are_apart}
+use Rattle.store_format.proofs.DocumentLemmas.{blocks_hold_documents}
+use Rattle.store_format.proofs.StoreLemmas.{docs_in-cons}
 use Rattle.store_reader.proofs.StoreSlotLemmas.{range_len, map_len}
 
 -- ---- flushing

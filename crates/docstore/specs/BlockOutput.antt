@@ -3,14 +3,14 @@ use Rattle.std.specs.Prelude.{◌≡◌, ℕ, ◌-◌, ◌<◌, ◌≤◌, ◌^�
 use Rattle.std.specs.List.{sum_by}
 use Rattle.store_base.specs.Counts.{HasRisen, raised}
 use Rattle.store_base.specs.Outputs.{Termination}
-use Rattle.store_reader.specs.declared.compressors.Compressor.{Compressor}
-use Rattle.layered_index.specs.declared.error.Cause.{Cause}
-use Rattle.layered_index.specs.declared.error.Cause.TheVariants.{Write, Memory as OutOfMemory}
-use Rattle.layered_index.specs.declared.error.StoreError.{StoreError}
-use Rattle.layered_index.specs.declared.error.StoreError.TheVariants.{Memory, Failed}
+use Rattle.store_format.specs.declared.kinds.Compressor.{Compressor}
+use Rattle.store_base.specs.declared.error.Cause.{Cause}
+use Rattle.store_base.specs.declared.error.Cause.TheVariants.{Write, Memory as OutOfMemory}
+use Rattle.store_base.specs.declared.error.StoreError.{StoreError}
+use Rattle.store_base.specs.declared.error.StoreError.TheVariants.{Memory, Failed}
 use Rattle.layered_index.specs.declared.index.Checkpoint.{Checkpoint}
 use Rattle.layered_index.specs.Checkpoint.{doc_count}
-use Rattle.store_reader.specs.StoreFile.{StoreBlock, AreBlocks, docs_in, data_of, marks, blocks_at}
+use Rattle.store_format.specs.StoreFile.{StoreBlock, AreBlocks, docs_in, data_of, marks, blocks_at}
 
 -- How blocks are packed and the index is grouped; the finished blocks; why the writer has failed, if it has; what the output held when it was handed in, what it holds, its ends, and how often it failed.
 pub record BlockOutput : Type 0 where

@@ -1,12 +1,12 @@
 -- Why the calls of a list were refused.
 use Rattle.std.specs.Prelude.{◌≡◌, ◌≢◌, ℕ, ◌+◌, ◌-◌, ◌<◌, ◌≤◌, ◌^◌, nat_lt, if◌then◌else◌, List, [], ◌∷◌, ◌++◌, length, Option, None, Result, Ok, Err, MatchOption}
 use Rattle.store_base.specs.Counts.{HasRisen}
-use Rattle.layered_index.specs.declared.error.StoreError.{StoreError}
-use Rattle.layered_index.specs.declared.error.StoreError.TheVariants.{Read, Memory, OldVersion, Unserializable, BlockTooLarge, TooManyDocs}
-use Rattle.store_reader.specs.declared.footer.DocStoreVersion.TheVariants.{V1}
+use Rattle.store_base.specs.declared.error.StoreError.{StoreError}
+use Rattle.store_base.specs.declared.error.StoreError.TheVariants.{Read, Memory, OldVersion, Unserializable, BlockTooLarge, TooManyDocs}
+use Rattle.store_format.specs.declared.version.DocStoreVersion.TheVariants.{V1}
 use Rattle.docstore.specs.declared.run.StoreCommand.{StoreCommand}
 use Rattle.docstore.specs.declared.run.StoreCommand.TheVariants.{Doc, Bytes, Stack}
-use Rattle.store_reader.specs.Block.{block}
+use Rattle.store_format.specs.Block.{block}
 use Rattle.store_reader.specs.Reading.{Reading, num_docs as docs_of}
 use Rattle.docstore.specs.Trace.{Step, Effect, adds, ends, may_end, no_effect, effect, slots_of, weight}
 

@@ -1,8 +1,8 @@
 -- What was stored is found and read again.
 use Rattle.std.specs.Prelude.{◌≡◌, ℕ, List, ◌∷◌, ◌++◌, length, slice_get, Some}
-use Rattle.store_reader.specs.Block.{doc}
-use Rattle.store_reader.specs.Slots.{slots}
-use Rattle.store_reader.specs.StoreFile.{StoreBlock, file, IsStore}
+use Rattle.store_format.specs.Block.{doc}
+use Rattle.store_format.specs.Slots.{slots}
+use Rattle.store_format.specs.StoreFile.{StoreBlock, file, IsStore}
 use Rattle.docstore.specs.Trace.{Step, adds, effect, meaning, Blocks}
 
 -- The document that a call of a trace brought has the id that was next, whatever was called before and after.

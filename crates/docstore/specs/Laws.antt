@@ -1,25 +1,12 @@
--- What the formats promise.
+-- What writers promise.
 use Rattle.std.specs.Prelude.{◌≡◌, ◌↔◌, ℕ, ◌+◌, ◌*◌, ◌<◌, ◌≤◌, ◌^◌, List, [], ◌∷◌, ◌++◌, length, map}
 use Rattle.std.specs.List.{flat_map, concat}
-use Rattle.store_reader.specs.Block.{Slot, doc, block}
-use Rattle.store_reader.specs.Slots.{slots}
-use Rattle.docstore.specs.Trace.{block_of}
-use Rattle.store_reader.specs.StoreFile.{StoreBlock, AreBlocks, file, reserved_of, IsStore}
+use Rattle.store_format.specs.Block.{Slot, doc, block}
+use Rattle.store_format.specs.Slots.{slots}
+use Rattle.store_format.specs.StoreFile.{StoreBlock, AreBlocks, file, reserved_of, IsStore}
 use Rattle.store_reader.specs.Reading.{Reading, num_docs as docs_of}
 use Rattle.docstore.specs.Stacking.{AreRead, with_store}
 use Rattle.docstore.specs.Writer.{Writing, num_docs, flushed, with_document}
-
--- The slots of a block that is made of documents are these documents.
-abbrev pub BlocksHoldDocuments : Type 0
-BlocksHoldDocuments = (docs : List (List ℕ)) → length (block docs) < 2 ^ 32 → slots (block_of docs ∷ []) ≡ map doc docs
-
--- A block has the bytes of its documents, and four for each of them and for their number.
-abbrev pub BlocksHaveTheirLengths : Type 0
-BlocksHaveTheirLengths = (docs : List (List ℕ)) → length (block docs) ≡ length (concat docs) + 4 * length docs + 4
-
--- So the block of one document, alone or behind an empty one, is short enough up to these lengths of the document.
-abbrev pub LongestDocuments : Type 0
-LongestDocuments = (doc : List ℕ) → ((length (block (doc ∷ [])) < 2 ^ 32) ↔ (length doc ≤ 4294967287)) × ((length (block ([] ∷ doc ∷ [])) < 2 ^ 32) ↔ (length doc ≤ 4294967283))
 
 -- what a writer has taken: the slots of its finished blocks, and then the pending documents
 abbrev pub taken : Writing → List Slot

@@ -1,11 +1,11 @@
 -- Documents that wait, in their bytes and the places where they begin.
-use Rattle.std.specs.Prelude.{◌≡◌, ◌⊎◌, ℕ, ◌+◌, ◌*◌, ◌<◌, ◌≤◌, ◌^◌, List, [], ◌∷◌, length, slice_range, Option, Some, None}
+use Rattle.std.specs.Prelude.{◌≡◌, ◌⊎◌, ◌↔◌, ℕ, ◌+◌, ◌*◌, ◌<◌, ◌≤◌, ◌^◌, List, [], ◌∷◌, length, slice_range, Option, Some, None, Result, IfOk, IfErr, IsErrOf}
 use Rattle.std.specs.List.{concat}
 use Rattle.store_base.specs.declared.fault.DocFault.{DocFault}
 use Rattle.store_base.specs.declared.fault.DocFault.TheVariants as fault
-use Rattle.layered_index.specs.declared.error.StoreError.{StoreError}
-use Rattle.layered_index.specs.declared.error.StoreError.TheVariants.{Memory, Unserializable, BlockTooLarge}
-use Rattle.store_reader.specs.Block.{starts_from}
+use Rattle.store_base.specs.declared.error.StoreError.{StoreError}
+use Rattle.store_base.specs.declared.error.StoreError.TheVariants.{Memory, Unserializable, BlockTooLarge}
+use Rattle.store_format.specs.Block.{starts_from}
 
 -- where a document ends: where the next one begins, or at the end
 abbrev pub first_or : List ℕ → ℕ → ℕ
@@ -31,6 +31,12 @@ pub record HasRoom (long capacity limit : ℕ) : Type 0 where
   pub within : long ≤ limit
   pub small : limit < 2 ^ 32
   pub room : limit ≤ capacity
+
+-- There is room for a block so long, or it is refused: exactly where its length has no place in 32 bits, want of memory aside.
+pub record FindsRoom (long capacity : ℕ) (result : Result ℕ StoreError) : Type 0 where
+  pub ok : IfOk result (HasRoom long capacity)
+  pub too_large : IsErrOf result BlockTooLarge ↔ (2 ^ 32 ≤ long)
+  pub causes : IfErr result (λ e. (e ≡ BlockTooLarge) ⊎ (e ≡ Memory))
 
 -- the refusal of a document that wrote no bytes
 abbrev pub refusal_to_write : DocFault → StoreError

@@ -1,12 +1,12 @@
 -- Whole lists of writing calls.
 use Rattle.std.specs.Prelude.{◌≡◌, ◌≤◌, ◌⊎◌, ℕ, List, [], ◌∷◌, ◌++◌, length, Option, None, Result, Ok, Err, OnOk}
 use Rattle.store_base.specs.Outputs.{Termination}
-use Rattle.layered_index.specs.declared.error.StoreError.{StoreError}
-use Rattle.layered_index.specs.declared.error.StoreError.TheVariants.{Read, Memory, Failed}
+use Rattle.store_base.specs.declared.error.StoreError.{StoreError}
+use Rattle.store_base.specs.declared.error.StoreError.TheVariants.{Read, Memory, Failed}
 use Rattle.docstore.specs.declared.run.StoreCommand.{StoreCommand}
 use Rattle.docstore.specs.declared.run.StoreCommand.TheVariants.{Doc, Bytes, Stack}
-use Rattle.store_reader.specs.StoreFile.{StoreBlock, AreBlocks, data_of, file, IsStore}
-use Rattle.store_reader.specs.Slots.{slots}
+use Rattle.store_format.specs.StoreFile.{StoreBlock, AreBlocks, data_of, file, IsStore}
+use Rattle.store_format.specs.Slots.{slots}
 use Rattle.docstore.specs.BlockOutput.{HasCause, HasNotEnded}
 use Rattle.docstore.specs.Trace.{Step, Answer, accepted, read_failed, no_memory, refused, store, store_bytes, stack, Effect, adds, ends, may_end, no_effect, effect, meaning, Blocks}
 use Rattle.docstore.specs.Causes.{Stage, first_stage, CommandGets, HaveCauses}

@@ -1,12 +1,12 @@
 -- Putting a store behind what a writer has.
 use Rattle.std.specs.Prelude.{◌≡◌, ◌≢◌, ℕ, ◌+◌, ◌≤◌, ◌^◌, IsTrue, List, [], None}
 use Rattle.store_base.specs.Counts.{HasRisen}
-use Rattle.layered_index.specs.declared.error.StoreError.{StoreError}
-use Rattle.layered_index.specs.declared.error.StoreError.TheVariants.{Read, Memory, OldVersion, TooManyDocs, Failed}
-use Rattle.store_reader.specs.declared.footer.DocStoreVersion.TheVariants.{V1}
+use Rattle.store_base.specs.declared.error.StoreError.{StoreError}
+use Rattle.store_base.specs.declared.error.StoreError.TheVariants.{Read, Memory, OldVersion, TooManyDocs, Failed}
+use Rattle.store_format.specs.declared.version.DocStoreVersion.TheVariants.{V1}
 use Rattle.layered_index.specs.declared.index.Checkpoint.{Checkpoint}
 use Rattle.layered_index.specs.Checkpoint.{checkpoint}
-use Rattle.store_reader.specs.StoreFile.{StoreBlock, marks}
+use Rattle.store_format.specs.StoreFile.{StoreBlock, marks}
 use Rattle.store_reader.specs.Reading.{Reading, num_docs as docs_of, store_of, IsReadOnce}
 use Rattle.docstore.specs.BlockOutput.{BlockOutput, with_blocks, AfterFailedBlock}
 use Rattle.docstore.specs.Writer.{Writing, num_docs, flushed, with_failures, AfterFailed}

@@ -1,11 +1,12 @@
 -- A store that is written, and what its calls do.
 use Rattle.std.specs.Prelude.{◌≡◌, ℕ, ◌+◌, ◌-◌, ◌<◌, ◌≤◌, ◌^◌, nat_lt, if◌then◌else◌, List, [], ◌∷◌, ◌++◌, length, Option, Some, None}
-use Rattle.layered_index.specs.declared.error.Cause.{Cause}
-use Rattle.layered_index.specs.declared.error.StoreError.{StoreError}
-use Rattle.layered_index.specs.declared.error.StoreError.TheVariants.{Memory, Unserializable, BlockTooLarge, TooManyDocs, Failed}
-use Rattle.store_reader.specs.Block.{block}
-use Rattle.store_reader.specs.StoreFile.{StoreBlock, docs_in}
-use Rattle.docstore.specs.Trace.{weight, block_of}
+use Rattle.store_base.specs.declared.error.Cause.{Cause}
+use Rattle.store_base.specs.declared.error.StoreError.{StoreError}
+use Rattle.store_base.specs.declared.error.StoreError.TheVariants.{Memory, Unserializable, BlockTooLarge, TooManyDocs, Failed}
+use Rattle.store_format.specs.Block.{block}
+use Rattle.store_format.specs.StoreFile.{StoreBlock, docs_in}
+use Rattle.docstore.specs.Trace.{weight}
+use Rattle.store_format.specs.StoreFile.{block_of}
 use Rattle.docstore.specs.BlockOutput.{BlockOutput, with_blocks, IsSound, FailsFor}
 
 -- The block size, the pending documents, and the finished blocks with the output.

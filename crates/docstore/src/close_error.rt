@@ -1,9 +1,9 @@
 //! Why a writer was not closed.
 
 ghost use Rattle.std.specs.Prelude.{◌≡◌};
-ghost use Rattle.layered_index.specs.Outcome.{behind_bytes};
+ghost use Rattle.store_base.specs.Outcome.{behind_bytes};
 
-use layered_index::{Cause, StoreError};
+use store_base::{Cause, StoreError};
 
 /// Why a writer was not closed, and its output.
 #[derive(Drop)]
@@ -24,5 +24,17 @@ impl<W: Drop> CloseError<W> {
             other => other,
         };
         CloseError { error, output }
+    }
+}
+
+/// So that `?` hands on the error alone. The output is lost.
+impl<W: Drop> From<CloseError<W>> for StoreError {
+    ghost use Rattle.std.specs.Prelude.{◌≡◌};
+
+    ghost from_gives = { λ refusal e. e ≡ refusal.error };
+
+    fn from(refusal: CloseError<W>) -> StoreError {
+        let CloseError { error, .. } = refusal;
+        error
     }
 }

@@ -1,21 +1,21 @@
 //! The documents that wait for their block.
 
-ghost use Rattle.std.specs.Prelude.{◌≡◌, ◌+◌, ◌*◌, ◌<◌, ◌≤◌, ◌↔◌, ◌^◌, ℕ, List, [], ◌∷◌, ◌++◌, length, ◌⊎◌, Some, OnOk, OnErr, IfOk, IfErr, IsErrOf, vec_len, vec_capacity};
-ghost use Rattle.std.specs.List.{flat_map, concat};
+ghost use Rattle.std.specs.Prelude.{◌≡◌, ◌+◌, ◌*◌, ◌<◌, ◌≤◌, ◌↔◌, ◌^◌, ℕ, List, [], ◌∷◌, ◌++◌, length, ◌⊎◌, Some};
+ghost use Rattle.std.specs.Prelude.{OnOk, OnErr, IfOk, IfErr, IsErrOf, vec_capacity};
+ghost use Rattle.std.specs.List.{concat};
 ghost use Rattle.store_base.specs.Documents.{BeginsWith};
-ghost use Rattle.store_base.specs.Serialize.{fixed};
-ghost use Rattle.store_reader.specs.Block.{block};
-ghost use Rattle.docstore.specs.Pending.{refusal_to_write, HasRoom, IsDocumentRefusal};
-ghost use Rattle.store_reader.specs.StoreFile.{docs_in};
-ghost use Rattle.docstore.specs.Trace.{weight, block_of};
+ghost use Rattle.store_format.specs.Block.{block};
+ghost use Rattle.docstore.specs.Pending.{refusal_to_write, HasRoom, FindsRoom, IsDocumentRefusal};
+ghost use Rattle.store_format.specs.StoreFile.{docs_in};
+ghost use Rattle.docstore.specs.Trace.{weight};
+ghost use Rattle.store_format.specs.StoreFile.{block_of};
 ghost use Rattle.docstore.specs.BlockOutput.{with_blocks, with_risen, IsSound, FailsFor};
 
 use crate::store_compressor::BlockCompressor;
-use byteorder::{ByteOrder, LittleEndian};
-use layered_index::{Cause, StoreError};
 use std::alloc::Global;
 use std::marker::Model;
-use store_base::{DocFault, Document, Schema, TerminatingWrite};
+use store_base::{Cause, DocFault, Document, Schema, StoreError, TerminatingWrite};
+use store_format::append_table;
 
 // A block is shorter than this.
 const BLOCK_LIMIT: usize = 0x1_0000_0000;
@@ -71,7 +71,8 @@ impl CurrentBlock {
     pub(crate) fn push(&mut self, document: &[u8]) -> Result<(), StoreError>
         ensures ok { OnOk result (self.new ≡ self.old ++ document.now ∷ []) }
         ensures err { OnErr result (self.new ≡ self.old) }
-        ensures too_large { IsErrOf result StoreError.BlockTooLarge ↔ (2 ^ 32 ≤ length (block (self.old ++ document.now ∷ []))) }
+        ensures too_large { IsErrOf result StoreError.BlockTooLarge
+            ↔ (2 ^ 32 ≤ length (block (self.old ++ document.now ∷ []))) }
         ensures causes { IfErr result (λ e. (e ≡ StoreError.BlockTooLarge) ⊎ (e ≡ StoreError.Memory)) }
     {
         let start = self.bytes.len();
@@ -123,7 +124,8 @@ impl CurrentBlock {
         requires works { output.old.failure ≡ None }
         requires few { docs_in output.old.finished + length self.old < 2 ^ 32 }
         ensures emptied { self.new ≡ [] }
-        ensures written { OnOk result (output.new ≡ with_risen output.new.failures (with_blocks output.old (block_of self.old ∷ []))) }
+        ensures written { OnOk result (output.new
+            ≡ with_risen output.new.failures (with_blocks output.old (block_of self.old ∷ []))) }
         ensures err { IfErr result (λ cause. FailsFor cause output.old output.new) }
         ensures termination { output.new.termination ≡ output.old.termination }
         ensures count { output.old.failures ≤ output.new.failures }
@@ -147,22 +149,8 @@ impl CurrentBlock {
     }
 }
 
-// Behind the documents where each begins, and how many there are.
-#[tactic(auto, unfolding(store_base::specs::Serialize::fixed))]
-fn append_table(bytes: &mut Vec<u8>, starts: &[u32])
-    requires room { vec_len bytes.old + 4 * length starts.now + 4 ≤ vec_capacity bytes.old }
-    requires few { length starts.now < 2 ^ 32 }
-    ensures items { bytes.new.items ≡ bytes.old.items ++ flat_map (fixed 4) starts.now ++ fixed 4 (length starts.now) }
-    ensures capacity { vec_capacity bytes.old ≤ vec_capacity bytes.new }
-{
-    let end = bytes.len();
-    bytes.resize(end + 4 * starts.len(), 0).unwrap();
-    LittleEndian::write_u32_into(starts, &mut bytes[end..]);
-    let count = starts.len() as u32;
-    bytes.extend_from_slice(&count.to_le_bytes()).unwrap();
-}
-
-// The limit, where it leaves room behind the bytes for so many more and a table; else room is made, and the limit that comes of it.
+// The limit, where it leaves room behind the bytes for so many more and a table; else room is made, and the limit
+// that comes of it.
 fn with_room(
     bytes: &mut Vec<u8>,
     limit: usize,
@@ -172,11 +160,9 @@ fn with_room(
     requires table { table < 2 ^ 60 }
     requires small { limit < 2 ^ 32 }
     requires room { limit ≤ vec_capacity bytes.old }
-    ensures ok { IfOk result (HasRoom (length bytes.old.items + more + table) (vec_capacity bytes.new)) }
+    ensures room { FindsRoom (length bytes.old.items + more + table) (vec_capacity bytes.new) result }
     ensures items { bytes.new.items ≡ bytes.old.items }
     ensures capacity { vec_capacity bytes.old ≤ vec_capacity bytes.new }
-    ensures too_large { IsErrOf result StoreError.BlockTooLarge ↔ (2 ^ 32 ≤ length bytes.old.items + more + table) }
-    ensures causes { IfErr result (λ e. (e ≡ StoreError.BlockTooLarge) ⊎ (e ≡ StoreError.Memory)) }
 {
     if more < limit.saturating_sub(bytes.len() + table) {
         return Ok(limit);
@@ -188,11 +174,9 @@ fn with_room(
 #[cold]
 fn make_room(bytes: &mut Vec<u8>, more: usize, table: usize) -> Result<usize, StoreError>
     requires { table < 2 ^ 60 }
-    ensures ok { IfOk result (HasRoom (length bytes.old.items + more + table) (vec_capacity bytes.new)) }
+    ensures room { FindsRoom (length bytes.old.items + more + table) (vec_capacity bytes.new) result }
     ensures items { bytes.new.items ≡ bytes.old.items }
     ensures capacity { vec_capacity bytes.old ≤ vec_capacity bytes.new }
-    ensures too_large { IsErrOf result StoreError.BlockTooLarge ↔ (2 ^ 32 ≤ length bytes.old.items + more + table) }
-    ensures causes { IfErr result (λ e. (e ≡ StoreError.BlockTooLarge) ⊎ (e ≡ StoreError.Memory)) }
 {
     if more >= BLOCK_LIMIT || bytes.len() + more + table >= BLOCK_LIMIT {
         return Err(StoreError::BlockTooLarge);
@@ -226,7 +210,8 @@ fn append_document<D: Document>(
     ensures ok { IfOk result (λ room. (doc : List ℕ) × (D.doc_bytes document.now schema.now ≡ Some doc)
         × (bytes.new.items ≡ bytes.old.items ++ doc)
         × (starts.new.items ≡ starts.old.items ++ length bytes.old.items ∷ [])
-        × HasRoom (length bytes.old.items + length doc + 4 * (length starts.old.items + 2)) (vec_capacity bytes.new) room) }
+        × HasRoom (length bytes.old.items + length doc + 4 * (length starts.old.items + 2))
+        (vec_capacity bytes.new) room) }
     ensures begins { OnErr result (BeginsWith bytes.old.items bytes.new.items) }
     ensures starts { OnErr result (starts.new.items ≡ starts.old.items) }
     ensures capacity { vec_capacity bytes.old ≤ vec_capacity bytes.new }

@@ -1,24 +1,17 @@
-//! Laws of the formats, of stackings and of whole lists.
+//! Laws of writers, of stackings and of whole lists; those of files and of reading are handed on.
 ghost use Rattle.docstore.specs.EndToEnd.{DocumentsHaveTheirIds, WrittenListsAreFound};
 ghost use Rattle.docstore.specs.Run.{BlocksMeanTheirCalls};
-ghost use Rattle.docstore.specs.Laws.{BlocksHoldDocuments, BlocksHaveTheirLengths, LongestDocuments, WrittenDocumentsAreFound, DocumentsAreTakenInOrder, IdsAreGivenInOrder, FlushesKeepSlots, StoresAreStackedInOrder, StackedSlotsAreCounted, StackedFilesAreJoined, StackingIsAssociative, StackedAloneIsTheSame};
+ghost use Rattle.docstore.specs.Laws.{WrittenDocumentsAreFound, DocumentsAreTakenInOrder, IdsAreGivenInOrder};
+ghost use Rattle.docstore.specs.Laws.{FlushesKeepSlots, StoresAreStackedInOrder, StackedSlotsAreCounted};
+ghost use Rattle.docstore.specs.Laws.{StackedFilesAreJoined, StackingIsAssociative, StackedAloneIsTheSame};
 
-pub use store_reader::laws::{
-    answers_are_exact, files_are_stores, look_ups_are_counted, looks_are_recent,
-    slots_decide_answers, stats_are_added, stored_documents_are_got, stores_are_apart,
-    walks_look_up,
+pub use store_format::laws::{
+    blocks_have_their_lengths, blocks_hold_documents, files_are_stores, stores_are_apart,
 };
-
-/// The slots of a block that is made of documents are these documents.
-pub fn blocks_hold_documents()
-    ensures { BlocksHoldDocuments }
-{}
-
-/// How long a block is, and which documents are too long for one.
-pub fn blocks_have_their_lengths()
-    ensures lengths { BlocksHaveTheirLengths }
-    ensures longest { LongestDocuments }
-{}
+pub use store_reader::laws::{
+    answers_are_exact, look_ups_are_counted, looks_are_recent, slots_decide_answers,
+    stats_are_added, stored_documents_are_got, walks_look_up,
+};
 
 /// Whatever store is found in the file of a close, its slots are what the writer had taken.
 pub fn written_documents_are_found()
@@ -70,8 +63,8 @@ pub fn blocks_mean_their_calls()
     ensures { BlocksMeanTheirCalls }
 {}
 
-/// Whatever store `StoreReader::open` finds in the file of a list of writing calls, it has the list's period and version 3, and its
-/// slots are what the calls brought, whatever the block size.
+/// Whatever store `StoreReader::open` finds in the file of a list of writing calls, it has the list's period and
+/// version 3, and its slots are what the calls brought, whatever the block size.
 pub fn written_lists_are_found()
     ensures { WrittenListsAreFound }
 {}

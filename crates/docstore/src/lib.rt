@@ -1,4 +1,5 @@
-//! A document store with a layered skip index: its writer, and all of its reader.
+//! A document store with a layered skip index: its writer and its reader, and all that their users need of the
+//! crates below.
 #![tactic(auto)]
 
 pub mod close_error;
@@ -10,14 +11,23 @@ pub mod writer;
 
 pub use close_error::CloseError;
 pub use layered_index::{
-    CHECKPOINT_PERIOD, Cause, Checkpoint, CheckpointBlock, LayerCursor, Looks, SkipIndex,
-    SkipIndexBuilder, Steps, StoreError, seek_near, seek_over,
+    CHECKPOINT_PERIOD, Checkpoint, CheckpointBlock, LayerCursor, Looks, SkipIndex,
+    SkipIndexBuilder, Steps, seek_near, seek_over,
 };
 pub use run::{StoreCommand, WriteReport, write_store, write_store_with_period};
+pub use store_base::{
+    AliveBitSet, BinarySerializable, Cause, CountingWriter, DecodeFault, DocFault, DocId, Document,
+    DocumentDeserialize, Field, FileHandle, FileSlice, FixedSize, HasLen, MemFile, MemSink,
+    NoMemory, OwnedBytes, ReadFault, RecordDocument, Schema, StoreError, StoreSpaceUsage,
+    StoredDocument, TerminatingWrite, VInt, WriteFault,
+};
 pub use store_compressor::BlockCompressor;
+pub use store_format::{
+    Compressor, DOC_STORE_VERSION, Decompressor, DocStoreFooter, DocStoreVersion, OpenError,
+    block_read_index,
+};
 pub use store_reader::{
-    Answer, CacheStats, Compressor, DOC_STORE_VERSION, DOCSTORE_CACHE_CAPACITY, Decompressor,
-    DocIter, DocStoreFooter, DocStoreVersion, DocWalk, Items, OpenError, RawIter, ReadCall,
-    StoreReader, Walk, answer_all, any_lacks_memory, block_read_index,
+    AliveDocuments, Answer, CacheStats, DOCSTORE_CACHE_CAPACITY, DocIter, DocWalk, Documents,
+    Items, RawIter, ReadCall, StoreReader, StoreView, Walk, answer_all, any_lacks_memory,
 };
 pub use writer::StoreWriter;

@@ -7,10 +7,11 @@ ghost use Rattle.docstore.specs.Writer.{IsStoreWriter, AfterFailed};
 
 use crate::close_error::CloseError;
 use crate::writer::StoreWriter;
-use layered_index::{CHECKPOINT_PERIOD, StoreError};
+use layered_index::CHECKPOINT_PERIOD;
 use std::alloc::Global;
-use store_base::{Document, FileHandle, Schema, TerminatingWrite};
-use store_reader::{Compressor, StoreReader};
+use store_base::{Document, FileHandle, Schema, StoreError, TerminatingWrite};
+use store_format::Compressor;
+use store_reader::StoreReader;
 
 /// A call of a writer.
 #[derive(Drop)]
@@ -33,9 +34,9 @@ pub struct WriteReport<W> {
 /// Makes the calls in order on a new writer, and closes it. A refused call is noted, and the next one
 /// made.
 ///
-/// Where `close` is refused, so is the list; a call that is `Failed` comes to that. Room for the
-/// results is taken first: where there is none, no call is made and the output is as it came. A list refused for want of memory
-/// later leaves the blocks of its calls in the output, but for the last one at most.
+/// Where `close` is refused, so is the list; a call that is `Failed` comes to that. Room for the results is taken
+/// first: where there is none, no call is made and the output is as it came. A list refused for want of memory later
+/// leaves the blocks of its calls in the output, but for the last one at most.
 pub fn write_store<W: TerminatingWrite, D: Document, H: FileHandle>(
     alloc: Global,
     output: W,

@@ -1,26 +1,27 @@
 //! Writes blocks one behind the other, and their index behind them.
 
-ghost use Rattle.std.specs.Prelude.{◌≡◌, ◌≢◌, ◌+◌, ◌<◌, ◌≤◌, ◌^◌, List, [], ◌∷◌, ◌++◌, length, map, true, None, OnOk, OnErr, IfOk, IfErr, IfSome, IsErrOf};
+ghost use Rattle.std.specs.Prelude.{◌≡◌, ◌≢◌, ◌+◌, ◌<◌, ◌≤◌, ◌^◌, List, [], ◌∷◌, ◌++◌, length, map, true, None, OnOk};
+ghost use Rattle.std.specs.Prelude.{OnErr, IfOk, IfErr, IfSome, IsErrOf};
 ghost use Rattle.std.specs.List.{sum_by};
 ghost use Rattle.layered_index.specs.Checkpoint.{doc_count, docs_end, IsInLineFrom, Covers};
-ghost use Rattle.store_reader.specs.Footer.{footer, kind_of, unpacks};
+ghost use Rattle.store_format.specs.Footer.{footer, kind_of, unpacks};
 ghost use Rattle.layered_index.specs.Layers.{index_part};
-ghost use Rattle.store_reader.specs.StoreFile.{StoreBlock, docs_in, file, reserved_of, IsStore, blocks_at};
+ghost use Rattle.store_format.specs.StoreFile.{StoreBlock, docs_in, file, reserved_of, IsStore, blocks_at};
 ghost use Rattle.store_base.specs.Outputs.{terminated_once};
-ghost use Rattle.docstore.specs.BlockOutput.{new_output, with_blocks, with_risen, IsSound, FailsFor, AfterBlock, AfterClose, IsEndRefusal};
+ghost use Rattle.docstore.specs.BlockOutput.{new_output, with_blocks, with_risen, IsSound, FailsFor, AfterBlock};
+ghost use Rattle.docstore.specs.BlockOutput.{AfterClose, IsEndRefusal};
 ghost use Rattle.store_reader.specs.Reading.{num_docs as docs_of, IsReadOnce};
 ghost use Rattle.docstore.specs.Stacking.{AreRead, shifted, AfterStacking};
 
 use crate::close_error::CloseError;
-use layered_index::{
-    CHECKPOINT_PERIOD, Cause, Checkpoint, LayerCursor, SkipIndexBuilder, StoreError,
-};
+use layered_index::{CHECKPOINT_PERIOD, Checkpoint, LayerCursor, SkipIndexBuilder};
 use std::alloc::Global;
 use std::marker::Model;
-use store_base::{BinarySerializable, CountingWriter, FileHandle, TerminatingWrite};
-use store_reader::{
-    Compressor, DOC_STORE_VERSION, Decompressor, DocStoreFooter, DocStoreVersion, StoreReader,
+use store_base::{
+    BinarySerializable, Cause, CountingWriter, FileHandle, StoreError, TerminatingWrite,
 };
+use store_format::{Compressor, DOC_STORE_VERSION, Decompressor, DocStoreFooter, DocStoreVersion};
+use store_reader::StoreReader;
 
 /// Writes the blocks of a store to an output.
 #[derive(Drop)]
@@ -117,7 +118,8 @@ impl<W: TerminatingWrite> BlockCompressor<W> {
         ensures works { OnOk result (self.old.failure ≡ None) }
 
         // A failed writer answers its cause again and stays as it was.
-        ensures failed { IfSome self.old.failure (λ cause. IsErrOf result (StoreError.Failed cause) × (self.new ≡ self.old)) }
+        ensures failed { IfSome self.old.failure (λ cause.
+            IsErrOf result (StoreError.Failed cause) × (self.new ≡ self.old)) }
         ensures err { IfErr result (AfterBlock self.old self.new) }
 
         ensures termination { self.new.termination ≡ self.old.termination }

@@ -1,23 +1,27 @@
 //! Writes a store.
 
-ghost use Rattle.std.specs.Prelude.{◌≡◌, ◌+◌, ◌-◌, ◌*◌, ◌<◌, ◌≤◌, ◌↔◌, ◌^◌, ◌⊎◌, List, [], ◌++◌, length, true, None, is_some, OnOk, IfOk, IfErr, IfSome, IsErrOf, MatchResult};
+ghost use Rattle.std.specs.Prelude.{◌≡◌, ◌+◌, ◌-◌, ◌*◌, ◌<◌, ◌≤◌, ◌↔◌, ◌^◌, ◌⊎◌, List, [], ◌++◌, length, true, None};
+ghost use Rattle.std.specs.Prelude.{is_some, OnOk, IfOk, IfErr, IfSome, IsErrOf, MatchResult};
 ghost use Rattle.std.specs.List.{concat};
-ghost use Rattle.store_reader.specs.StoreFile.{StoreBlock, docs_in, file, IsStore};
+ghost use Rattle.store_format.specs.StoreFile.{StoreBlock, docs_in, file, IsStore};
 ghost use Rattle.docstore.specs.Trace.{weight};
 ghost use Rattle.store_base.specs.Outputs.{terminated_once};
 ghost use Rattle.docstore.specs.BlockOutput.{new_output, with_blocks, with_risen, IsSound, FailsFor, AfterClose};
-ghost use Rattle.docstore.specs.Writer.{new_writing, num_docs, blocks_of, flushed, flushed_if_full, with_document, with_failures, HasIdLeft, HasNoIdLeft, IsTooLarge, HasTooMuch, IsStoreWriter, Takes, AfterRefusal, AfterDocument};
+ghost use Rattle.docstore.specs.Writer.{new_writing, num_docs, blocks_of, flushed, flushed_if_full, with_document};
+ghost use Rattle.docstore.specs.Writer.{with_failures, HasIdLeft, HasNoIdLeft, IsTooLarge, HasTooMuch, IsStoreWriter};
+ghost use Rattle.docstore.specs.Writer.{Takes, AfterRefusal, AfterDocument};
 ghost use Rattle.store_reader.specs.Reading.{IsReadOnce, IsReadAtMostOnce};
 ghost use Rattle.docstore.specs.Stacking.{AreRead, with_store, IsOld, HasTooMany, AfterStack};
 
 use crate::close_error::CloseError;
 use crate::current_block::CurrentBlock;
 use crate::store_compressor::BlockCompressor;
-use layered_index::{CHECKPOINT_PERIOD, Cause, StoreError};
+use layered_index::CHECKPOINT_PERIOD;
 use std::alloc::Global;
 use std::marker::Model;
-use store_base::{Document, FileHandle, Schema, TerminatingWrite};
-use store_reader::{Compressor, DocStoreVersion, StoreReader};
+use store_base::{Cause, Document, FileHandle, Schema, StoreError, TerminatingWrite};
+use store_format::{Compressor, DocStoreVersion};
+use store_reader::StoreReader;
 
 /// Writes a store. Blocks go out while documents are added; the index stays in memory until `close`.
 #[derive(Drop)]
@@ -35,7 +39,8 @@ impl<W: TerminatingWrite> Model for StoreWriter<W> {
 
     ghost view = { λ s. record { block_size = s.block_size; pending = s.current_block; output = s.block_compressor } };
 
-    ghost invariant = { λ s. IsStoreWriter (record { block_size = s.block_size; pending = s.current_block; output = s.block_compressor }) };
+    ghost invariant = { λ s. IsStoreWriter
+        (record { block_size = s.block_size; pending = s.current_block; output = s.block_compressor }) };
 }
 
 impl<W: TerminatingWrite> StoreWriter<W> {

@@ -1,2 +1,3 @@
-mod StackingLemmas
+mod IndexLemmas
 mod ListLemmas
+mod StackingLemmas

@@ -3,16 +3,16 @@ use Rattle.std.proofs.Common.{◌≡◌, ◌≢◌, ◌⊎◌, inl, inr, ℕ, �
 use Rattle.std.proofs.lemmas.List.{append-nil}
 use Rattle.std.specs.Prelude.{◌↔◌, IsTrue, IsErrOf, OnOk, IfErr, MatchResult}
 use Rattle.store_base.specs.Counts.{HasRisen}
-use Rattle.layered_index.specs.declared.error.StoreError.{StoreError}
-use Rattle.layered_index.specs.declared.error.StoreError.TheVariants.{ShortFile, BadVersion, BadBlockKind, BadOffset, BadIndex, InvalidArgument, DamagedDocument, BadDocument, Read, Memory, OldVersion, Unserializable, BlockTooLarge, TooManyDocs, Failed, BadPeriod}
+use Rattle.store_base.specs.declared.error.StoreError.{StoreError}
+use Rattle.store_base.specs.declared.error.StoreError.TheVariants.{ShortFile, BadVersion, BadBlockKind, BadOffset, BadIndex, InvalidArgument, DamagedDocument, BadDocument, Read, Memory, OldVersion, Unserializable, BlockTooLarge, TooManyDocs, Failed, BadPeriod}
 use Rattle.layered_index.specs.declared.index.Checkpoint.{Checkpoint}
 use Rattle.layered_index.specs.Checkpoint.{docs_end}
-use Rattle.store_reader.specs.declared.footer.DocStoreVersion.TheVariants.{V1}
-use Rattle.store_reader.specs.Footer.{version_number}
-use Rattle.store_reader.specs.Laws.{StoresAreApart}
+use Rattle.store_format.specs.declared.version.DocStoreVersion.TheVariants.{V1}
+use Rattle.store_format.specs.Footer.{version_number}
+use Rattle.store_format.specs.Laws.{StoresAreApart}
 use Rattle.store_reader.specs.Opening.{IsSomeStore}
 use Rattle.store_reader.specs.Reading.{Reading, IsSeen, num_docs as docs_of, store_of}
-use Rattle.store_reader.specs.StoreFile.{StoreBlock, docs_in, file, IsStore}
+use Rattle.store_format.specs.StoreFile.{StoreBlock, docs_in, file, IsStore}
 use Rattle.docstore.specs.Writer.{Writing, num_docs, blocks_of, flushed, new_writing, with_failures}
 use Rattle.docstore.specs.BlockOutput.{BlockOutput}
 use Rattle.docstore.specs.Stacking.{AreRead, with_store, IsOld, HasTooMany, AfterStack}

@@ -1,6 +1,6 @@
 -- Stores stacked in two orders.
 use Rattle.std.specs.Prelude.{ℕ, ◌≤◌, List}
-use Rattle.store_reader.specs.StoreFile.{StoreBlock, IsStore}
+use Rattle.store_format.specs.StoreFile.{StoreBlock, IsStore}
 
 -- the bytes are the file of these blocks, in a version that can be stacked
 pub record IsNewStore (bytes : List ℕ) (blocks : List StoreBlock) : Type 0 where

@@ -1,8 +1,8 @@
 -- The one refusal that nothing rules out.
 use Rattle.std.specs.Prelude.{◌≡◌, ◌⊎◌}
-use Rattle.layered_index.specs.declared.error.Cause.{Cause}
-use Rattle.layered_index.specs.declared.error.StoreError.{StoreError}
-use Rattle.layered_index.specs.declared.error.StoreError.TheVariants.{Memory, Failed}
+use Rattle.store_base.specs.declared.error.Cause.{Cause}
+use Rattle.store_base.specs.declared.error.StoreError.{StoreError}
+use Rattle.store_base.specs.declared.error.StoreError.TheVariants.{Memory, Failed}
 
 -- Memory was wanting, or a growth of the output was refused.
 abbrev pub IsWant : StoreError → Type 0

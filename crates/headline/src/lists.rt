@@ -3,8 +3,8 @@ ghost use Rattle.std.specs.Prelude.{◌≡◌, ◌≤◌, ◌⊎◌, ℕ, List, 
 ghost use Rattle.std.specs.List.{AllByRecursion};
 ghost use Rattle.store_reader.specs.Answers.{CanAnswer, exact_results, results_of};
 ghost use Rattle.store_reader.specs.Opening.{IsSomeStore};
-ghost use Rattle.store_reader.specs.Slots.{slots};
-ghost use Rattle.store_reader.specs.StoreFile.{StoreBlock, docs_in, IsStore};
+ghost use Rattle.store_format.specs.Slots.{slots};
+ghost use Rattle.store_format.specs.StoreFile.{StoreBlock, docs_in, IsStore};
 ghost use Rattle.headline.specs.Lists.{most_docs, IsAsked};
 ghost use Rattle.headline.specs.Want.{IsWant};
 
@@ -47,10 +47,12 @@ fn answers_of(
     Ok(answers)
 }
 
-/// Writes the commands into memory, opens the file twice, with caches of these capacities, and makes the calls on both readers.
+/// Writes the commands into memory, opens the file twice, with caches of these capacities, and makes the calls on
+/// both readers.
 ///
-/// A live set among the calls reaches all documents that the commands may bring. Each answer is that of the slots of the
-/// accepted commands, whatever the block size, the period and the capacities; refused is the whole only for want of memory.
+/// A live set among the calls reaches all documents that the commands may bring. Each answer is that of the slots of
+/// the accepted commands, whatever the block size, the period and the capacities; the whole is refused only for want
+/// of memory.
 pub fn written_and_asked<D: Document, H: FileHandle>(
     alloc: Global,
     block_size: usize,

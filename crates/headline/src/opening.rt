@@ -1,9 +1,9 @@
 //! Files in memory, opened.
 ghost use Rattle.std.specs.Prelude.{◌≡◌, ◌⊎◌, IfOk, IfErr, IsTrue};
-ghost use Rattle.store_reader.specs.Footer.{version_number};
+ghost use Rattle.store_format.specs.Footer.{version_number};
 ghost use Rattle.store_reader.specs.Opening.{IsSomeStore};
 ghost use Rattle.store_reader.specs.Reading.{IsSeen, store_of};
-ghost use Rattle.store_reader.specs.StoreFile.{IsStore};
+ghost use Rattle.store_format.specs.StoreFile.{IsStore};
 
 use docstore::{StoreError, StoreReader};
 use std::alloc::Global;
@@ -17,7 +17,8 @@ pub(crate) fn opened(
 ) -> Result<StoreReader<MemFile>, StoreError>
     ensures honest { IfOk result (λ reader. IsTrue reader.file.honest) }
     ensures failures { IfOk result (λ reader. reader.file.failures ≡ 0) }
-    ensures store { IfOk result (λ reader. IsStore reader.period bytes.now (version_number reader.version) (store_of reader)) }
+    ensures store { IfOk result (λ reader.
+        IsStore reader.period bytes.now (version_number reader.version) (store_of reader)) }
     ensures seen { IfOk result IsSeen }
     ensures refused { IfErr result (λ e. (e ≡ StoreError.Memory) ⊎ (IsSomeStore bytes.now → ⊥)) }
 {

@@ -1,6 +1,6 @@
 //! Stores stacked in two orders.
 ghost use Rattle.std.specs.Prelude.{◌≡◌, ◌+◌, ◌<◌, ◌≤◌, ◌^◌, List, ◌++◌, Ok, Err, MatchResult};
-ghost use Rattle.store_reader.specs.StoreFile.{StoreBlock, docs_in, file};
+ghost use Rattle.store_format.specs.StoreFile.{StoreBlock, docs_in, file};
 ghost use Rattle.docstore.specs.Writer.{num_docs, with_failures};
 ghost use Rattle.docstore.specs.Stacking.{with_store};
 ghost use Rattle.headline.specs.Stacking.{IsNewStore};
@@ -36,7 +36,8 @@ fn stacked(
 ) -> Result<Vec<u8>, StoreError>
     requires least { 2 ≤ period }
     requires most { period ≤ 64 }
-    ensures joined { (bs cs : List StoreBlock) → IsNewStore first.now bs → IsNewStore second.now cs → docs_in bs + docs_in cs < 2 ^ 32
+    ensures joined { (bs cs : List StoreBlock) → IsNewStore first.now bs → IsNewStore second.now cs
+        → docs_in bs + docs_in cs < 2 ^ 32
         → MatchResult result (λ v. (v.items ≡ file period 3 (bs ++ cs)) × IsNewStore v.items (bs ++ cs)) IsWant }
 {
     let mut writer = StoreWriter::with_period(
@@ -66,7 +67,8 @@ pub fn stacked_in_two_orders(
     requires least { 2 ≤ period }
     requires most { period ≤ 64 }
     ensures joined { (bs cs ds : List StoreBlock)
-        → IsNewStore first.now bs → IsNewStore second.now cs → IsNewStore third.now ds → docs_in (bs ++ cs ++ ds) < 2 ^ 32
+        → IsNewStore first.now bs → IsNewStore second.now cs → IsNewStore third.now ds
+        → docs_in (bs ++ cs ++ ds) < 2 ^ 32
         → MatchResult result
         (λ files. (files.0.items ≡ file period 3 (bs ++ cs ++ ds)) × (files.1.items ≡ file period 3 (bs ++ cs ++ ds)))
         IsWant }

@@ -7,6 +7,5 @@ pub mod Tables
 pub mod IndexReading
 pub mod Building
 pub mod Refusal
-pub mod Outcome
 pub mod Laws
 pub mod Seeking

@@ -1,7 +1,7 @@
 -- What a refusal of bytes tells.
 use Rattle.std.specs.Prelude.{◌≡◌, ◌⊎◌, Option, Some, None, Result, Ok, Err}
-use Rattle.layered_index.specs.declared.error.StoreError.{StoreError}
-use Rattle.layered_index.specs.declared.error.StoreError.TheVariants.{BadIndex, Memory}
+use Rattle.store_base.specs.declared.error.StoreError.{StoreError}
+use Rattle.store_base.specs.declared.error.StoreError.TheVariants.{BadIndex, Memory}
 use Rattle.layered_index.specs.declared.index.fault.IndexFault.{IndexFault}
 use Rattle.layered_index.specs.declared.index.fault.IndexFault.TheVariants.{Malformed, OutOfMemory}
 

@@ -1,5 +1,6 @@
 //! Laws of the index's format.
-ghost use Rattle.layered_index.specs.Laws.{CheckpointBlocksAreApart, IndexPartsAreApart, LayerAboveIsInLine, LayersAreInLine};
+ghost use Rattle.layered_index.specs.Laws.{CheckpointBlocksAreApart, IndexPartsAreApart, LayerAboveIsInLine};
+ghost use Rattle.layered_index.specs.Laws.{LayersAreInLine};
 
 /// No checkpoint block begins another, and each list in line has its own.
 pub fn checkpoint_blocks_are_apart()

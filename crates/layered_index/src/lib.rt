@@ -1,12 +1,9 @@
-//! The layered skip index of a store: checkpoints, their blocks and layers, and the seek. The refusals of a store stand
-//! here too, as an index answers some of them.
+//! The layered skip index of a store: checkpoints, their blocks and layers, and the seek.
 #![tactic(auto)]
 
-pub mod error;
 pub mod index;
 pub mod laws;
 
-pub use error::{Cause, StoreError};
 pub use index::block::CheckpointBlock;
 pub use index::layer_cursor::LayerCursor;
 pub use index::looks::{Looks, Steps, seek_near, seek_over};

@@ -15,3 +15,4 @@ pub mod Files
 pub mod AliveBitSet
 pub mod Record
 pub mod RecordLemmas
+pub mod Outcome

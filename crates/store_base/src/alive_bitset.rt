@@ -1,6 +1,7 @@
 //! The live documents of a store.
 
-ghost use Rattle.std.specs.Prelude.{◌≡◌, ◌<◌, ◌^◌, ◌==◌, ℕ, length, replicate, IfOk, true, false, not, nat_eq, count_by, if◌then◌else◌};
+ghost use Rattle.std.specs.Prelude.{◌≡◌, ◌<◌, ◌^◌, ◌==◌, ℕ, length, replicate, IfOk, true, false, not, nat_eq};
+ghost use Rattle.std.specs.Prelude.{count_by, if◌then◌else◌};
 ghost use Rattle.std.specs.List.{list_any};
 ghost use Rattle.store_base.specs.AliveBitSet.{is_alive_at};
 
@@ -58,8 +59,8 @@ impl AliveBitSet {
         self.num_alive -= 1;
     }
 
-    /// Every document below `max_doc` but the deleted ones. Ids at or past `max_doc` are ignored.
-    pub fn for_test_from_deleted_docs(
+    /// All documents below `max_doc` but these. A number at or past it is ignored.
+    pub fn from_deleted_docs(
         alloc: Global,
         deleted: &[DocId],
         max_doc: u32,
@@ -73,6 +74,19 @@ impl AliveBitSet {
             set.delete(*id);
         }
         Ok(set)
+    }
+
+    /// The same, by tantivy's name.
+    pub fn for_test_from_deleted_docs(
+        alloc: Global,
+        deleted: &[DocId],
+        max_doc: u32,
+    ) -> Result<AliveBitSet, NoMemory>
+        ensures len { IfOk result (λ set. length set ≡ max_doc) }
+        ensures each { IfOk result (λ set. (id : ℕ) → id < max_doc
+            → is_alive_at set id ≡ not (list_any (nat_eq id) deleted.now)) }
+    {
+        AliveBitSet::from_deleted_docs(alloc, deleted, max_doc)
     }
 
     /// False at or past the end.

@@ -1,7 +1,7 @@
 //! Files that are read in parts.
 //!
-//! A file may lie, and its reads may fail. What it holds, whether it is honest, and how often it failed and was read are told
-//! by ghost members, so a caller's promise can say "where the file is honest" and "only where a read failed".
+//! A file may lie, and its reads may fail. What it holds, whether it is honest, and how often it failed and was read
+//! are told by ghost members, so a caller's promise can say "where the file is honest" and "only where a read failed".
 
 ghost use Rattle.std.specs.Prelude.{◌≡◌, ◌≤◌, ◌-◌, ℕ, List, Bool, length, IfOk, IsTrue, IsErrOf, slice_range};
 ghost use Rattle.store_base.specs.Counts.{HasRisen, raised};

@@ -1,8 +1,10 @@
-//! What a document store stands on: numbers as bytes, shared bytes, files, outputs, live sets and documents.
+//! What a document store stands on: numbers as bytes, shared bytes, files, outputs, live sets and documents; and why
+//! its calls are refused.
 #![tactic(auto)]
 
 pub mod alive_bitset;
 pub mod document;
+pub mod error;
 pub mod fault;
 pub mod file_slice;
 pub mod laws;
@@ -18,6 +20,7 @@ pub mod writer;
 
 pub use alive_bitset::AliveBitSet;
 pub use document::{Document, DocumentDeserialize, StoredDocument};
+pub use error::{Cause, StoreError};
 pub use fault::{DecodeFault, DocFault, NoMemory, ReadFault, WriteFault};
 pub use file_slice::{FileHandle, FileSlice, HasLen};
 pub use mem_file::MemFile;

@@ -6,7 +6,8 @@
 ghost use Rattle.std.specs.Prelude.{◌≡◌, ◌≤◌, ◌++◌, ◌∷◌, [], true, None, OnOk, OnErr, IfSome, IsErrOf, vec_capacity};
 ghost use Rattle.std.specs.Option.{option_map};
 ghost use Rattle.store_base.specs.Documents.{Appends, BeginsWith, Gives};
-ghost use Rattle.store_base.specs.Record.{fields_seen, field_bytes, has_spelling, spelling_of, field_at, fields_at, record_at, doc_bytes, reading};
+ghost use Rattle.store_base.specs.Record.{fields_seen, field_bytes, has_spelling, spelling_of, field_at, fields_at};
+ghost use Rattle.store_base.specs.Record.{record_at, doc_bytes, reading};
 
 use crate::document::{Document, DocumentDeserialize, StoredDocument};
 use crate::fault::{DocFault, NoMemory};

@@ -2,7 +2,8 @@
 //!
 //! Fixed numbers are little-endian. A list of numbers is their count and then each, as [`VInt`](crate::VInt)s.
 
-ghost use Rattle.std.specs.Prelude.{◌≡◌, ◌≤◌, ◌<◌, ◌+◌, ◌^◌, ◌++◌, ℕ, List, Result, Ok, Err, length, IfOk, IfSome, IsOk, OnOk, OnErr};
+ghost use Rattle.std.specs.Prelude.{◌≡◌, ◌≤◌, ◌<◌, ◌+◌, ◌^◌, ◌++◌, ℕ, List, Result, Ok, Err, length, IfOk, IfSome};
+ghost use Rattle.std.specs.Prelude.{IsOk, OnOk, OnErr};
 ghost use Rattle.std.specs.Int.{w8, w32, w64};
 ghost use Rattle.std.specs.Option.{option_map};
 ghost use Rattle.store_base.specs.Counts.{HasRisen};

@@ -9,17 +9,17 @@ use Rattle.std.specs.List.{filter, enumerate_from}
 use Rattle.store_base.specs.Counts.{HasRisen}
 use Rattle.store_base.specs.Files.{Part}
 use Rattle.layered_index.specs.Checkpoint.{docs_end}
-use Rattle.layered_index.specs.declared.error.StoreError.{StoreError}
-use Rattle.layered_index.specs.declared.error.StoreError.TheVariants.{Read, Memory, DamagedDocument}
+use Rattle.store_base.specs.declared.error.StoreError.{StoreError}
+use Rattle.store_base.specs.declared.error.StoreError.TheVariants.{Read, Memory, DamagedDocument}
 use Rattle.layered_index.specs.declared.index.Checkpoint.{Checkpoint}
 use Rattle.store_reader.specs.Answering.{AnswersFrom, AnswersTruly}
-use Rattle.store_reader.specs.StoreFile.{blocks_at}
-use Rattle.store_reader.specs.Block.{Slot, doc, damaged}
+use Rattle.store_format.specs.StoreFile.{blocks_at}
+use Rattle.store_format.specs.Block.{Slot, doc, damaged}
 use Rattle.store_reader.specs.declared.walk.Walk.{Walk}
 use Rattle.store_reader.specs.Iteration.{is_in, alive}
 use Rattle.store_reader.specs.LookingUp.{LooksUp, Takes}
 use Rattle.store_reader.specs.Reading.{Reading, IsSameStore, num_docs, store_of}
-use Rattle.store_reader.specs.Slots.{slots}
+use Rattle.store_format.specs.Slots.{slots}
 use Rattle.docstore.specs.Trace.{weight}
 use Rattle.store_reader.specs.Walking.{GivesNext, IsTaken as IsBlockTaken, IsWalk, LooksAlong}
 use Rattle.docstore.specs.Writer.{Writing, flushed, with_document, with_failures}

@@ -4,9 +4,9 @@ use Rattle.std.proofs.lemmas.Bool.{cases_lt}
 use Rattle.std.proofs.lemmas.Option.{get_or_from_slice_get, slice_get_past}
 use Rattle.std.specs.Prelude.{IfSome, slice_get}
 use Rattle.std.specs.List.{AllByRecursion}
-use Rattle.layered_index.specs.declared.error.StoreError.{StoreError}
-use Rattle.layered_index.specs.declared.error.StoreError.TheVariants.{ShortFile, BadVersion, BadBlockKind, BadOffset, BadIndex, InvalidArgument, DamagedDocument, BadDocument, Read, Memory, OldVersion, Unserializable, BlockTooLarge, TooManyDocs, Failed, BadPeriod}
-use Rattle.store_reader.specs.Block.{Slot}
+use Rattle.store_base.specs.declared.error.StoreError.{StoreError}
+use Rattle.store_base.specs.declared.error.StoreError.TheVariants.{ShortFile, BadVersion, BadBlockKind, BadOffset, BadIndex, InvalidArgument, DamagedDocument, BadDocument, Read, Memory, OldVersion, Unserializable, BlockTooLarge, TooManyDocs, Failed, BadPeriod}
+use Rattle.store_format.specs.Block.{Slot}
 use Rattle.docstore.specs.Laws.{taken, StackedSlotsAreCounted}
 use Rattle.store_reader.specs.Reading.{Reading}
 use Rattle.docstore.specs.Writer.{Writing}

@@ -6,7 +6,7 @@ use Rattle.std.proofs.lemmas.List.Sums.{fold-append}
 use Rattle.std.proofs.lemmas.Option.{slice_get-get_or}
 use Rattle.std.specs.Prelude.{slice_get}
 use Rattle.std.specs.List.{AllByRecursion, flat_map}
-use Rattle.store_reader.specs.Block.{Slot}
+use Rattle.store_format.specs.Block.{Slot}
 use Rattle.docstore.specs.Laws.{taken}
 use Rattle.docstore.specs.Stacking.{with_store}
 use Rattle.docstore.specs.Writer.{Writing, with_document, with_failures}

@@ -3,14 +3,14 @@ use Rattle.std.proofs.Common.{◌≡◌, ℕ, inl, inr, Bool, true, false, Bor, 
 use Rattle.std.specs.Prelude.{OnOk, IfErr}
 use Rattle.std.specs.Option.{option_copied}
 use Rattle.std.proofs.lemmas.List.{take-append-drop}
-use Rattle.layered_index.specs.declared.error.Cause.{Cause}
-use Rattle.layered_index.specs.declared.error.StoreError.{StoreError}
-use Rattle.layered_index.specs.declared.error.StoreError.TheVariants.{ShortFile, BadVersion, BadBlockKind, BadOffset, BadIndex, InvalidArgument, DamagedDocument, BadDocument, Read, Memory, OldVersion, Unserializable, BlockTooLarge, TooManyDocs, Failed, BadPeriod}
-use Rattle.store_reader.specs.Block.{Slot, doc}
+use Rattle.store_base.specs.declared.error.Cause.{Cause}
+use Rattle.store_base.specs.declared.error.StoreError.{StoreError}
+use Rattle.store_base.specs.declared.error.StoreError.TheVariants.{ShortFile, BadVersion, BadBlockKind, BadOffset, BadIndex, InvalidArgument, DamagedDocument, BadDocument, Read, Memory, OldVersion, Unserializable, BlockTooLarge, TooManyDocs, Failed, BadPeriod}
+use Rattle.store_format.specs.Block.{Slot, doc}
 use Rattle.store_reader.specs.Iteration.{alive}
 use Rattle.docstore.specs.Laws.{taken}
 use Rattle.store_reader.specs.Reading.{Reading, store_of}
-use Rattle.store_reader.specs.Slots.{slots}
+use Rattle.store_format.specs.Slots.{slots}
 use Rattle.store_reader.specs.Walking.{set_of as set_of_lent}
 use Rattle.docstore.specs.Writer.{Writing, AfterFailed}
 use Rattle.store_merge.specs.declared.input.MergeInput.{MergeInput}

@@ -1,10 +1,10 @@
 -- What comes of the inputs of a merge, and what that leaves of a writer.
 use Rattle.std.specs.Prelude.{◌≡◌, ◌⊎◌, ℕ, None, Bool, true, false, IsTrue, List, [], ◌∷◌, ◌++◌, length, map}
 use Rattle.std.specs.List.{fold}
-use Rattle.store_reader.specs.Block.{Slot, doc}
-use Rattle.store_reader.specs.Slots.{slots}
+use Rattle.store_format.specs.Block.{Slot, doc}
+use Rattle.store_format.specs.Slots.{slots}
 use Rattle.docstore.specs.Stacking.{AreRead, with_store}
-use Rattle.store_reader.specs.StoreFile.{StoreBlock}
+use Rattle.store_format.specs.StoreFile.{StoreBlock}
 use Rattle.docstore.specs.Laws.{taken}
 use Rattle.docstore.specs.Writer.{Writing, with_document, with_failures}
 use Rattle.store_merge.specs.declared.input.MergeInput.{MergeInput}

@@ -1,7 +1,7 @@
 -- How the documents of a store are copied.
 use Rattle.std.specs.Prelude.{◌≡◌, ◌⊎◌, ℕ, List, [], ◌∷◌, ◌++◌, None, Result, Ok, Err}
-use Rattle.layered_index.specs.declared.error.StoreError.{StoreError}
-use Rattle.store_reader.specs.Block.{doc}
+use Rattle.store_base.specs.declared.error.StoreError.{StoreError}
+use Rattle.store_format.specs.Block.{doc}
 use Rattle.docstore.specs.Laws.{taken}
 use Rattle.docstore.specs.Writer.{Writing, with_document, with_failures}
 use Rattle.store_merge.specs.Refusals.{RefusesBytes}

@@ -1,11 +1,11 @@
 -- The inputs of a merge, and what the taking of one leaves.
 use Rattle.std.specs.Prelude.{◌≡◌, ◌≢◌, ◌≤◌, List, [], ◌∷◌, ◌++◌, length, IfSome, None}
-use Rattle.store_reader.specs.declared.footer.DocStoreVersion.TheVariants.{V1}
+use Rattle.store_format.specs.declared.version.DocStoreVersion.TheVariants.{V1}
 use Rattle.docstore.specs.Laws.{taken}
 use Rattle.store_reader.specs.Reading.{Reading, IsSameStore, num_docs as docs_of}
-use Rattle.store_reader.specs.Slots.{slots}
+use Rattle.store_format.specs.Slots.{slots}
 use Rattle.docstore.specs.Stacking.{AreRead, with_store}
-use Rattle.store_reader.specs.StoreFile.{StoreBlock}
+use Rattle.store_format.specs.StoreFile.{StoreBlock}
 use Rattle.docstore.specs.Writer.{Writing, with_failures}
 use Rattle.store_merge.specs.declared.input.MergeInput.{MergeInput}
 use Rattle.store_merge.specs.Bringing.{Brought, IsBrought, with_brought, slots_of, WorkedOrIdle}

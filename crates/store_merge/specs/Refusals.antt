@@ -1,13 +1,13 @@
 -- Why a merge ends early, and what that leaves.
 use Rattle.std.specs.Prelude.{◌≡◌, ◌⊎◌, ℕ, ◌-◌, ◌<◌, ◌≤◌, ◌^◌, Bool, true, false, IsTrue, List, ◌++◌, take, slice_get, Option, Some, None}
 use Rattle.store_base.specs.Counts.{HasRisen}
-use Rattle.layered_index.specs.declared.error.StoreError.{StoreError}
-use Rattle.layered_index.specs.declared.error.StoreError.TheVariants.{DamagedDocument, Read, Memory, BlockTooLarge, TooManyDocs, Failed}
-use Rattle.store_reader.specs.Block.{Slot, doc, damaged}
+use Rattle.store_base.specs.declared.error.StoreError.{StoreError}
+use Rattle.store_base.specs.declared.error.StoreError.TheVariants.{DamagedDocument, Read, Memory, BlockTooLarge, TooManyDocs, Failed}
+use Rattle.store_format.specs.Block.{Slot, doc, damaged}
 use Rattle.store_reader.specs.Iteration.{is_in, alive}
 use Rattle.docstore.specs.Laws.{taken}
 use Rattle.store_reader.specs.Reading.{Reading, num_docs as docs_of, store_of}
-use Rattle.store_reader.specs.Slots.{slots}
+use Rattle.store_format.specs.Slots.{slots}
 use Rattle.docstore.specs.Stacking.{HasTooMany, IsFlushed}
 use Rattle.docstore.specs.Writer.{Writing, num_docs, IsTooLarge, AfterFailed}
 use Rattle.store_merge.specs.declared.input.MergeInput.{MergeInput}

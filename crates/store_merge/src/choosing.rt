@@ -3,7 +3,7 @@ ghost use Rattle.std.specs.Prelude.{◌≡◌, length};
 ghost use Rattle.std.specs.List.{list_all, range_with_len};
 ghost use Rattle.store_reader.specs.Iteration.{is_in};
 ghost use Rattle.store_reader.specs.Reading.{num_docs, store_of};
-ghost use Rattle.store_reader.specs.Slots.{slots};
+ghost use Rattle.store_format.specs.Slots.{slots};
 ghost use Rattle.store_reader.specs.Walking.{set_of};
 ghost use Rattle.store_merge.specs.Choice.{is_stacked, first_old};
 

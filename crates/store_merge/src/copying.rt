@@ -1,7 +1,7 @@
 //! Copies the documents of a store one by one.
 ghost use Rattle.std.specs.Prelude.{◌≡◌, ◌≤◌, ◌⊎◌, Ok, Err, OnOk, IfErr, IfSome, length};
 ghost use Rattle.store_reader.specs.Reading.{IsSameStore, num_docs, store_of};
-ghost use Rattle.store_reader.specs.Slots.{slots};
+ghost use Rattle.store_format.specs.Slots.{slots};
 ghost use Rattle.store_reader.specs.Walking.{set_of};
 ghost use Rattle.docstore.specs.Writer.{IsStoreWriter};
 ghost use Rattle.store_merge.specs.Bringing.{IsCopied};

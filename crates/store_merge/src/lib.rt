@@ -1,4 +1,5 @@
-//! Merges stores with live sets: the documents that are alive in each of some stores, in order, go behind those of a writer.
+//! Merges stores with live sets: the documents that are alive in each of some stores, in order, go behind those of a
+//! writer.
 //!
 //! A store of at least six blocks of which nothing is deleted is stacked, block by block; the documents of every other
 //! one are copied one by one. That rule is this project's own.

@@ -22,7 +22,8 @@ fn stack_store<W: TerminatingWrite, H: FileHandle>(
     requires sound { IsStoreWriter writer.old }
     ensures stacked { OnOk result (IsStacked reader.old writer.old writer.new) }
     ensures refused { IfErr result (RefusesStore reader.old reader.new writer.old writer.new) }
-    ensures grown { IfErr result (λ _. writer.new.output.failure ≡ writer.old.output.failure → taken writer.new ≡ taken writer.old) }
+    ensures grown { IfErr result (λ _. writer.new.output.failure ≡ writer.old.output.failure
+        → taken writer.new ≡ taken writer.old) }
     ensures same_store { IsSameStore reader.old reader.new }
     ensures count { writer.old.output.failures ≤ writer.new.output.failures }
     ensures sound { IsStoreWriter writer.new }
@@ -42,7 +43,8 @@ pub fn take_input<W: TerminatingWrite, H: FileHandle>(
     requires sound { IsStoreWriter writer.old }
     ensures taken { OnOk result (IsInputTaken input.old writer.old writer.new) }
     ensures refused { IfErr result (RefusesInput input.old input.new writer.old writer.new) }
-    ensures grown { IfErr result (λ _. writer.new.output.failure ≡ writer.old.output.failure → HasGrown input.old writer.old writer.new) }
+    ensures grown { IfErr result (λ _. writer.new.output.failure ≡ writer.old.output.failure
+        → HasGrown input.old writer.old writer.new) }
     ensures kept { IsInputKept input.old input.new }
     ensures count { writer.old.output.failures ≤ writer.new.output.failures }
     ensures sound { IsStoreWriter writer.new }

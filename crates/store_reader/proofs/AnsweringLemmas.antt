@@ -3,12 +3,12 @@ use Rattle.std.proofs.Common.{◌≡◌, ℕ, ◌-◌, ◌≤◌, List, length, 
 use Rattle.std.specs.Prelude.{Result, Ok, Err, IsTrue, IfOk, slice_get}
 use Rattle.store_base.specs.Counts.{HasRisen}
 use Rattle.layered_index.specs.declared.index.Checkpoint.{Checkpoint}
-use Rattle.layered_index.specs.declared.error.StoreError.{StoreError}
-use Rattle.layered_index.specs.declared.error.StoreError.TheVariants.{InvalidArgument, Read, Memory}
-use Rattle.store_reader.specs.Block.{Slot, slot}
+use Rattle.store_base.specs.declared.error.StoreError.{StoreError}
+use Rattle.store_base.specs.declared.error.StoreError.TheVariants.{InvalidArgument, Read, Memory}
+use Rattle.store_format.specs.Block.{Slot, slot}
 use Rattle.layered_index.specs.Checkpoint.{Covers, first_past}
-use Rattle.store_reader.specs.Slots.{slots}
-use Rattle.store_reader.specs.StoreFile.{StoreBlock}
+use Rattle.store_format.specs.Slots.{slots}
+use Rattle.store_format.specs.StoreFile.{StoreBlock}
 use Rattle.store_reader.specs.Reading.{Reading, num_docs, part_of, store_of}
 use Rattle.store_reader.specs.Answering.{IsLookedUp, IsAnswered, AnswersFrom, AnswersTruly}
 use Rattle.store_reader.proofs.SeenLemmas.{blocks_of, store_is}

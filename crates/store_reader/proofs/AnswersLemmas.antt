@@ -5,17 +5,17 @@ use Rattle.std.proofs.lemmas.Grind.{flat_map-append}
 use Rattle.std.proofs.lemmas.List.{append-nil, take_more}
 use Rattle.std.specs.Prelude.{nat_lt, IsTrue, IfErr, Result, Ok, Err}
 use Rattle.std.specs.List.{AllByRecursion, AllZip, flat_map}
-use Rattle.layered_index.specs.declared.error.StoreError.{StoreError}
-use Rattle.layered_index.specs.declared.error.StoreError.TheVariants.{Read, Memory}
+use Rattle.store_base.specs.declared.error.StoreError.{StoreError}
+use Rattle.store_base.specs.declared.error.StoreError.TheVariants.{Read, Memory}
 use Rattle.layered_index.specs.declared.index.Checkpoint.{Checkpoint}
 use Rattle.store_reader.specs.declared.answers.Answer.{Answer}
 use Rattle.store_reader.specs.declared.answers.ReadCall.{ReadCall}
 use Rattle.store_reader.specs.declared.answers.ReadCall.TheVariants.{Bytes}
 use Rattle.store_reader.specs.Answering.{IsAnswered, AnswersFrom}
-use Rattle.store_reader.specs.Block.{Slot}
+use Rattle.store_format.specs.Block.{Slot}
 use Rattle.store_reader.specs.LookLaws.{AreLookUps}
 use Rattle.store_reader.specs.Reading.{Reading, IsSameStore, num_docs, store_of}
-use Rattle.store_reader.specs.Slots.{slots}
+use Rattle.store_format.specs.Slots.{slots}
 use Rattle.store_reader.specs.Answers.{IsAnswer, AreAnswers, IsNotPast, RefusesPast, keys_of_call, keys_of_calls}
 use Rattle.store_reader.proofs.ListingLemmas.{same_slots, same_count}
 use Rattle.store_reader.proofs.RecentLemmas.{no_looks, look_once, looks_then}

@@ -3,18 +3,18 @@ use Rattle.std.proofs.Common.{◌≡◌, inl, inr, ℕ, List, [], ◌∷◌, map
 use Rattle.std.proofs.lemmas.List.Elements.{Contains-append_left, Contains-append_right, Contains-push}
 use Rattle.std.specs.List.{Contains, flat_map}
 use Rattle.std.specs.Prelude.{Result, Ok, Err, slice_get}
-use Rattle.layered_index.specs.declared.error.StoreError.{StoreError}
-use Rattle.layered_index.specs.declared.error.StoreError.TheVariants.{Read, Memory}
+use Rattle.store_base.specs.declared.error.StoreError.{StoreError}
+use Rattle.store_base.specs.declared.error.StoreError.TheVariants.{Read, Memory}
 use Rattle.store_reader.specs.declared.answers.Answer.{Answer}
 use Rattle.store_reader.specs.declared.answers.Answer.TheVariants.{Got, Listed}
 use Rattle.store_reader.specs.declared.answers.ReadCall.{ReadCall}
 use Rattle.store_reader.specs.declared.answers.ReadCall.TheVariants.{Bytes, Iter}
 use Rattle.store_reader.specs.Answering.{AnswersTruly}
 use Rattle.store_reader.specs.Answers.{IsAnswer, AnswersAreExact, results_of, exact_result, exact_results, set_here}
-use Rattle.store_reader.specs.Block.{Slot}
+use Rattle.store_format.specs.Block.{Slot}
 use Rattle.store_reader.specs.Listing.{AreItems, first_alive}
 
-exact : (id : ℕ) (s : Option Slot) (r : Result (List ℕ) StoreError) → AnswersTruly id s r → ¬ (r ≡ Err Read) → ¬ (r ≡ Err Memory) → r ≡ exact_result id s
+pub exact : (id : ℕ) (s : Option Slot) (r : Result (List ℕ) StoreError) → AnswersTruly id s r → ¬ (r ≡ Err Read) → ¬ (r ≡ Err Memory) → r ≡ exact_result id s
 exact id s (Ok bytes) truly no_read no_memory = sym (ap (exact_result id) truly)
 exact id s (Err e) (inl none) no_read no_memory = ap Err none.0 ∙ sym (ap (exact_result id) none.1)
 exact id s (Err e) (inr (inl bad)) no_read no_memory = ap Err bad.0 ∙ sym (ap (exact_result id) bad.1)

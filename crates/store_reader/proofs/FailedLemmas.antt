@@ -6,8 +6,8 @@ use Rattle.std.proofs.lemmas.List.{append-nil}
 use Rattle.std.specs.List.{Contains, flat_map}
 use Rattle.std.specs.Prelude.{Result, Ok, Err}
 use Rattle.store_base.specs.Counts.{HasRisen}
-use Rattle.layered_index.specs.declared.error.StoreError.{StoreError}
-use Rattle.layered_index.specs.declared.error.StoreError.TheVariants.{Read, Memory}
+use Rattle.store_base.specs.declared.error.StoreError.{StoreError}
+use Rattle.store_base.specs.declared.error.StoreError.TheVariants.{Read, Memory}
 use Rattle.layered_index.specs.declared.index.Checkpoint.{Checkpoint}
 use Rattle.store_reader.specs.declared.answers.Answer.{Answer}
 use Rattle.store_reader.specs.declared.walk.Walk.{Walk}

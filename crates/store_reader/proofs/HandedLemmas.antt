@@ -4,27 +4,14 @@ use Rattle.std.specs.Prelude.{Result, Ok, Err}
 use Rattle.std.proofs.lemmas.Bool.{ltb-true, ltb-false}
 use Rattle.store_base.specs.Counts.{HasRisen}
 use Rattle.store_base.specs.Files.{Part}
-use Rattle.layered_index.specs.declared.error.StoreError.{StoreError}
-use Rattle.layered_index.specs.declared.error.StoreError.TheVariants.{Read}
-use Rattle.store_reader.specs.declared.footer.DocStoreFooter.{DocStoreFooter}
-use Rattle.store_reader.specs.Extraction.{SaysFrom, ExtractsFooter}
-use Rattle.store_reader.specs.FileReading.{Comes}
+use Rattle.store_base.specs.declared.error.StoreError.{StoreError}
+use Rattle.store_base.specs.declared.error.StoreError.TheVariants.{Read}
+use Rattle.store_format.specs.declared.footer.DocStoreFooter.{DocStoreFooter}
+use Rattle.store_format.specs.Extraction.{SaysFrom, ExtractsFooter}
+use Rattle.store_format.specs.FileReading.{Comes}
 use Rattle.layered_index.specs.Layers.{Index}
 use Rattle.store_reader.specs.Opening.{IndexFrom, ReadsIndex, Opens, OpensFrom}
-
--- what no reading changes
-record IsSameFile (old new : Part) : Type 0 where
-  content : new.content ≡ old.content
-  failures : old.failures ≤ new.failures
-
-same_part : (old new : Part) → new ≡ old → IsSameFile old new
-same_part old new same = let count : new.failures ≡ old.failures = ap (λ (p : Part). p.failures) same in record { content = ap (λ (p : Part). p.content) same; failures = omega arith }
-
-extracts_same : (old mid : Part) (said : Result DocStoreFooter StoreError) → ExtractsFooter old said mid → IsSameFile old mid
-extracts_same old mid said r = (elim (nat_lt (length old.content) 28) as (λ y. nat_lt (length old.content) 28 ≡ y → IsSameFile old mid) [
-  | true ↦ λ t. same_part old mid (r.short (ltb-true _ _ t)).1
-  | false ↦ λ t. let once = (r.long (ltb-false _ _ t)).1.once in record { content = once.content; failures = once.failures }
-]) refl
+use Rattle.store_format.proofs.FooterHandedLemmas.{IsSameFile, same_part, extracts_same, footer_failed}
 
 reads_same : (mid new : Part) (f : DocStoreFooter) (found : Result Index StoreError) → ReadsIndex mid f found new → IsSameFile mid new
 reads_same mid new f found r = (elim (nat_lt (length mid.content - 28) f.offset) as (λ y. nat_lt (length mid.content - 28) f.offset ≡ y → IsSameFile mid new) [
@@ -47,16 +34,6 @@ accepted_from mid new (Ok f) found on = (reads_same mid new f (Ok found.1) on.1)
 -- So does a file that is accepted.
 pub accepted_handed : (old new : Part) (found : DocStoreFooter × Index) → Opens old (Ok found) new → new.content ≡ old.content
 accepted_handed old new found o = accepted_from o.mid new o.footer found o.goes_on ∙ (extracts_same old o.mid o.footer o.reads).content
-
-footer_failed : (old mid : Part) → ExtractsFooter old (Err Read) mid → HasRisen old.failures mid.failures
-footer_failed old mid r = (elim (nat_lt (length old.content) 28) as (λ y. nat_lt (length old.content) 28 ≡ y → HasRisen old.failures mid.failures) [
-  | true ↦ λ t. let no = (r.short (ltb-true _ _ t)).0 in absurd cc
-  | false ↦ λ t. let long = r.long (ltb-false _ _ t) in go long.0 long.1 long.2
-]) refl
-  where
-    go : (came : Result (List ℕ) StoreError) → Comes old (length old.content - 28) (length old.content) came mid → SaysFrom came (Err Read) → HasRisen old.failures mid.failures
-    go (Err d) comes is = comes.failed (cc)
-    go (Ok b) comes is = absurd is
 
 index_failed : (mid new : Part) (f : DocStoreFooter) → ReadsIndex mid f (Err Read) new → HasRisen mid.failures new.failures
 index_failed mid new f r = (elim (nat_lt (length mid.content - 28) f.offset) as (λ y. nat_lt (length mid.content - 28) f.offset ≡ y → HasRisen mid.failures new.failures) [
@@ -81,7 +58,3 @@ failed_from old mid new (Ok f) reads on =
 -- A read fails only where the file's count of failures rises.
 pub opening_failed : (old new : Part) (e : StoreError) → e ≡ Read → Opens old (Err e) new → HasRisen old.failures new.failures
 opening_failed old new e is o = failed_from old o.mid new o.footer o.reads (subst (λ (x : StoreError). OpensFrom o.mid o.footer (Err x) new) is o.goes_on)
-
--- Where the footer is refused the file is left too.
-pub footer_handed : (old mid : Part) (said : Result DocStoreFooter StoreError) → ExtractsFooter old said mid → mid.content ≡ old.content
-footer_handed old mid said r = (extracts_same old mid said r).content

@@ -1,7 +1,4 @@
-pub mod StoreLemmas
-pub mod FooterReadLemmas
 pub mod CoveringLemmas
-pub mod ExtractionLemmas
 pub mod SeekLemmas
 pub mod CacheSumLemmas
 pub mod KeptLemmas
@@ -14,8 +11,11 @@ pub mod RecentLemmas
 pub mod LookedLemmas
 pub mod OpenedLemmas
 pub mod RefusedLemmas
+pub mod FoundLemmas
+pub mod ViewLemmas
+pub mod AlikeLemmas
+pub mod GivenLemmas
 pub mod HandedLemmas
-pub mod ApartLemmas
 pub mod ListingLemmas
 pub mod ListedLemmas
 pub mod AnswersLemmas

@@ -8,15 +8,15 @@ use Rattle.std.proofs.lemmas.Option.{slice_get-get_or}
 use Rattle.std.proofs.lemmas.Bool.{cases_lt}
 use Rattle.std.specs.Prelude.{slice_get, IsTrue}
 use Rattle.std.specs.List.{filter, enumerate_from}
-use Rattle.layered_index.specs.declared.error.StoreError.{StoreError}
+use Rattle.store_base.specs.declared.error.StoreError.{StoreError}
 use Rattle.store_reader.specs.Answering.{AnswersTruly}
-use Rattle.store_reader.specs.StoreFile.{blocks_at}
-use Rattle.store_reader.specs.Block.{Slot, damaged}
+use Rattle.store_format.specs.StoreFile.{blocks_at}
+use Rattle.store_format.specs.Block.{Slot, damaged}
 use Rattle.store_reader.specs.Iteration.{is_in}
 use Rattle.layered_index.specs.Checkpoint.{docs_end}
 use Rattle.store_reader.specs.declared.walk.Walk.{Walk}
 use Rattle.store_reader.specs.Reading.{Reading, IsSameStore, num_docs, store_of}
-use Rattle.store_reader.specs.Slots.{slots}
+use Rattle.store_format.specs.Slots.{slots}
 use Rattle.store_reader.specs.Walking.{GivesNext}
 use Rattle.store_reader.specs.Listing.{first_alive, AreItems}
 

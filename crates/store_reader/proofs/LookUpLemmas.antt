@@ -5,10 +5,10 @@ use Rattle.std.specs.Prelude.{Result, Ok, Err, IsTrue, IfOk, IsSomeAnd}
 use Rattle.std.specs.List.{AllByRecursion}
 use Rattle.store_base.specs.Files.{Part}
 use Rattle.layered_index.specs.declared.index.Checkpoint.{Checkpoint}
-use Rattle.layered_index.specs.declared.error.StoreError.{StoreError}
+use Rattle.store_base.specs.declared.error.StoreError.{StoreError}
 use Rattle.layered_index.specs.Checkpoint.{Covers, first_past}
 use Rattle.store_reader.specs.Cache.{look_up}
-use Rattle.store_reader.specs.FileReading.{Comes}
+use Rattle.store_format.specs.FileReading.{Comes}
 use Rattle.store_reader.specs.Kept.{Blocks, block_at, after_hit, with_pair, state_of}
 use Rattle.store_reader.specs.LookingUp.{LooksUp, cache_missed}
 use Rattle.store_reader.specs.Reading.{IsReader, HasPart, part_of}

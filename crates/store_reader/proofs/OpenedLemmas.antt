@@ -4,20 +4,20 @@ use Rattle.std.specs.Prelude.{Result, Ok, Err, IsTrue, slice_range}
 use Rattle.std.proofs.lemmas.Bool.{ltb-true, ltb-false}
 use Rattle.std.proofs.lemmas.List.{append-nil}
 use Rattle.store_base.specs.Files.{Part}
-use Rattle.store_reader.specs.declared.compressors.Decompressor.{Decompressor}
-use Rattle.store_reader.specs.declared.compressors.Decompressor.TheVariants as unpacked
-use Rattle.layered_index.specs.declared.error.StoreError.{StoreError}
-use Rattle.store_reader.specs.declared.footer.DocStoreFooter.{DocStoreFooter}
-use Rattle.store_reader.specs.declared.footer.DocStoreVersion.{DocStoreVersion}
+use Rattle.store_format.specs.declared.kinds.Decompressor.{Decompressor}
+use Rattle.store_format.specs.declared.kinds.Decompressor.TheVariants as unpacked
+use Rattle.store_base.specs.declared.error.StoreError.{StoreError}
+use Rattle.store_format.specs.declared.footer.DocStoreFooter.{DocStoreFooter}
+use Rattle.store_format.specs.declared.version.DocStoreVersion.{DocStoreVersion}
 use Rattle.layered_index.specs.declared.index.Checkpoint.{Checkpoint}
 use Rattle.layered_index.specs.Checkpoint.{Covers}
-use Rattle.store_reader.specs.Extraction.{SaysFrom, ExtractsFooter}
-use Rattle.store_reader.specs.FileReading.{Comes}
-use Rattle.store_reader.specs.Footer.{footer, kind_of, version_number}
+use Rattle.store_format.specs.Extraction.{SaysFrom, ExtractsFooter}
+use Rattle.store_format.specs.FileReading.{Comes}
+use Rattle.store_format.specs.Footer.{footer, kind_of, version_number}
 use Rattle.layered_index.specs.Layers.{Index, index_part}
 use Rattle.store_reader.specs.Opening.{IndexFrom, ReadsIndex, OpensFrom, IsOpened}
 use Rattle.store_reader.specs.Reading.{Reading, store_of}
-use Rattle.store_reader.specs.StoreFile.{data_of, marks, HasForm, IsStore}
+use Rattle.store_format.specs.StoreFile.{data_of, marks, HasForm, IsStore}
 use Rattle.store_reader.proofs.SeenLemmas.{length-slice, slices_joined, all_of, store_seen}
 
 pub kind_zero : (d : Decompressor) → kind_of d ≡ 0
@@ -47,13 +47,13 @@ tail_of old mid f honest r = (elim (nat_lt (length old.content) 28) as (λ y. na
         (record { long = le; few = is.1; reserved = is.0; form = is.2; tail = sym (comes.bytes honest) ∙ text }, comes.once.content, comes.once.honest)
 
 -- the index of a file, and what it covers
-record IsMiddle (content : List ℕ) (f : DocStoreFooter) (index : Index) : Type 0 where
-  within : f.offset ≤ length content - 28
-  period : index.period ≡ f.period
-  covers : Covers index.checkpoints f.offset
-  spells : slice_range content f.offset (length content - 28) ≡ index_part f.period index.checkpoints
+pub record IsMiddle (content : List ℕ) (f : DocStoreFooter) (index : Index) : Type 0 where
+  pub within : f.offset ≤ length content - 28
+  pub period : index.period ≡ f.period
+  pub covers : Covers index.checkpoints f.offset
+  pub spells : slice_range content f.offset (length content - 28) ≡ index_part f.period index.checkpoints
 
-middle_of : (mid new : Part) (f : DocStoreFooter) (index : Index) → IsTrue mid.honest → ReadsIndex mid f (Ok index) new → IsMiddle mid.content f index × (new.content ≡ mid.content)
+pub middle_of : (mid new : Part) (f : DocStoreFooter) (index : Index) → IsTrue mid.honest → ReadsIndex mid f (Ok index) new → IsMiddle mid.content f index × (new.content ≡ mid.content)
 middle_of mid new f index honest r = (elim (nat_lt (length mid.content - 28) f.offset) as (λ y. nat_lt (length mid.content - 28) f.offset ≡ y → IsMiddle mid.content f index × (new.content ≡ mid.content)) [
   | true ↦ λ t. let no = (r.past (ltb-true _ _ t)).0 in absurd cc
   | false ↦ λ t. let le = ltb-false _ _ t in let read = r.within le in go le read.0 read.1 read.2
@@ -64,7 +64,7 @@ middle_of mid new f index honest r = (elim (nat_lt (length mid.content - 28) f.o
     go le (Ok bytes) comes is = (record { within = le; period = is.0; covers = is.1.covers; spells = sym (comes.bytes honest) ∙ is.1.spells }, comes.once.content)
 
 -- the parts make the file
-whole_file : (content : List ℕ) (f : DocStoreFooter) (reader : Reading) (index : Index) → IsTail content f → IsMiddle content f index → reader.checkpoints ≡ index.checkpoints → reader.period ≡ index.period → reader.file.content ≡ slice_range content 0 f.offset
+pub whole_file : (content : List ℕ) (f : DocStoreFooter) (reader : Reading) (index : Index) → IsTail content f → IsMiddle content f index → reader.checkpoints ≡ index.checkpoints → reader.period ≡ index.period → reader.file.content ≡ slice_range content 0 f.offset
     → IsStore reader.period content (version_number f.doc_store_version) (store_of reader)
 whole_file content f reader index tail middle same periods part =
     let long = tail.long in let within = middle.within in

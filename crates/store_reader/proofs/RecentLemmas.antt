@@ -7,7 +7,7 @@ use Rattle.std.specs.List.{list_any}
 use Rattle.std.specs.Map.{keys_of}
 use Rattle.store_base.specs.Counts.{raised}
 use Rattle.store_base.specs.Files.{Part}
-use Rattle.layered_index.specs.declared.error.StoreError.{StoreError}
+use Rattle.store_base.specs.declared.error.StoreError.{StoreError}
 use Rattle.layered_index.specs.declared.index.Checkpoint.{Checkpoint}
 use Rattle.store_reader.specs.Answering.{IsLookedUp}
 use Rattle.store_reader.specs.Cache.{CacheState, LookUp, look_up, recent, misses_along}

@@ -8,46 +8,23 @@ use Rattle.std.proofs.Math.Seq.{drop-append_seam, take-append_seam}
 use Rattle.store_base.specs.Files.{Part}
 use Rattle.store_base.specs.Serialize.{fixed}
 use Rattle.store_base.specs.SerializeLemmas.{fixed_numbers_are_apart}
-use Rattle.layered_index.specs.declared.error.StoreError.{StoreError}
-use Rattle.layered_index.specs.declared.error.StoreError.TheVariants.{BadVersion, BadBlockKind, Read, Memory, BadPeriod}
-use Rattle.store_reader.specs.declared.footer.DocStoreFooter.{DocStoreFooter}
+use Rattle.store_base.specs.declared.error.StoreError.{StoreError}
+use Rattle.store_base.specs.declared.error.StoreError.TheVariants.{BadVersion, BadBlockKind, Read, Memory, BadPeriod}
+use Rattle.store_format.specs.declared.footer.DocStoreFooter.{DocStoreFooter}
 use Rattle.layered_index.specs.Checkpoint.{IsFilled, Covers, bytes_end}
-use Rattle.store_reader.specs.Extraction.{Says, SaysFrom, ExtractsFooter}
-use Rattle.store_reader.specs.FileReading.{Comes}
-use Rattle.store_reader.specs.Footer.{footer, version_number}
+use Rattle.store_format.specs.Extraction.{Says, SaysFrom, ExtractsFooter}
+use Rattle.store_format.specs.FileReading.{Comes}
+use Rattle.store_format.specs.Footer.{footer, version_number}
 use Rattle.layered_index.specs.Layers.{index_part}
 use Rattle.store_reader.specs.Opening.{IndexFrom, ReadsIndex, Opens, OpensFrom, IsSomeStore, RefusesNoStore}
-use Rattle.store_reader.specs.StoreFile.{StoreBlock, IsStoreBlock, AreBlocks, data_of, marks_from, marks, HasForm}
-use Rattle.store_reader.proofs.ExtractionLemmas.{length-reserved, length-footer}
+use Rattle.store_format.specs.StoreFile.{StoreBlock, IsStoreBlock, AreBlocks, data_of, marks_from, marks, HasForm}
+use Rattle.store_format.proofs.ExtractionLemmas.{length-reserved, length-footer}
 use Rattle.store_reader.proofs.OpenedLemmas.{IsTail, tail_of}
-use Rattle.store_reader.proofs.StoreLemmas.{length-data_of-cons, data_fits, marks_in_line_from}
-
--- ---- the marks of a store cover its data
-
-marks_filled : (id byte : ℕ) (bs : List StoreBlock) → AllByRecursion IsStoreBlock bs → AllByRecursion IsFilled (marks_from id byte bs)
-marks_filled id byte [] each = tt
-marks_filled id byte (b ∷ bs) each = ((omega (arith, each.0.some_docs), omega (arith, each.0.some_bytes)), marks_filled (id + b.count) (byte + length b.bytes) bs each.1)
-
-marks_end : (id byte : ℕ) (bs : List StoreBlock) → bytes_end byte (marks_from id byte bs) ≡ byte + length (data_of bs)
-marks_end id byte [] = omega arith
-marks_end id byte (b ∷ bs) = omega (arith, length-data_of-cons b bs, marks_end (id + b.count) (byte + length b.bytes) bs)
-
-pub marks_cover : (bs : List StoreBlock) → AreBlocks bs → Covers (marks bs) (length (data_of bs))
-marks_cover bs blocks = record {
-  in_line = marks_in_line_from 0 0 bs blocks.each (omega (arith, blocks.few_docs)) (omega (arith, data_fits bs blocks));
-  filled = marks_filled 0 0 bs blocks.each;
-  end = omega (arith, marks_end 0 0 bs);
-}
+use Rattle.store_format.proofs.StoreLemmas.{length-data_of-cons, data_fits, marks_in_line_from}
+use Rattle.store_format.proofs.FileLemmas.{slice_between, beginnings_apart, known_version, known_period, heads, tails, one_period}
+use Rattle.store_format.proofs.StoreLemmas.{marks_cover}
 
 -- ---- the parts of a file
-
-pub slice_between : (xs ys zs : List ℕ) (a b : ℕ) → a ≡ length xs → b ≡ length xs + length ys → slice_range (xs ++ (ys ++ zs)) a b ≡ ys
-slice_between xs ys zs a b start end =
-    let size : b - a ≡ length ys = omega arith in
-    ap (λ (n : ℕ). take n (drop a (xs ++ (ys ++ zs)))) size
-    ∙ ap (λ (n : ℕ). take (length ys) (drop n (xs ++ (ys ++ zs)))) start
-    ∙ ap (take (length ys)) (drop-append_seam xs (ys ++ zs))
-    ∙ take-append_seam ys zs
 
 -- where the parts of a store's file stand
 record HasParts (content : List ℕ) (s : IsSomeStore content) : Type 0 where
@@ -73,41 +50,13 @@ parts_of content s =
 
 -- ---- footers
 
-pub beginnings_apart : (v w o u : ℕ) (x y : List ℕ) → v < 2 ^ 32 → w < 2 ^ 32 → o < 2 ^ 64 → u < 2 ^ 64 → (fixed 4 v ++ fixed 8 o) ++ x ≡ (fixed 4 w ++ fixed 8 u) ++ y → (v ≡ w) × (o ≡ u) × (x ≡ y)
-beginnings_apart v w o u x y vs ws os us e =
-    let versions = fixed_numbers_are_apart 4 v w (fixed 8 o ++ x) (fixed 8 u ++ y) (omega arith) (omega arith) (sym (append_assoc (fixed 4 v) (fixed 8 o) x) ∙ e ∙ append_assoc (fixed 4 w) (fixed 8 u) y) in
-    let offsets = fixed_numbers_are_apart 8 o u x y (omega arith) (omega arith) versions.1 in
-    (versions.0, offsets.0, offsets.1)
-
-pub known_version : (period version : ℕ) (reserved : List ℕ) → HasForm period version reserved → (1 ≤ version) × (version ≤ 3)
-known_version period version reserved form = elim form [
-  | inl old ↦ elim old.0 [ inl e ↦ (omega arith, omega arith) | inr e ↦ (omega arith, omega arith) ]
-  | inr new ↦ (omega (arith, new.0), omega (arith, new.0))
-]
-
-pub known_period : (period version : ℕ) (reserved : List ℕ) → HasForm period version reserved → 2 ≤ period
-known_period period version reserved form = elim form [ inl old ↦ omega (arith, old.1) | inr new ↦ new.1 ]
-
-heads : (x y : ℕ) (r s : List ℕ) → x ∷ r ≡ y ∷ s → x ≡ y
-heads x y r s e = cc
-
-pub tails : (x y : ℕ) (r s : List ℕ) → x ∷ r ≡ y ∷ s → r ≡ s
-tails x y r s e = cc
-
--- the version and the reserved bytes tell the period
-pub one_period : (p q v w : ℕ) (r s : List ℕ) → HasForm p v r → HasForm q w s → v ≡ w → r ≡ s → p ≡ q
-one_period p q v w r s (inl old) (inl older) vs rs = old.1 ∙ sym older.1
-one_period p q v w r s (inl old) (inr new) vs rs = absurd (elim old.0 [ inl e ↦ omega (arith, new.0) | inr e ↦ omega (arith, new.0) ])
-one_period p q v w r s (inr new) (inl old) vs rs = absurd (elim old.0 [ inl e ↦ omega (arith, new.0) | inr e ↦ omega (arith, new.0) ])
-one_period p q v w r s (inr new) (inr newer) vs rs = heads p q new.3.0 newer.3.0 (sym new.3.1 ∙ rs ∙ newer.3.1)
-
 -- the period of version 3 is sound
 sound_period : (p q : ℕ) (r rest : List ℕ) → HasForm p 3 r → r ≡ q ∷ rest → (2 ≤ q) × (q ≤ 64)
 sound_period p q r rest (inl old) e = absurd (elim old.0 [ inl f ↦ omega arith | inr f ↦ omega arith ])
 sound_period p q r rest (inr new) e = let same = heads p q new.3.0 rest (sym new.3.1 ∙ e) in let two = new.1 in let few = new.2 in (omega arith, omega arith)
 
 -- the footer of a store is not refused
-not_refused : (b : List ℕ) (p v o : ℕ) (r : List ℕ) (e : StoreError) → HasForm p v r → o < 2 ^ 64 → b ≡ footer v o 0 r → Says b (Err e) → ⊥
+pub not_refused : (b : List ℕ) (p v o : ℕ) (r : List ℕ) (e : StoreError) → HasForm p v r → o < 2 ^ 64 → b ≡ footer v o 0 r → Says b (Err e) → ⊥
 not_refused b p v o r (BadVersion w) form few is says =
     let known = known_version p v r form in
     let below = says.2.below in

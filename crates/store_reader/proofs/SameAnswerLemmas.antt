@@ -2,15 +2,15 @@
 use Rattle.std.proofs.Common.{◌≡◌, ◌⊎◌, inl, inr, ℕ, List, [], ◌∷◌, Option, Some, None, refl, sym, ap, ◌∙◌, subst}
 use Rattle.std.specs.List.{AllByRecursion}
 use Rattle.std.specs.Prelude.{Result, Ok, Err, slice_get}
-use Rattle.layered_index.specs.declared.error.StoreError.{StoreError}
-use Rattle.layered_index.specs.declared.error.StoreError.TheVariants.{InvalidArgument, DamagedDocument}
+use Rattle.store_base.specs.declared.error.StoreError.{StoreError}
+use Rattle.store_base.specs.declared.error.StoreError.TheVariants.{InvalidArgument, DamagedDocument}
 use Rattle.store_reader.specs.declared.answers.Answer.{Answer}
 use Rattle.store_reader.specs.declared.answers.Answer.TheVariants.{Got, Listed}
 use Rattle.store_reader.specs.declared.answers.ReadCall.{ReadCall}
 use Rattle.store_reader.specs.declared.answers.ReadCall.TheVariants.{Bytes, Iter}
 use Rattle.store_reader.specs.Answering.{AnswersTruly}
 use Rattle.store_reader.specs.Answers.{IsAnswer, HasCome, AllCame, IsSameAnswer, SlotsDecideAnswers, set_here}
-use Rattle.store_reader.specs.Block.{Slot, doc, damaged}
+use Rattle.store_format.specs.Block.{Slot, doc, damaged}
 use Rattle.store_reader.specs.Listing.{AreItems, first_alive}
 
 -- a refusal that came is that of the slot

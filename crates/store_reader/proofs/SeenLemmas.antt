@@ -6,10 +6,10 @@ use Rattle.std.proofs.lemmas.List.{take_all, length-take-le, length-drop, drop-d
 use Rattle.std.proofs.Math.Seq.{take-add}
 use Rattle.layered_index.specs.declared.index.Checkpoint.{Checkpoint}
 use Rattle.layered_index.specs.Checkpoint.{IsInLineFrom, docs_end, bytes_end, doc_count, IsFilled, Covers}
-use Rattle.store_reader.specs.StoreFile.{StoreBlock, IsStoreBlock, AreBlocks, docs_in, data_of, marks_from, marks, blocks_at}
+use Rattle.store_format.specs.StoreFile.{StoreBlock, IsStoreBlock, AreBlocks, docs_in, data_of, marks_from, marks, blocks_at}
 use Rattle.store_reader.specs.Reading.{part_of}
 use Rattle.store_reader.proofs.SeekLemmas.{bytes_go_on}
-use Rattle.store_reader.proofs.StoreLemmas.{docs_in-cons, blocks_from}
+use Rattle.store_format.proofs.StoreLemmas.{docs_in-cons, blocks_from}
 
 -- the blocks that checkpoints have in data, by their ranges
 abbrev pub blocks_of : List ℕ → List Checkpoint → List StoreBlock

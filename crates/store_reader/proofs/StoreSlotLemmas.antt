@@ -5,8 +5,8 @@ use Rattle.std.specs.List.{range_with_len}
 use Rattle.std.proofs.lemmas.Bool.{ltb-true, ltb-false}
 use Rattle.layered_index.specs.declared.index.Checkpoint.{Checkpoint}
 use Rattle.layered_index.specs.Checkpoint.{IsInLineFrom, docs_end, doc_count, first_past}
-use Rattle.store_reader.specs.Block.{Slot, slot}
-use Rattle.store_reader.specs.Slots.{slots}
+use Rattle.store_format.specs.Block.{Slot, slot}
+use Rattle.store_format.specs.Slots.{slots}
 use Rattle.store_reader.specs.Reading.{part_of}
 use Rattle.store_reader.proofs.SeenLemmas.{blocks_of}
 

@@ -1,7 +1,7 @@
 -- Documents that were stored are got.
 use Rattle.std.proofs.Common.{◌≡◌, ◌⊎◌, ℕ, inl, inr, List, slice_get, Option, Some, None, Ok, Err, sym, ◌∙◌, ap}
-use Rattle.layered_index.specs.declared.error.StoreError.TheVariants.{Read, Memory}
-use Rattle.store_reader.specs.Block.{doc, damaged}
+use Rattle.store_base.specs.declared.error.StoreError.TheVariants.{Read, Memory}
+use Rattle.store_format.specs.Block.{doc, damaged}
 use Rattle.store_reader.specs.Documents.{IsSpelled}
 use Rattle.store_reader.specs.Laws.{StoredDocumentsAreGot}
 

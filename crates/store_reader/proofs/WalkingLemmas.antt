@@ -5,17 +5,17 @@ use Rattle.std.proofs.lemmas.List.{drop-drop}
 use Rattle.std.proofs.Math.Seq.{take-add}
 use Rattle.std.specs.Prelude.{nat_lt, IsTrue, IfOk, IfErr, IfSome, Result, Ok, Err, slice_get, slice_range}
 use Rattle.layered_index.specs.declared.index.Checkpoint.{Checkpoint}
-use Rattle.layered_index.specs.declared.error.StoreError.{StoreError}
+use Rattle.store_base.specs.declared.error.StoreError.{StoreError}
 use Rattle.store_reader.specs.declared.walk.Walk.{Walk}
-use Rattle.layered_index.specs.declared.error.StoreError.TheVariants.{Read, Memory}
+use Rattle.store_base.specs.declared.error.StoreError.TheVariants.{Read, Memory}
 use Rattle.store_reader.specs.Answering.{IsLookedUp, AnswersFrom, AnswersTruly}
-use Rattle.store_reader.specs.Block.{Slot, slot}
+use Rattle.store_format.specs.Block.{Slot, slot}
 use Rattle.layered_index.specs.Checkpoint.{IsInLineFrom, Covers, docs_end, first_past}
 use Rattle.store_reader.specs.Documents.{ReadsFrom, ReadsTruly}
 use Rattle.store_reader.specs.Iteration.{is_in}
 use Rattle.store_reader.specs.LookingUp.{Takes}
 use Rattle.store_reader.specs.Reading.{Reading, part_of, num_docs, store_of}
-use Rattle.store_reader.specs.Slots.{slots}
+use Rattle.store_format.specs.Slots.{slots}
 use Rattle.store_reader.specs.Walking.{IsTaken, HoldsPart, StandsIn, IsWalk, LooksAlong, WalksTo}
 use Rattle.store_reader.proofs.AnsweringLemmas.{why_none, slot_at}
 use Rattle.store_reader.proofs.LookUpLemmas.{same_file}

@@ -1,9 +1,9 @@
 -- What a get of a document answers.
 use Rattle.std.specs.Prelude.{◌≡◌, ◌⊎◌, ℕ, ◌-◌, IsTrue, IfOk, List, Option, Some, None, Result, Ok, Err}
-use Rattle.layered_index.specs.declared.error.StoreError.{StoreError}
-use Rattle.layered_index.specs.declared.error.StoreError.TheVariants.{InvalidArgument, DamagedDocument, Read, Memory}
+use Rattle.store_base.specs.declared.error.StoreError.{StoreError}
+use Rattle.store_base.specs.declared.error.StoreError.TheVariants.{InvalidArgument, DamagedDocument, Read, Memory}
 use Rattle.layered_index.specs.declared.index.Checkpoint.{Checkpoint}
-use Rattle.store_reader.specs.Block.{Slot, slot, doc, damaged}
+use Rattle.store_format.specs.Block.{Slot, slot, doc, damaged}
 use Rattle.layered_index.specs.Checkpoint.{first_past}
 use Rattle.store_reader.specs.LookingUp.{LooksUp}
 use Rattle.store_reader.specs.Reading.{Reading, with_parts, part_of}

@@ -6,12 +6,12 @@ use Rattle.store_reader.specs.declared.answers.Answer.{Answer}
 use Rattle.store_reader.specs.declared.answers.Answer.TheVariants.{Got, Listed}
 use Rattle.store_reader.specs.declared.answers.ReadCall.{ReadCall}
 use Rattle.store_reader.specs.declared.answers.ReadCall.TheVariants.{Bytes, Iter}
-use Rattle.layered_index.specs.declared.error.StoreError.{StoreError}
-use Rattle.layered_index.specs.declared.error.StoreError.TheVariants.{InvalidArgument, DamagedDocument, Read, Memory}
+use Rattle.store_base.specs.declared.error.StoreError.{StoreError}
+use Rattle.store_base.specs.declared.error.StoreError.TheVariants.{InvalidArgument, DamagedDocument, Read, Memory}
 use Rattle.layered_index.specs.declared.index.Checkpoint.{Checkpoint}
 use Rattle.layered_index.specs.Checkpoint.{docs_end, first_past}
 use Rattle.store_reader.specs.Answering.{AnswersTruly}
-use Rattle.store_reader.specs.Block.{Slot, doc, damaged}
+use Rattle.store_format.specs.Block.{Slot, doc, damaged}
 use Rattle.store_reader.specs.Iteration.{looked_along}
 use Rattle.store_reader.specs.Listing.{first_alive, AreItems}
 

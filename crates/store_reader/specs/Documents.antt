@@ -1,11 +1,11 @@
 -- Documents as values: what is read from the bytes of a slot.
 use Rattle.std.specs.Prelude.{◌≡◌, ◌⊎◌, ℕ, List, Option, Some, None, Result, Ok, Err}
-use Rattle.layered_index.specs.declared.error.StoreError.{StoreError}
-use Rattle.layered_index.specs.declared.error.StoreError.TheVariants.{InvalidArgument, DamagedDocument, BadDocument, Read, Memory}
-use Rattle.store_reader.specs.declared.footer.DocStoreVersion.{DocStoreVersion}
-use Rattle.store_reader.specs.declared.footer.DocStoreVersion.TheVariants.{V1, V2, V3}
+use Rattle.store_base.specs.declared.error.StoreError.{StoreError}
+use Rattle.store_base.specs.declared.error.StoreError.TheVariants.{InvalidArgument, DamagedDocument, BadDocument, Read, Memory}
+use Rattle.store_format.specs.declared.version.DocStoreVersion.{DocStoreVersion}
+use Rattle.store_format.specs.declared.version.DocStoreVersion.TheVariants.{V1, V2, V3}
 use Rattle.store_reader.specs.Answering.{IsAnswered}
-use Rattle.store_reader.specs.Block.{Slot, doc, damaged}
+use Rattle.store_format.specs.Block.{Slot, doc, damaged}
 use Rattle.store_reader.specs.Reading.{Reading}
 
 -- how the documents of a store are spelled: version 3 has another index alone

@@ -3,8 +3,8 @@ use Rattle.std.specs.Prelude.{ℕ, ◌-◌, Bool, true, if◌then◌else◌, nat
 use Rattle.std.specs.List.{filter, count_by, enumerate_from, range_with_len}
 use Rattle.layered_index.specs.declared.index.Checkpoint.{Checkpoint}
 use Rattle.layered_index.specs.Checkpoint.{doc_count}
-use Rattle.store_reader.specs.Block.{Slot}
-use Rattle.store_reader.specs.StoreFile.{StoreBlock, marks}
+use Rattle.store_format.specs.Block.{Slot}
+use Rattle.store_format.specs.StoreFile.{StoreBlock, marks}
 
 -- whether an id is in the set; without a set each is
 abbrev pub is_in : Option (ℕ → Bool) → ℕ → Bool

@@ -1,16 +1,8 @@
-pub mod Block
-pub mod Footer
-pub mod StoreFile
-pub mod FooterReading
-pub mod FooterLemmas
-pub mod Slots
 pub mod Laws
-pub mod FileReading
 pub mod Cache
 pub mod Kept
 pub mod CacheSums
 pub mod LookingUp
-pub mod Extraction
 pub mod Covering
 pub mod Reading
 pub mod Answering
@@ -19,5 +11,7 @@ pub mod Iteration
 pub mod Walking
 pub mod LookLaws
 pub mod Opening
+pub mod Viewing
+pub mod ViewLaws
 pub mod Listing
 pub mod Answers

@@ -1,9 +1,9 @@
 -- What a list of reading calls answers.
 use Rattle.std.specs.Prelude.{ℕ, Bool, List, [], ◌∷◌, take, Option, Some, Result}
 use Rattle.std.specs.List.{filter, enumerate_from}
-use Rattle.layered_index.specs.declared.error.StoreError.{StoreError}
+use Rattle.store_base.specs.declared.error.StoreError.{StoreError}
 use Rattle.store_reader.specs.Answering.{AnswersTruly}
-use Rattle.store_reader.specs.Block.{Slot}
+use Rattle.store_format.specs.Block.{Slot}
 use Rattle.store_reader.specs.Iteration.{is_in}
 
 -- the first slots whose id is in the set, each with its id

@@ -1,7 +1,7 @@
 -- What look-ups one after the other do, and which blocks an iteration has looked up.
 use Rattle.std.specs.Prelude.{◌≡◌, ℕ, ◌+◌, ◌<◌, ◌≤◌, ◌^◌, Bool, true, List, length, map, take, Option, Result}
 use Rattle.store_base.specs.Counts.{raised}
-use Rattle.layered_index.specs.declared.error.StoreError.{StoreError}
+use Rattle.store_base.specs.declared.error.StoreError.{StoreError}
 use Rattle.layered_index.specs.declared.index.Checkpoint.{Checkpoint}
 use Rattle.store_reader.specs.declared.walk.Walk.{Walk}
 use Rattle.store_reader.specs.Cache.{CacheState, LookUp, recent, misses_along}

@@ -1,11 +1,11 @@
 -- A look-up of a block: in the cache, and then in the file.
 use Rattle.std.specs.Prelude.{◌≡◌, ◌⊎◌, ℕ, Bool, List, Some, None, Result, Ok, Err}
 use Rattle.store_base.specs.Files.{Part}
-use Rattle.layered_index.specs.declared.error.StoreError.{StoreError}
-use Rattle.layered_index.specs.declared.error.StoreError.TheVariants.{Memory}
+use Rattle.store_base.specs.declared.error.StoreError.{StoreError}
+use Rattle.store_base.specs.declared.error.StoreError.TheVariants.{Memory}
 use Rattle.layered_index.specs.declared.index.Checkpoint.{Checkpoint}
 use Rattle.store_reader.specs.Cache.{look_up}
-use Rattle.store_reader.specs.FileReading.{Comes}
+use Rattle.store_format.specs.FileReading.{Comes}
 use Rattle.store_reader.specs.Kept.{Blocks, block_at, after_hit, after_miss, with_block, state_of}
 
 -- The block is kept: it comes with no read, and goes to the front.

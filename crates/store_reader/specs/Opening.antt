@@ -1,17 +1,17 @@
 -- What opening a store finds.
 use Rattle.std.specs.Prelude.{◌≡◌, ◌⊎◌, ℕ, ◌-◌, ◌<◌, ◌≤◌, List, length, slice_range, Result, Ok, Err}
 use Rattle.store_base.specs.Files.{Part}
-use Rattle.layered_index.specs.declared.error.StoreError.{StoreError}
-use Rattle.layered_index.specs.declared.error.StoreError.TheVariants.{BadOffset, Read, Memory}
-use Rattle.store_reader.specs.declared.footer.DocStoreFooter.{DocStoreFooter}
+use Rattle.store_base.specs.declared.error.StoreError.{StoreError}
+use Rattle.store_base.specs.declared.error.StoreError.TheVariants.{BadOffset, Read, Memory}
+use Rattle.store_format.specs.declared.footer.DocStoreFooter.{DocStoreFooter}
 use Rattle.layered_index.specs.Layers.{Index}
 use Rattle.store_reader.specs.Covering.{IsIndexOf, HasIndexOf}
-use Rattle.store_reader.specs.Extraction.{ExtractsFooter, narrowed}
-use Rattle.store_reader.specs.FileReading.{Comes}
+use Rattle.store_format.specs.Extraction.{ExtractsFooter, narrowed}
+use Rattle.store_format.specs.FileReading.{Comes}
 use Rattle.store_reader.specs.Kept.{no_blocks}
 use Rattle.store_reader.specs.Reading.{Reading}
 use Rattle.layered_index.specs.Refusal.{RefusesOnlyUnless}
-use Rattle.store_reader.specs.StoreFile.{StoreBlock, IsStore}
+use Rattle.store_format.specs.StoreFile.{StoreBlock, IsStore}
 
 -- The index of checkpoints that cover what stands before it; or these bytes are none, or memory ran out.
 abbrev pub IndexBy : DocStoreFooter → List ℕ → Result Index StoreError → Type 0

@@ -2,12 +2,12 @@
 use Rattle.std.specs.Prelude.{◌≡◌, ◌⊎◌, ℕ, ◌≤◌, IsTrue, List, length, slice_range}
 use Rattle.std.specs.List.{AllByRecursion}
 use Rattle.store_base.specs.Files.{Part, ReadsOnce}
-use Rattle.store_reader.specs.declared.compressors.Decompressor.{Decompressor}
-use Rattle.store_reader.specs.declared.footer.DocStoreVersion.{DocStoreVersion}
+use Rattle.store_format.specs.declared.kinds.Decompressor.{Decompressor}
+use Rattle.store_format.specs.declared.version.DocStoreVersion.{DocStoreVersion}
 use Rattle.layered_index.specs.declared.index.Checkpoint.{Checkpoint}
 use Rattle.layered_index.specs.Checkpoint.{docs_end, Covers}
 use Rattle.store_reader.specs.Kept.{Blocks}
-use Rattle.store_reader.specs.StoreFile.{StoreBlock, AreBlocks, data_of, marks, blocks_at}
+use Rattle.store_format.specs.StoreFile.{StoreBlock, AreBlocks, data_of, marks, blocks_at}
 
 -- the data, the checkpoints of its blocks and the period of their index, how documents are spelled, how blocks are unpacked, and
 -- the blocks that are kept

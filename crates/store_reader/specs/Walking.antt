@@ -2,19 +2,19 @@
 use Rattle.std.specs.Prelude.{◌≡◌, ◌⊎◌, ℕ, ◌+◌, ◌-◌, ◌≤◌, ◌<◌, Bool, true, false, List, [], ◌∷◌, length, take, slice_range, slice_get, IsTrue, IfErr, IfOk, IfSome, Option, Some, None, Result, MatchOption}
 use Rattle.std.specs.Borrow.{Bor}
 use Rattle.store_base.specs.AliveBitSet.{is_alive_at}
-use Rattle.layered_index.specs.declared.error.StoreError.{StoreError}
-use Rattle.layered_index.specs.declared.error.StoreError.TheVariants.{Read, Memory}
+use Rattle.store_base.specs.declared.error.StoreError.{StoreError}
+use Rattle.store_base.specs.declared.error.StoreError.TheVariants.{Read, Memory}
 use Rattle.layered_index.specs.declared.index.Checkpoint.{Checkpoint}
 use Rattle.store_reader.specs.declared.look_up.Entered.{Entered}
 use Rattle.store_reader.specs.declared.walk.Walk.{Walk}
 use Rattle.store_reader.specs.Answering.{AnswersFrom, AnswersTruly, IsLookedUp}
-use Rattle.store_reader.specs.Block.{slot}
+use Rattle.store_format.specs.Block.{slot}
 use Rattle.layered_index.specs.Checkpoint.{docs_end, first_past}
 use Rattle.store_reader.specs.Documents.{ReadsFrom, ReadsTruly}
 use Rattle.store_reader.specs.Iteration.{is_in}
 use Rattle.store_reader.specs.LookingUp.{Takes}
 use Rattle.store_reader.specs.Reading.{Reading, IsSameStore, num_docs, part_of, store_of}
-use Rattle.store_reader.specs.Slots.{slots}
+use Rattle.store_format.specs.Slots.{slots}
 
 -- the set of the ids that are alive
 abbrev pub set_of : Option (Bor (List Bool)) → Option (ℕ → Bool)

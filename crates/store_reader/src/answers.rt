@@ -2,18 +2,18 @@
 ghost use Rattle.std.specs.Prelude.{◌≤◌, ◌↔◌, Contains, IsTrue, IfOk, IfSome, IsErrOf, IsOkUnless, length};
 ghost use Rattle.std.specs.List.{AllByRecursion, AllZip};
 ghost use Rattle.store_base.specs.Counts.{HasRisen};
-ghost use Rattle.store_reader.specs.Answers.{CanAnswer, IsAnswer, AreAnswers, HasRefusal, IsNotPast, RefusesPast, keys_of_call, keys_of_calls, results_of};
+ghost use Rattle.store_reader.specs.Answers.{CanAnswer, IsAnswer, AreAnswers, HasRefusal, IsNotPast, RefusesPast};
+ghost use Rattle.store_reader.specs.Answers.{keys_of_call, keys_of_calls, results_of};
 ghost use Rattle.store_reader.specs.Iteration.{looked_along};
 ghost use Rattle.store_reader.specs.Listing.{AreItems, first_alive};
 ghost use Rattle.store_reader.specs.LookLaws.{AreLookUps};
 ghost use Rattle.store_reader.specs.Reading.{IsSameStore, num_docs, store_of};
-ghost use Rattle.store_reader.specs.Slots.{slots};
+ghost use Rattle.store_format.specs.Slots.{slots};
 ghost use Rattle.store_reader.specs.Walking.{set_of};
 
 use crate::reader::StoreReader;
-use layered_index::StoreError;
 use std::alloc::Global;
-use store_base::{AliveBitSet, DocId, FileHandle, OwnedBytes};
+use store_base::{AliveBitSet, DocId, FileHandle, OwnedBytes, StoreError};
 
 /// A call of a reader.
 #[derive(Drop)]
@@ -62,10 +62,10 @@ pub fn any_lacks_memory(answers: &[Answer]) -> bool
 
 /// Makes the calls in order. A refused document is its answer, and the next call made.
 ///
-/// The blocks of the documents and of the iterations are looked up in this order, and the file is read once for each that the
-/// cache doesn't keep. `Memory` comes only where the lists of answers can't grow. A get is answered by
-/// `InvalidArgument` exactly where its id is at or past the count. Where any answer or item is `Read`, the file's count
-/// of failures has risen in the call.
+/// The blocks of the documents and of the iterations are looked up in this order, and the file is read once for each
+/// that the cache doesn't keep. `Memory` comes only where the lists of answers can't grow. A get is answered by
+/// `InvalidArgument` exactly where its id is at or past the count. Where any answer or item is `Read`, the file's
+/// count of failures has risen in the call.
 pub fn answer_all<H: FileHandle>(
     alloc: Global,
     reader: &mut StoreReader<H>,
@@ -77,7 +77,8 @@ pub fn answer_all<H: FileHandle>(
     ensures past { IfOk result (λ v. AllZip (RefusesPast (num_docs reader.old)) calls.now v.items) }
     ensures failed { IfOk result (λ v. HasRefusal v.items StoreError.Read
         → HasRisen reader.old.file.failures reader.new.file.failures) }
-    ensures looks { IfOk result (λ v. AreLookUps (keys_of_calls reader.old.checkpoints calls.now) reader.old reader.new) }
+    ensures looks { IfOk result (λ v.
+        AreLookUps (keys_of_calls reader.old.checkpoints calls.now) reader.old reader.new) }
     ensures memory { IsOkUnless result StoreError.Memory }
     ensures same_store { IsSameStore reader.old reader.new }
 {
@@ -101,7 +102,8 @@ fn answer_one<H: FileHandle>(
     ensures past { IfOk result (RefusesPast (num_docs reader.old) call.now) }
     ensures failed { IfOk result (λ answer. Contains (results_of answer) (Err StoreError.Read)
         → HasRisen reader.old.file.failures reader.new.file.failures) }
-    ensures looks { IfOk result (λ answer. AreLookUps (keys_of_call reader.old.checkpoints call.now) reader.old reader.new) }
+    ensures looks { IfOk result (λ answer.
+        AreLookUps (keys_of_call reader.old.checkpoints call.now) reader.old reader.new) }
     ensures memory { IsOkUnless result StoreError.Memory }
     ensures same_store { IsSameStore reader.old reader.new }
 {

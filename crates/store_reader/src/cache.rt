@@ -1,120 +1,22 @@
 //! The blocks that a reader keeps.
 
-ghost use Rattle.std.specs.Prelude.{◌≡◌, ◌-◌, ◌<◌, ◌≤◌, if◌then◌else◌, ◌∷◌, take, length, Bool, None, IsSome, IsNone, IfOk, MatchOption, IsSomeAnd, nat_eq};
+ghost use Rattle.std.specs.Prelude.{◌≡◌, ◌-◌, ◌<◌, ◌≤◌, if◌then◌else◌, ◌∷◌, take, length, Bool, None, IsSome, IsNone};
+ghost use Rattle.std.specs.Prelude.{IfOk, MatchOption, IsSomeAnd, nat_eq};
 ghost use Rattle.std.specs.Map.{lookup};
 ghost use Rattle.lru.specs.LruCache.{lru_cache, promoted};
 ghost use Rattle.store_reader.specs.Answering.{Answers};
-ghost use Rattle.store_reader.specs.Block.{slot};
+ghost use Rattle.store_format.specs.Block.{slot};
 ghost use Rattle.store_reader.specs.Cache.{look_up};
-ghost use Rattle.store_reader.specs.Kept.{capacity_of, entries_of, with_pair, no_blocks, block_at, last_key, after_hit, after_miss, with_block, state_of};
+ghost use Rattle.store_reader.specs.Kept.{capacity_of, entries_of, with_pair, no_blocks, block_at, last_key};
+ghost use Rattle.store_reader.specs.Kept.{after_hit, after_miss, with_block, state_of};
 ghost use Rattle.store_reader.specs.LookingUp.{IsCopy};
 
 use crate::slot::document_in;
-use layered_index::StoreError;
 use lru::LruCache;
 use std::alloc::Global;
 use std::marker::Model;
 use std::num::NonZeroUsize;
-use store_base::{DocId, NoMemory, OwnedBytes};
-
-// The document at a position of the block with this key, if it is kept. The block goes to the front.
-fn document_kept(
-    blocks: &mut LruCache<usize, OwnedBytes>,
-    key: usize,
-    doc_id: DocId,
-    doc_pos: u32,
-) -> Option<Result<OwnedBytes, StoreError>>
-    ensures entries { blocks.new ≡ lru_cache (promoted (nat_eq key) blocks.old.entries) blocks.old.cap }
-    ensures answer { MatchOption result (lookup (nat_eq key) blocks.old.entries ≡ None)
-        (λ answer. IsSomeAnd (lookup (nat_eq key) blocks.old.entries)
-        (λ block. Answers doc_id (slot block doc_pos) answer)) }
-{
-    let block = blocks.get(&key)?;
-    Some(document_in(block, doc_id, doc_pos))
-}
-
-// The same, where there may be no cache.
-fn document_of(
-    blocks: &mut Option<LruCache<usize, OwnedBytes>>,
-    key: usize,
-    doc_id: DocId,
-    doc_pos: u32,
-) -> Option<Result<OwnedBytes, StoreError>>
-    ensures capacity { capacity_of blocks.new ≡ capacity_of blocks.old }
-    ensures entries { entries_of blocks.new ≡ promoted (nat_eq key) (entries_of blocks.old) }
-    ensures answer { MatchOption result (lookup (nat_eq key) (entries_of blocks.old) ≡ None)
-        (λ answer. IsSomeAnd (lookup (nat_eq key) (entries_of blocks.old))
-        (λ block. Answers doc_id (slot block doc_pos) answer)) }
-{
-    match blocks {
-        Some(blocks) => document_kept(blocks, key, doc_id, doc_pos),
-        None => None,
-    }
-}
-
-// A share of a block.
-fn copy_of(block: &OwnedBytes) -> Result<OwnedBytes, StoreError>
-    ensures { IsCopy block.now result }
-{
-    match block.clone() {
-        Ok(copy) => Ok(copy),
-        Err(_) => Err(StoreError::Memory),
-    }
-}
-
-// A share of the block with this key, if it is kept. The block goes to the front.
-fn block_kept(
-    blocks: &mut LruCache<usize, OwnedBytes>,
-    key: usize,
-) -> Option<Result<OwnedBytes, StoreError>>
-    ensures entries { blocks.new ≡ lru_cache (promoted (nat_eq key) blocks.old.entries) blocks.old.cap }
-    ensures answer { MatchOption result (lookup (nat_eq key) blocks.old.entries ≡ None)
-        (λ answer. IsSomeAnd (lookup (nat_eq key) blocks.old.entries) (λ block. IsCopy block answer)) }
-{
-    let block = blocks.get(&key)?;
-    Some(copy_of(block))
-}
-
-// The same, where there may be no cache.
-fn block_of(
-    blocks: &mut Option<LruCache<usize, OwnedBytes>>,
-    key: usize,
-) -> Option<Result<OwnedBytes, StoreError>>
-    ensures capacity { capacity_of blocks.new ≡ capacity_of blocks.old }
-    ensures entries { entries_of blocks.new ≡ promoted (nat_eq key) (entries_of blocks.old) }
-    ensures answer { MatchOption result (lookup (nat_eq key) (entries_of blocks.old) ≡ None)
-        (λ answer. IsSomeAnd (lookup (nat_eq key) (entries_of blocks.old)) (λ block. IsCopy block answer)) }
-{
-    match blocks {
-        Some(blocks) => block_kept(blocks, key),
-        None => None,
-    }
-}
-
-// Whether there was memory to put the block in front.
-fn put_front(blocks: &mut LruCache<usize, OwnedBytes>, key: usize, block: OwnedBytes) -> bool
-    requires { lookup (nat_eq key) blocks.old.entries ≡ None }
-    ensures cap { blocks.new.cap ≡ blocks.old.cap }
-    ensures room { 0 < blocks.old.cap }
-    ensures entries { blocks.new.entries
-        ≡ (if result then (key, block) ∷ take (blocks.old.cap - 1) blocks.old.entries else blocks.old.entries) }
-{
-    let _count = blocks.len();
-    blocks.put(key, block).is_ok()
-}
-
-// The same, where there may be no cache.
-fn put_in(blocks: &mut Option<LruCache<usize, OwnedBytes>>, key: usize, block: OwnedBytes) -> bool
-    requires { lookup (nat_eq key) (entries_of blocks.old) ≡ None }
-    ensures capacity { capacity_of blocks.new ≡ capacity_of blocks.old }
-    ensures entries { entries_of blocks.new
-        ≡ with_pair (capacity_of blocks.old) key block result (entries_of blocks.old) }
-{
-    match blocks {
-        Some(blocks) => put_front(blocks, key, block),
-        None => false,
-    }
-}
+use store_base::{DocId, NoMemory, OwnedBytes, StoreError};
 
 /// The blocks that a reader keeps, and how many look-ups found theirs.
 #[derive(Drop)]
@@ -250,5 +152,104 @@ impl BlockCache {
         if let Ok(copy) = block.clone() {
             self.put(key, copy);
         }
+    }
+}
+
+// The document at a position of the block with this key, if it is kept. The block goes to the front.
+fn document_kept(
+    blocks: &mut LruCache<usize, OwnedBytes>,
+    key: usize,
+    doc_id: DocId,
+    doc_pos: u32,
+) -> Option<Result<OwnedBytes, StoreError>>
+    ensures entries { blocks.new ≡ lru_cache (promoted (nat_eq key) blocks.old.entries) blocks.old.cap }
+    ensures answer { MatchOption result (lookup (nat_eq key) blocks.old.entries ≡ None)
+        (λ answer. IsSomeAnd (lookup (nat_eq key) blocks.old.entries)
+        (λ block. Answers doc_id (slot block doc_pos) answer)) }
+{
+    let block = blocks.get(&key)?;
+    Some(document_in(block, doc_id, doc_pos))
+}
+
+// The same, where there may be no cache.
+fn document_of(
+    blocks: &mut Option<LruCache<usize, OwnedBytes>>,
+    key: usize,
+    doc_id: DocId,
+    doc_pos: u32,
+) -> Option<Result<OwnedBytes, StoreError>>
+    ensures capacity { capacity_of blocks.new ≡ capacity_of blocks.old }
+    ensures entries { entries_of blocks.new ≡ promoted (nat_eq key) (entries_of blocks.old) }
+    ensures answer { MatchOption result (lookup (nat_eq key) (entries_of blocks.old) ≡ None)
+        (λ answer. IsSomeAnd (lookup (nat_eq key) (entries_of blocks.old))
+        (λ block. Answers doc_id (slot block doc_pos) answer)) }
+{
+    match blocks {
+        Some(blocks) => document_kept(blocks, key, doc_id, doc_pos),
+        None => None,
+    }
+}
+
+// A share of a block.
+fn copy_of(block: &OwnedBytes) -> Result<OwnedBytes, StoreError>
+    ensures { IsCopy block.now result }
+{
+    match block.clone() {
+        Ok(copy) => Ok(copy),
+        Err(_) => Err(StoreError::Memory),
+    }
+}
+
+// A share of the block with this key, if it is kept. The block goes to the front.
+fn block_kept(
+    blocks: &mut LruCache<usize, OwnedBytes>,
+    key: usize,
+) -> Option<Result<OwnedBytes, StoreError>>
+    ensures entries { blocks.new ≡ lru_cache (promoted (nat_eq key) blocks.old.entries) blocks.old.cap }
+    ensures answer { MatchOption result (lookup (nat_eq key) blocks.old.entries ≡ None)
+        (λ answer. IsSomeAnd (lookup (nat_eq key) blocks.old.entries) (λ block. IsCopy block answer)) }
+{
+    let block = blocks.get(&key)?;
+    Some(copy_of(block))
+}
+
+// The same, where there may be no cache.
+fn block_of(
+    blocks: &mut Option<LruCache<usize, OwnedBytes>>,
+    key: usize,
+) -> Option<Result<OwnedBytes, StoreError>>
+    ensures capacity { capacity_of blocks.new ≡ capacity_of blocks.old }
+    ensures entries { entries_of blocks.new ≡ promoted (nat_eq key) (entries_of blocks.old) }
+    ensures answer { MatchOption result (lookup (nat_eq key) (entries_of blocks.old) ≡ None)
+        (λ answer. IsSomeAnd (lookup (nat_eq key) (entries_of blocks.old)) (λ block. IsCopy block answer)) }
+{
+    match blocks {
+        Some(blocks) => block_kept(blocks, key),
+        None => None,
+    }
+}
+
+// Whether there was memory to put the block in front.
+fn put_front(blocks: &mut LruCache<usize, OwnedBytes>, key: usize, block: OwnedBytes) -> bool
+    requires { lookup (nat_eq key) blocks.old.entries ≡ None }
+    ensures cap { blocks.new.cap ≡ blocks.old.cap }
+    ensures room { 0 < blocks.old.cap }
+    ensures entries { blocks.new.entries
+        ≡ (if result then (key, block) ∷ take (blocks.old.cap - 1) blocks.old.entries else blocks.old.entries) }
+{
+    let _count = blocks.len();
+    blocks.put(key, block).is_ok()
+}
+
+// The same, where there may be no cache.
+fn put_in(blocks: &mut Option<LruCache<usize, OwnedBytes>>, key: usize, block: OwnedBytes) -> bool
+    requires { lookup (nat_eq key) (entries_of blocks.old) ≡ None }
+    ensures capacity { capacity_of blocks.new ≡ capacity_of blocks.old }
+    ensures entries { entries_of blocks.new
+        ≡ with_pair (capacity_of blocks.old) key block result (entries_of blocks.old) }
+{
+    match blocks {
+        Some(blocks) => put_front(blocks, key, block),
+        None => false,
     }
 }

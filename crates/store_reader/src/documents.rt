@@ -1,11 +1,10 @@
 //! Documents as values, read from the bytes that a store has of them.
-ghost use Rattle.std.specs.Prelude.{◌≡◌};
+ghost use Rattle.std.specs.Prelude.{◌≡◌, Ok};
 ghost use Rattle.store_reader.specs.Documents.{document_version, ReadsFrom};
 
-use crate::footer::DocStoreVersion;
-use layered_index::StoreError;
 use std::alloc::Global;
-use store_base::{DocFault, DocumentDeserialize, OwnedBytes};
+use store_base::{DocFault, DocumentDeserialize, OwnedBytes, StoreError};
+use store_format::DocStoreVersion;
 
 // How the documents of a store are spelled: version 3 has another index alone.
 fn document_version(version: DocStoreVersion) -> u32
@@ -17,6 +16,21 @@ fn document_version(version: DocStoreVersion) -> u32
     }
 }
 
+// Reads a document from its bytes.
+pub(crate) fn read_bytes<D: DocumentDeserialize>(
+    alloc: Global,
+    version: DocStoreVersion,
+    bytes: &[u8],
+) -> Result<D, StoreError>
+    ensures { ReadsFrom (D.reading (document_version version)) (Ok bytes.now) result }
+{
+    match D::deserialize(alloc, bytes, document_version(version)) {
+        Ok(document) => Ok(document),
+        Err(DocFault::Refused) => Err(StoreError::BadDocument),
+        Err(DocFault::Memory) => Err(StoreError::Memory),
+    }
+}
+
 // Reads a document from its bytes, if they came.
 pub(crate) fn read_document<D: DocumentDeserialize>(
     alloc: Global,
@@ -25,13 +39,8 @@ pub(crate) fn read_document<D: DocumentDeserialize>(
 ) -> Result<D, StoreError>
     ensures { ReadsFrom (D.reading (document_version version)) bytes result }
 {
-    let bytes = match bytes {
-        Ok(bytes) => bytes,
-        Err(error) => return Err(error),
-    };
-    match D::deserialize(alloc, bytes.as_slice(), document_version(version)) {
-        Ok(document) => Ok(document),
-        Err(DocFault::Refused) => Err(StoreError::BadDocument),
-        Err(DocFault::Memory) => Err(StoreError::Memory),
+    match bytes {
+        Ok(bytes) => read_bytes(alloc, version, bytes.as_slice()),
+        Err(error) => Err(error),
     }
 }

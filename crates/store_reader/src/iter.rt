@@ -5,9 +5,8 @@ ghost use Rattle.store_reader.specs.Walking.{set_of, set_in};
 use crate::documents::read_document;
 use crate::reader::StoreReader;
 use crate::walk::{DocWalk, Walk, answer_of, walk_on};
-use layered_index::StoreError;
 use std::alloc::Global;
-use store_base::{AliveBitSet, DocumentDeserialize, FileHandle, OwnedBytes};
+use store_base::{AliveBitSet, DocumentDeserialize, FileHandle, OwnedBytes, StoreError};
 
 /// An iterator over the documents of a store that are alive, in the order of the ids.
 ///

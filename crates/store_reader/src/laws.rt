@@ -1,23 +1,16 @@
-//! What a file tells of its store, what look-ups do, and what decides an answer.
+//! What look-ups do, and what decides an answer.
+ghost use Rattle.std.specs.Prelude.{ℕ};
 ghost use Rattle.store_reader.specs.CacheSums.{StatsAreAdded};
 ghost use Rattle.store_reader.specs.LookLaws.{LooksAreRecent, LookUpsAreCounted, WalksLookUp};
 ghost use Rattle.store_reader.specs.Answers.{AnswersAreExact, SlotsDecideAnswers};
-ghost use Rattle.store_reader.specs.Laws.{FilesAreStores, StoresAreApart, StoredDocumentsAreGot};
+ghost use Rattle.store_reader.specs.Laws.{StoredDocumentsAreGot};
+ghost use Rattle.store_reader.specs.ViewLaws.{ViewsOpenAsReaders, ViewsAnswerAsReaders, ViewsReadAsReaders};
+ghost use Rattle.store_reader.specs.ViewLaws.{ViewsGiveEachSlot, ViewsGiveEachAlive};
 
-use store_base::StoredDocument;
+use store_base::{DocumentDeserialize, StoredDocument};
 
-/// The file that is written for blocks is a store of them.
-pub fn files_are_stores()
-    ensures { FilesAreStores }
-{}
-
-/// A file is a store of one version, one period and one list of blocks at most.
-pub fn stores_are_apart()
-    ensures { StoresAreApart }
-{}
-
-/// Blocks that are looked up one after the other take the cache through the definition's steps, and the file is read once for
-/// each that isn't kept.
+/// Blocks that are looked up one after the other take the cache through the definition's steps, and the file is read
+/// once for each that isn't kept.
 pub fn looks_are_recent()
     ensures { LooksAreRecent }
 {}
@@ -37,14 +30,14 @@ pub fn stats_are_added()
     ensures { StatsAreAdded }
 {}
 
-/// Where the slot of an id has the bytes of a document, `StoreReader::get` gives its stored form, 9 and 10 aside. Documents of
-/// the versions 2 and 3 are read as version 2.
+/// Where the slot of an id has the bytes of a document, `StoreReader::get` gives its stored form, 9 and 10 aside.
+/// Documents of the versions 2 and 3 are read as version 2.
 pub fn stored_documents_are_got<D: StoredDocument>()
     ensures { StoredDocumentsAreGot D.doc_bytes (D.reading 2) D.stored }
 {}
 
-/// The slots decide what a list of reading calls answers where no read failed and memory was found: neither the cache nor its
-/// capacity, nor what was called before.
+/// The slots decide what a list of reading calls answers where no read failed and memory was found: neither the cache
+/// nor its capacity, nor what was called before.
 pub fn slots_decide_answers()
     ensures { SlotsDecideAnswers }
 {}
@@ -53,4 +46,33 @@ pub fn slots_decide_answers()
 /// calls: a document's bytes, or the refusal of the id where there is no document or it is damaged.
 pub fn answers_are_exact()
     ensures { AnswersAreExact }
+{}
+
+/// `StoreView::open` opens what `StoreReader::open` opens of an honest file of the same bytes: the same blocks, version
+/// and period, or the same refusal; failed reads and want of memory aside.
+pub fn views_open_as_readers()
+    ensures { ViewsOpenAsReaders }
+{}
+
+/// `StoreView::get` answers what `StoreReader::get_document_bytes` answers of an honest file of the same store; failed
+/// reads and want of memory aside.
+pub fn views_answer_as_readers()
+    ensures { ViewsAnswerAsReaders }
+{}
+
+/// `StoreView::get_document` answers what `StoreReader::get` answers of an honest file of the same store; failed reads
+/// and want of memory aside.
+pub fn views_read_as_readers<D: DocumentDeserialize>()
+    ensures { (version : ℕ) → ViewsReadAsReaders (D.reading version) }
+{}
+
+/// What `StoreView::iter` gives to its end is what each slot answers, in order.
+pub fn views_give_each_slot()
+    ensures { ViewsGiveEachSlot }
+{}
+
+/// What `StoreView::iter_alive` gives to its end is what the slot of each id that is alive answers, in order, with
+/// the id.
+pub fn views_give_each_alive()
+    ensures { ViewsGiveEachAlive }
 {}

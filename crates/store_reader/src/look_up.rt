@@ -1,17 +1,17 @@
 //! A look-up of a block, in the cache and then in the file.
 
 ghost use Rattle.std.specs.Prelude.{◌≤◌, ℕ, List, Result, length};
-ghost use Rattle.layered_index.specs.declared.error.StoreError.{StoreError as StoreErrorOf};
+ghost use Rattle.store_base.specs.declared.error.StoreError.{StoreError as StoreErrorOf};
 ghost use Rattle.store_reader.specs.Answering.{AnswersFrom};
-ghost use Rattle.store_reader.specs.FileReading.{Comes};
+ghost use Rattle.store_format.specs.FileReading.{Comes};
 ghost use Rattle.store_reader.specs.LookingUp.{LooksUp, Takes};
 
 use crate::cache::BlockCache;
-use crate::file_reading::read_part;
 use crate::slot::document_in;
-use layered_index::{Checkpoint, StoreError};
+use layered_index::Checkpoint;
 use std::alloc::Global;
-use store_base::{DocId, FileHandle, FileSlice, OwnedBytes};
+use store_base::{DocId, FileHandle, FileSlice, OwnedBytes, StoreError};
+use store_format::read_part;
 
 // Reads a checkpoint's block.
 fn read_block<H: FileHandle>(
@@ -46,10 +46,7 @@ pub(crate) fn look_up_document<H: FileHandle>(
     if let Some(answer) = cache.document(key, doc_id, doc_pos) {
         return answer;
     }
-    let block = match read_block(file, alloc, checkpoint) {
-        Ok(block) => block,
-        Err(error) => return Err(error),
-    };
+    let block = read_block(file, alloc, checkpoint)?;
     let answer = document_in(&block, doc_id, doc_pos);
     cache.put(key, block);
     answer
@@ -80,10 +77,7 @@ pub(crate) fn look_up_block<H: FileHandle>(
     if let Some(answer) = cache.block(key) {
         return answer;
     }
-    let block = match read_block(file, alloc, checkpoint) {
-        Ok(block) => block,
-        Err(error) => return Err(error),
-    };
+    let block = read_block(file, alloc, checkpoint)?;
     cache.put_copy(key, &block);
     Ok(block)
 }

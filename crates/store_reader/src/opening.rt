@@ -2,13 +2,10 @@
 ghost use Rattle.std.specs.Prelude.{◌≤◌, length};
 ghost use Rattle.store_reader.specs.Opening.{ReadsIndex, Opens};
 
-use crate::file_reading::read_part;
-use crate::footer::DocStoreFooter;
-use crate::footer_reading::{FOOTER_LEN, read_footer};
 use crate::store_index::StoreIndex;
-use layered_index::StoreError;
 use std::alloc::Global;
-use store_base::{FileHandle, FileSlice};
+use store_base::{FileHandle, FileSlice, StoreError};
+use store_format::{DocStoreFooter, FOOTER_LEN, read_footer, read_part};
 
 // Reads what stands between the offset and the footer.
 fn read_index<H: FileHandle>(
@@ -25,10 +22,8 @@ fn read_index<H: FileHandle>(
     if end < footer.offset {
         return Err(StoreError::BadOffset);
     }
-    match read_part(file, alloc, footer.offset..end) {
-        Ok(bytes) => StoreIndex::read(alloc, bytes, footer.period, footer.offset),
-        Err(error) => Err(error),
-    }
+    let bytes = read_part(file, alloc, footer.offset..end)?;
+    StoreIndex::read(alloc, bytes, footer.period, footer.offset)
 }
 
 // Reads the footer and the index. The file keeps its range.
@@ -38,12 +33,7 @@ pub(crate) fn read_store<H: FileHandle>(
 ) -> Result<(DocStoreFooter, StoreIndex), StoreError>
     ensures { Opens file.old result file.new }
 {
-    let footer = match read_footer(file, alloc) {
-        Ok(footer) => footer,
-        Err(error) => return Err(error),
-    };
-    match read_index(file, alloc, &footer) {
-        Ok(index) => Ok((footer, index)),
-        Err(error) => Err(error),
-    }
+    let footer = read_footer(file, alloc)?;
+    let index = read_index(file, alloc, &footer)?;
+    Ok((footer, index))
 }

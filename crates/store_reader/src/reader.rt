@@ -1,35 +1,35 @@
 //! The reader of a store.
-ghost use Rattle.std.specs.Prelude.{◌≡◌, ◌<◌, ◌≤◌, Err, IsTrue, IfOk, IfErr, IfSome, IsErrOf, MatchResult, ◌⊎◌, ◌↔◌, length, slice_get, take};
+ghost use Rattle.std.specs.Prelude.{◌≡◌, ◌<◌, ◌≤◌, Err, IsTrue, IfOk, IfErr, IfSome, IsErrOf, MatchResult, ◌⊎◌, ◌↔◌};
+ghost use Rattle.std.specs.Prelude.{length, slice_get, take};
 ghost use Rattle.store_base.specs.Counts.{HasRisen};
 ghost use Rattle.store_reader.specs.Answering.{IsAnswered, AnswersTruly};
 ghost use Rattle.layered_index.specs.Checkpoint.{Covers};
 ghost use Rattle.store_reader.specs.Documents.{document_version, IsGot, ReadsTruly};
-ghost use Rattle.store_reader.specs.Footer.{version_number};
+ghost use Rattle.store_format.specs.Footer.{version_number};
 ghost use Rattle.store_reader.specs.Kept.{last_key};
 ghost use Rattle.layered_index.specs.Layers.{index_part};
 ghost use Rattle.store_reader.specs.Opening.{IsOpened, IsRefused, RefusesNoStore};
 ghost use Rattle.store_reader.specs.Reading.{IsReadOnce, IsSameStore, IsSeen, num_docs, store_of};
-ghost use Rattle.store_reader.specs.Slots.{slots};
-ghost use Rattle.store_reader.specs.StoreFile.{IsStore};
+ghost use Rattle.store_format.specs.Slots.{slots};
+ghost use Rattle.store_format.specs.StoreFile.{IsStore};
 ghost use Rattle.store_reader.specs.Walking.{set_of, set_in, IsEntered, IsWalk, LooksAlong};
 
 use crate::cache::BlockCache;
 use crate::cache_stats::CacheStats;
-use crate::compressors::Decompressor;
 use crate::documents::read_document;
-use crate::footer::DocStoreVersion;
 use crate::iter::{DocIter, Items, RawIter, sets_of};
 use crate::look_up::{Entered, look_up_block, look_up_document};
-use crate::open_error::OpenError;
 use crate::opening::read_store;
 use crate::store_index::StoreIndex;
 use crate::walk::{DocWalk, first_walk};
-use layered_index::{LayerCursor, StoreError};
+use layered_index::LayerCursor;
 use std::alloc::Global;
 use std::marker::{Model, PhantomData};
 use store_base::{
-    AliveBitSet, DocId, DocumentDeserialize, FileHandle, FileSlice, OwnedBytes, StoreSpaceUsage,
+    AliveBitSet, DocId, DocumentDeserialize, FileHandle, FileSlice, OwnedBytes, StoreError,
+    StoreSpaceUsage,
 };
+use store_format::{Decompressor, DocStoreVersion, OpenError};
 
 /// How many blocks a reader's cache may keep where its user has no number of its own.
 pub const DOCSTORE_CACHE_CAPACITY: usize = 100;

@@ -5,10 +5,10 @@ ghost use Rattle.store_reader.specs.Covering.{goes_on, covered_to, IsIndexOf, Ha
 ghost use Rattle.layered_index.specs.Layers.{Index, index_part};
 ghost use Rattle.layered_index.specs.Refusal.{RefusesOnlyUnless};
 
-use layered_index::{Checkpoint, LayerCursor, SkipIndex, StoreError};
+use layered_index::{Checkpoint, LayerCursor, SkipIndex};
 use std::alloc::Global;
 use std::marker::Model;
-use store_base::{DocId, OwnedBytes};
+use store_base::{DocId, OwnedBytes, StoreError};
 
 // Whether a checkpoint begins at this document and this byte, and has one of each.
 fn goes_on(doc: DocId, byte: usize, checkpoint: &Checkpoint) -> bool

@@ -1,5 +1,6 @@
 //! Where an iteration stands, and how it goes on.
-ghost use Rattle.std.specs.Prelude.{◌≡◌, ◌≤◌, ◌<◌, ◌+◌, true, Some, length, slice_get, slice_range, take, Err, MatchOption};
+ghost use Rattle.std.specs.Prelude.{◌≡◌, ◌≤◌, ◌<◌, ◌+◌, true, Some, length, slice_get, slice_range, take, Err};
+ghost use Rattle.std.specs.Prelude.{MatchOption};
 ghost use Rattle.layered_index.specs.declared.index.Checkpoint.{Checkpoint};
 ghost use Rattle.store_reader.specs.Iteration.{is_in};
 ghost use Rattle.store_reader.specs.Reading.{IsSameStore, num_docs};
@@ -7,10 +8,9 @@ ghost use Rattle.store_reader.specs.Walking.{set_in, IsTaken, StandsIn, IsWalk, 
 
 use crate::reader::StoreReader;
 use crate::slot::document_in;
-use layered_index::StoreError;
 use std::alloc::Global;
 use std::marker::PhantomData;
-use store_base::{AliveBitSet, DocId, DocumentDeserialize, FileHandle, OwnedBytes};
+use store_base::{AliveBitSet, DocId, DocumentDeserialize, FileHandle, OwnedBytes, StoreError};
 
 /// Where an iteration stands: at an id, in the last of the blocks that it looked up.
 #[derive(Drop)]

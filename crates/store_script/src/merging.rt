@@ -57,7 +57,8 @@ fn merged_file(
     }
 }
 
-/// The file of the documents of the named stores, in order, in blocks of this size. What the merge is refused for is inside.
+/// The file of the documents of the named stores, in order, in blocks of this size. What the merge is refused for is
+/// inside.
 pub fn merged(
     alloc: Global,
     block_size: usize,

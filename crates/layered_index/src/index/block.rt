@@ -5,13 +5,12 @@ ghost use Rattle.layered_index.specs.Checkpoint.{IsInLine, doc_interval, checkpo
 ghost use Rattle.layered_index.specs.BlockReading.{HasBlock};
 ghost use Rattle.layered_index.specs.Refusal.{RefusesOnlyUnless};
 
-use crate::error::StoreError;
 use crate::index::block_reading::first_block;
 use crate::index::{CHECKPOINT_PERIOD, Checkpoint};
 use std::alloc::Global;
 use std::marker::Model;
 use std::ops::Range;
-use store_base::{DocId, VInt};
+use store_base::{DocId, StoreError, VInt};
 
 /// Checkpoints in line: each follows the one before it.
 #[derive(Drop)]

@@ -2,15 +2,15 @@
 ghost use Rattle.std.specs.Prelude.{◌≡◌, IfOk, IfErr, OnErr, MatchResult, ◌++◌};
 ghost use Rattle.std.specs.Option.{option_map};
 ghost use Rattle.layered_index.specs.Checkpoint.{IsInLine, checkpoint_block};
-ghost use Rattle.layered_index.specs.BlockReading.{step_at, steps_at, heading_at, checkpoint_block_at, HasBlock, BeginsWithBlock};
+ghost use Rattle.layered_index.specs.BlockReading.{step_at, steps_at, heading_at, checkpoint_block_at, HasBlock};
+ghost use Rattle.layered_index.specs.BlockReading.{BeginsWithBlock};
 ghost use Rattle.layered_index.specs.Refusal.{Gives, RefusesOnlyUnless, FailsOnlyUnless};
 
-use crate::error::StoreError;
 use crate::index::Checkpoint;
 use crate::index::block::CheckpointBlock;
 use crate::index::fault::IndexFault;
 use std::alloc::Global;
-use store_base::first_number;
+use store_base::{StoreError, first_number};
 
 /// How many checkpoints a block has, and where the first begins.
 #[derive(Clone, Copy)]

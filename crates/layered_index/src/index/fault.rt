@@ -1,7 +1,6 @@
 //! Why bytes of an index were refused, inside the crate.
-use crate::error::StoreError;
 use std::alloc::{AllocError, AllocFailed};
-use store_base::NoMemory;
+use store_base::{NoMemory, StoreError};
 
 /// Two cases, where a `StoreError` has many.
 #[derive(Clone, Copy, Debug, PartialEq, Eq)]

@@ -8,7 +8,6 @@ ghost use Rattle.layered_index.specs.IndexReading.{last_items, IsIndexPart, HasI
 ghost use Rattle.layered_index.specs.Tables.{no_ends, with_ends};
 ghost use Rattle.layered_index.specs.Refusal.{RefusesOnlyUnless, FailsOnlyUnless};
 
-use crate::error::StoreError;
 use crate::index::fault::IndexFault;
 use crate::index::layer_cursor::LayerCursor;
 use crate::index::layers::{digit_count, walk_down};
@@ -18,7 +17,7 @@ use crate::index::tables::{Ends, TableLooks, Tables};
 use crate::index::{CHECKPOINT_PERIOD, Checkpoint};
 use std::alloc::Global;
 use std::marker::Model;
-use store_base::{DocId, NoMemory, OwnedBytes};
+use store_base::{DocId, NoMemory, OwnedBytes, StoreError};
 
 /// The checkpoints of a store, found by document. It keeps the bytes of the bottom layer and where
 /// each checkpoint ends.

@@ -10,12 +10,11 @@ ghost use Rattle.layered_index.specs.Layers.{ends_from, index_part};
 ghost use Rattle.layered_index.specs.Building.{put, put_some, closed_text, last_pointer};
 ghost use Rattle.layered_index.specs.Building.{TookOne, Takes, inserted, Closes, closed, texts_of};
 
-use crate::error::{Cause, StoreError};
 use crate::index::block::CheckpointBlock;
 use crate::index::{CHECKPOINT_PERIOD, Checkpoint};
 use std::alloc::Global;
 use std::marker::Model;
-use store_base::{TerminatingWrite, VInt, WriteFault};
+use store_base::{Cause, StoreError, TerminatingWrite, VInt, WriteFault};
 
 // A layer: the bytes of its full blocks, and the open block.
 #[derive(Drop)]

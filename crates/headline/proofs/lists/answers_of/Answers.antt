@@ -1,12 +1,12 @@
 use Rattle.std.proofs.Common.{◌≡◌, ℕ, List, map, sym, ap, ◌∙◌, subst}
 use Rattle.std.specs.List.{AllByRecursion}
 use Rattle.store_base.specs.Files.{Part}
-use Rattle.layered_index.specs.declared.error.StoreError.TheVariants.{Read, Memory}
+use Rattle.store_base.specs.declared.error.StoreError.TheVariants.{Read, Memory}
 use Rattle.store_reader.specs.Answers.{CanAnswer, HasRefusal, exact_results, results_of}
-use Rattle.store_reader.specs.Footer.{version_number}
+use Rattle.store_format.specs.Footer.{version_number}
 use Rattle.store_reader.specs.Reading.{Reading, store_of}
-use Rattle.store_reader.specs.Slots.{slots}
-use Rattle.store_reader.specs.StoreFile.{StoreBlock}
+use Rattle.store_format.specs.Slots.{slots}
+use Rattle.store_format.specs.StoreFile.{StoreBlock}
 use Rattle.headline.proofs.ListLemmas.{docs_seen}
 use Rattle.headline.proofs.StackingLemmas.{no_rise}
 use Rattle.headline.proofs.lists.answers_of.Goals as goal

@@ -1,8 +1,8 @@
 use Rattle.std.proofs.Common.{◌≡◌, ◌++◌, ℕ, List, map, sym, ap, ◌∙◌, subst}
 use Rattle.std.proofs.lemmas.Result.{err_from_is_err_and}
 use Rattle.store_reader.specs.Answers.{exact_results}
-use Rattle.store_reader.specs.Block.{Slot}
-use Rattle.store_reader.specs.StoreFile.{file, IsStore}
+use Rattle.store_format.specs.Block.{Slot}
+use Rattle.store_format.specs.StoreFile.{file, IsStore}
 use Rattle.headline.proofs.ListLemmas.{written_reach, only_want}
 use Rattle.headline.proofs.lists.written_and_asked.Goals as goal
 

@@ -1,7 +1,7 @@
 use Rattle.std.proofs.Common.{◌+◌, ◌<◌, ◌^◌, ◌++◌, ℕ, List, sym, ap, ◌∙◌, subst, arith, append_assoc}
 use Rattle.std.proofs.lemmas.Result.{err_from_is_err_and}
-use Rattle.store_reader.specs.StoreFile.{StoreBlock, docs_in, file}
-use Rattle.store_reader.proofs.StoreLemmas.{docs_in-append}
+use Rattle.store_format.specs.StoreFile.{StoreBlock, docs_in, file}
+use Rattle.store_format.proofs.StoreLemmas.{docs_in-append}
 use Rattle.headline.specs.Stacking.{IsNewStore}
 use Rattle.headline.proofs.stacking.stacked_in_two_orders.Goals as goal
 

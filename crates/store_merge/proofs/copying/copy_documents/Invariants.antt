@@ -1,7 +1,7 @@
 use Rattle.std.proofs.Common.{◌≡◌, ◌≤◌, length, take}
 use Rattle.store_reader.specs.Iteration.{alive}
 use Rattle.store_reader.specs.Reading.{IsSameStore, store_of}
-use Rattle.store_reader.specs.Slots.{slots}
+use Rattle.store_format.specs.Slots.{slots}
 use Rattle.store_reader.specs.Walking.{set_of, set_in}
 use Rattle.docstore.specs.Writer.{IsStoreWriter}
 use Rattle.store_merge.specs.Bringing.{IsCopied}

@@ -1,6 +1,6 @@
 use Rattle.std.proofs.Common.{◌≡◌, ◌⊎◌, List, ◌++◌, sym, ◌∙◌, ap}
 use Rattle.std.specs.List.{AllByRecursion, flat_map}
-use Rattle.store_reader.specs.Block.{Slot}
+use Rattle.store_format.specs.Block.{Slot}
 use Rattle.docstore.specs.Laws.{taken}
 use Rattle.store_merge.specs.declared.input.MergeInput.{MergeInput}
 use Rattle.store_merge.specs.Choice.{alive_slots}

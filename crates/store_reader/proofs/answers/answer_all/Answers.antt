@@ -1,11 +1,11 @@
 use Rattle.std.proofs.Common.{◌+◌, List, take, sym, subst, arith}
 use Rattle.std.specs.List.{AllZip}
 use Rattle.store_base.specs.Counts.{HasRisen}
-use Rattle.layered_index.specs.declared.error.StoreError.TheVariants.{Read}
+use Rattle.store_base.specs.declared.error.StoreError.TheVariants.{Read}
 use Rattle.store_reader.specs.declared.answers.Answer.{Answer}
 use Rattle.store_reader.specs.Answers.{AreAnswers, HasRefusal, RefusesPast}
 use Rattle.store_reader.specs.Reading.{num_docs, store_of}
-use Rattle.store_reader.specs.Slots.{slots}
+use Rattle.store_format.specs.Slots.{slots}
 use Rattle.store_reader.proofs.AnswersLemmas.{answers_more, looks_more, past_more}
 use Rattle.store_reader.proofs.FailedLemmas.{answer_failed}
 use Rattle.store_reader.proofs.RecentLemmas.{same_on}

@@ -2,11 +2,11 @@ use Rattle.std.proofs.Common.{take}
 use Rattle.std.specs.List.{AllZip}
 use Rattle.std.specs.Prelude.{IsTrue}
 use Rattle.store_base.specs.Counts.{HasRisen}
-use Rattle.layered_index.specs.declared.error.StoreError.TheVariants.{Read}
+use Rattle.store_base.specs.declared.error.StoreError.TheVariants.{Read}
 use Rattle.store_reader.specs.Answers.{AreAnswers, HasRefusal, RefusesPast, keys_of_calls}
 use Rattle.store_reader.specs.LookLaws.{AreLookUps}
 use Rattle.store_reader.specs.Reading.{IsSameStore, num_docs, store_of}
-use Rattle.store_reader.specs.Slots.{slots}
+use Rattle.store_format.specs.Slots.{slots}
 use Rattle.store_reader.proofs.answers.answer_all.Given as goal
 
 abbrev pub invariant-loop-call : goal.invariant-loop-call

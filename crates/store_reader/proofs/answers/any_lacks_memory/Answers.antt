@@ -4,7 +4,7 @@ use Rattle.std.proofs.lemmas.Iterator.{cases_from_any, YieldsList-from_slice}
 use Rattle.std.proofs.lemmas.List.Elements.{Contains-append_left, Contains-append_right, Contains-append_cases}
 use Rattle.std.specs.List.{AllWithin, Contains, HoldsAt, flat_map}
 use Rattle.std.specs.Prelude.{Err}
-use Rattle.layered_index.specs.declared.error.StoreError.TheVariants.{Memory}
+use Rattle.store_base.specs.declared.error.StoreError.TheVariants.{Memory}
 use Rattle.store_reader.specs.declared.answers.Answer.{Answer}
 use Rattle.store_reader.specs.declared.answers.Answer.TheVariants.{Got}
 use Rattle.store_reader.specs.Answers.{HasRefusal, results_of}

@@ -2,12 +2,12 @@ use Rattle.std.proofs.Common.{rules, ◌≡◌, ◌+◌, ◌-◌, ℕ, Bool, Bor
 use Rattle.std.specs.List.{AllByRecursion, Contains}
 use Rattle.std.specs.Prelude.{Result, Err}
 use Rattle.store_base.specs.Counts.{HasRisen}
-use Rattle.layered_index.specs.declared.error.StoreError.{StoreError}
-use Rattle.layered_index.specs.declared.error.StoreError.TheVariants.{Read}
+use Rattle.store_base.specs.declared.error.StoreError.{StoreError}
+use Rattle.store_base.specs.declared.error.StoreError.TheVariants.{Read}
 use Rattle.store_reader.specs.Answers.{IsNotPast}
 use Rattle.store_reader.specs.Listing.{AreItems}
 use Rattle.store_reader.specs.Reading.{num_docs, store_of}
-use Rattle.store_reader.specs.Slots.{slots}
+use Rattle.store_format.specs.Slots.{slots}
 use Rattle.store_reader.specs.Walking.{set_of, set_in, GivesNext}
 use Rattle.store_reader.proofs.AnswersLemmas.{item_not_past, items_not_past}
 use Rattle.store_reader.proofs.FailedLemmas.{item_failed}

@@ -1,5 +1,6 @@
 use Rattle.std.proofs.Common.{refl, ap, ◌∙◌, true}
 use Rattle.std.specs.Prelude.{Ok, Err}
+use Rattle.std.proofs.lemmas.Result.{err_from_is_err_and}
 use Rattle.store_reader.specs.Kept.{with_block}
 use Rattle.store_reader.proofs.LookUpLemmas.{look_up_by_hit, look_up_by_miss}
 use Rattle.store_reader.proofs.look_up.look_up_document.Goals as goal
@@ -9,11 +10,13 @@ returns-in-Some g c =
     let found = look_up_by_hit c.args.checkpoint.now c.args.file.now c.args.cache.now c.document.new.self _ c.in-Some.ensures.answer (c.in-Some.ensures.hit refl) (c.in-Some.ensures.step refl true) in
     (Ok found.0, found.1, found.2)
 
-pub returns-in-Err : goal.returns-in-Err
-returns-in-Err g c =
-    (Err c.in-Err.error, look_up_by_miss c.args.checkpoint.now c.args.file.now c.read_block.new.file c.args.cache.now c.document.new.self (Err c.in-Err.error) true c.in_default.ensures.answer c.in-Err.ensures (c.in_default.ensures.miss refl), refl)
+pub returns-in_err-block : goal.returns-in_err-block
+returns-in_err-block g c =
+    let given = err_from_is_err_and c.from_residual.result c.from_residual.ensures.1 in
+    rw (given.1, given.2)
+    (Err c.in_err-block.field-0.0, look_up_by_miss c.args.checkpoint.now c.args.file.now c.read_block.new.file c.args.cache.now c.document.new.self (Err c.in_err-block.field-0.0) true c.in_default.ensures.answer c.in_err-block.ensures (c.in_default.ensures.miss refl), refl)
 
 pub returns : goal.returns
 returns g c =
-    let block = c.in-Ok.block in
-    (Ok block, look_up_by_miss c.args.checkpoint.now c.args.file.now c.read_block.new.file c.args.cache.now c.put.new.self (Ok block) c.put.ensures.0 c.in_default.ensures.answer c.in-Ok.ensures (c.put.ensures.1 ∙ ap (with_block c.args.checkpoint.now.byte_range.start block c.put.ensures.0) (c.in_default.ensures.miss refl)), c.document_in-answer.ensures)
+    let block = c.in_ok-block.block in
+    (Ok block, look_up_by_miss c.args.checkpoint.now c.args.file.now c.read_block.new.file c.args.cache.now c.put.new.self (Ok block) c.put.ensures.0 c.in_default.ensures.answer c.in_ok-block.ensures (c.put.ensures.1 ∙ ap (with_block c.args.checkpoint.now.byte_range.start block c.put.ensures.0) (c.in_default.ensures.miss refl)), c.document_in-answer.ensures)

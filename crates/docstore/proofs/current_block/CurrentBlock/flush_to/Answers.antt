@@ -3,10 +3,11 @@ use Rattle.std.proofs.lemmas.Result.{IfOk-equal}
 use Rattle.std.specs.Prelude.{vec_capacity}
 use Rattle.std.specs.List.{flat_map}
 use Rattle.store_base.specs.Serialize.{fixed}
-use Rattle.store_reader.specs.Block.{block}
+use Rattle.store_format.specs.Block.{block}
 use Rattle.docstore.specs.Pending.{documents_at}
 use Rattle.docstore.specs.BlockOutput.{with_blocks, with_risen}
-use Rattle.docstore.proofs.PendingLemmas.{length-documents_at, length-block, length-block-pending, block_is, none_pending, documents_none}
+use Rattle.docstore.proofs.PendingLemmas.{length-documents_at, length-block-pending, block_is, none_pending, documents_none}
+use Rattle.store_format.proofs.BlockLemmas.{length-block}
 use Rattle.docstore.proofs.current_block.CurrentBlock.flush_to.Goals as goal
 
 pub append_table-requires-clause-room : goal.append_table-requires-clause-room

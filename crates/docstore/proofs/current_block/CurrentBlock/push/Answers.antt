@@ -1,7 +1,7 @@
 use Rattle.std.proofs.Common.{◌≡◌, ℕ, List, [], ◌∷◌, ◌++◌, length, ◌∙◌, ap, arith}
 use Rattle.std.specs.Prelude.{vec_capacity}
 use Rattle.std.proofs.lemmas.Grind.{common_steps}
-use Rattle.store_reader.specs.Block.{block}
+use Rattle.store_format.specs.Block.{block}
 use Rattle.docstore.specs.Pending.{documents_at}
 use Rattle.docstore.proofs.PendingLemmas.{length-block-pushed, documents_pushed, pushed}
 use Rattle.docstore.proofs.current_block.CurrentBlock.push.Goals as goal
@@ -29,7 +29,7 @@ invariant_of-self-2 c =
     let starts = c.self.inside.starts.items in
     let bytes = c.self.inside.bytes.items in
     let d = c.args.document.now in
-    let h = c.in_ok-self-inside.ensures.ok in
+    let h = c.in_ok-self-inside.ensures.room.ok in
     let starts_is : c.push.new.self.items ≡ starts ++ length bytes ∷ [] = grind (arith, common_steps) in
     let bytes_is : c.extend_from_slice.new.self.items ≡ bytes ++ d = grind (arith, common_steps) in
     rw (starts_is, bytes_is) (pushed starts bytes c.self.inside.limit (vec_capacity c.self.inside.bytes) d c.in_ok-self-inside.field-0 (vec_capacity c.extend_from_slice.new.self) c.self.invariant (omega (arith, h.within)) h.small (omega (arith, h.room, c.extend_from_slice.ensures.capacity)))

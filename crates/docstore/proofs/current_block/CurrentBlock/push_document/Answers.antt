@@ -1,6 +1,6 @@
 use Rattle.std.proofs.Common.{ℕ, ◌+◌, ◌*◌, ◌^◌, ◌<◌, ◌≤◌, List, [], ◌∷◌, ◌++◌, length, ◌∙◌, ap, arith, subst}
 use Rattle.std.specs.Prelude.{vec_capacity}
-use Rattle.store_reader.specs.Block.{block}
+use Rattle.store_format.specs.Block.{block}
 use Rattle.docstore.specs.Pending.{documents_at}
 use Rattle.docstore.proofs.PendingLemmas.{length-block-pushed, documents_pushed, pushed, refusal_weaker}
 use Rattle.docstore.proofs.current_block.CurrentBlock.push_document.Goals as goal

@@ -1,6 +1,6 @@
 use Rattle.std.proofs.Common.{◌≡◌, ◌++◌, None, ◌∙◌, ap, subst, arith}
 use Rattle.std.proofs.lemmas.Grind.{common_steps}
-use Rattle.store_reader.specs.StoreFile.{file}
+use Rattle.store_format.specs.StoreFile.{file}
 use Rattle.docstore.specs.BlockOutput.{BlockOutput, IsCompressing}
 use Rattle.docstore.proofs.OutputLemmas.{closed_file}
 use Rattle.docstore.proofs.store_compressor.BlockCompressor.close.Goals as goal

@@ -1,5 +1,5 @@
 use Rattle.std.proofs.Common.{sym, ◌∙◌, ap}
-use Rattle.store_reader.specs.StoreFile.{docs_in}
+use Rattle.store_format.specs.StoreFile.{docs_in}
 use Rattle.docstore.specs.BlockOutput.{BlockOutput}
 use Rattle.docstore.proofs.OutputLemmas.{docs_seen}
 use Rattle.docstore.proofs.store_compressor.BlockCompressor.num_docs.Goals as goal

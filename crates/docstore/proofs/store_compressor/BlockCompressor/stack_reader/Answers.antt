@@ -1,7 +1,7 @@
 use Rattle.std.proofs.Common.{◌≡◌, ℕ, List, length, sym, ◌∙◌, ap, subst}
 use Rattle.layered_index.specs.declared.index.Checkpoint.{Checkpoint}
 use Rattle.layered_index.specs.Checkpoint.{Covers}
-use Rattle.store_reader.specs.StoreFile.{StoreBlock, marks, blocks_at}
+use Rattle.store_format.specs.StoreFile.{StoreBlock, marks, blocks_at}
 use Rattle.store_reader.specs.Reading.{Reading}
 use Rattle.docstore.specs.Stacking.{AreRead}
 use Rattle.store_reader.proofs.SeenLemmas.{store_seen}

@@ -2,10 +2,10 @@ use Rattle.std.proofs.Common.{◌≡◌, ℕ, ◌+◌, List, [], ◌∷◌, ◌+
 use Rattle.std.proofs.lemmas.Grind.{common_steps}
 use Rattle.std.proofs.lemmas.List.{append-nil}
 use Rattle.store_base.specs.Counts.{raised}
-use Rattle.layered_index.specs.declared.error.Cause.{Cause}
+use Rattle.store_base.specs.declared.error.Cause.{Cause}
 use Rattle.layered_index.specs.Checkpoint.{checkpoint}
 use Rattle.layered_index.specs.Layers.{Index}
-use Rattle.store_reader.specs.StoreFile.{StoreBlock, marks_from}
+use Rattle.store_format.specs.StoreFile.{StoreBlock, marks_from}
 use Rattle.docstore.specs.BlockOutput.{BlockOutput, IsCompressing, compressing}
 use Rattle.docstore.proofs.OutputLemmas.{AreAdded, sound, failed, block_added, seen_added}
 use Rattle.docstore.proofs.store_compressor.BlockCompressor.write_block.Given.{Over}

@@ -2,11 +2,11 @@ use Rattle.std.proofs.Common.{◌≡◌, ℕ, ◌+◌, ◌<◌, List, ◌++◌, 
 use Rattle.std.proofs.lemmas.Grind.{common_steps}
 use Rattle.std.specs.List.{sum_by}
 use Rattle.store_base.specs.Counts.{raised}
-use Rattle.layered_index.specs.declared.error.Cause.{Cause}
+use Rattle.store_base.specs.declared.error.Cause.{Cause}
 use Rattle.layered_index.specs.declared.index.Checkpoint.{Checkpoint}
 use Rattle.layered_index.specs.Checkpoint.{doc_count}
 use Rattle.layered_index.specs.Layers.{Index}
-use Rattle.store_reader.specs.StoreFile.{docs_in, marks_from, blocks_at}
+use Rattle.store_format.specs.StoreFile.{docs_in, marks_from, blocks_at}
 use Rattle.docstore.specs.BlockOutput.{BlockOutput, IsCompressing, compressing}
 use Rattle.docstore.specs.Stacking.{shifted}
 use Rattle.docstore.proofs.OutputLemmas.{sound, failed, seen_added}

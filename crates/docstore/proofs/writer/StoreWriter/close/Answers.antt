@@ -1,11 +1,11 @@
 use Rattle.std.proofs.Common.{◌≡◌, ◌<◌, ◌≤◌, List, [], ◌∷◌, length, None, sym, ◌∙◌, ap, arith, length-append}
 use Rattle.std.proofs.lemmas.Grind.{common_steps}
-use Rattle.store_reader.specs.Block.{block}
-use Rattle.store_reader.specs.StoreFile.{StoreBlock, data_of}
-use Rattle.docstore.specs.Trace.{block_of}
+use Rattle.store_format.specs.Block.{block}
+use Rattle.store_format.specs.StoreFile.{StoreBlock, data_of}
+use Rattle.store_format.specs.StoreFile.{block_of}
 use Rattle.docstore.specs.Writer.{Writing}
 use Rattle.docstore.specs.BlockOutput.{BlockOutput, with_blocks, with_risen, AfterClose}
-use Rattle.docstore.proofs.PendingLemmas.{length-block}
+use Rattle.store_format.proofs.BlockLemmas.{length-block}
 use Rattle.docstore.proofs.WriterLemmas.{closed_behind}
 use Rattle.docstore.proofs.writer.StoreWriter.close.Goals as goal
 

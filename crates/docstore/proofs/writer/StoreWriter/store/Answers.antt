@@ -1,7 +1,7 @@
 use Rattle.std.proofs.Common.{◌≡◌, sym, ◌∙◌, ap, arith}
 use Rattle.std.proofs.lemmas.Option.{IfSome_then}
 use Rattle.std.proofs.lemmas.Result.{err_from_is_err_and}
-use Rattle.layered_index.specs.declared.error.StoreError.TheVariants.{BlockTooLarge}
+use Rattle.store_base.specs.declared.error.StoreError.TheVariants.{BlockTooLarge}
 use Rattle.docstore.specs.Writer.{Writing}
 use Rattle.docstore.proofs.PendingLemmas.{limit_of}
 use Rattle.docstore.proofs.writer.StoreWriter.store.Goals as goal

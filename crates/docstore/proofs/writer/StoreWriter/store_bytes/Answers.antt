@@ -1,6 +1,6 @@
 use Rattle.std.proofs.Common.{◌≡◌, ◌≤◌, ◌^◌, [], ◌∷◌, ◌++◌, length, ap, arith}
 use Rattle.std.proofs.lemmas.Grind.{common_steps}
-use Rattle.store_reader.specs.Block.{block}
+use Rattle.store_format.specs.Block.{block}
 use Rattle.docstore.specs.Writer.{Writing}
 use Rattle.docstore.proofs.PendingLemmas.{limit}
 use Rattle.docstore.proofs.writer.StoreWriter.store_bytes.Goals as goal

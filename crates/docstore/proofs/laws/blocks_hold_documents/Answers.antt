@@ -1,5 +1,0 @@
-use Rattle.docstore.proofs.DocumentLemmas.{blocks_hold_documents}
-use Rattle.docstore.proofs.laws.blocks_hold_documents.Goals as goal
-
-pub returns : goal.returns
-returns c = blocks_hold_documents

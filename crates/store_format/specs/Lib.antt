@@ -1,0 +1,9 @@
+pub mod Block
+pub mod Extraction
+pub mod FileReading
+pub mod Footer
+pub mod FooterLemmas
+pub mod FooterReading
+pub mod Laws
+pub mod Slots
+pub mod StoreFile

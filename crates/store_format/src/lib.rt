@@ -1,0 +1,20 @@
+//! What the bytes of a store's file are: versions, kinds of blocks, the footer and a block's table, each written and
+//! read in one place; and the definitions of blocks, slots and whole files, with their laws.
+#![tactic(auto)]
+
+pub mod block_table;
+pub mod file_reading;
+pub mod footer;
+pub mod footer_reading;
+pub mod kinds;
+pub mod laws;
+pub mod open_error;
+pub mod version;
+
+pub use block_table::{append_table, block_read_index, likely_read_index, part};
+pub use file_reading::read_part;
+pub use footer::DocStoreFooter;
+pub use footer_reading::{FOOTER_LEN, footer_in, read_footer};
+pub use kinds::{Compressor, Decompressor};
+pub use open_error::OpenError;
+pub use version::{DOC_STORE_VERSION, DocStoreVersion};

@@ -1,5 +1,0 @@
-use Rattle.store_reader.proofs.HandedLemmas.{footer_handed}
-use Rattle.store_reader.proofs.footer.DocStoreFooter.extract_footer.Goals as goal
-
-pub returns-in-Err-clause-handed_back : goal.returns-in-Err-clause-handed_back
-returns-in-Err-clause-handed_back g c = footer_handed _ _ _ c.in-Err.ensures

@@ -1,5 +1,0 @@
-use Rattle.store_reader.proofs.ExtractionLemmas.{whole_footer}
-use Rattle.store_reader.proofs.footer_reading.footer_in.Goals as goal
-
-pub returns-in-Ok : goal.returns-in-Ok
-returns-in-Ok c = whole_footer c.args.bytes.now c.in-Ok.footer _ c.requires c.in-Ok.ensures

@@ -1,5 +1,0 @@
-use Rattle.store_reader.proofs.ApartLemmas.{files_are_stores}
-use Rattle.store_reader.proofs.laws.files_are_stores.Goals as goal
-
-pub returns : goal.returns
-returns c = files_are_stores

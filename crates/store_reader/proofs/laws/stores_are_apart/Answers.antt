@@ -1,5 +1,0 @@
-use Rattle.store_reader.proofs.ApartLemmas.{stores_are_apart}
-use Rattle.store_reader.proofs.laws.stores_are_apart.Goals as goal
-
-pub returns : goal.returns
-returns c = stores_are_apart

@@ -1,0 +1,13 @@
+//! For the tests of every crate: devices that fail, and stores in the making. The devices are files and outputs that
+//! meet their trait's contract and still refuse a call, or lie. That they are proved shows that the contracts can be
+//! met by more than memory.
+#![tactic(auto)]
+
+pub mod failing_file;
+pub mod failing_sink;
+pub mod lying_file;
+pub mod making;
+
+pub use failing_file::FailingFile;
+pub use failing_sink::FailingSink;
+pub use lying_file::LyingFile;

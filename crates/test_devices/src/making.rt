@@ -1,0 +1,84 @@
+//! Stores in the making, and the calls whose refusal hands something back.
+
+use docstore::{Compressor, StoreError, StoreReader, StoreWriter};
+use std::alloc::Global;
+use store_base::{FileHandle, FileSlice, MemFile, MemSink, TerminatingWrite};
+
+/// Closes a writer, and answers its output.
+pub fn closed<W: TerminatingWrite>(writer: StoreWriter<W>) -> Result<W, StoreError> {
+    match writer.close() {
+        Ok(output) => Ok(output),
+        Err(refusal) => Err(refusal.error),
+    }
+}
+
+/// The file of these documents.
+pub fn written(
+    alloc: Global,
+    block_size: usize,
+    documents: &[&[u8]],
+) -> Result<Vec<u8>, StoreError> {
+    let mut writer = StoreWriter::new(alloc, MemSink::new(alloc), Compressor::None, block_size);
+    for document in documents {
+        writer.store_bytes(document)?;
+    }
+    Ok(closed(writer)?.into_bytes())
+}
+
+/// Opens a whole file.
+pub fn opened<H: FileHandle>(alloc: Global, file: H) -> Result<StoreReader<H>, StoreError> {
+    match StoreReader::open(alloc, FileSlice::new(file), 0) {
+        Ok(reader) => Ok(reader),
+        Err(refusal) => Err(refusal.error),
+    }
+}
+
+/// Opens a whole file, with a cache of so many blocks.
+pub fn opened_with_cache<H: FileHandle>(
+    alloc: Global,
+    file: H,
+    capacity: usize,
+) -> Result<StoreReader<H>, StoreError> {
+    match StoreReader::open(alloc, FileSlice::new(file), capacity) {
+        Ok(reader) => Ok(reader),
+        Err(refusal) => Err(refusal.error),
+    }
+}
+
+/// Opens a file of these bytes.
+pub fn opened_bytes(alloc: Global, bytes: Vec<u8>) -> Result<StoreReader<MemFile>, StoreError> {
+    opened(alloc, MemFile::new(alloc, bytes)?)
+}
+
+/// Whether a document is answered, and is this one.
+pub fn is_found<H: FileHandle>(
+    alloc: Global,
+    reader: &mut StoreReader<H>,
+    doc_id: u32,
+    document: &[u8],
+) -> bool {
+    match reader.get_document_bytes(alloc, doc_id) {
+        Ok(bytes) => bytes.as_slice() == document,
+        Err(_) => false,
+    }
+}
+
+/// The items of an iteration over all documents: each document's bytes and a semicolon, or for a refusal `!`, its
+/// number as a byte, and a semicolon.
+pub fn listed<H: FileHandle>(
+    alloc: Global,
+    reader: &mut StoreReader<H>,
+) -> Result<Vec<u8>, StoreError> {
+    let mut text = Vec::new(alloc);
+    for item in reader.iter_raw(alloc, None) {
+        match item {
+            Ok(bytes) => text.extend_from_slice(bytes.as_slice())?,
+            Err(error) => text.extend_from_slice(&[
+                b'!',
+                u8::try_from(error.number()).unwrap_or(u8::MAX),
+            ])?,
+        }
+        text.push(b';')?;
+    }
+    Ok(text)
+}
