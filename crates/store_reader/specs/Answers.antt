@@ -25,7 +25,7 @@ abbrev pub CanAnswer : ℕ → ReadCall → Type 0
 CanAnswer count (Bytes id) = Unit {0}
 CanAnswer count (Iter alive take) = IfSome alive (λ set. count ≤ length set)
 
--- A document's slot answers a get; the first slots whose ids are alive answer an iteration, one by one; 9 and 10 aside.
+-- A document's slot answers a get; the first slots whose ids are alive answer an iteration, one by one; failed reads and want of memory aside.
 abbrev pub IsAnswer : List Slot → ReadCall → Answer → Type 0
 IsAnswer all (Bytes id) (Got result) = AnswersTruly id (slice_get all id) result
 IsAnswer all (Iter alive take) (Listed v) = AreItems (first_alive take all (set_here alive)) v.items

@@ -79,7 +79,7 @@ pub record WalksTo (set : Option (ℕ → Bool)) (old : Reading) (from : Walk) (
 abbrev pub AnswersOf : ℕ → Walk → Result (List ℕ) StoreError → Type 0
 AnswersOf id w result = AnswersFrom id (id - w.first) w.block result
 
--- The item of an id: it is alive, and its slot answers; 9 and 10 aside.
+-- The item of an id: it is alive, and its slot answers; failed reads and want of memory aside.
 pub record IsItem (set : Option (ℕ → Bool)) (old : Reading) (id : ℕ) (to : Walk) (answer : Result (List ℕ) StoreError) : Type 0 where
   pub below : id < num_docs old
   pub is_alive : is_in set id ≡ true

@@ -30,8 +30,8 @@ pub fn stats_are_added()
     ensures { StatsAreAdded }
 {}
 
-/// Where the slot of an id has the bytes of a document, `StoreReader::get` gives its stored form, 9 and 10 aside.
-/// Documents of the versions 2 and 3 are read as version 2.
+/// Where the slot of an id has the bytes of a document, `StoreReader::get` gives its stored form, failed reads and
+/// want of memory aside. Documents of the versions 2 and 3 are read as version 2.
 pub fn stored_documents_are_got<D: StoredDocument>()
     ensures { StoredDocumentsAreGot D.doc_bytes (D.reading 2) D.stored }
 {}
