@@ -4,7 +4,8 @@ use Rattle.std.specs.Prelude.{IfSome, IfErr, IsErrOf, OnOk}
 use Rattle.std.proofs.lemmas.List.{append-nil}
 use Rattle.store_base.specs.declared.error.Cause.{Cause}
 use Rattle.store_base.specs.declared.error.StoreError.{StoreError}
-use Rattle.store_base.specs.declared.error.StoreError.TheVariants.{ShortFile, BadVersion, BadBlockKind, BadOffset, BadIndex, InvalidArgument, DamagedDocument, BadDocument, Read, Memory, OldVersion, Unserializable, BlockTooLarge, TooManyDocs, Failed, BadPeriod}
+use Rattle.store_base.specs.declared.error.StoreError.TheVariants.{ShortFile, BadVersion, BadBlockKind, BadOffset, BadIndex, InvalidArgument, DamagedDocument, BadDocument, Read, Memory, OldVersion}
+use Rattle.store_base.specs.declared.error.StoreError.TheVariants.{Unserializable, BlockTooLarge, TooManyDocs, Failed, BadPeriod}
 use Rattle.store_format.specs.StoreFile.{StoreBlock}
 use Rattle.docstore.specs.Trace.{Call, Answer, read_failed, no_memory, refused, store, store_bytes, stack, no_effect, effect_of}
 use Rattle.docstore.specs.Writer.{Writing, flushed, with_failures, AfterFailed, AfterRefusal, AfterDocument, Takes}
@@ -25,7 +26,8 @@ stays call answer old new none is works = record {
 }
 
 -- a call that failed for good, now or before
-fails : (call : Call) (answer : Answer) (old new : Writing) (before : Option Cause) (cause : Cause) → effect_of call answer ≡ no_effect → AfterFailed before cause old new → new.output.failure ≡ None → Made call answer old new
+fails : (call : Call) (answer : Answer) (old new : Writing) (before : Option Cause) (cause : Cause) → effect_of call answer ≡ no_effect → AfterFailed before cause old new → new.output.failure ≡ None
+    → Made call answer old new
 fails call answer old new None cause none h works = let failure : new.output.failure ≡ Some cause = h.failure in absurd cc
 fails call answer old new (Some first) cause none h works = stays call answer old new none h.1 works
 
@@ -65,7 +67,8 @@ document_refused bytes TooManyDocs old new h works = stays (store bytes) refused
 document_refused bytes (Failed cause) old new h works = fails (store bytes) refused old new old.output.failure cause (turned_down bytes) h works
 document_refused bytes (BadPeriod k) old new h works = absurd h
 
-pub document_made : (bytes : Option (List ℕ)) (result : Result (Unit {0}) StoreError) (old new : Writing) → OnOk result (Takes bytes old new) → IfSome old.output.failure (λ cause. IsErrOf result (Failed cause)) → IfErr result (AfterDocument old new) → new.output.failure ≡ None → Made (store bytes) (answer_of result) old new
+pub document_made : (bytes : Option (List ℕ)) (result : Result (Unit {0}) StoreError) (old new : Writing) → OnOk result (Takes bytes old new)
+    → IfSome old.output.failure (λ cause. IsErrOf result (Failed cause)) → IfErr result (AfterDocument old new) → new.output.failure ≡ None → Made (store bytes) (answer_of result) old new
 document_made None (Ok x) old new stored failed err works = absurd stored
 document_made (Some bytes) (Ok x) old new stored failed err works = record { works = accepted_works old.output.failure x failed; after = stored }
 document_made bytes (Err e) old new stored failed err works = document_refused bytes e old new err works
@@ -90,7 +93,8 @@ bytes_refused bytes TooManyDocs old new h works = stays (store_bytes bytes) refu
 bytes_refused bytes (Failed cause) old new h works = fails (store_bytes bytes) refused old new old.output.failure cause refl h works
 bytes_refused bytes (BadPeriod k) old new h works = absurd h
 
-pub bytes_made : (bytes : List ℕ) (result : Result (Unit {0}) StoreError) (old new : Writing) → OnOk result (Takes (Some bytes) old new) → IfSome old.output.failure (λ cause. IsErrOf result (Failed cause)) → IfErr result (AfterRefusal old new) → new.output.failure ≡ None → Made (store_bytes bytes) (answer_of result) old new
+pub bytes_made : (bytes : List ℕ) (result : Result (Unit {0}) StoreError) (old new : Writing) → OnOk result (Takes (Some bytes) old new)
+    → IfSome old.output.failure (λ cause. IsErrOf result (Failed cause)) → IfErr result (AfterRefusal old new) → new.output.failure ≡ None → Made (store_bytes bytes) (answer_of result) old new
 bytes_made bytes (Ok x) old new stored failed err works = record { works = accepted_works old.output.failure x failed; after = stored }
 bytes_made bytes (Err e) old new stored failed err works = bytes_refused bytes e old new err works
 
@@ -100,7 +104,8 @@ bytes_made bytes (Err e) old new stored failed err works = bytes_refused bytes e
 pub store_of_none : (w : Writing) → with_store w [] ≡ flushed w
 store_of_none w = λ i. record w { pending = []; output = record w.output { finished = append-nil (flushed w).output.finished i; content = append-nil (flushed w).output.content i } }
 
-store_refused : (bs : List StoreBlock) (e : StoreError) (reader read : Reading) (old new : Writing) → AfterStack reader read old new e → new.output.failure ≡ None → Made (stack bs) (answer_of (Err e)) old new
+store_refused : (bs : List StoreBlock) (e : StoreError) (reader read : Reading) (old new : Writing) → AfterStack reader read old new e → new.output.failure ≡ None
+    → Made (stack bs) (answer_of (Err e)) old new
 store_refused bs (ShortFile k) reader read old new h works = absurd h
 store_refused bs (BadVersion k) reader read old new h works = absurd h
 store_refused bs (BadBlockKind k) reader read old new h works = absurd h

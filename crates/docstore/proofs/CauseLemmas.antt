@@ -1,10 +1,12 @@
 -- Why calls of a writer are refused, by where its list of calls stands.
-use Rattle.std.proofs.Common.{◌≡◌, ℕ, ◌+◌, ◌-◌, ◌≤◌, ◌^◌, ◌⊎◌, inl, inr, Bool, true, false, if◌then◌else◌, nat_lt, List, [], ◌∷◌, ◌++◌, length, Option, Some, None, Result, Ok, Err, refl, ◌∙◌, ap, arith, length-append}
+use Rattle.std.proofs.Common.{◌≡◌, ℕ, ◌+◌, ◌-◌, ◌≤◌, ◌^◌, ◌⊎◌, inl, inr, Bool, true, false, if◌then◌else◌, nat_lt, List, [], ◌∷◌, ◌++◌, length, Option, Some, None, Result, Ok, Err, refl, ◌∙◌, ap}
+use Rattle.std.proofs.Common.{arith, length-append}
 use Rattle.std.specs.Prelude.{◌≢◌, ◌↔◌, IfErr, IsErrOf, OnOk, MatchOption}
 use Rattle.std.proofs.lemmas.Bool.{cases_lt}
 use Rattle.store_base.specs.declared.error.Cause.{Cause}
 use Rattle.store_base.specs.declared.error.StoreError.{StoreError}
-use Rattle.store_base.specs.declared.error.StoreError.TheVariants.{ShortFile, BadVersion, BadBlockKind, BadOffset, BadIndex, InvalidArgument, DamagedDocument, BadDocument, Read, Memory, OldVersion, Unserializable, BlockTooLarge, TooManyDocs, Failed, BadPeriod}
+use Rattle.store_base.specs.declared.error.StoreError.TheVariants.{ShortFile, BadVersion, BadBlockKind, BadOffset, BadIndex, InvalidArgument, DamagedDocument, BadDocument, Read, Memory, OldVersion}
+use Rattle.store_base.specs.declared.error.StoreError.TheVariants.{Unserializable, BlockTooLarge, TooManyDocs, Failed, BadPeriod}
 use Rattle.store_format.specs.declared.version.DocStoreVersion.{DocStoreVersion}
 use Rattle.store_format.specs.declared.version.DocStoreVersion.TheVariants.{V1, V2, V3}
 use Rattle.store_format.specs.Block.{block}
@@ -24,7 +26,8 @@ works_on None cause old new none works h = let failure : new.output.failure ≡ 
 works_on (Some first) cause old new none works h = absurd cc
 
 -- no refusal for the count, so there is an id
-id_left : (result : Result (Unit {0}) StoreError) (w : Writing) → IsStoreWriter w → w.output.failure ≡ None → (IsErrOf result TooManyDocs ↔ ((w.output.failure ≡ None) × (num_docs w ≡ 2 ^ 32 - 1))) → (result ≡ Err TooManyDocs → ⊥) → HasIdLeft w
+id_left : (result : Result (Unit {0}) StoreError) (w : Writing) → IsStoreWriter w → w.output.failure ≡ None → (IsErrOf result TooManyDocs ↔ ((w.output.failure ≡ None) × (num_docs w ≡ 2 ^ 32 - 1)))
+    → (result ≡ Err TooManyDocs → ⊥) → HasIdLeft w
 id_left result w sound works too_many not_this = elim (cases_lt (num_docs w) (2 ^ 32 - 1)) [
   | inl lt ↦ record { works = works; left = lt }
   | inr le ↦ absurd (not_this (too_many.1 (works, omega (arith, le, sound.ids))))
@@ -43,8 +46,10 @@ room result w bytes id not_this = (
 -- ---- bytes
 
 pub bytes_get : (bytes : List ℕ) (result : Result (Unit {0}) StoreError) (old new : Writing) → IsStoreWriter old → old.output.failure ≡ None → new.output.failure ≡ None
-    → (IsErrOf result TooManyDocs ↔ ((old.output.failure ≡ None) × (num_docs old ≡ 2 ^ 32 - 1))) → (IsErrOf result BlockTooLarge ↔ IsTooLarge old bytes) → IfErr result (AfterRefusal old new) → BytesGet (stage_of old) bytes result
-bytes_get bytes (Ok x) old new sound worked works too_many too_large err = room (Ok x) old bytes (id_left (Ok x) old sound worked too_many (λ e. absurd cc)) (λ t. let e : Ok x ≡ Err BlockTooLarge = too_large.1 t in absurd cc)
+    → (IsErrOf result TooManyDocs ↔ ((old.output.failure ≡ None) × (num_docs old ≡ 2 ^ 32 - 1))) → (IsErrOf result BlockTooLarge ↔ IsTooLarge old bytes) → IfErr result (AfterRefusal old new)
+    → BytesGet (stage_of old) bytes result
+bytes_get bytes (Ok x) old new sound worked works too_many too_large err = room (Ok x) old bytes (id_left (Ok x) old sound worked too_many (λ e. absurd cc)) (λ t. let e : Ok x ≡ Err BlockTooLarge =
+    too_large.1 t in absurd cc)
 bytes_get bytes (Err (ShortFile k)) old new sound worked works too_many too_large err = absurd err
 bytes_get bytes (Err (BadVersion k)) old new sound worked works too_many too_large err = absurd err
 bytes_get bytes (Err (BadBlockKind k)) old new sound worked works too_many too_large err = absurd err
@@ -54,7 +59,8 @@ bytes_get bytes (Err (InvalidArgument k)) old new sound worked works too_many to
 bytes_get bytes (Err (DamagedDocument k)) old new sound worked works too_many too_large err = absurd err
 bytes_get bytes (Err BadDocument) old new sound worked works too_many too_large err = absurd err
 bytes_get bytes (Err Read) old new sound worked works too_many too_large err = absurd err
-bytes_get bytes (Err Memory) old new sound worked works too_many too_large err = room (Err Memory) old bytes (id_left (Err Memory) old sound worked too_many (λ e. absurd cc)) (λ t. let r : Result (Unit {0}) StoreError = Err Memory in let e : r ≡ Err BlockTooLarge = too_large.1 t in absurd cc)
+bytes_get bytes (Err Memory) old new sound worked works too_many too_large err = room (Err Memory) old bytes (id_left (Err Memory) old sound worked too_many (λ e. absurd cc))
+    (λ t. let r : Result (Unit {0}) StoreError = Err Memory in let e : r ≡ Err BlockTooLarge = too_large.1 t in absurd cc)
 bytes_get bytes (Err OldVersion) old new sound worked works too_many too_large err = absurd err
 bytes_get bytes (Err Unserializable) old new sound worked works too_many too_large err = absurd err
 bytes_get bytes (Err BlockTooLarge) old new sound worked works too_many too_large err = let t = too_large.0 refl in (t.id.left, t.large)
@@ -65,7 +71,8 @@ bytes_get bytes (Err (BadPeriod k)) old new sound worked works too_many too_larg
 -- ---- documents
 
 -- a document that was taken
-document_fits : (bytes : Option (List ℕ)) (x : Unit {0}) (old new : Writing) → HasIdLeft old → Takes bytes old new → (HasTooMuch old bytes → IsErrOf (Ok x) BlockTooLarge ⊎ IsErrOf (Ok x) Memory) → MatchOption bytes ⊥ (HasRoom (stage_of old))
+document_fits : (bytes : Option (List ℕ)) (x : Unit {0}) (old new : Writing) → HasIdLeft old → Takes bytes old new → (HasTooMuch old bytes → IsErrOf (Ok x) BlockTooLarge ⊎ IsErrOf (Ok x) Memory)
+    → MatchOption bytes ⊥ (HasRoom (stage_of old))
 document_fits None x old new id stored too_much = absurd stored
 document_fits (Some bytes) x old new id stored too_much = room (Ok x) old bytes id (λ t. elim (too_much t) [
   | inl e ↦ absurd cc
@@ -77,10 +84,13 @@ document_is_large : (bytes : Option (List ℕ)) (old : Writing) → HasTooMuch o
 document_is_large None old h = absurd h
 document_is_large (Some bytes) old h = (h.id.left, h.large)
 
-pub document_gets : (bytes : Option (List ℕ)) (result : Result (Unit {0}) StoreError) (old new : Writing) → IsStoreWriter old → old.output.failure ≡ None → new.output.failure ≡ None → OnOk result (Takes bytes old new)
-    → (IsErrOf result TooManyDocs ↔ ((old.output.failure ≡ None) × (num_docs old ≡ 2 ^ 32 - 1))) → (IsErrOf result Unserializable → HasIdLeft old × (bytes ≡ None)) → (IsErrOf result BlockTooLarge → HasTooMuch old bytes)
+pub document_gets : (bytes : Option (List ℕ)) (result : Result (Unit {0}) StoreError) (old new : Writing) → IsStoreWriter old → old.output.failure ≡ None → new.output.failure ≡ None
+    → OnOk result (Takes bytes old new)
+    → (IsErrOf result TooManyDocs ↔ ((old.output.failure ≡ None) × (num_docs old ≡ 2 ^ 32 - 1))) → (IsErrOf result Unserializable → HasIdLeft old × (bytes ≡ None))
+    → (IsErrOf result BlockTooLarge → HasTooMuch old bytes)
     → (HasTooMuch old bytes → IsErrOf result BlockTooLarge ⊎ IsErrOf result Memory) → IfErr result (AfterDocument old new) → DocumentGets (stage_of old) bytes result
-document_gets bytes (Ok x) old new sound worked works stored too_many unserializable too_large too_much err = document_fits bytes x old new (id_left (Ok x) old sound worked too_many (λ e. absurd cc)) stored too_much
+document_gets bytes (Ok x) old new sound worked works stored too_many unserializable too_large too_much err =
+    document_fits bytes x old new (id_left (Ok x) old sound worked too_many (λ e. absurd cc)) stored too_much
 document_gets bytes (Err (ShortFile k)) old new sound worked works stored too_many unserializable too_large too_much err = absurd err
 document_gets bytes (Err (BadVersion k)) old new sound worked works stored too_many unserializable too_large too_much err = absurd err
 document_gets bytes (Err (BadBlockKind k)) old new sound worked works stored too_many unserializable too_large too_much err = absurd err
@@ -106,7 +116,8 @@ is_old V2 = inr (λ e. absurd cc)
 is_old V3 = inr (λ e. absurd cc)
 
 -- neither of the two refusals of a store
-can_stack : (result : Result (Unit {0}) StoreError) (w : Writing) (reader : Reading) → w.output.failure ≡ None → (IsErrOf result OldVersion ↔ IsOld w reader) → (IsErrOf result TooManyDocs ↔ HasTooMany w reader)
+can_stack : (result : Result (Unit {0}) StoreError) (w : Writing) (reader : Reading) → w.output.failure ≡ None → (IsErrOf result OldVersion ↔ IsOld w reader)
+    → (IsErrOf result TooManyDocs ↔ HasTooMany w reader)
     → (result ≡ Err OldVersion → ⊥) → (result ≡ Err TooManyDocs → ⊥) → CanStack (stage_of w) reader
 can_stack result w reader works old_version too_many not_old not_many = elim (is_old reader.version) [
   | inl is ↦ absurd (not_old (old_version.1 (record { works = works; version = is })))
@@ -120,7 +131,8 @@ can_stack result w reader works old_version too_many not_old not_many = elim (is
 ]
 
 pub store_gets : (result : Result (Unit {0}) StoreError) (reader read : Reading) (old new : Writing) → old.output.failure ≡ None → new.output.failure ≡ None
-    → (IsErrOf result OldVersion ↔ IsOld old reader) → (IsErrOf result TooManyDocs ↔ HasTooMany old reader) → IfErr result (AfterStack reader read old new) → StoreGets (stage_of old) reader read result
+    → (IsErrOf result OldVersion ↔ IsOld old reader) → (IsErrOf result TooManyDocs ↔ HasTooMany old reader) → IfErr result (AfterStack reader read old new)
+    → StoreGets (stage_of old) reader read result
 store_gets (Ok x) reader read old new worked works old_version too_many err = can_stack (Ok x) old reader worked old_version too_many (λ e. absurd cc) (λ e. absurd cc)
 store_gets (Err (ShortFile k)) reader read old new worked works old_version too_many err = absurd err
 store_gets (Err (BadVersion k)) reader read old new worked works old_version too_many err = absurd err

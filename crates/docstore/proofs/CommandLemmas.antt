@@ -10,7 +10,8 @@ use Rattle.docstore.proofs.CauseLemmas.{stage_then}
 use Rattle.store_base.specs.declared.error.Cause.{Cause}
 use Rattle.store_base.specs.declared.error.Cause.TheVariants.{Write, Memory as OutOfMemory}
 use Rattle.store_base.specs.declared.error.StoreError.{StoreError}
-use Rattle.store_base.specs.declared.error.StoreError.TheVariants.{ShortFile, BadVersion, BadBlockKind, BadOffset, BadIndex, InvalidArgument, DamagedDocument, BadDocument, Read, Memory, OldVersion, Unserializable, BlockTooLarge, TooManyDocs, Failed, BadPeriod}
+use Rattle.store_base.specs.declared.error.StoreError.TheVariants.{ShortFile, BadVersion, BadBlockKind, BadOffset, BadIndex, InvalidArgument, DamagedDocument, BadDocument, Read, Memory, OldVersion}
+use Rattle.store_base.specs.declared.error.StoreError.TheVariants.{Unserializable, BlockTooLarge, TooManyDocs, Failed, BadPeriod}
 use Rattle.docstore.specs.declared.run.StoreCommand.{StoreCommand}
 use Rattle.docstore.specs.declared.run.StoreCommand.TheVariants.{Doc, Bytes, Stack}
 use Rattle.store_format.specs.StoreFile.{data_of}
@@ -26,7 +27,8 @@ abbrev stage_by : ℕ → Stage → List Step → Stage
 stage_by size at trace = fold (λ a s. stage_after size a (effect s)) at trace
 
 -- While the writer works it has made these calls.
-pub record IsRunBy {D H : Type 0} (size period : ℕ) (held : List ℕ) (doc_bytes : D → Option (List ℕ)) (commands left : List (StoreCommand D H)) (results : List (Result (Unit {0}) StoreError)) (w : Writing) : Type 0 where
+pub record IsRunBy {D H : Type 0} (size period : ℕ) (held : List ℕ) (doc_bytes : D → Option (List ℕ)) (commands left : List (StoreCommand D H)) (results : List (Result (Unit {0}) StoreError))
+    (w : Writing) : Type 0 where
   pub trace : List Step
   pub calls : IsTrace doc_bytes commands results trace
   pub causes : HaveCauses size doc_bytes first_stage commands left results trace
@@ -36,7 +38,8 @@ pub record IsRunBy {D H : Type 0} (size period : ℕ) (held : List ℕ) (doc_byt
 abbrev pub IsRun : {D H : Type 0} → ℕ → ℕ → List ℕ → (D → Option (List ℕ)) → List (StoreCommand D H) → List (StoreCommand D H) → List (Result (Unit {0}) StoreError) → Writing → Type 0
 IsRun size period held doc_bytes commands left results w = w.output.failure ≡ None → IsRunBy size period held doc_bytes commands left results w
 
-trace_more : {D H : Type 0} (doc_bytes : D → Option (List ℕ)) (commands : List (StoreCommand D H)) (results : List (Result (Unit {0}) StoreError)) (trace : List Step) (command : StoreCommand D H) (result : Result (Unit {0}) StoreError) (s : Step)
+trace_more : {D H : Type 0} (doc_bytes : D → Option (List ℕ)) (commands : List (StoreCommand D H)) (results : List (Result (Unit {0}) StoreError)) (trace : List Step) (command : StoreCommand D H)
+    (result : Result (Unit {0}) StoreError) (s : Step)
     → IsTrace doc_bytes commands results trace → IsStep doc_bytes command result s → IsTrace doc_bytes (commands ++ command ∷ []) (results ++ result ∷ []) (trace ++ s ∷ [])
 trace_more doc_bytes [] [] [] command result s h is = (is, tt)
 trace_more doc_bytes (c ∷ commands) (r ∷ results) (t ∷ trace) command result s h is = (h.0, trace_more doc_bytes commands results trace command result s h.1 is)
@@ -45,10 +48,13 @@ trace_more doc_bytes [] (r ∷ results) trace command result s h is = absurd h
 trace_more doc_bytes (c ∷ commands) [] trace command result s h is = absurd h
 trace_more doc_bytes (c ∷ commands) (r ∷ results) [] command result s h is = absurd h
 
-causes_more : {D H : Type 0} (size : ℕ) (doc_bytes : D → Option (List ℕ)) (at : Stage) (commands left : List (StoreCommand D H)) (results : List (Result (Unit {0}) StoreError)) (trace : List Step) (command after : StoreCommand D H) (result : Result (Unit {0}) StoreError) (s : Step)
-    → HaveCauses size doc_bytes at commands left results trace → CommandGets doc_bytes (stage_by size at trace) command after result → HaveCauses size doc_bytes at (commands ++ command ∷ []) (left ++ after ∷ []) (results ++ result ∷ []) (trace ++ s ∷ [])
+causes_more : {D H : Type 0} (size : ℕ) (doc_bytes : D → Option (List ℕ)) (at : Stage) (commands left : List (StoreCommand D H)) (results : List (Result (Unit {0}) StoreError)) (trace : List Step)
+    (command after : StoreCommand D H) (result : Result (Unit {0}) StoreError) (s : Step)
+    → HaveCauses size doc_bytes at commands left results trace → CommandGets doc_bytes (stage_by size at trace) command after result
+    → HaveCauses size doc_bytes at (commands ++ command ∷ []) (left ++ after ∷ []) (results ++ result ∷ []) (trace ++ s ∷ [])
 causes_more size doc_bytes at [] [] [] [] command after result s h is = (is, tt)
-causes_more size doc_bytes at (c ∷ commands) (d ∷ left) (r ∷ results) (t ∷ trace) command after result s h is = (h.0, causes_more size doc_bytes (stage_after size at (effect t)) commands left results trace command after result s h.1 is)
+causes_more size doc_bytes at (c ∷ commands) (d ∷ left) (r ∷ results) (t ∷ trace) command after result s h is =
+    (h.0, causes_more size doc_bytes (stage_after size at (effect t)) commands left results trace command after result s h.1 is)
 causes_more size doc_bytes at [] [] [] (t ∷ trace) command after result s h is = absurd h
 causes_more size doc_bytes at [] [] (r ∷ results) trace command after result s h is = absurd h
 causes_more size doc_bytes at [] (d ∷ left) results trace command after result s h is = absurd h
@@ -57,8 +63,10 @@ causes_more size doc_bytes at (c ∷ commands) (d ∷ left) [] trace command aft
 causes_more size doc_bytes at (c ∷ commands) (d ∷ left) (r ∷ results) [] command after result s h is = absurd h
 
 -- one more call
-pub run_by_more : {D H : Type 0} (size period : ℕ) (held : List ℕ) (doc_bytes : D → Option (List ℕ)) (commands left : List (StoreCommand D H)) (results : List (Result (Unit {0}) StoreError)) (command after : StoreCommand D H) (result : Result (Unit {0}) StoreError) (old new : Writing)
-    → (new.output.failure ≡ None → IsCall doc_bytes command after result old new) → IsRun size period held doc_bytes commands left results old → IsRun size period held doc_bytes (commands ++ command ∷ []) (left ++ after ∷ []) (results ++ result ∷ []) new
+pub run_by_more : {D H : Type 0} (size period : ℕ) (held : List ℕ) (doc_bytes : D → Option (List ℕ)) (commands left : List (StoreCommand D H)) (results : List (Result (Unit {0}) StoreError))
+    (command after : StoreCommand D H) (result : Result (Unit {0}) StoreError) (old new : Writing)
+    → (new.output.failure ≡ None → IsCall doc_bytes command after result old new) → IsRun size period held doc_bytes commands left results old
+    → IsRun size period held doc_bytes (commands ++ command ∷ []) (left ++ after ∷ []) (results ++ result ∷ []) new
 run_by_more size period held doc_bytes commands left results command after result old new made run = λ works.
     let call = made works in
     let before = run call.works in
@@ -97,12 +105,14 @@ pub none_failed : (held : List ℕ) (failures : ℕ) (w : Writing) → w.output.
 none_failed held failures w none = subst (λ (o : Option Cause). IfSome o (λ cause. HasCause cause failures w.output.failures held w.output.content)) (sym none) tt
 
 -- a cause since an output that held the finished blocks
-since : (held : List ℕ) (failures : ℕ) (old : BlockOutput) (cause : Cause) (risen : ℕ) (content : List ℕ) → failures ≤ old.failures → old.before ≡ held → HoldsBlocks old → HasCause cause old.failures risen old.content content → HasCause cause failures risen held content
+since : (held : List ℕ) (failures : ℕ) (old : BlockOutput) (cause : Cause) (risen : ℕ) (content : List ℕ) → failures ≤ old.failures → old.before ≡ held → HoldsBlocks old
+    → HasCause cause old.failures risen old.content content → HasCause cause failures risen held content
 since held failures old cause risen content le before holds why =
     cause_further cause failures old.failures risen held (data_of old.finished) old.content content le (holds.written ∙ ap (λ (x : List ℕ). x ++ data_of old.finished) before) why
 
 -- a call that failed for good
-failed_by : (held : List ℕ) (failures : ℕ) (old new : Writing) (first : Option Cause) (cause : Cause) → failures ≤ old.output.failures → IsStoreWriter old → (old.output.failure ≡ None → old.output.before ≡ held)
+failed_by : (held : List ℕ) (failures : ℕ) (old new : Writing) (first : Option Cause) (cause : Cause) → failures ≤ old.output.failures → IsStoreWriter old
+    → (old.output.failure ≡ None → old.output.before ≡ held)
     → IfSome first (λ c. HasCause c failures old.output.failures held old.output.content) → AfterFailed first cause old new → HasCause cause failures new.output.failures held new.output.content
 failed_by held failures old new None cause le sound before was h =
     since held failures old.output cause new.output.failures new.output.content le (before h.worked) (sound.output.works h.worked) h.why
@@ -123,7 +133,8 @@ not_asked Write old new same = inl same
 not_asked OutOfMemory old new same = same
 
 -- a writer that is not closed
-not_closed : (held : Told) (w : Writing) (first : Option Cause) (cause : Cause) (new : Told) → w.output.failure ≡ first → held.failures ≤ w.output.failures → w.output.termination ≡ held.termination → IsStoreWriter w → (w.output.failure ≡ None → w.output.before ≡ held.content)
+not_closed : (held : Told) (w : Writing) (first : Option Cause) (cause : Cause) (new : Told) → w.output.failure ≡ first → held.failures ≤ w.output.failures → w.output.termination ≡ held.termination
+    → IsStoreWriter w → (w.output.failure ≡ None → w.output.before ≡ held.content)
     → IfSome first (λ c. HasCause c held.failures w.output.failures held.content w.output.content) → AfterFailedClose first cause w.output new.content new.termination new.failures
     → HasCause cause held.failures new.failures held.content new.content × HasNotEnded cause held.termination new.termination
 not_closed held w None cause new is le ends sound before was h = (
@@ -131,7 +142,8 @@ not_closed held w None cause new is le ends sound before was h = (
   subst (λ (t : Termination). HasNotEnded cause t new.termination) ends h.1,
 )
 not_closed held w (Some first) cause new is le ends sound before was h =
-    let same : HasCause cause held.failures w.output.failures held.content w.output.content = subst (λ (c : Cause). HasCause c held.failures w.output.failures held.content w.output.content) (sym h.0) was in (
+    let same : HasCause cause held.failures w.output.failures held.content w.output.content =
+    subst (λ (c : Cause). HasCause c held.failures w.output.failures held.content w.output.content) (sym h.0) was in (
       subst (λ (n : ℕ). HasCause cause held.failures n held.content new.content) (sym h.2) (subst (λ (x : List ℕ). HasCause cause held.failures w.output.failures held.content x) (sym h.1) same),
       not_asked cause held.termination new.termination (h.3 ∙ ends),
     )
@@ -140,7 +152,8 @@ one_waits : (docs : List (List ℕ)) → length (blocks_of docs) ≤ 1
 one_waits [] = omega arith
 one_waits (d ∷ docs) = omega arith
 
-pub after_run : {D H : Type 0} (size period : ℕ) (doc_bytes : D → Option (List ℕ)) (commands left : List (StoreCommand D H)) (results : List (Result (Unit {0}) StoreError)) (held : Told) (w : Writing) (e : StoreError) (new : Told)
+pub after_run : {D H : Type 0} (size period : ℕ) (doc_bytes : D → Option (List ℕ)) (commands left : List (StoreCommand D H)) (results : List (Result (Unit {0}) StoreError)) (held : Told) (w : Writing)
+    (e : StoreError) (new : Told)
     → held.failures ≤ w.output.failures → w.output.termination ≡ held.termination → IsStoreWriter w → IsRun size period held.content doc_bytes commands left results w
     → HasFailedSince held.content held.failures w → AfterClose e w.output new.content new.termination new.failures → AfterRun size doc_bytes commands left held new e
 after_run size period doc_bytes commands left results held w Memory new le ends sound run was h =

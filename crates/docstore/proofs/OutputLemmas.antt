@@ -13,7 +13,8 @@ use Rattle.store_format.specs.declared.kinds.Compressor.TheVariants as packed
 use Rattle.store_format.specs.Footer.{footer, kind_of, unpacks}
 use Rattle.layered_index.specs.Layers.{index_part}
 use Rattle.docstore.specs.BlockOutput.{BlockOutput, new_output, with_blocks, with_risen, IsSound, data_in, front_of, blocks_in, AreWritten, IsCompressing, compressing}
-use Rattle.store_format.proofs.StoreLemmas.{docs_in-cons, docs_in-append, data_of-append, data_fits, AreBlocks-append, marks_from-append, marks_in_line_from, marks_in_line, docs_in-blocks_at, blocks_from, blocks_none}
+use Rattle.store_format.proofs.StoreLemmas.{docs_in-cons, docs_in-append, data_of-append, data_fits, AreBlocks-append, marks_from-append, marks_in_line_from, marks_in_line, docs_in-blocks_at}
+use Rattle.store_format.proofs.StoreLemmas.{blocks_from, blocks_none}
 
 -- what is known once these blocks are written behind the others
 pub record AreAdded (period next_id : ℕ) (cs : List Checkpoint) (content : List ℕ) (written : ℕ) (bs : List StoreBlock) (bytes : List ℕ) (count : ℕ) : Type 0 where
@@ -28,7 +29,8 @@ pub record AreAdded (period next_id : ℕ) (cs : List Checkpoint) (content : Lis
 length-data_in : (content : List ℕ) (written : ℕ) → written ≤ length content → length (data_in content written) ≡ written
 length-data_in content written le = omega (arith, length-drop (length content - written) content)
 
-pub are_added : (period next_id : ℕ) (cs : List Checkpoint) (content : List ℕ) (written : ℕ) (bs : List StoreBlock) → IsCompressing period next_id cs content written None → AllByRecursion IsStoreBlock bs → next_id + docs_in bs < 2 ^ 32 → AreAdded period next_id cs content written bs (data_of bs) (docs_in bs)
+pub are_added : (period next_id : ℕ) (cs : List Checkpoint) (content : List ℕ) (written : ℕ) (bs : List StoreBlock) → IsCompressing period next_id cs content written None
+    → AllByRecursion IsStoreBlock bs → next_id + docs_in bs < 2 ^ 32 → AreAdded period next_id cs content written bs (data_of bs) (docs_in bs)
 are_added period next_id cs content written bs h each few =
     let is : AreWritten cs content written = h.works refl in
     let old = blocks_in cs content written in
@@ -37,12 +39,15 @@ are_added period next_id cs content written bs h each few =
     let len : written ≡ length (data_of old) = sym (length-data_in content written is.held) ∙ ap length is.joined in
     let blocks : AreBlocks new = AreBlocks-append old bs is.blocks each (omega arith) in
     let marked : cs ++ marks_from next_id written bs ≡ marks new =
-    (λ i. is.places i ++ marks_from (docs i) (len i) bs) ∙ sym (marks_from-append 0 0 old bs ∙ ap (λ (n : ℕ). marks old ++ marks_from n (0 + length (data_of old)) bs) (omega arith) ∙ ap (λ (n : ℕ). marks old ++ marks_from (docs_in old) n bs) (omega arith)) in
-    let size : length (data_of new) ≡ written + length (data_of bs) = ap length (data_of-append old bs) ∙ length-append (data_of old) (data_of bs) ∙ ap (λ (n : ℕ). n + length (data_of bs)) (sym len) in
+    (λ i. is.places i ++ marks_from (docs i) (len i) bs) ∙ sym (marks_from-append 0 0 old bs ∙ ap (λ (n : ℕ). marks old ++ marks_from n (0 + length (data_of old)) bs) (omega arith)
+    ∙ ap (λ (n : ℕ). marks old ++ marks_from (docs_in old) n bs) (omega arith)) in
+    let size : length (data_of new) ≡ written + length (data_of bs) = ap length (data_of-append old bs) ∙ length-append (data_of old) (data_of bs)
+    ∙ ap (λ (n : ℕ). n + length (data_of bs)) (sym len) in
     let cut : length (content ++ data_of bs) - (written + length (data_of bs)) ≡ length content - written = omega (arith, length-append content (data_of bs)) in
     let shorter : length content - written ≤ length content = omega arith in
     let data_is : data_in (content ++ data_of bs) (written + length (data_of bs)) ≡ data_of new =
-    ap (λ (n : ℕ). drop n (content ++ data_of bs)) cut ∙ drop-append-le (length content - written) content (data_of bs) shorter ∙ ap (λ (x : List ℕ). x ++ data_of bs) is.joined ∙ sym (data_of-append old bs) in
+    ap (λ (n : ℕ). drop n (content ++ data_of bs)) cut ∙ drop-append-le (length content - written) content (data_of bs) shorter ∙ ap (λ (x : List ℕ). x ++ data_of bs) is.joined
+    ∙ sym (data_of-append old bs) in
     let same : blocks_in (cs ++ marks_from next_id written bs) (content ++ data_of bs) (written + length (data_of bs)) ≡ new =
     blocks_from (cs ++ marks_from next_id written bs) (data_in (content ++ data_of bs) (written + length (data_of bs))) new marked data_is in
     record {
@@ -53,7 +58,8 @@ are_added period next_id cs content written bs h each few =
       compressing = record {
         least = h.least;
         most = h.most;
-        ids = ap (λ (n : ℕ). n + docs_in bs) docs ∙ sym (docs_in-append old bs) ∙ ap docs_in (sym same) ∙ docs_in-blocks_at (cs ++ marks_from next_id written bs) (data_in (content ++ data_of bs) (written + length (data_of bs)));
+        ids = ap (λ (n : ℕ). n + docs_in bs) docs ∙ sym (docs_in-append old bs) ∙ ap docs_in (sym same)
+            ∙ docs_in-blocks_at (cs ++ marks_from next_id written bs) (data_in (content ++ data_of bs) (written + length (data_of bs)));
         few_ids = few;
         works = λ _. record {
           held = omega (arith, length-append content (data_of bs), is.held);
@@ -67,7 +73,8 @@ are_added period next_id cs content written bs h each few =
     }
 
 -- the same of one block
-pub is_added : (period next_id : ℕ) (cs : List Checkpoint) (content : List ℕ) (written : ℕ) (b : StoreBlock) → IsCompressing period next_id cs content written None → IsStoreBlock b → next_id + b.count < 2 ^ 32 → AreAdded period next_id cs content written (b ∷ []) b.bytes b.count
+pub is_added : (period next_id : ℕ) (cs : List Checkpoint) (content : List ℕ) (written : ℕ) (b : StoreBlock) → IsCompressing period next_id cs content written None → IsStoreBlock b
+    → next_id + b.count < 2 ^ 32 → AreAdded period next_id cs content written (b ∷ []) b.bytes b.count
 is_added period next_id cs content written b h one few =
     let count : docs_in (b ∷ []) ≡ b.count = omega (arith, docs_in-cons b []) in
     let all = are_added period next_id cs content written (b ∷ []) h (one, tt) (omega arith) in
@@ -76,10 +83,12 @@ is_added period next_id cs content written b h one few =
 
 -- ---- what clauses see
 
-pub docs_seen : (period next_id : ℕ) (cs : List Checkpoint) (content : List ℕ) (written : ℕ) (failure : Option Cause) → IsCompressing period next_id cs content written failure → docs_in (blocks_in cs content written) ≡ next_id
+pub docs_seen : (period next_id : ℕ) (cs : List Checkpoint) (content : List ℕ) (written : ℕ) (failure : Option Cause) → IsCompressing period next_id cs content written failure
+    → docs_in (blocks_in cs content written) ≡ next_id
 docs_seen period next_id cs content written failure h = docs_in-blocks_at cs (data_in content written) ∙ sym h.ids
 
-pub sound : (compressor : Compressor) (period next_id : ℕ) (cs : List Checkpoint) (content : List ℕ) (written : ℕ) (termination : Termination) (failures : ℕ) (failure : Option Cause) → IsCompressing period next_id cs content written failure → IsSound (compressing compressor period cs content written termination failures failure)
+pub sound : (compressor : Compressor) (period next_id : ℕ) (cs : List Checkpoint) (content : List ℕ) (written : ℕ) (termination : Termination) (failures : ℕ) (failure : Option Cause)
+    → IsCompressing period next_id cs content written failure → IsSound (compressing compressor period cs content written termination failures failure)
 sound compressor period next_id cs content written termination failures failure h = record {
   least = h.least;
   most = h.most;
@@ -91,7 +100,8 @@ sound compressor period next_id cs content written termination failures failure 
 }
 
 -- a writer that fails keeps its checkpoints
-pub failed : (period next_id : ℕ) (cs : List Checkpoint) (content new_content : List ℕ) (written new_written : ℕ) (failure : Option Cause) (cause : Cause) → IsCompressing period next_id cs content written failure → IsCompressing period next_id cs new_content new_written (Some cause)
+pub failed : (period next_id : ℕ) (cs : List Checkpoint) (content new_content : List ℕ) (written new_written : ℕ) (failure : Option Cause) (cause : Cause)
+    → IsCompressing period next_id cs content written failure → IsCompressing period next_id cs new_content new_written (Some cause)
 failed period next_id cs content new_content written new_written failure cause h = record {
   least = h.least;
   most = h.most;
@@ -119,12 +129,26 @@ begins period content failure least most =
 -- ---- a block that is written
 
 -- a writer that has written nothing
-pub first_seen : (compressor : Compressor) (period : ℕ) (content : List ℕ) (termination : Termination) (failures : ℕ) → compressing compressor period [] content 0 termination failures None ≡ new_output compressor period content termination failures
+pub first_seen : (compressor : Compressor) (period : ℕ) (content : List ℕ) (termination : Termination) (failures : ℕ)
+    → compressing compressor period [] content 0 termination failures None ≡ new_output compressor period content termination failures
 first_seen compressor period content termination failures =
     let all : front_of content 0 ≡ content = take_all (length content - 0) content (omega arith) in
-    λ i. record { compressor = compressor; period = period; finished = blocks_none (data_in content 0) i; failure = None; before = all i; content = content; termination = termination; failures = failures }
+    λ i. record {
+      compressor = compressor;
+      period = period;
+      finished = blocks_none (data_in content 0) i;
+      failure = None;
+      before = all i;
+      content = content;
+      termination = termination;
+      failures =
+          failures;
+    }
 
-pub block_added : (compressor : Compressor) (period next_id : ℕ) (cs : List Checkpoint) (content : List ℕ) (written : ℕ) (termination : Termination) (failures : ℕ) (failure : Option Cause) (now : BlockOutput) (count : ℕ) (bytes : List ℕ) → compressing compressor period cs content written termination failures failure ≡ now → IsCompressing period next_id cs content written failure → now.failure ≡ None → 0 < length bytes → length bytes < 2 ^ 32 → 0 < count → docs_in now.finished + count < 2 ^ 32 → AreAdded period next_id cs content written (record { count = count; bytes = bytes } ∷ []) bytes count
+pub block_added : (compressor : Compressor) (period next_id : ℕ) (cs : List Checkpoint) (content : List ℕ) (written : ℕ) (termination : Termination) (failures : ℕ) (failure : Option Cause)
+    (now : BlockOutput) (count : ℕ) (bytes : List ℕ) → compressing compressor period cs content written termination failures failure ≡ now → IsCompressing period next_id cs content written failure
+    → now.failure ≡ None → 0 < length bytes → length bytes < 2 ^ 32 → 0 < count → docs_in now.finished + count < 2 ^ 32
+    → AreAdded period next_id cs content written (record { count = count; bytes = bytes } ∷ []) bytes count
 block_added compressor period next_id cs content written termination failures failure now count bytes view_is h works some few some_docs few_docs =
     let none : failure ≡ None = ap (λ (out : BlockOutput). out.failure) view_is ∙ works in
     let inv : IsCompressing period next_id cs content written None = subst (IsCompressing period next_id cs content written) none h in
@@ -132,10 +156,24 @@ block_added compressor period next_id cs content written termination failures fa
     is_added period next_id cs content written (record { count = count; bytes = bytes }) inv (record { some_docs = some_docs; some_bytes = some; few_bytes = few }) (omega (arith, docs, few_docs))
 
 -- what is seen once blocks are added
-pub seen_added : (compressor : Compressor) (period next_id : ℕ) (cs : List Checkpoint) (content : List ℕ) (written : ℕ) (termination : Termination) (failures new_failures : ℕ) (failure : Option Cause) (now : BlockOutput) (bs : List StoreBlock) (bytes : List ℕ) (count : ℕ) → compressing compressor period cs content written termination failures failure ≡ now → AreAdded period next_id cs content written bs bytes count → bytes ≡ data_of bs → compressing compressor period (cs ++ marks_from next_id written bs) (content ++ bytes) (written + length bytes) termination new_failures failure ≡ with_risen new_failures (with_blocks now bs)
+pub seen_added : (compressor : Compressor) (period next_id : ℕ) (cs : List Checkpoint) (content : List ℕ) (written : ℕ) (termination : Termination) (failures new_failures : ℕ) (failure : Option Cause)
+    (now : BlockOutput) (bs : List StoreBlock) (bytes : List ℕ) (count : ℕ) → compressing compressor period cs content written termination failures failure ≡ now
+    → AreAdded period next_id cs content written bs bytes count → bytes ≡ data_of bs → compressing compressor period (cs ++ marks_from next_id written bs) (content ++ bytes)
+    (written + length bytes) termination new_failures failure ≡ with_risen new_failures (with_blocks now bs)
 seen_added compressor period next_id cs content written termination failures new_failures failure now bs bytes count view_is a bytes_is =
-    let step : compressing compressor period (cs ++ marks_from next_id written bs) (content ++ bytes) (written + length bytes) termination new_failures failure ≡ with_risen new_failures (with_blocks (compressing compressor period cs content written termination failures failure) bs) =
-    λ i. record { compressor = compressor; period = period; finished = a.finished i; failure = failure; before = a.before i; content = content ++ bytes_is i; termination = termination; failures = new_failures } in
+    let step : compressing compressor period (cs ++ marks_from next_id written bs) (content ++ bytes) (written + length bytes) termination new_failures failure
+    ≡ with_risen new_failures (with_blocks (compressing compressor period cs content written termination failures failure) bs) =
+    λ i. record {
+      compressor = compressor;
+      period = period;
+      finished = a.finished i;
+      failure = failure;
+      before = a.before i;
+      content = content ++ bytes_is i;
+      termination = termination;
+      failures =
+          new_failures;
+    } in
     step ∙ ap (λ (out : BlockOutput). with_risen new_failures (with_blocks out bs)) view_is
 
 -- ---- the end of a file
@@ -143,7 +181,8 @@ seen_added compressor period next_id cs content written termination failures new
 kind_none : (compressor : Compressor) → kind_of (unpacks compressor) ≡ 0
 kind_none packed.None = refl
 
-pub closed_file : (compressor : Compressor) (period next_id : ℕ) (cs : List Checkpoint) (content : List ℕ) (written : ℕ) → IsCompressing period next_id cs content written None → (content ++ index_part period cs) ++ footer 3 written (kind_of (unpacks compressor)) (reserved_of period 3) ≡ front_of content written ++ file period 3 (blocks_in cs content written)
+pub closed_file : (compressor : Compressor) (period next_id : ℕ) (cs : List Checkpoint) (content : List ℕ) (written : ℕ) → IsCompressing period next_id cs content written None
+    → (content ++ index_part period cs) ++ footer 3 written (kind_of (unpacks compressor)) (reserved_of period 3) ≡ front_of content written ++ file period 3 (blocks_in cs content written)
 closed_file compressor period next_id cs content written h =
     let is = h.works refl in
     let bs = blocks_in cs content written in

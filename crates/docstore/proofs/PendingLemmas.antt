@@ -1,5 +1,6 @@
 -- Documents, their bytes and the places where they begin.
-use Rattle.std.proofs.Common.{◌≡◌, ℕ, suc, ◌+◌, ◌-◌, ◌*◌, ◌^◌, ◌<◌, ◌≤◌, List, [], ◌∷◌, ◌++◌, length, take, drop, refl, sym, ◌∙◌, ap, arith, append_assoc, length-append, Option, Some, None, Result, Ok, Err, OnOk, IfSome, false, inl, inr}
+use Rattle.std.proofs.Common.{◌≡◌, ℕ, suc, ◌+◌, ◌-◌, ◌*◌, ◌^◌, ◌<◌, ◌≤◌, List, [], ◌∷◌, ◌++◌, length, take, drop, refl, sym, ◌∙◌, ap, arith, append_assoc, length-append, Option, Some, None, Result}
+use Rattle.std.proofs.Common.{Ok, Err, OnOk, IfSome, false, inl, inr}
 use Rattle.std.proofs.lemmas.List.{append-nil}
 use Rattle.std.proofs.lemmas.List.Concat.{concat_is, length-flat_map}
 use Rattle.std.proofs.Math.Seq.{drop-append_seam, take-append_seam}
@@ -65,12 +66,23 @@ pub length-concat-pending : (starts bytes : List ℕ) (limit capacity : ℕ) →
 length-concat-pending starts bytes limit capacity h = ap length (sym h.joined)
 
 -- the length of the block with one more document
-pub length-block-pushed : (starts bytes : List ℕ) (limit capacity : ℕ) (d : List ℕ) → IsPending starts bytes limit capacity → length (block (documents_at starts bytes ++ d ∷ [])) ≡ length bytes + length d + 4 * (length starts + 2)
+pub length-block-pushed : (starts bytes : List ℕ) (limit capacity : ℕ) (d : List ℕ) → IsPending starts bytes limit capacity
+    → length (block (documents_at starts bytes ++ d ∷ [])) ≡ length bytes + length d + 4 * (length starts + 2)
 length-block-pushed starts bytes limit capacity d h =
     let docs = documents_at starts bytes in
-    omega (arith, length-block (docs ++ d ∷ []), ap length (concat-append docs (d ∷ [])), length-append (concat docs) (d ++ []), length-append d [], length-append docs (d ∷ []), ap length h.joined, length-documents_at starts bytes)
+    omega (
+      arith,
+      length-block (docs ++ d ∷ []),
+      ap length (concat-append docs (d ∷ [])),
+      length-append (concat docs) (d ++ []),
+      length-append d [],
+      length-append docs (d ∷ []),
+      ap length h.joined,
+      length-documents_at starts bytes,
+    )
 
-pub documents_pushed : (starts bytes : List ℕ) (limit capacity : ℕ) (d : List ℕ) → IsPending starts bytes limit capacity → documents_at (starts ++ length bytes ∷ []) (bytes ++ d) ≡ documents_at starts bytes ++ d ∷ []
+pub documents_pushed : (starts bytes : List ℕ) (limit capacity : ℕ) (d : List ℕ) → IsPending starts bytes limit capacity
+    → documents_at (starts ++ length bytes ∷ []) (bytes ++ d) ≡ documents_at starts bytes ++ d ∷ []
 documents_pushed starts bytes limit capacity d h =
     let docs = documents_at starts bytes in
     let place : 0 + length (concat docs) ≡ length bytes = omega (arith, ap length h.joined) in
@@ -81,7 +93,8 @@ documents_pushed starts bytes limit capacity d h =
     documents_from (starts ++ length bytes ∷ []) (bytes ++ d) (docs ++ d ∷ []) starts_is bytes_is
 
 -- one more document, where the limit leaves room for it and the table
-pub pushed : (starts bytes : List ℕ) (limit capacity : ℕ) (d : List ℕ) (more room : ℕ) → IsPending starts bytes limit capacity → length bytes + length d + 4 * (length starts + 2) ≤ more → more < 2 ^ 32 → more ≤ room → IsPending (starts ++ length bytes ∷ []) (bytes ++ d) more room
+pub pushed : (starts bytes : List ℕ) (limit capacity : ℕ) (d : List ℕ) (more room : ℕ) → IsPending starts bytes limit capacity → length bytes + length d + 4 * (length starts + 2) ≤ more
+    → more < 2 ^ 32 → more ≤ room → IsPending (starts ++ length bytes ∷ []) (bytes ++ d) more room
 pushed starts bytes limit capacity d more room h within small fits =
     let docs = documents_at starts bytes in
     let place : 0 + length (concat docs) ≡ length bytes = omega (arith, ap length h.joined) in
@@ -117,7 +130,8 @@ unfolding documents_at
 documents_none bytes = refl
 
 -- the bytes with their table are the block
-pub block_is : (starts bytes : List ℕ) (limit capacity : ℕ) → IsPending starts bytes limit capacity → (bytes ++ flat_map (fixed 4) starts) ++ fixed 4 (length starts) ≡ block (documents_at starts bytes)
+pub block_is : (starts bytes : List ℕ) (limit capacity : ℕ) → IsPending starts bytes limit capacity
+    → (bytes ++ flat_map (fixed 4) starts) ++ fixed 4 (length starts) ≡ block (documents_at starts bytes)
 block_is starts bytes limit capacity h =
     let docs = documents_at starts bytes in
     let count : length starts ≡ length docs = sym (length-documents_at starts bytes) in
@@ -130,7 +144,15 @@ length-block-pending starts bytes limit capacity h =
 -- a document of which no block can be made weighs, with eight bytes, what the block size leaves to 2^32
 pub limit : (docs : List (List ℕ)) (doc : List ℕ) (size : ℕ) → weight docs ≤ size → 2 ^ 32 ≤ length (block (docs ++ doc ∷ [])) → 2 ^ 32 ≤ size + length doc + 8
 limit docs doc size light large =
-    omega (arith, length-block (docs ++ doc ∷ []), ap length (concat-append docs (doc ∷ [])), length-append (concat docs) (doc ++ []), length-append doc [], length-append docs (doc ∷ []), length-concat docs)
+    omega (
+      arith,
+      length-block (docs ++ doc ∷ []),
+      ap length (concat-append docs (doc ∷ [])),
+      length-append (concat docs) (doc ++ []),
+      length-append doc [],
+      length-append docs (doc ∷ []),
+      length-concat docs,
+    )
 
 -- what a clause says of an Ok, where the result is one
 pub from_ok : {T E P : Type 0} (r : Result T E) → is_err r ≡ false → OnOk r P → P
@@ -143,7 +165,8 @@ refusal_weaker None P Q e f h = h
 refusal_weaker (Some d) P Q e f h = elim h [ inl m ↦ inl m | inr l ↦ inr (l.0, f d l.1) ]
 
 -- the same limit for a document that may have no bytes
-pub limit_of : (o : Option (List ℕ)) (docs : List (List ℕ)) (size : ℕ) (e : StoreError) → weight docs ≤ size → IsDocumentRefusal o (λ d. 2 ^ 32 ≤ length (block (docs ++ d ∷ []))) e → IfSome o (λ bytes. e ≡ BlockTooLarge → 2 ^ 32 ≤ size + length bytes + 8)
+pub limit_of : (o : Option (List ℕ)) (docs : List (List ℕ)) (size : ℕ) (e : StoreError) → weight docs ≤ size → IsDocumentRefusal o (λ d. 2 ^ 32 ≤ length (block (docs ++ d ∷ []))) e
+    → IfSome o (λ bytes. e ≡ BlockTooLarge → 2 ^ 32 ≤ size + length bytes + 8)
 limit_of None docs size e light h = tt
 limit_of (Some d) docs size e light h = λ is. elim h [ inl m ↦ absurd (differ e m is) | inr l ↦ limit docs d size light l.1 ]
   where

@@ -28,7 +28,8 @@ pub record IsRunSoFar (size period : ℕ) (held : List ℕ) (trace : List Step) 
   pub light : weight w.pending ≤ size
   pub goes_on : (rest : List Step) (bs : List StoreBlock) → BlocksFrom size (flat_map (λ (g : List (List ℕ)). g) groups ++ w.pending) rest bs → BlocksFrom size [] (trace ++ rest) (front ++ bs)
 
-pub run_begins : (size period : ℕ) (held : List ℕ) (w : Writing) → w.block_size ≡ size → w.output.period ≡ period → w.output.before ≡ held → w.pending ≡ [] → w.output.finished ≡ [] → IsRunSoFar size period held [] w
+pub run_begins : (size period : ℕ) (held : List ℕ) (w : Writing) → w.block_size ≡ size → w.output.period ≡ period → w.output.before ≡ held → w.pending ≡ [] → w.output.finished ≡ []
+    → IsRunSoFar size period held [] w
 run_begins size period held w size_is period_is before none finished = record {
   size_is = size_is;
   period_is = period_is;
@@ -46,7 +47,8 @@ blocks_of-some [] some = absurd (omega (arith, some))
 blocks_of-some (d ∷ docs) some = refl
 
 -- what the blocks are from a call on, if it has this effect
-effect_by : (size : ℕ) (step : Step) (e : Effect) (docs : List (List ℕ)) (rest : List Step) (bs : List StoreBlock) → effect step ≡ e → BlocksBy size docs e (λ more cs. BlocksFrom size more rest cs) bs → BlocksFrom size docs (step ∷ rest) bs
+effect_by : (size : ℕ) (step : Step) (e : Effect) (docs : List (List ℕ)) (rest : List Step) (bs : List StoreBlock) → effect step ≡ e → BlocksBy size docs e (λ more cs. BlocksFrom size more rest cs) bs
+    → BlocksFrom size docs (step ∷ rest) bs
 effect_by size step e docs rest bs is h = subst (λ (x : Effect). BlocksBy size docs x (λ more cs. BlocksFrom size more rest cs) bs) (sym is) h
 
 -- one more call, if the blocks from it on are these
@@ -55,11 +57,13 @@ on : (size period : ℕ) (held : List ℕ) (trace : List Step) (step : Step) (w 
 on size period held trace step w run rest bs h = subst (λ (t : List Step). BlocksFrom size [] t (run.front ++ bs)) (sym (append_assoc trace (step ∷ []) rest)) (run.goes_on (step ∷ rest) bs h)
 
 -- a document that is taken
-run_takes : (size period : ℕ) (held : List ℕ) (trace : List Step) (step : Step) (w : Writing) (d : List ℕ) → effect step ≡ adds d → IsRunSoFar size period held trace w → IsRunSoFar size period held (trace ++ step ∷ []) (with_document w d)
+run_takes : (size period : ℕ) (held : List ℕ) (trace : List Step) (step : Step) (w : Writing) (d : List ℕ) → effect step ≡ adds d → IsRunSoFar size period held trace w
+    → IsRunSoFar size period held (trace ++ step ∷ []) (with_document w d)
 run_takes size period held trace step w d is run =
     let docs = w.pending ++ d ∷ [] in
     let next : Writing = record w { pending = docs } in
-    let goes_on : (rest : List Step) (bs : List StoreBlock) → BlocksFrom size ((joined run.groups ++ w.pending) ++ d ∷ []) rest bs → BlocksFrom size [] ((trace ++ step ∷ []) ++ rest) (run.front ++ bs) =
+    let goes_on : (rest : List Step) (bs : List StoreBlock) → BlocksFrom size ((joined run.groups ++ w.pending) ++ d ∷ []) rest bs
+    → BlocksFrom size [] ((trace ++ step ∷ []) ++ rest) (run.front ++ bs) =
     λ rest bs h. on size period held trace step w run rest bs (effect_by size step (adds d) (joined run.groups ++ w.pending) rest bs is h) in
     let waits : weight docs ≤ size → IsRunSoFar size period held (trace ++ step ∷ []) next = λ light. record {
       size_is = run.size_is;
@@ -78,19 +82,31 @@ run_takes size period held trace step w d is run =
       before = run.before;
       front = run.front;
       groups = run.groups ++ docs ∷ [];
-      full = all_front (IsFull size) run.groups (docs ∷ []) run.full (record { some = omega (arith, length-append w.pending (d ∷ [])); not_late = subst (λ (g : List (List ℕ)). weight g ≤ size) (sym (without_last-push w.pending d)) run.light; not_early = heavy }, tt);
-      finished = (λ i. run.finished i ++ blocks_of-some docs (omega (arith, length-append w.pending (d ∷ []))) i) ∙ append_assoc run.front (map block_of run.groups) (block_of docs ∷ []) ∙ ap (λ (x : List StoreBlock). run.front ++ x) (sym (map-append block_of run.groups (docs ∷ [])));
+      full = all_front (IsFull size) run.groups (docs ∷ []) run.full (
+        record {
+          some = omega (arith, length-append w.pending (d ∷ []));
+          not_late =
+              subst (λ (g : List (List ℕ)). weight g ≤ size) (sym (without_last-push w.pending d)) run.light;
+          not_early = heavy;
+        },
+        tt,
+      );
+      finished = (λ i. run.finished i ++ blocks_of-some docs (omega (arith, length-append w.pending (d ∷ []))) i) ∙ append_assoc run.front (map block_of run.groups) (block_of docs ∷ [])
+          ∙ ap (λ (x : List StoreBlock). run.front ++ x) (sym (map-append block_of run.groups (docs ∷ [])));
       light = omega arith;
       goes_on = λ rest bs h. goes_on rest bs (subst (λ (x : List (List ℕ)). BlocksFrom size x rest bs)
-          (append-nil (joined (run.groups ++ docs ∷ [])) ∙ flat_map-append (λ (g : List (List ℕ)). g) run.groups (docs ∷ []) ∙ ap (λ (x : List (List ℕ)). joined run.groups ++ x) (append-nil docs) ∙ sym (append_assoc (joined run.groups) w.pending (d ∷ []))) h);
+          (append-nil (joined (run.groups ++ docs ∷ [])) ∙ flat_map-append (λ (g : List (List ℕ)). g) run.groups (docs ∷ []) ∙ ap (λ (x : List (List ℕ)). joined run.groups ++ x) (append-nil docs)
+          ∙ sym (append_assoc (joined run.groups) w.pending (d ∷ []))) h);
     } in
     elim (cases_lt w.block_size (weight docs)) [
       | inl lt ↦ subst (λ (b : Bool). IsRunSoFar size period held (trace ++ step ∷ []) (cond b (flushed next) next)) (sym (lt-ltb w.block_size (weight docs) lt)) (cut (omega (arith, run.size_is, lt)))
-      | inr le ↦ subst (λ (b : Bool). IsRunSoFar size period held (trace ++ step ∷ []) (cond b (flushed next) next)) (sym (le-ltb w.block_size (weight docs) le)) (waits (omega (arith, run.size_is, le)))
+      | inr le ↦ subst (λ (b : Bool). IsRunSoFar size period held (trace ++ step ∷ []) (cond b (flushed next) next)) (sym (le-ltb w.block_size (weight docs) le))
+          (waits (omega (arith, run.size_is, le)))
     ]
 
 -- a call without effect
-run_stays : (size period : ℕ) (held : List ℕ) (trace : List Step) (step : Step) (w : Writing) → effect step ≡ no_effect → IsRunSoFar size period held trace w → IsRunSoFar size period held (trace ++ step ∷ []) w
+run_stays : (size period : ℕ) (held : List ℕ) (trace : List Step) (step : Step) (w : Writing) → effect step ≡ no_effect → IsRunSoFar size period held trace w
+    → IsRunSoFar size period held (trace ++ step ∷ []) w
 run_stays size period held trace step w is run = record {
   size_is = run.size_is;
   period_is = run.period_is;
@@ -104,7 +120,8 @@ run_stays size period held trace step w is run = record {
 }
 
 -- what is pending is flushed behind the groups
-last_flush : (size : ℕ) (gs : List (List (List ℕ))) (pending : List (List ℕ)) → AllByRecursion (IsFull size) gs → weight pending ≤ size → AreFlushed size (joined gs ++ pending) (map block_of gs ++ blocks_of pending)
+last_flush : (size : ℕ) (gs : List (List (List ℕ))) (pending : List (List ℕ)) → AllByRecursion (IsFull size) gs → weight pending ≤ size
+    → AreFlushed size (joined gs ++ pending) (map block_of gs ++ blocks_of pending)
 last_flush size gs [] full light =
     let docs = append-nil (joined gs) in
     let bs = append-nil (map block_of gs) in
@@ -125,17 +142,26 @@ run_ends size period held trace step w stacked ends_by run =
       front = front;
       groups = [];
       full = tt;
-      finished = (λ i. (run.finished i ++ blocks_of w.pending) ++ stacked) ∙ ap (λ (x : List StoreBlock). x ++ stacked) (append_assoc run.front (map block_of run.groups) (blocks_of w.pending)) ∙ append_assoc run.front last stacked ∙ sym (append-nil front);
+      finished = (λ i. (run.finished i ++ blocks_of w.pending) ++ stacked) ∙ ap (λ (x : List StoreBlock). x ++ stacked) (append_assoc run.front (map block_of run.groups) (blocks_of w.pending))
+          ∙ append_assoc run.front last stacked ∙ sym (append-nil front);
       light = omega arith;
       goes_on = λ rest bs h.
           let all : BlocksFrom size (joined run.groups ++ w.pending) (step ∷ rest) ((last ++ stacked) ++ bs) =
-          ends_by (joined run.groups ++ w.pending) rest ((last ++ stacked) ++ bs) (record { front = last; after = bs; flushed = last_flush size run.groups w.pending run.full run.light; others = h; parts = refl }) in
+          ends_by (joined run.groups ++ w.pending) rest ((last ++ stacked) ++ bs) (record {
+            front = last;
+            after = bs;
+            flushed = last_flush size run.groups w.pending run.full run.light;
+            others =
+                h;
+            parts = refl;
+          }) in
           subst (λ (x : List StoreBlock). BlocksFrom size [] ((trace ++ step ∷ []) ++ rest) x) (sym (append_assoc run.front (last ++ stacked) bs))
           (on size period held trace step w run rest ((last ++ stacked) ++ bs) all);
     }
 
 -- one more call
-run_more : (size period : ℕ) (held : List ℕ) (trace : List Step) (step : Step) (w : Writing) (e : Effect) → effect step ≡ e → IsRunSoFar size period held trace w → IsRunSoFar size period held (trace ++ step ∷ []) (after_effect w e)
+run_more : (size period : ℕ) (held : List ℕ) (trace : List Step) (step : Step) (w : Writing) (e : Effect) → effect step ≡ e → IsRunSoFar size period held trace w
+    → IsRunSoFar size period held (trace ++ step ∷ []) (after_effect w e)
 run_more size period held trace step w (adds d) is run = run_takes size period held trace step w d is run
 run_more size period held trace step w (ends stacked) is run = run_ends size period held trace step w stacked (λ docs rest bs h. effect_by size step (ends stacked) docs rest bs is h) run
 run_more size period held trace step w may_end is run =
@@ -156,7 +182,8 @@ run_same size period n held trace w run = record {
 }
 
 -- one more call of a writer that works
-pub run_step : (size period : ℕ) (held : List ℕ) (trace : List Step) (step : Step) (old new : Writing) → new ≡ with_failures new.output.failures (after_effect old (effect step)) → IsRunSoFar size period held trace old → IsRunSoFar size period held (trace ++ step ∷ []) new
+pub run_step : (size period : ℕ) (held : List ℕ) (trace : List Step) (step : Step) (old new : Writing) → new ≡ with_failures new.output.failures (after_effect old (effect step))
+    → IsRunSoFar size period held trace old → IsRunSoFar size period held (trace ++ step ∷ []) new
 run_step size period held trace step old new is run =
     subst (IsRunSoFar size period held (trace ++ step ∷ [])) (sym is)
     (run_same size period new.output.failures held (trace ++ step ∷ []) (after_effect old (effect step)) (run_more size period held trace step old (effect step) refl run))
@@ -166,5 +193,6 @@ pub run_closes : (size period : ℕ) (held : List ℕ) (trace : List Step) (w : 
 run_closes size period held trace w run =
     let bs = map block_of run.groups ++ blocks_of w.pending in
     let all : BlocksFrom size [] (trace ++ []) (run.front ++ bs) = run.goes_on [] bs (last_flush size run.groups w.pending run.full run.light) in
-    let parts : run.front ++ bs ≡ w.output.finished ++ blocks_of w.pending = sym (append_assoc run.front (map block_of run.groups) (blocks_of w.pending)) ∙ ap (λ (x : List StoreBlock). x ++ blocks_of w.pending) (sym run.finished) in
+    let parts : run.front ++ bs ≡ w.output.finished ++ blocks_of w.pending = sym (append_assoc run.front (map block_of run.groups) (blocks_of w.pending))
+    ∙ ap (λ (x : List StoreBlock). x ++ blocks_of w.pending) (sym run.finished) in
     subst (λ (t : List Step). BlocksFrom size [] t (w.output.finished ++ blocks_of w.pending)) (append-nil trace) (subst (BlocksFrom size [] (trace ++ [])) parts all)

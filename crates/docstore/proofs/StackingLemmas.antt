@@ -23,7 +23,8 @@ shifted-marks docs bytes id byte (b ∷ bs) =
     let ids : (id + b.count) + docs ≡ (id + docs) + b.count = omega arith in
     let places : (byte + length b.bytes) + bytes ≡ (byte + bytes) + length b.bytes = omega arith in
     let others = shifted-marks docs bytes (id + b.count) (byte + length b.bytes) bs in
-    let moved : marks_from ((id + b.count) + docs) ((byte + length b.bytes) + bytes) bs ≡ marks_from ((id + docs) + b.count) ((byte + bytes) + length b.bytes) bs = λ i. marks_from (ids i) (places i) bs in
+    let moved : marks_from ((id + b.count) + docs) ((byte + length b.bytes) + bytes) bs ≡ marks_from ((id + docs) + b.count) ((byte + bytes) + length b.bytes) bs =
+    λ i. marks_from (ids i) (places i) bs in
     let rest = others ∙ moved in
     λ i. checkpoint (id + docs) (ids i) (byte + bytes) (places i) ∷ rest i
 
@@ -62,7 +63,8 @@ is_next xs c rest h =
     }
 
 -- the next of those that are left
-pub next_left : (docs bytes : ℕ) (all index left more : List Checkpoint) (c : Checkpoint) → index ++ map (shifted docs bytes) left ≡ all → left ≡ c ∷ more → IsInLineFrom 0 0 all → IsNext index (shifted docs bytes c)
+pub next_left : (docs bytes : ℕ) (all index left more : List Checkpoint) (c : Checkpoint) → index ++ map (shifted docs bytes) left ≡ all → left ≡ c ∷ more → IsInLineFrom 0 0 all
+    → IsNext index (shifted docs bytes c)
 next_left docs bytes all index left more c is first h =
     let parts : all ≡ index ++ shifted docs bytes c ∷ map (shifted docs bytes) more = sym is ∙ ap (λ (xs : List Checkpoint). index ++ map (shifted docs bytes) xs) first in
     is_next index (shifted docs bytes c) (map (shifted docs bytes) more) (subst (IsInLineFrom 0 0) parts h)
@@ -85,7 +87,10 @@ pub record AreCut (period next_id : ℕ) (cs : List Checkpoint) (content : List 
   pub joined : bytes ≡ data_of (blocks_at more bytes)
   pub some : 0 < length more → 0 < length bytes
 
-pub are_cut : (compressor : Compressor) (period next_id : ℕ) (cs : List Checkpoint) (content : List ℕ) (written : ℕ) (termination : Termination) (failures : ℕ) (failure : Option Cause) (now : BlockOutput) (more : List Checkpoint) (bytes : List ℕ) → compressing compressor period cs content written termination failures failure ≡ now → IsCompressing period next_id cs content written failure → now.failure ≡ None → Covers more (length bytes) → docs_in now.finished + docs_end 0 more < 2 ^ 32 → AreCut period next_id cs content written more bytes
+pub are_cut : (compressor : Compressor) (period next_id : ℕ) (cs : List Checkpoint) (content : List ℕ) (written : ℕ) (termination : Termination) (failures : ℕ) (failure : Option Cause)
+    (now : BlockOutput) (more : List Checkpoint) (bytes : List ℕ) → compressing compressor period cs content written termination failures failure ≡ now
+    → IsCompressing period next_id cs content written failure → now.failure ≡ None → Covers more (length bytes) → docs_in now.finished + docs_end 0 more < 2 ^ 32
+    → AreCut period next_id cs content written more bytes
 are_cut compressor period next_id cs content written termination failures failure now more bytes view_is h works covers few =
     let bs = blocks_at more bytes in
     let seen = store_seen bytes more covers in

@@ -5,7 +5,8 @@ use Rattle.store_base.specs.Outputs.{Termination}
 use Rattle.store_base.specs.declared.error.Cause.{Cause}
 use Rattle.store_base.specs.declared.error.Cause.TheVariants.{Write, Memory as OutOfMemory}
 use Rattle.store_base.specs.declared.error.StoreError.{StoreError}
-use Rattle.store_base.specs.declared.error.StoreError.TheVariants.{ShortFile, BadVersion, BadBlockKind, BadOffset, BadIndex, InvalidArgument, DamagedDocument, BadDocument, Read, Memory, OldVersion, Unserializable, BlockTooLarge, TooManyDocs, Failed, BadPeriod}
+use Rattle.store_base.specs.declared.error.StoreError.TheVariants.{ShortFile, BadVersion, BadBlockKind, BadOffset, BadIndex, InvalidArgument, DamagedDocument, BadDocument, Read, Memory, OldVersion}
+use Rattle.store_base.specs.declared.error.StoreError.TheVariants.{Unserializable, BlockTooLarge, TooManyDocs, Failed, BadPeriod}
 use Rattle.store_base.specs.Outcome.{behind_bytes}
 use Rattle.store_format.specs.StoreFile.{StoreBlock, data_of}
 use Rattle.docstore.specs.BlockOutput.{BlockOutput, with_blocks, with_risen, HasCause, HasNotEnded, AfterFailedClose, AfterClose}
@@ -14,7 +15,8 @@ pub risen_further : (a b c : ℕ) → a ≤ b → HasRisen b c → HasRisen a c
 risen_further a b c le h = record { no_lower = omega (arith, h.no_lower); risen = λ lt. omega (arith, h.risen lt) }
 
 -- a cause since later is a cause since before
-pub cause_further : (cause : Cause) (failures risen last : ℕ) (old bytes mid new : List ℕ) → failures ≤ risen → mid ≡ old ++ bytes → HasCause cause risen last mid new → HasCause cause failures last old new
+pub cause_further : (cause : Cause) (failures risen last : ℕ) (old bytes mid new : List ℕ) → failures ≤ risen → mid ≡ old ++ bytes → HasCause cause risen last mid new
+    → HasCause cause failures last old new
 cause_further Write failures risen last old bytes mid new le is h = risen_further failures risen last le h
 cause_further OutOfMemory failures risen last old bytes mid new le is h = record {
   more = bytes ++ h.more;
@@ -23,14 +25,16 @@ cause_further OutOfMemory failures risen last old bytes mid new le is h = record
 }
 
 -- a refusal behind blocks that went out in the same call
-pub closed_behind : (e : StoreError) (old mid : BlockOutput) (bs : List StoreBlock) (content : List ℕ) (termination : Termination) (failures : ℕ) → mid ≡ with_risen mid.failures (with_blocks old bs) → old.failures ≤ mid.failures → old.failure ≡ None → 0 < length (data_of bs) → AfterClose e mid content termination failures → AfterClose (behind_bytes e) old content termination failures
+pub closed_behind : (e : StoreError) (old mid : BlockOutput) (bs : List StoreBlock) (content : List ℕ) (termination : Termination) (failures : ℕ) → mid ≡ with_risen mid.failures (with_blocks old bs)
+    → old.failures ≤ mid.failures → old.failure ≡ None → 0 < length (data_of bs) → AfterClose e mid content termination failures → AfterClose (behind_bytes e) old content termination failures
 closed_behind Memory old mid bs content termination failures is le none some h =
     let grown : content ≡ old.content ++ data_of bs = h.1 ∙ ap (λ (out : BlockOutput). out.content) is in
     let ends : termination ≡ old.termination = h.3 ∙ ap (λ (out : BlockOutput). out.termination) is in
     subst (λ (f : Option Cause). AfterFailedClose f OutOfMemory old content termination failures) (sym none) (record { more = data_of bs; some = some; parts = grown }, ends)
 closed_behind (Failed cause) old mid bs content termination failures is le none some h =
     let mid_none : mid.failure ≡ None = ap (λ (out : BlockOutput). out.failure) is ∙ none in
-    let why : HasCause cause mid.failures failures mid.content content × HasNotEnded cause mid.termination termination = subst (λ (f : Option Cause). AfterFailedClose f cause mid content termination failures) mid_none h in
+    let why : HasCause cause mid.failures failures mid.content content × HasNotEnded cause mid.termination termination =
+    subst (λ (f : Option Cause). AfterFailedClose f cause mid content termination failures) mid_none h in
     let ends : mid.termination ≡ old.termination = ap (λ (out : BlockOutput). out.termination) is in
     subst (λ (f : Option Cause). AfterFailedClose f cause old content termination failures) (sym none) (
       cause_further cause old.failures mid.failures failures old.content (data_of bs) mid.content content le (ap (λ (out : BlockOutput). out.content) is) why.0,

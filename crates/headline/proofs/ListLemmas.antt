@@ -2,7 +2,8 @@
 use Rattle.std.proofs.Common.{◌≡◌, ◌⊎◌, inl, inr, ℕ, ◌≤◌, List, [], ◌∷◌, length, Option, Some, None, Result, Ok, Err, refl, ap, arith, length-append}
 use Rattle.std.specs.List.{AllByRecursion}
 use Rattle.store_base.specs.declared.error.StoreError.{StoreError}
-use Rattle.store_base.specs.declared.error.StoreError.TheVariants.{ShortFile, BadVersion, BadBlockKind, BadOffset, BadIndex, InvalidArgument, DamagedDocument, BadDocument, Read, Memory, OldVersion, Unserializable, BlockTooLarge, TooManyDocs, Failed, BadPeriod}
+use Rattle.store_base.specs.declared.error.StoreError.TheVariants.{ShortFile, BadVersion, BadBlockKind, BadOffset, BadIndex, InvalidArgument, DamagedDocument, BadDocument, Read, Memory, OldVersion}
+use Rattle.store_base.specs.declared.error.StoreError.TheVariants.{Unserializable, BlockTooLarge, TooManyDocs, Failed, BadPeriod}
 use Rattle.layered_index.specs.declared.index.Checkpoint.{Checkpoint}
 use Rattle.layered_index.specs.Checkpoint.{docs_end}
 use Rattle.store_reader.specs.declared.answers.ReadCall.{ReadCall}
@@ -81,12 +82,15 @@ stacked_docs : (reader : Reading) (result : Result (Unit {0}) StoreError) (s : S
 stacked_docs reader (Ok x) s is = omega (arith, ap (λ (t : Step). length (slots_of (effect t))) is.step, read_docs reader is.blocks is.read)
 stacked_docs reader (Err e) s is = omega (arith, ap (λ (t : Step). length (slots_of (effect t))) is.step, no_slots is.blocks e)
 
-pub few_slots : {D H : Type 0} (doc_bytes : D → Option (List ℕ)) (commands : List (StoreCommand D H)) (results : List (Result (Unit {0}) StoreError)) (trace : List Step) → IsTrace doc_bytes commands results trace → length (meaning trace) ≤ most_docs commands
+pub few_slots : {D H : Type 0} (doc_bytes : D → Option (List ℕ)) (commands : List (StoreCommand D H)) (results : List (Result (Unit {0}) StoreError)) (trace : List Step)
+    → IsTrace doc_bytes commands results trace → length (meaning trace) ≤ most_docs commands
 few_slots doc_bytes [] [] [] h = omega arith
 few_slots doc_bytes (Doc d ∷ commands) (result ∷ results) (s ∷ trace) h =
-    omega (arith, length-append (slots_of (effect s)) (meaning trace), few_slots doc_bytes commands results trace h.1, ap (λ (t : Step). length (slots_of (effect t))) h.0, one_document (doc_bytes d) (answer_of result))
+    omega (arith, length-append (slots_of (effect s)) (meaning trace), few_slots doc_bytes commands results trace h.1, ap (λ (t : Step). length (slots_of (effect t))) h.0,
+        one_document (doc_bytes d) (answer_of result))
 few_slots doc_bytes (Bytes v ∷ commands) (result ∷ results) (s ∷ trace) h =
-    omega (arith, length-append (slots_of (effect s)) (meaning trace), few_slots doc_bytes commands results trace h.1, ap (λ (t : Step). length (slots_of (effect t))) h.0, one_of_bytes v.items (answer_of result))
+    omega (arith, length-append (slots_of (effect s)) (meaning trace), few_slots doc_bytes commands results trace h.1, ap (λ (t : Step). length (slots_of (effect t))) h.0,
+        one_of_bytes v.items (answer_of result))
 few_slots doc_bytes (Stack reader ∷ commands) (result ∷ results) (s ∷ trace) h =
     omega (arith, length-append (slots_of (effect s)) (meaning trace), few_slots doc_bytes commands results trace h.1, stacked_docs reader result s h.0)
 few_slots doc_bytes [] [] (s ∷ trace) h = absurd h
@@ -96,8 +100,10 @@ few_slots doc_bytes (command ∷ commands) (result ∷ results) [] h = absurd h
 
 -- ---- what was written
 
-pub written_reach : {D H : Type 0} (doc_bytes : D → Option (List ℕ)) (period size : ℕ) (commands left : List (StoreCommand D H)) (results : List (Result (Unit {0}) StoreError)) (old new : List ℕ) (w : IsWritten period size doc_bytes commands left results old new)
-    (calls : List ReadCall) (p v : ℕ) (bs : List StoreBlock) → StoresAreApart → IsStore p (file period 3 w.blocks) v bs → AllByRecursion (CanAnswer (most_docs commands)) calls → AllByRecursion (CanAnswer (docs_in bs)) calls
+pub written_reach : {D H : Type 0} (doc_bytes : D → Option (List ℕ)) (period size : ℕ) (commands left : List (StoreCommand D H)) (results : List (Result (Unit {0}) StoreError)) (old new : List ℕ)
+    (w : IsWritten period size doc_bytes commands left results old new)
+    (calls : List ReadCall) (p v : ℕ) (bs : List StoreBlock) → StoresAreApart → IsStore p (file period 3 w.blocks) v bs → AllByRecursion (CanAnswer (most_docs commands)) calls
+        → AllByRecursion (CanAnswer (docs_in bs)) calls
 written_reach doc_bytes period size commands left results old new w calls p v bs apart found reach =
     let same = apart p period (file period 3 w.blocks) v 3 bs w.blocks found w.store in
     let count : docs_in bs ≤ most_docs commands = omega (arith, ap docs_in same.2, length-slots w.blocks, ap length w.slots_are, few_slots doc_bytes commands results w.trace w.calls) in

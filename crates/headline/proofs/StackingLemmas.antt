@@ -4,7 +4,8 @@ use Rattle.std.proofs.lemmas.List.{append-nil}
 use Rattle.std.specs.Prelude.{◌↔◌, IsTrue, IsErrOf, OnOk, IfErr, MatchResult}
 use Rattle.store_base.specs.Counts.{HasRisen}
 use Rattle.store_base.specs.declared.error.StoreError.{StoreError}
-use Rattle.store_base.specs.declared.error.StoreError.TheVariants.{ShortFile, BadVersion, BadBlockKind, BadOffset, BadIndex, InvalidArgument, DamagedDocument, BadDocument, Read, Memory, OldVersion, Unserializable, BlockTooLarge, TooManyDocs, Failed, BadPeriod}
+use Rattle.store_base.specs.declared.error.StoreError.TheVariants.{ShortFile, BadVersion, BadBlockKind, BadOffset, BadIndex, InvalidArgument, DamagedDocument, BadDocument, Read, Memory, OldVersion}
+use Rattle.store_base.specs.declared.error.StoreError.TheVariants.{Unserializable, BlockTooLarge, TooManyDocs, Failed, BadPeriod}
 use Rattle.layered_index.specs.declared.index.Checkpoint.{Checkpoint}
 use Rattle.layered_index.specs.Checkpoint.{docs_end}
 use Rattle.store_format.specs.declared.version.DocStoreVersion.TheVariants.{V1}
@@ -43,7 +44,8 @@ is_that bytes bs r apart new store seen =
       docs = omega (arith, ap (λ (cs : List Checkpoint). docs_end 0 cs) seen.marks_are, marks_end 0 0 (store_of r), ap docs_in same.2);
     }
 
-pub put_behind : (r left : Reading) (bs : List StoreBlock) (old new : Writing) (result : Result (Unit {0}) StoreError) → IsThat r bs → IsTrue r.file.honest → r.file.failures ≡ 0 → left.file.failures ≡ 0 → num_docs old + docs_in bs < 2 ^ 32
+pub put_behind : (r left : Reading) (bs : List StoreBlock) (old new : Writing) (result : Result (Unit {0}) StoreError) → IsThat r bs → IsTrue r.file.honest → r.file.failures ≡ 0
+    → left.file.failures ≡ 0 → num_docs old + docs_in bs < 2 ^ 32
     → OnOk result ((cs : List StoreBlock) × AreRead r cs × (new ≡ with_failures new.output.failures (with_store old cs)))
     → (IsErrOf result OldVersion ↔ IsOld old r) → (IsErrOf result TooManyDocs ↔ HasTooMany old r) → IfErr result (AfterStack r left old new)
     → MatchResult result (λ x. new ≡ with_failures new.output.failures (with_store old bs)) IsWant
@@ -78,18 +80,21 @@ pub first_docs : (first : Writing) (size : ℕ) (output : BlockOutput) → first
 first_docs first size output is none = ap num_docs is ∙ ap (λ (xs : List StoreBlock). docs_in xs + 0) none
 
 -- the blocks behind the first stacking
-mid_finished : (first mid : Writing) (size : ℕ) (output : BlockOutput) (bs : List StoreBlock) → first ≡ new_writing size output → output.finished ≡ [] → mid ≡ with_failures mid.output.failures (with_store first bs) → mid.output.finished ≡ bs
+mid_finished : (first mid : Writing) (size : ℕ) (output : BlockOutput) (bs : List StoreBlock) → first ≡ new_writing size output → output.finished ≡ []
+    → mid ≡ with_failures mid.output.failures (with_store first bs) → mid.output.finished ≡ bs
 mid_finished first mid size output bs is none one =
     ap (λ (w : Writing). w.output.finished) one
     ∙ ap (λ (w : Writing). (w.output.finished ++ blocks_of w.pending) ++ bs) is
     ∙ ap (λ (xs : List StoreBlock). (xs ++ []) ++ bs) none
 
-pub mid_docs : (first mid : Writing) (size : ℕ) (output : BlockOutput) (bs : List StoreBlock) → first ≡ new_writing size output → output.finished ≡ [] → mid ≡ with_failures mid.output.failures (with_store first bs) → num_docs mid ≡ docs_in bs
+pub mid_docs : (first mid : Writing) (size : ℕ) (output : BlockOutput) (bs : List StoreBlock) → first ≡ new_writing size output → output.finished ≡ []
+    → mid ≡ with_failures mid.output.failures (with_store first bs) → num_docs mid ≡ docs_in bs
 mid_docs first mid size output bs is none one =
     let pending : mid.pending ≡ [] = ap (λ (w : Writing). w.pending) one in
     omega (arith, ap docs_in (mid_finished first mid size output bs is none one), ap length pending)
 
-pub has_two : (first mid last : Writing) (size period : ℕ) (output : BlockOutput) (bs cs : List StoreBlock) → first ≡ new_writing size output → output.finished ≡ [] → output.before ≡ [] → output.period ≡ period
+pub has_two : (first mid last : Writing) (size period : ℕ) (output : BlockOutput) (bs cs : List StoreBlock) → first ≡ new_writing size output → output.finished ≡ [] → output.before ≡ []
+    → output.period ≡ period
     → mid ≡ with_failures mid.output.failures (with_store first bs) → last ≡ with_failures last.output.failures (with_store mid cs) → HasTwo last period bs cs
 has_two first mid last size period output bs cs is none empty per one two =
     let pending : mid.pending ≡ [] = ap (λ (w : Writing). w.pending) one in
@@ -105,7 +110,8 @@ has_two first mid last size period output bs cs is none empty per one two =
     }
 
 -- the file that it leaves
-pub file_of_two : (last : Writing) (period : ℕ) (bs cs : List StoreBlock) (content : List ℕ) → HasTwo last period bs cs → content ≡ last.output.before ++ file last.output.period 3 (flushed last).output.finished → content ≡ file period 3 (bs ++ cs)
+pub file_of_two : (last : Writing) (period : ℕ) (bs cs : List StoreBlock) (content : List ℕ) → HasTwo last period bs cs
+    → content ≡ last.output.before ++ file last.output.period 3 (flushed last).output.finished → content ≡ file period 3 (bs ++ cs)
 file_of_two last period bs cs content two is = is ∙ (λ i. two.before i ++ file (two.period_is i) 3 (two.finished i))
 
 pub store_of_two : (last : Writing) (period : ℕ) (bs cs : List StoreBlock) (content : List ℕ) → HasTwo last period bs cs → content ≡ file period 3 (bs ++ cs)

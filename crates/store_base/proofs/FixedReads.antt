@@ -90,7 +90,14 @@ fixed_short w limit wide bytes fits few =
     let more = zeros (byte_len w - length bytes) in
     let len : length (bytes ++ more) ≡ byte_len w = omega (arith, length-append bytes more, length_zeros (byte_len w - length bytes)) in
     let all = AreOctets-append bytes more fits (zeros_fit (byte_len w - length bytes)) in (
-      record { value = from_le_bytes w (bytes ++ more); more = more; fits = wide.below (bytes ++ more) all; some = omega (arith, length_zeros (byte_len w - length bytes)); parts = wide.back (bytes ++ more) len all },
+      record {
+        value = from_le_bytes w (bytes ++ more);
+        more = more;
+        fits = wide.below (bytes ++ more) all;
+        some = omega (arith, length_zeros (byte_len w - length bytes));
+        parts =
+            wide.back (bytes ++ more) len all;
+      },
       (λ front. omega (arith, ap length front.parts, length-append (fixed (byte_len w) front.value) front.rest, wide.len front.value)),
       refl,
     )

@@ -1,5 +1,6 @@
 -- What a loop over bytes knows of the number at their front: ds are the bytes below 128 that it has passed.
-use Rattle.std.proofs.Common.{◌≡◌, ℕ, zero, suc, ◌+◌, ◌-◌, ◌*◌, ◌^◌, ◌<◌, ◌≤◌, ◌⊎◌, inl, inr, cond, eqb, ltb, true, false, List, [], ◌∷◌, ◌++◌, length, get_or, take, drop, Option, Some, None, refl, sym, ◌∙◌, ap, subst, arith}
+use Rattle.std.proofs.Common.{◌≡◌, ℕ, zero, suc, ◌+◌, ◌-◌, ◌*◌, ◌^◌, ◌<◌, ◌≤◌, ◌⊎◌, inl, inr, cond, eqb, ltb, true, false, List, [], ◌∷◌, ◌++◌, length, get_or, take, drop, Option, Some, None, refl}
+use Rattle.std.proofs.Common.{sym, ◌∙◌, ap, subst, arith}
 use Rattle.std.proofs.lemmas.Bool.{lt-ltb, le-ltb}
 use Rattle.std.proofs.lemmas.List.{take_more, drop_more, take-append-drop, length-take, append-nil}
 use Rattle.std.proofs.Math.Nat.{pow-suc, pow-zero, one-le-pow}
@@ -23,7 +24,8 @@ low_positive l zero h some more = absurd (omega arith)
 low_positive l (suc p) zero some more = absurd (omega arith)
 
 -- a number that is not 0 behind them
-number_at_behind : (ds rest others : List ℕ) (high : ℕ) → AllByRecursion (λ d. d < 128) ds → 0 < high → number_at rest ≡ Some (high, others) → number_at (ds ++ rest) ≡ Some (low ds + 128 ^ length ds * high, others)
+number_at_behind : (ds rest others : List ℕ) (high : ℕ) → AllByRecursion (λ d. d < 128) ds → 0 < high → number_at rest ≡ Some (high, others)
+    → number_at (ds ++ rest) ≡ Some (low ds + 128 ^ length ds * high, others)
 number_at_behind [] rest others high below some e = e ∙ ap (λ (v : ℕ). Some (v, others)) (omega (arith, pow-zero 128))
 number_at_behind (d ∷ ds) rest others high below some e =
     let value : d + 128 * (low ds + 128 ^ length ds * high) ≡ low (d ∷ ds) + 128 ^ length (d ∷ ds) * high =
@@ -154,7 +156,8 @@ two_bytes (x ∷ y ∷ bytes) a b some low more fits e f =
     found_below (2 ^ 64) (x ∷ y ∷ bytes) (a + 128 * b) bytes
     (longer x (y ∷ bytes) bytes (y - 128) low (omega (arith, more)) (last y bytes (omega (arith, more))) ∙ ap (λ (v : ℕ). Some (v, bytes)) (omega (arith, e, f))) (omega (arith, e, f, low, fits))
 
-pub three_bytes : (bytes : List ℕ) (a b c : ℕ) → 3 ≤ length bytes → get_or bytes 0 0 < 128 → get_or bytes 1 0 < 128 → 128 < get_or bytes 2 0 → get_or bytes 2 0 < 256 → a ≡ get_or bytes 0 0 → b ≡ get_or bytes 1 0 → c ≡ get_or bytes 2 0 - 128
+pub three_bytes : (bytes : List ℕ) (a b c : ℕ) → 3 ≤ length bytes → get_or bytes 0 0 < 128 → get_or bytes 1 0 < 128 → 128 < get_or bytes 2 0 → get_or bytes 2 0 < 256 → a ≡ get_or bytes 0 0
+    → b ≡ get_or bytes 1 0 → c ≡ get_or bytes 2 0 - 128
     → number_below (2 ^ 64) bytes ≡ Some (a + 128 * (b + 128 * c), drop 3 bytes)
 three_bytes [] a b c some low middle more fits e f g = absurd (omega arith)
 three_bytes (x ∷ []) a b c some low middle more fits e f g = absurd (omega arith)

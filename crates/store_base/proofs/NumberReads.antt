@@ -1,5 +1,6 @@
 -- From what stands at the front of bytes to what reading promises.
-use Rattle.std.proofs.Common.{◌≡◌, ℕ, ◌+◌, ◌-◌, ◌*◌, ◌/◌, ◌%◌, ◌<◌, ◌≤◌, inl, inr, List, [], ◌∷◌, ◌++◌, length, get_or, take, drop, Some, None, Ok, Err, ◌↔◌, refl, sym, ◌∙◌, ap, subst, arith, append_assoc}
+use Rattle.std.proofs.Common.{◌≡◌, ℕ, ◌+◌, ◌-◌, ◌*◌, ◌/◌, ◌%◌, ◌<◌, ◌≤◌, inl, inr, List, [], ◌∷◌, ◌++◌, length, get_or, take, drop, Some, None, Ok, Err, ◌↔◌, refl, sym, ◌∙◌, ap, subst, arith}
+use Rattle.std.proofs.Common.{append_assoc}
 use Rattle.std.proofs.lemmas.Bool.{cases_lt}
 use Rattle.std.proofs.lemmas.List.{append-nil, length-append, take_all}
 use Rattle.store_base.specs.declared.fault.DecodeFault.TheVariants.{Short, Malformed}
@@ -20,7 +21,8 @@ pub cut_none : (most : ℕ) → IsCutShort (IsBelow (most + 1)) number []
 cut_none most = record { value = 0; more = number 0; fits = omega arith; some = number_some 0; parts = refl }
 
 -- a byte in front of the beginning of a number that is not 0
-one_more : (most b : ℕ) (bytes : List ℕ) (m : ℕ) (more : List ℕ) → b < 128 → b + 128 ≤ most → 0 < m → m < (most - b) / 128 + 1 → 0 < length more → number m ≡ bytes ++ more → IsCutShort (IsBelow (most + 1)) number (b ∷ bytes)
+one_more : (most b : ℕ) (bytes : List ℕ) (m : ℕ) (more : List ℕ) → b < 128 → b + 128 ≤ most → 0 < m → m < (most - b) / 128 + 1 → 0 < length more → number m ≡ bytes ++ more
+    → IsCutShort (IsBelow (most + 1)) number (b ∷ bytes)
 one_more most b bytes m more lt room some fits rest parts =
     let low : (b + 128 * m) % 128 ≡ b = omega arith in
     let high : (b + 128 * m) / 128 ≡ m = omega arith in
@@ -71,8 +73,10 @@ cut_step most first (b ∷ bytes) some is lt room =
     let whole : take (length (b ∷ bytes) - 1) bytes ≡ bytes = take_all (length (b ∷ bytes) - 1) bytes (omega arith) in
     let small : b < 128 = omega (arith, is) in
     let fits : b + 128 ≤ most = omega (arith, is, room) in (
-      λ cut. cut_more most b bytes small fits (subst (λ (n : ℕ). IsCutShort (IsBelow ((most - n) / 128 + 1)) number bytes) is (subst (IsCutShort (IsBelow ((most - first) / 128 + 1)) number) whole cut)),
-      λ cut. subst (IsCutShort (IsBelow ((most - first) / 128 + 1)) number) (sym whole) (subst (λ (n : ℕ). IsCutShort (IsBelow ((most - n) / 128 + 1)) number bytes) (sym is) (cut_rest most b bytes cut).2),
+      λ cut. cut_more most b bytes small fits (subst (λ (n : ℕ). IsCutShort (IsBelow ((most - n) / 128 + 1)) number bytes) is
+          (subst (IsCutShort (IsBelow ((most - first) / 128 + 1)) number) whole cut)),
+      λ cut. subst (IsCutShort (IsBelow ((most - first) / 128 + 1)) number) (sym whole) (subst (λ (n : ℕ). IsCutShort (IsBelow ((most - n) / 128 + 1)) number bytes) (sym is)
+          (cut_rest most b bytes cut).2),
     )
 
 pub cut_large : (most first : ℕ) (bytes : List ℕ) → 1 ≤ length bytes → first ≡ get_or bytes 0 0 → (first < 128 → most < first + 128) → IsCutShort (IsBelow (most + 1)) number bytes → ⊥

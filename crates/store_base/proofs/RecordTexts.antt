@@ -63,7 +63,8 @@ bytes_take count bytes x fits e =
     subst (λ (y : List ℕ × List ℕ). Takes bytes y.0 y.1 × (length y.0 ≡ count)) passed.1
     (takes_from bytes (take count bytes) (drop count bytes) fits (sym (take-append-drop count bytes)), omega (arith, length-take count bytes))
 
-field_takes : (text : ℕ → List ℕ) (s : Spelling) → IsSpelling text s → (bytes : List ℕ) (x : (ℕ × List ℕ) × List ℕ) → IsBytes bytes → field_at s bytes ≡ Some x → Takes bytes (field_bytes_in text x.0) x.1
+field_takes : (text : ℕ → List ℕ) (s : Spelling) → IsSpelling text s → (bytes : List ℕ) (x : (ℕ × List ℕ) × List ℕ) → IsBytes bytes → field_at s bytes ≡ Some x
+    → Takes bytes (field_bytes_in text x.0) x.1
 unfolding field_at
 field_takes text s is bytes x fits e =
     let a = bind_some (s.field bytes) (λ field. s.size field.1 >>= λ size. bytes_at size.0 size.1 >>= λ t. Some ((field.0, t.0), t.1)) x e in

@@ -1,5 +1,6 @@
 -- How long a block and its parts are.
-use Rattle.std.proofs.Common.{◌≡◌, ℕ, suc, ◌+◌, ◌-◌, ◌*◌, ◌^◌, ◌<◌, ◌≤◌, List, [], ◌∷◌, ◌++◌, length, take, drop, refl, sym, ◌∙◌, ap, arith, append_assoc, length-append, Option, Some, None, Result, Ok, Err, OnOk, IfSome, false, inl, inr}
+use Rattle.std.proofs.Common.{◌≡◌, ℕ, suc, ◌+◌, ◌-◌, ◌*◌, ◌^◌, ◌<◌, ◌≤◌, List, [], ◌∷◌, ◌++◌, length, take, drop, refl, sym, ◌∙◌, ap, arith, append_assoc, length-append, Option, Some, None, Result}
+use Rattle.std.proofs.Common.{Ok, Err, OnOk, IfSome, false, inl, inr}
 use Rattle.std.proofs.lemmas.List.{append-nil}
 use Rattle.std.proofs.lemmas.List.Concat.{concat_is, length-flat_map}
 use Rattle.std.specs.List.{flat_map, concat, sum_by}
@@ -27,7 +28,14 @@ concat-append (x ∷ xs) ys = ap (λ (zs : List ℕ). x ++ zs) (concat-append xs
 
 pub length-block : (docs : List (List ℕ)) → length (block docs) ≡ length (concat docs) + 4 * length docs + 4
 length-block docs =
-    omega (arith, length-append (concat docs ++ flat_map (fixed 4) (starts_from 0 docs)) (fixed 4 (length docs)), length-fixed 4 (length docs), length-append (concat docs) (flat_map (fixed 4) (starts_from 0 docs)), length-fixeds (starts_from 0 docs), length-starts_from 0 docs)
+    omega (
+      arith,
+      length-append (concat docs ++ flat_map (fixed 4) (starts_from 0 docs)) (fixed 4 (length docs)),
+      length-fixed 4 (length docs),
+      length-append (concat docs) (flat_map (fixed 4) (starts_from 0 docs)),
+      length-fixeds (starts_from 0 docs),
+      length-starts_from 0 docs,
+    )
 
 pub length-concat : (docs : List (List ℕ)) → length (concat docs) ≡ sum_by length docs
 length-concat docs = ap length (concat_is docs) ∙ length-flat_map (λ (x : List ℕ). x) docs

@@ -51,20 +51,24 @@ table_of-block docs fits = omega (arith, count_of-block docs fits, length-block 
 
 -- a block, with the entry of the document between front and back
 around : (front : List (List ℕ)) (d : List ℕ) (back : List (List ℕ)) → block (front ++ d ∷ back)
-    ≡ (concat (front ++ d ∷ back) ++ table front) ++ (fixed 4 (length (concat front)) ++ (flat_map (fixed 4) (starts_from (length (concat front) + length d) back) ++ fixed 4 (length (front ++ d ∷ back))))
+    ≡ (concat (front ++ d ∷ back) ++ table front) ++ (fixed 4 (length (concat front)) ++ (flat_map (fixed 4) (starts_from (length (concat front) + length d) back)
+    ++ fixed 4 (length (front ++ d ∷ back))))
 unfolding table
 around front d back =
     let docs = front ++ d ∷ back in
     let more = flat_map (fixed 4) (starts_from (length (concat front) + length d) back) in
-    let starts : starts_from 0 docs ≡ starts_from 0 front ++ (length (concat front) ∷ starts_from (length (concat front) + length d) back) = starts_from-append 0 front (d ∷ back) ∙ ap (λ (p : ℕ). starts_from 0 front ++ (p ∷ starts_from (p + length d) back)) (omega arith) in
-    let entries : table docs ≡ table front ++ (fixed 4 (length (concat front)) ++ more) = ap (flat_map (fixed 4)) starts ∙ flat_map-append (fixed 4) (starts_from 0 front) (length (concat front) ∷ starts_from (length (concat front) + length d) back) in
+    let starts : starts_from 0 docs ≡ starts_from 0 front ++ (length (concat front) ∷ starts_from (length (concat front) + length d) back) = starts_from-append 0 front (d ∷ back)
+    ∙ ap (λ (p : ℕ). starts_from 0 front ++ (p ∷ starts_from (p + length d) back)) (omega arith) in
+    let entries : table docs ≡ table front ++ (fixed 4 (length (concat front)) ++ more) = ap (flat_map (fixed 4)) starts
+    ∙ flat_map-append (fixed 4) (starts_from 0 front) (length (concat front) ∷ starts_from (length (concat front) + length d) back) in
     ap (λ (t : List ℕ). (concat docs ++ t) ++ fixed 4 (length docs)) entries ∙ regroup (concat docs) (table front) (fixed 4 (length (concat front))) more (fixed 4 (length docs))
   where
     regroup : (a b c d e : List ℕ) → (a ++ (b ++ (c ++ d))) ++ e ≡ (a ++ b) ++ (c ++ (d ++ e))
     regroup a b c d e = simp append_assoc
 
 -- a document begins where those before it end
-start_of-block : (front : List (List ℕ)) (d : List ℕ) (back : List (List ℕ)) (j : ℕ) → j ≡ length front → length (block (front ++ d ∷ back)) < 2 ^ 32 → start_of (block (front ++ d ∷ back)) j ≡ length (concat front)
+start_of-block : (front : List (List ℕ)) (d : List ℕ) (back : List (List ℕ)) (j : ℕ) → j ≡ length front → length (block (front ++ d ∷ back)) < 2 ^ 32
+    → start_of (block (front ++ d ∷ back)) j ≡ length (concat front)
 start_of-block front d back j is fits =
     let docs = front ++ d ∷ back in
     let more = flat_map (fixed 4) (starts_from (length (concat front) + length d) back) ++ fixed 4 (length docs) in
@@ -74,7 +78,8 @@ start_of-block front d back j is fits =
     ∙ u32_between (concat docs ++ table front) more (length (concat front)) (table_of (block docs) + 4 * j) (omega (arith, size, length-block docs, fits)) place
 
 -- where a document ends: where the next one begins, or at the table
-end_of-block : (front : List (List ℕ)) (d : List ℕ) (back : List (List ℕ)) (j : ℕ) → j ≡ length front → length (block (front ++ d ∷ back)) < 2 ^ 32 → end_of (block (front ++ d ∷ back)) j ≡ length (concat front) + length d
+end_of-block : (front : List (List ℕ)) (d : List ℕ) (back : List (List ℕ)) (j : ℕ) → j ≡ length front → length (block (front ++ d ∷ back)) < 2 ^ 32
+    → end_of (block (front ++ d ∷ back)) j ≡ length (concat front) + length d
 end_of-block front d [] j is fits =
     let docs = front ++ d ∷ [] in
     let last : ltb (j + 1) (count_of (block docs)) ≡ false = le-ltb (j + 1) (count_of (block docs)) (omega (arith, is, count_of-block docs fits, length-append front (d ∷ []))) in
@@ -93,7 +98,8 @@ end_of-block front d (e ∷ back) j is fits =
 -- ---- the slots
 
 -- where all holds that a sound slot needs
-all_tests : (len count table start end j : ℕ) → 4 ≤ len → 4 * (count + 1) ≤ len → j < count → start ≤ end → end ≤ table → (leb 4 len && leb (4 * (count + 1)) len && ltb j count && leb start end && leb end table) ≡ true
+all_tests : (len count table start end j : ℕ) → 4 ≤ len → 4 * (count + 1) ≤ len → j < count → start ≤ end → end ≤ table
+    → (leb 4 len && leb (4 * (count + 1)) len && ltb j count && leb start end && leb end table) ≡ true
 all_tests len count table start end j a b c d e =
     and_from _ _ (and_from _ _ (and_from _ _ (and_from _ _ (le-leb 4 len a) (le-leb (4 * (count + 1)) len b)) (lt-ltb j count c)) (le-leb start end d)) (le-leb end table e)
 
@@ -123,7 +129,8 @@ slots_behind front (d ∷ back) j is fits =
     let shifted : front ++ d ∷ back ≡ (front ++ d ∷ []) ++ back = sym (append_assoc front (d ∷ []) back) in
     let first = slot-block front d back j is fits in
     let others = slots_behind (front ++ d ∷ []) back (j + 1) (omega (arith, is, length-append front (d ∷ []))) (subst (λ (x : List (List ℕ)). length (block x) < 2 ^ 32) shifted fits) in
-    let moved : map (slot (block (front ++ d ∷ back))) (range_with_len (j + 1) (length back)) ≡ map doc back = ap (λ (x : List (List ℕ)). map (slot (block x)) (range_with_len (j + 1) (length back))) shifted ∙ others in
+    let moved : map (slot (block (front ++ d ∷ back))) (range_with_len (j + 1) (length back)) ≡ map doc back =
+    ap (λ (x : List (List ℕ)). map (slot (block x)) (range_with_len (j + 1) (length back))) shifted ∙ others in
     λ i. first i ∷ moved i
 
 -- the slots of a block are its documents

@@ -1,5 +1,6 @@
 -- The parts of a file, and what its footer tells.
-use Rattle.std.proofs.Common.{◌≡◌, ℕ, ◌+◌, ◌-◌, ◌<◌, ◌≤◌, ◌^◌, true, false, List, [], ◌∷◌, ◌++◌, length, take, drop, nat_lt, refl, sym, ap, ◌∙◌, subst, arith, append_assoc, length-append, inl, inr, ◌⊎◌}
+use Rattle.std.proofs.Common.{◌≡◌, ℕ, ◌+◌, ◌-◌, ◌<◌, ◌≤◌, ◌^◌, true, false, List, [], ◌∷◌, ◌++◌, length, take, drop, nat_lt, refl, sym, ap, ◌∙◌, subst, arith, append_assoc, length-append, inl, inr}
+use Rattle.std.proofs.Common.{◌⊎◌}
 use Rattle.std.specs.Prelude.{slice_range}
 use Rattle.std.proofs.Math.Seq.{drop-append_seam, take-append_seam}
 use Rattle.store_base.specs.Serialize.{fixed}
@@ -16,7 +17,8 @@ slice_between xs ys zs a b start end =
 
 pub beginnings_apart : (v w o u : ℕ) (x y : List ℕ) → v < 2 ^ 32 → w < 2 ^ 32 → o < 2 ^ 64 → u < 2 ^ 64 → (fixed 4 v ++ fixed 8 o) ++ x ≡ (fixed 4 w ++ fixed 8 u) ++ y → (v ≡ w) × (o ≡ u) × (x ≡ y)
 beginnings_apart v w o u x y vs ws os us e =
-    let versions = fixed_numbers_are_apart 4 v w (fixed 8 o ++ x) (fixed 8 u ++ y) (omega arith) (omega arith) (sym (append_assoc (fixed 4 v) (fixed 8 o) x) ∙ e ∙ append_assoc (fixed 4 w) (fixed 8 u) y) in
+    let versions = fixed_numbers_are_apart 4 v w (fixed 8 o ++ x) (fixed 8 u ++ y) (omega arith) (omega arith) (sym (append_assoc (fixed 4 v) (fixed 8 o) x) ∙ e
+    ∙ append_assoc (fixed 4 w) (fixed 8 u) y) in
     let offsets = fixed_numbers_are_apart 8 o u x y (omega arith) (omega arith) versions.1 in
     (versions.0, offsets.0, offsets.1)
 

@@ -45,7 +45,8 @@ begins v offset old mid last h = record {
 }
 
 -- a kind that is not known
-pub kind_fault : (v : DocStoreVersion) (offset : ℕ) (old mid last : List ℕ) (fault : DecodeFault) → AreRead v offset old mid last → fault ≡ Kind (get_or last 0 0) → (get_or last 0 0 ≡ 0 → ⊥) → ReadsFooter old (Err fault) old
+pub kind_fault : (v : DocStoreVersion) (offset : ℕ) (old mid last : List ℕ) (fault : DecodeFault) → AreRead v offset old mid last → fault ≡ Kind (get_or last 0 0) → (get_or last 0 0 ≡ 0 → ⊥)
+    → ReadsFooter old (Err fault) old
 kind_fault v offset old mid last fault h is wrong =
     subst (λ (e : DecodeFault). ReadsFooter old (Err e) old) (sym is) (
       version_number v,
@@ -57,7 +58,8 @@ kind_fault v offset old mid last fault h is wrong =
     )
 
 -- a period out of its bounds
-pub period_fault : (v : DocStoreVersion) (offset : ℕ) (old mid last : List ℕ) (d : Decompressor) (fault : DecodeFault) → AreRead v offset old mid last → kind_of d ≡ get_or last 0 0 → fault ≡ Period (get_or last 1 0) → version_number v ≡ 3 → (2 ≤ get_or last 1 0 → 64 < get_or last 1 0) → ReadsFooter old (Err fault) old
+pub period_fault : (v : DocStoreVersion) (offset : ℕ) (old mid last : List ℕ) (d : Decompressor) (fault : DecodeFault) → AreRead v offset old mid last → kind_of d ≡ get_or last 0 0
+    → fault ≡ Period (get_or last 1 0) → version_number v ≡ 3 → (2 ≤ get_or last 1 0 → 64 < get_or last 1 0) → ReadsFooter old (Err fault) old
 period_fault v offset old mid last unpacked.None fault h kind is three wrong =
     let cells : last ≡ 0 ∷ get_or last 1 0 ∷ drop 2 last = two_fronts last (omega (arith, h.left)) ∙ ap (λ (k : ℕ). k ∷ get_or last 1 0 ∷ drop 2 last) (sym kind) in
     let P : ℕ → Type 0 = λ n. Begins old n offset (0 ∷ get_or last 1 0 ∷ drop 2 last) in
@@ -77,7 +79,8 @@ sixteen (a ∷ b ∷ rest) le =
     let after : take (length (a ∷ b ∷ rest) - 16) (drop 14 rest) ≡ drop 14 rest = take_all (length (a ∷ b ∷ rest) - 16) (drop 14 rest) (omega (arith, length-drop 14 rest)) in
     ap (λ (x : List ℕ). a ∷ b ∷ x) (sym (take-append-drop 14 rest) ∙ ap (λ (x : List ℕ). take 14 rest ++ x) (sym after))
 
-pub footer_read : (f : DocStoreFooter) (old mid last : List ℕ) → AreRead f.doc_store_version f.offset old mid last → kind_of f.decompressor ≡ get_or last 0 0 → IsPeriodOf f.doc_store_version (get_or last 1 0) f.period → ReadsFooter old (Ok f) (take (length last - 16) (drop 16 last))
+pub footer_read : (f : DocStoreFooter) (old mid last : List ℕ) → AreRead f.doc_store_version f.offset old mid last → kind_of f.decompressor ≡ get_or last 0 0
+    → IsPeriodOf f.doc_store_version (get_or last 1 0) f.period → ReadsFooter old (Ok f) (take (length last - 16) (drop 16 last))
 footer_read f old mid last h kind period =
     let others = take 14 (drop 2 last) in
     let reserved = get_or last 1 0 ∷ others in

@@ -59,7 +59,8 @@ marks_from-append id byte (b ∷ bs) cs =
 
 -- ---- marks
 
-pub marks_in_line_from : (id byte : ℕ) (bs : List StoreBlock) → AllByRecursion IsStoreBlock bs → id + docs_in bs < 2 ^ 32 → byte + length (data_of bs) < 2 ^ 64 → IsInLineFrom id byte (marks_from id byte bs)
+pub marks_in_line_from : (id byte : ℕ) (bs : List StoreBlock) → AllByRecursion IsStoreBlock bs → id + docs_in bs < 2 ^ 32 → byte + length (data_of bs) < 2 ^ 64
+    → IsInLineFrom id byte (marks_from id byte bs)
 marks_in_line_from id byte [] each docs bytes = tt
 marks_in_line_from id byte (b ∷ bs) each docs bytes =
     let count = docs_in-cons b bs in

@@ -1,5 +1,6 @@
 -- How far a copying has come, and why it stops.
-use Rattle.std.proofs.Common.{◌≡◌, ℕ, zero, suc, ◌+◌, ◌-◌, ◌<◌, ◌≤◌, ◌⊎◌, inl, inr, Bool, true, false, cond, List, [], ◌∷◌, ◌++◌, length, take, get_or, map, Option, Some, None, Result, Ok, Err, refl, sym, ◌∙◌, ap, subst, arith, append_assoc, length-append}
+use Rattle.std.proofs.Common.{◌≡◌, ℕ, zero, suc, ◌+◌, ◌-◌, ◌<◌, ◌≤◌, ◌⊎◌, inl, inr, Bool, true, false, cond, List, [], ◌∷◌, ◌++◌, length, take, get_or, map, Option, Some, None, Result, Ok, Err, refl}
+use Rattle.std.proofs.Common.{sym, ◌∙◌, ap, subst, arith, append_assoc, length-append}
 use Rattle.std.proofs.lemmas.List.{append-nil, take_more, take_all, map-append}
 use Rattle.std.proofs.lemmas.List.Elements.{filter-append}
 use Rattle.std.proofs.lemmas.List.Sums.{fold-append}
@@ -78,7 +79,8 @@ alive_next set all id lt =
     ∙ ap (λ (k : ℕ). alive (take id all) set ++ one (is_in set k) (get_or all id damaged)) (length_taken id all (omega (arith, lt)))
 
 -- ids that are not in the set
-alive_dead : (set : Option (ℕ → Bool)) (all : List Slot) (from j : ℕ) → from + j ≤ length all → ((k : ℕ) → from ≤ k → k < from + j → is_in set k ≡ false) → alive (take (from + j) all) set ≡ alive (take from all) set
+alive_dead : (set : Option (ℕ → Bool)) (all : List Slot) (from j : ℕ) → from + j ≤ length all → ((k : ℕ) → from ≤ k → k < from + j → is_in set k ≡ false)
+    → alive (take (from + j) all) set ≡ alive (take from all) set
 alive_dead set all from zero le dead = let none : from + 0 ≡ from = omega arith in ap (λ (n : ℕ). alive (take n all) set) none
 alive_dead set all from (suc j) le dead =
     let next : from + suc j ≡ (from + j) + 1 = omega arith in
@@ -88,7 +90,8 @@ alive_dead set all from (suc j) le dead =
     ∙ append-nil (alive (take (from + j) all) set)
     ∙ alive_dead set all from j (omega (arith, le)) (λ k above below. dead k above (omega (arith, below)))
 
-alive_to : (set : Option (ℕ → Bool)) (all : List Slot) (from last : ℕ) → from ≤ last → last ≤ length all → ((k : ℕ) → from ≤ k → k < last → is_in set k ≡ false) → alive (take last all) set ≡ alive (take from all) set
+alive_to : (set : Option (ℕ → Bool)) (all : List Slot) (from last : ℕ) → from ≤ last → last ≤ length all → ((k : ℕ) → from ≤ k → k < last → is_in set k ≡ false)
+    → alive (take last all) set ≡ alive (take from all) set
 alive_to set all from last on le dead =
     let j = last - from in
     let is : from + j ≡ last = omega (arith, on) in
@@ -129,7 +132,8 @@ module _ (honest : Bool) (old : Writing) where
   copied_as xs ys w is h = subst (λ (zs : List Slot). IsCopied honest zs old w) is h
 
   -- one more document
-  copied_more : (some : List Slot) (s : Slot) (w new : Writing) (item : Result (List ℕ) StoreError) (t : IsTaken item w new) → (IsTrue honest → doc t.bytes ≡ s) → IsCopied honest some old w → IsCopied honest (some ++ s ∷ []) old new
+  copied_more : (some : List Slot) (s : Slot) (w new : Writing) (item : Result (List ℕ) StoreError) (t : IsTaken item w new) → (IsTrue honest → doc t.bytes ≡ s) → IsCopied honest some old w
+      → IsCopied honest (some ++ s ∷ []) old new
   copied_more some s w new item t is h =
       let docs = h.docs ++ t.bytes ∷ [] in
       let all : with_documents old docs ≡ with_document (with_documents old h.docs) t.bytes = fold-append with_document old h.docs (t.bytes ∷ []) in
@@ -143,7 +147,8 @@ module _ (honest : Bool) (old : Writing) where
             ∙ ap (λ (v : Writing). with_failures new.output.failures (with_document v t.bytes)) h.after
             ∙ ap (with_failures new.output.failures) (counted_document w.output.failures (with_documents old h.docs) t.bytes ∙ ap (with_failures w.output.failures) (sym all));
         works = inl (sym (ap (λ (v : Writing). v.output.failure) h.after ∙ same_failure old h.docs) ∙ t.works);
-        grown = t.grown ∙ ap (λ (xs : List Slot). xs ++ doc t.bytes ∷ []) h.grown ∙ append_assoc (taken old) (map doc h.docs) (doc t.bytes ∷ []) ∙ ap (λ (xs : List Slot). taken old ++ xs) (sym (map-append doc h.docs (t.bytes ∷ [])));
+        grown = t.grown ∙ ap (λ (xs : List Slot). xs ++ doc t.bytes ∷ []) h.grown ∙ append_assoc (taken old) (map doc h.docs) (doc t.bytes ∷ [])
+            ∙ ap (λ (xs : List Slot). taken old ++ xs) (sym (map-append doc h.docs (t.bytes ∷ [])));
       }
 
 -- ---- reads that failed
@@ -156,7 +161,8 @@ pub none_failed : (first r : Reading) (block : Result (List ℕ) StoreError) →
 none_failed first r block memory = λ is. absurd (let h : ◌≡◌ {A = Result (List ℕ) StoreError} (Err Memory) (Err Read) = sym memory ∙ is in cc)
 
 -- one look-up of a block
-failed_once : (first r : Reading) (id : ℕ) (c : Checkpoint) (block : Result (List ℕ) StoreError) (mid : Reading) → first.file.failures ≤ r.file.failures → IsBlockTaken r id c block mid → HasFailedRead first mid block
+failed_once : (first r : Reading) (id : ℕ) (c : Checkpoint) (block : Result (List ℕ) StoreError) (mid : Reading) → first.file.failures ≤ r.file.failures → IsBlockTaken r id c block mid
+    → HasFailedRead first mid block
 failed_once first r id c block mid le t = by block t.taken
   where
     came_failed : t.came ≡ Err Read → HasRisen first.file.failures mid.file.failures
@@ -180,7 +186,8 @@ failures_once r c came mid l = elim l.cause [
 ]
 
 -- look-ups one after the other
-failed_along : (cs : List Checkpoint) (first r : Reading) (b : Result (List ℕ) StoreError) (r' : Reading) (b' : Result (List ℕ) StoreError) → first.file.failures ≤ r.file.failures → HasFailedRead first r b → LooksAlong cs r b r' b' → HasFailedRead first r' b'
+failed_along : (cs : List Checkpoint) (first r : Reading) (b : Result (List ℕ) StoreError) (r' : Reading) (b' : Result (List ℕ) StoreError) → first.file.failures ≤ r.file.failures
+    → HasFailedRead first r b → LooksAlong cs r b r' b' → HasFailedRead first r' b'
 failed_along [] first r b r' b' le h l = λ is. subst (λ (x : Reading). HasRisen first.file.failures x.file.failures) (sym l.0) (h (sym l.1 ∙ is))
 failed_along (c ∷ cs) first r b r' b' le h l =
     let mid = l.0 in
@@ -223,7 +230,8 @@ truly_damaged id s h = elim h [
   ]
 ]
 
-module _ (first old new : Reading) (set : Option (ℕ → Bool)) (from to : Walk) (item : Result (List ℕ) StoreError) (docs : num_docs first ≡ length (slots (store_of first))) (same : IsSameStore first old) (gives : GivesNext set old from (Some item) new to) where
+module _ (first old new : Reading) (set : Option (ℕ → Bool)) (from to : Walk) (item : Result (List ℕ) StoreError) (docs : num_docs first ≡ length (slots (store_of first)))
+    (same : IsSameStore first old) (gives : GivesNext set old from (Some item) new to) where
   truly : IsTrue first.file.honest → AnswersTruly gives.last (slice_get (slots (store_of first)) gives.last) item
   truly honest = subst (λ (xs : List Slot). AnswersTruly gives.last (slice_get xs gives.last) item) (same_slots first old same) (gives.gives.honest (subst IsTrue (sym same.honest) honest))
 
@@ -239,7 +247,8 @@ module _ (first old new : Reading) (set : Option (ℕ → Bool)) (from to : Walk
     where
       by : (block : Result (List ℕ) StoreError) → to.block ≡ block → AnswersFrom gives.last (gives.last - to.first) block (Err e) → RefusesItem gives.last first new e
       by (Ok block) here answers = elim answers [
-        | inl x ↦ subst (RefusesItem gives.last first new) (sym x.0) (refl, λ honest. truly_damaged gives.last (slice_get (slots (store_of first)) gives.last) (truly_as (Err (DamagedDocument gives.last)) (is ∙ ap (λ (y : StoreError). Err y) x.0) honest))
+        | inl x ↦ subst (RefusesItem gives.last first new) (sym x.0) (refl, λ honest. truly_damaged gives.last (slice_get (slots (store_of first)) gives.last)
+            (truly_as (Err (DamagedDocument gives.last)) (is ∙ ap (λ (y : StoreError). Err y) x.0) honest))
         | inr memory ↦ subst (RefusesItem gives.last first new) (sym memory) tt
       ]
       by (Err f) here answers =
@@ -267,7 +276,8 @@ module _ (first old new : Reading) (set : Option (ℕ → Bool)) (from to : Walk
         (λ honest. sym (get_or_from_slice_get all last (doc t.bytes) damaged (truly_as (Ok t.bytes) t.is honest))) copied_to)
 
     -- or it stops here
-    pub stops : (e : StoreError) (after : Writing) → start.output.failures ≤ w.output.failures → IsWalk new to → HasFailedRead first new to.block → IsRefused item w after e → StopsAt set first new start after e
+    pub stops : (e : StoreError) (after : Writing) → start.output.failures ≤ w.output.failures → IsWalk new to → HasFailedRead first new to.block → IsRefused item w after e
+        → StopsAt set first new start after e
     stops e after count walk failed refused = record {
       id = gives.last;
       below = omega (arith, last_below, docs);
@@ -288,7 +298,8 @@ module _ (first old new : Reading) (set : Option (ℕ → Bool)) (from to : Walk
   failed_next le h = failed_along _ first old from.block new to.block le h gives.walks.looks
 
 -- no further one
-pub copied_all : (first old new : Reading) (set : Option (ℕ → Bool)) (from to : Walk) (start w : Writing) → num_docs first ≡ length (slots (store_of first)) → IsSameStore first old → GivesNext set old from None new to → from.next ≤ length (slots (store_of first))
+pub copied_all : (first old new : Reading) (set : Option (ℕ → Bool)) (from to : Walk) (start w : Writing) → num_docs first ≡ length (slots (store_of first)) → IsSameStore first old
+    → GivesNext set old from None new to → from.next ≤ length (slots (store_of first))
     → IsCopied first.file.honest (alive (take from.next (slots (store_of first))) set) start w → IsCopied first.file.honest (alive (slots (store_of first)) set) start w
 copied_all first old new set from to start w docs same gives below copied =
     let all = slots (store_of first) in
@@ -304,7 +315,8 @@ pub record IsBegun (first : Reading) (set : Option (ℕ → Bool)) (start : Writ
 
 pub begins : (first r : Reading) (set : Option (ℕ → Bool)) (w : Walk) (start : Writing) → w.next ≡ 0 → LooksAlong (take 1 first.checkpoints) first (Err Memory) r w.block → IsBegun first set start r w
 begins first r set w start is looks = record {
-  copied = copied_as first.file.honest start [] (alive (take w.next (slots (store_of first))) set) start (ap (λ (k : ℕ). alive (take k (slots (store_of first))) set) (sym is)) (copied_none first.file.honest start);
+  copied = copied_as first.file.honest start [] (alive (take w.next (slots (store_of first))) set) start (ap (λ (k : ℕ). alive (take k (slots (store_of first))) set) (sym is))
+      (copied_none first.file.honest start);
   below = omega (arith, is);
   failed = failed_along (take 1 first.checkpoints) first first (Err Memory) r w.block (omega arith) (none_failed first first (Err Memory) refl) looks;
 }

@@ -5,7 +5,8 @@ use Rattle.std.proofs.lemmas.Option.{get_or_from_slice_get, slice_get_past}
 use Rattle.std.specs.Prelude.{IfSome, slice_get}
 use Rattle.std.specs.List.{AllByRecursion}
 use Rattle.store_base.specs.declared.error.StoreError.{StoreError}
-use Rattle.store_base.specs.declared.error.StoreError.TheVariants.{ShortFile, BadVersion, BadBlockKind, BadOffset, BadIndex, InvalidArgument, DamagedDocument, BadDocument, Read, Memory, OldVersion, Unserializable, BlockTooLarge, TooManyDocs, Failed, BadPeriod}
+use Rattle.store_base.specs.declared.error.StoreError.TheVariants.{ShortFile, BadVersion, BadBlockKind, BadOffset, BadIndex, InvalidArgument, DamagedDocument, BadDocument, Read, Memory, OldVersion}
+use Rattle.store_base.specs.declared.error.StoreError.TheVariants.{Unserializable, BlockTooLarge, TooManyDocs, Failed, BadPeriod}
 use Rattle.store_format.specs.Block.{Slot}
 use Rattle.docstore.specs.Laws.{taken, StackedSlotsAreCounted}
 use Rattle.store_reader.specs.Reading.{Reading}
@@ -99,7 +100,8 @@ all_get P xs i x is h = elim (cases_lt i (length xs)) [
   | inr le ↦ absurd (let none = slice_get_past xs i le in let p = sym none ∙ is in cc)
 ]
 
-pub begun : {H : Type 0} → StackedSlotsAreCounted → (inputs left : List (MergeInput H)) (old new : Writing) (e : MergeError) → AllByRecursion IsHonest inputs → IsEnded inputs left old new e → IsFailed e.error ⊎ HasBegun inputs e.input old new
+pub begun : {H : Type 0} → StackedSlotsAreCounted → (inputs left : List (MergeInput H)) (old new : Writing) (e : MergeError) → AllByRecursion IsHonest inputs → IsEnded inputs left old new e
+    → IsFailed e.error ⊎ HasBegun inputs e.input old new
 begun law inputs left old new e honest h = elim (unfailed_input h.named h.rest h.before new e.error h.refused) [
   | inl failed ↦ inl failed
   | inr same ↦
@@ -107,7 +109,8 @@ begun law inputs left old new e honest h = elim (unfailed_input h.named h.rest h
       let front = take e.input inputs in
       inr (record {
         more = grown.more;
-        grown = grown.grown ∙ ap (λ (ss : List Slot). ss ++ grown.more) (h.taken_before.grown ∙ ap (λ (ss : List Slot). taken old ++ ss) (all_slots law front h.taken_before.parts (all_take IsHonest e.input inputs honest) h.taken_before.came));
+        grown = grown.grown ∙ ap (λ (ss : List Slot). ss ++ grown.more) (h.taken_before.grown
+            ∙ ap (λ (ss : List Slot). taken old ++ ss) (all_slots law front h.taken_before.parts (all_take IsHonest e.input inputs honest) h.taken_before.came));
         front = subst (λ x. IfSome x (λ x. (rest : List Slot) × (alive_slots x ≡ grown.more ++ rest))) (sym h.is_named) (grown.front (all_get IsHonest inputs e.input h.named h.is_named honest));
       })
 ]

@@ -24,7 +24,8 @@ none_passes p xs none = elim (cases_lt (position_or_len p xs) (length xs)) [
   | inr le ↦ le
 ]
 
-can_be : {H : Type 0} (xs : List (MergeInput H)) → AllByRecursion HasWholeSet xs → ((k : ℕ) (d : MergeInput H) → k < length xs → is_first_version (get_or xs k d).reader.version ≡ false) → AllByRecursion CanBeTaken xs
+can_be : {H : Type 0} (xs : List (MergeInput H)) → AllByRecursion HasWholeSet xs → ((k : ℕ) (d : MergeInput H) → k < length xs → is_first_version (get_or xs k d).reader.version ≡ false)
+    → AllByRecursion CanBeTaken xs
 can_be [] h new = tt
 can_be (x ∷ xs) h new = (
   record { set = h.0; version = λ is. absurd (let p : true ≡ false = sym (ap is_first_version is) ∙ new 0 x (omega arith) in cc) },
@@ -48,7 +49,8 @@ all_alive : (set : Option (ℕ → Bool)) (n : ℕ) (xs : List Slot) → list_al
 all_alive set n [] is = refl
 all_alive set n (x ∷ xs) is =
     let h = both (is_in set n) (list_all (is_in set) (range_with_len (n + 1) (length xs))) is in
-    ap (λ (b : Bool). map (λ (y : ℕ × Slot). y.1) (cond b ((n, x) ∷ filter (λ (y : ℕ × Slot). is_in set y.0) (enumerate_from (n + 1) xs)) (filter (λ (y : ℕ × Slot). is_in set y.0) (enumerate_from (n + 1) xs)))) h.0
+    ap (λ (b : Bool). map (λ (y : ℕ × Slot). y.1) (cond b ((n, x) ∷ filter (λ (y : ℕ × Slot). is_in set y.0) (enumerate_from (n + 1) xs))
+        (filter (λ (y : ℕ × Slot). is_in set y.0) (enumerate_from (n + 1) xs)))) h.0
     ∙ ap (λ (ys : List Slot). x ∷ ys) (all_alive set (n + 1) xs h.1)
 
 module _ (law : StackedSlotsAreCounted) where

@@ -79,7 +79,8 @@ counted : (n : ℕ) (w : Writing) (part : Brought) → with_brought (with_failur
 counted n w (stacked bs) = refl
 counted n w (copied docs) = counted_documents n w docs
 
-brought_push : {H : Type 0} (xs : List (MergeInput H)) (parts : List Brought) (x : MergeInput H) (part : Brought) → AreBrought xs parts → IsBrought x part → AreBrought (xs ++ x ∷ []) (parts ++ part ∷ [])
+brought_push : {H : Type 0} (xs : List (MergeInput H)) (parts : List Brought) (x : MergeInput H) (part : Brought) → AreBrought xs parts → IsBrought x part
+    → AreBrought (xs ++ x ∷ []) (parts ++ part ∷ [])
 brought_push [] [] x part h is = (is, tt)
 brought_push (y ∷ xs) (p ∷ parts) x part h is = (h.0, brought_push xs parts x part h.1 is)
 brought_push [] (p ∷ parts) x part h is = absurd h
@@ -115,7 +116,8 @@ merged_push xs x start old new h t =
         ]
       ];
       grown = t.grown ∙ ap (λ (ss : List Slot). ss ++ slots_of t.part) h.grown ∙ append_assoc (taken start) (flat_map slots_of h.parts) (slots_of t.part)
-          ∙ ap (λ (ss : List Slot). taken start ++ ss) (ap (λ (ss : List Slot). flat_map slots_of h.parts ++ ss) (sym (append-nil (slots_of t.part))) ∙ sym (flat_map-append slots_of h.parts (t.part ∷ [])));
+          ∙ ap (λ (ss : List Slot). taken start ++ ss) (ap (λ (ss : List Slot). flat_map slots_of h.parts ++ ss) (sym (append-nil (slots_of t.part)))
+              ∙ sym (flat_map-append slots_of h.parts (t.part ∷ [])));
     }
 
 pub merged_more : {H : Type 0} (olds news : List (MergeInput H)) (i : ℕ) (d : MergeInput H) (start old new : Writing) → i < length olds → drop i news ≡ drop i olds

@@ -5,7 +5,8 @@ use Rattle.std.specs.Option.{option_copied}
 use Rattle.std.proofs.lemmas.List.{take-append-drop}
 use Rattle.store_base.specs.declared.error.Cause.{Cause}
 use Rattle.store_base.specs.declared.error.StoreError.{StoreError}
-use Rattle.store_base.specs.declared.error.StoreError.TheVariants.{ShortFile, BadVersion, BadBlockKind, BadOffset, BadIndex, InvalidArgument, DamagedDocument, BadDocument, Read, Memory, OldVersion, Unserializable, BlockTooLarge, TooManyDocs, Failed, BadPeriod}
+use Rattle.store_base.specs.declared.error.StoreError.TheVariants.{ShortFile, BadVersion, BadBlockKind, BadOffset, BadIndex, InvalidArgument, DamagedDocument, BadDocument, Read, Memory, OldVersion}
+use Rattle.store_base.specs.declared.error.StoreError.TheVariants.{Unserializable, BlockTooLarge, TooManyDocs, Failed, BadPeriod}
 use Rattle.store_format.specs.Block.{Slot, doc}
 use Rattle.store_reader.specs.Iteration.{alive}
 use Rattle.docstore.specs.Laws.{taken}
@@ -36,7 +37,8 @@ lent (Some set) alive is = ap set_of is
 pub stacked_taken : {H : Type 0} (x : MergeInput H) (old new : Writing) → is_stacked x ≡ true → IsStacked x.reader old new → IsInputTaken x old new
 stacked_taken x old new is s = record { part = stacked s.blocks; came = (is, s.came); after = s.after; works = inl s.works; grown = s.grown }
 
-pub copied_taken : {H : Type 0} (x : MergeInput H) (set : Option (ℕ → Bool)) (old new : Writing) → is_stacked x ≡ false → set ≡ set_of x.alive → IsCopied x.reader.file.honest (alive_of x.reader set) old new → IsInputTaken x old new
+pub copied_taken : {H : Type 0} (x : MergeInput H) (set : Option (ℕ → Bool)) (old new : Writing) → is_stacked x ≡ false → set ≡ set_of x.alive
+    → IsCopied x.reader.file.honest (alive_of x.reader set) old new → IsInputTaken x old new
 copied_taken x set old new is same h =
     let k : IsCopied x.reader.file.honest (alive_of x.reader (set_of x.alive)) old new = subst (λ (s : Option (ℕ → Bool)). IsCopied x.reader.file.honest (alive_of x.reader s) old new) same h in
     record { part = copied k.docs; came = (is, k.came); after = k.after; works = k.works; grown = k.grown }
@@ -67,7 +69,8 @@ refused_bytes bytes old new Unserializable same h = absurd h
 refused_bytes bytes old new (BadPeriod k) same h = absurd h
 
 -- what a copying that stops has put behind
-pub stopped_grown : {H : Type 0} (x : MergeInput H) (set : Option (ℕ → Bool)) (read : Reading) (old new : Writing) (e : StoreError) → set ≡ set_of x.alive → StopsAt set x.reader read old new e → new.output.failure ≡ old.output.failure → HasGrown x old new
+pub stopped_grown : {H : Type 0} (x : MergeInput H) (set : Option (ℕ → Bool)) (read : Reading) (old new : Writing) (e : StoreError) → set ≡ set_of x.alive → StopsAt set x.reader read old new e
+    → new.output.failure ≡ old.output.failure → HasGrown x old new
 stopped_grown x set read old new e same s unchanged =
     let all = slots (store_of x.reader) in
     let before_is : s.before.output.failure ≡ old.output.failure = ap (λ (w : Writing). w.output.failure) s.copied.after ∙ same_failure old s.copied.docs in
@@ -80,5 +83,6 @@ stopped_grown x set read old new e same s unchanged =
     record {
       more = map doc s.copied.docs;
       grown = ap taken stays ∙ s.copied.grown;
-      front = λ honest. (alive_behind (length (take s.id all)) (drop s.id all) set, split ∙ ap (λ (xs : List Slot). xs ++ alive_behind (length (take s.id all)) (drop s.id all) set) (sym (s.copied.came.truly honest)));
+      front = λ honest. (alive_behind (length (take s.id all)) (drop s.id all) set, split ∙ ap (λ (xs : List Slot). xs ++ alive_behind (length (take s.id all)) (drop s.id all) set)
+          (sym (s.copied.came.truly honest)));
     }

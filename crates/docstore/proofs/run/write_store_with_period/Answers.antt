@@ -25,10 +25,13 @@ loop-command-init g c =
     record {
       run = λ works. record {
         trace = [];
-        calls = subst (λ (rs : List (Result (Unit {0}) StoreError)). IsTrace {D = g.row.D.Denot} {H = g.row.H.Denot} (λ d. g.D.Document.doc_bytes d c.args.schema.now) [] rs []) (sym c.in-Ok.ensures.items) tt;
-        causes = subst (λ (rs : List (Result (Unit {0}) StoreError)). HaveCauses {D = g.row.D.Denot} {H = g.row.H.Denot} c.args.block_size (λ d. g.D.Document.doc_bytes d c.args.schema.now) first_stage [] [] rs []) (sym c.in-Ok.ensures.items) tt;
+        calls = subst (λ (rs : List (Result (Unit {0}) StoreError)). IsTrace {D = g.row.D.Denot} {H = g.row.H.Denot} (λ d. g.D.Document.doc_bytes d c.args.schema.now) [] rs [])
+            (sym c.in-Ok.ensures.items) tt;
+        causes = subst (λ (rs : List (Result (Unit {0}) StoreError)). HaveCauses {D = g.row.D.Denot} {H =
+            g.row.H.Denot} c.args.block_size (λ d. g.D.Document.doc_bytes d c.args.schema.now) first_stage [] [] rs []) (sym c.in-Ok.ensures.items) tt;
         stage = ap stage_of c.with_period-writer.ensures.writer;
-        so_far = run_begins c.args.block_size c.args.period (g.W.TerminatingWrite.content c.args.output) writer (ap (λ (w : Writing). w.block_size) new) (ap (λ (w : Writing). w.output.period) new) (ap (λ (w : Writing). w.output.before) new) (ap (λ (w : Writing). w.pending) new) (ap (λ (w : Writing). w.output.finished) new);
+        so_far = run_begins c.args.block_size c.args.period (g.W.TerminatingWrite.content c.args.output) writer (ap (λ (w : Writing). w.block_size) new) (ap (λ (w : Writing). w.output.period) new)
+            (ap (λ (w : Writing). w.output.before) new) (ap (λ (w : Writing). w.pending) new) (ap (λ (w : Writing). w.output.finished) new);
       };
       failed = none_failed (g.W.TerminatingWrite.content c.args.output) (g.W.TerminatingWrite.failures c.args.output) writer (ap (λ (w : Writing). w.output.failure) new);
       termination = ap (λ (w : Writing). w.output.termination) new;
@@ -58,10 +61,14 @@ loop-command-preserved g c =
     let left : take (i + 1) (set commands i after) ≡ take i commands ++ after ∷ [] = take_more_set commands i after (omega arith) in
     record {
       run = subst (λ (rs : List (Result (Unit {0}) StoreError)). IsRun c.args.block_size c.args.period held doc_bytes (take (i + 1) olds) (take (i + 1) (set commands i after)) rs new) (sym pushed)
-          (subst (λ (cs : List (StoreCommand g.row.D.Denot g.row.H.Denot)). IsRun c.args.block_size c.args.period held doc_bytes cs (take (i + 1) (set commands i after)) (results ++ c.make_call.result ∷ []) new) (sym front)
-          (subst (λ (cs : List (StoreCommand g.row.D.Denot g.row.H.Denot)). IsRun c.args.block_size c.args.period held doc_bytes (take i olds ++ command ∷ []) cs (results ++ c.make_call.result ∷ []) new) (sym left)
-          (run_by_more c.args.block_size c.args.period held doc_bytes (take i olds) (take i commands) results command after c.make_call.result old new c.make_call.ensures.made c.loop-command.invariant.run)));
-      failed = failed_more held (g.W.TerminatingWrite.failures c.args.output) old new c.loop-command.invariant.count c.loop-command.invariant.sound (λ works. (c.loop-command.invariant.run works).so_far.before) c.loop-command.invariant.failed c.make_call.ensures.failed;
+          (subst (λ (cs : List (StoreCommand g.row.D.Denot g.row.H.Denot)). IsRun c.args.block_size c.args.period held doc_bytes cs (take (i + 1) (set commands i after))
+          (results ++ c.make_call.result ∷ []) new) (sym front)
+          (subst (λ (cs : List (StoreCommand g.row.D.Denot g.row.H.Denot)). IsRun c.args.block_size c.args.period held doc_bytes (take i olds ++ command ∷ []) cs
+          (results ++ c.make_call.result ∷ []) new) (sym left)
+          (run_by_more c.args.block_size c.args.period held doc_bytes (take i olds) (take i commands) results command after c.make_call.result old new c.make_call.ensures.made
+          c.loop-command.invariant.run)));
+      failed = failed_more held (g.W.TerminatingWrite.failures c.args.output) old new c.loop-command.invariant.count c.loop-command.invariant.sound
+          (λ works. (c.loop-command.invariant.run works).so_far.before) c.loop-command.invariant.failed c.make_call.ensures.failed;
       termination = c.make_call.ensures.termination ∙ c.loop-command.invariant.termination;
       count = omega (arith, c.loop-command.invariant.count, c.make_call.ensures.count);
       kept = subst (λ (cs : List (StoreCommand g.row.D.Denot g.row.H.Denot)). AreKept cs (take (i + 1) (set commands i after))) (sym front)
@@ -91,7 +98,8 @@ returns-in_err-output-clause-err g c =
     let given = err_from_is_err_and c.from_residual.result c.from_residual.ensures.1 in
     let run : IsRun c.args.block_size c.args.period held.content doc_bytes olds commands results writer =
     subst (λ (cs : List (StoreCommand g.row.D.Denot g.row.H.Denot)). IsRun c.args.block_size c.args.period held.content doc_bytes cs commands results writer) (take_all i olds (omega arith))
-    (subst (λ (cs : List (StoreCommand g.row.D.Denot g.row.H.Denot)). IsRun c.args.block_size c.args.period held.content doc_bytes (take i olds) cs results writer) (take_all i commands (omega arith)) c.loop-command.invariant.run) in
+    (subst (λ (cs : List (StoreCommand g.row.D.Denot g.row.H.Denot)). IsRun c.args.block_size c.args.period held.content doc_bytes (take i olds) cs results writer)
+    (take_all i commands (omega arith)) c.loop-command.invariant.run) in
     let after : AfterRun c.args.block_size doc_bytes olds commands held (tells e.output) e.error =
     after_run c.args.block_size c.args.period doc_bytes olds commands results held writer e.error (tells e.output)
     c.loop-command.invariant.count c.loop-command.invariant.termination c.loop-command.invariant.sound run c.loop-command.invariant.failed c.in_err-output.ensures.err in

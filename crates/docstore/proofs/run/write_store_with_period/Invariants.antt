@@ -7,7 +7,8 @@ use Rattle.docstore.proofs.run.write_store_with_period.Given as goal
 
 abbrev pub invariant-loop-command : goal.invariant-loop-command
 invariant-loop-command g l = record {
-  run : IsRun l.block_size l.period (g.W.TerminatingWrite.content l.fn.output) (λ d. g.D.Document.doc_bytes d l.schema) (take l.command-index l.fn.commands) (take l.command-index l.commands) l.results.items l.writer;
+  run : IsRun l.block_size l.period (g.W.TerminatingWrite.content l.fn.output) (λ d. g.D.Document.doc_bytes d l.schema) (take l.command-index l.fn.commands)
+      (take l.command-index l.commands) l.results.items l.writer;
   failed : HasFailedSince (g.W.TerminatingWrite.content l.fn.output) (g.W.TerminatingWrite.failures l.fn.output) l.writer;
   termination : l.writer.output.termination ≡ g.W.TerminatingWrite.termination l.fn.output;
   count : g.W.TerminatingWrite.failures l.fn.output ≤ l.writer.output.failures;

@@ -17,5 +17,6 @@ returns-in_err-push_field-clause-kept c =
     let i = c.loop-field.field-index in
     let fields = c.fields-fields.result.now in
     let more = number (length fields) ++ flat_map field_bytes (fields_seen (take i fields)) in
-    let written : c.loop-field.out.items ≡ c.args.out.now.items ++ more = c.loop-field.invariant.written ∙ append_assoc c.args.out.now.items (number (length fields)) (flat_map field_bytes (fields_seen (take i fields))) in
+    let written : c.loop-field.out.items ≡ c.args.out.now.items ++ more = c.loop-field.invariant.written
+    ∙ append_assoc c.args.out.now.items (number (length fields)) (flat_map field_bytes (fields_seen (take i fields))) in
     begins_before c.args.out.now.items more c.push_field.new.out.items (rw (← written) c.in_err-push_field.ensures.err)

@@ -11,4 +11,5 @@ pub returns-then-begins_number-clause-text : goal.returns-then-begins_number-cla
 returns-then-begins_number-clause-text c = reads_short (c.args.most + 1) c.args.bytes.now (sym c.in_default.ensures.read) (c.begins_number.ensures.0 c.if-begins_number.true)
 
 pub returns-else-begins_number-clause-text : goal.returns-else-begins_number-clause-text
-returns-else-begins_number-clause-text c = reads_malformed (c.args.most + 1) c.args.bytes.now (sym c.in_default.ensures.read) (λ cut. absurd (let yes = c.begins_number.ensures.1 cut in cc (yes, c.if-begins_number.false)))
+returns-else-begins_number-clause-text c = reads_malformed (c.args.most + 1) c.args.bytes.now (sym c.in_default.ensures.read)
+    (λ cut. absurd (let yes = c.begins_number.ensures.1 cut in cc (yes, c.if-begins_number.false)))

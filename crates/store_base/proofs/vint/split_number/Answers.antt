@@ -11,7 +11,8 @@ use Rattle.store_base.proofs.vint.split_number.Goals.{else-high-eq0-via-then-hig
 use Rattle.store_base.proofs.vint.split_number.Goals as goal
 
 -- the number, as the code computes it
-found : (bytes : List ℕ) (i value scale high : ℕ) → i < length bytes → AllByRecursion (λ d. d < 128) (take i bytes) → value ≡ low (take i bytes) → scale ≡ 128 ^ i → high ≡ get_or bytes i 0 - 128 → 128 ≤ get_or bytes i 0 → (0 < high) ⊎ (i ≡ 0)
+found : (bytes : List ℕ) (i value scale high : ℕ) → i < length bytes → AllByRecursion (λ d. d < 128) (take i bytes) → value ≡ low (take i bytes) → scale ≡ 128 ^ i → high ≡ get_or bytes i 0 - 128
+    → 128 ≤ get_or bytes i 0 → (0 < high) ⊎ (i ≡ 0)
     → number_at bytes ≡ Some (high * scale + value, drop (i + 1) bytes)
 found bytes i value scale high lt below v s h le some =
     let order : high * scale + value ≡ value + scale * high = omega arith in
@@ -20,7 +21,8 @@ found bytes i value scale high lt below v s h le some =
     front_found bytes i lt below le choice ∙ ap (λ (x : ℕ). Some (x, drop (i + 1) bytes)) (sym (order ∙ same))
 
 -- nothing wraps in the first nine bytes
-small : (bytes : List ℕ) (i value scale : ℕ) → i ≤ 8 → i < length bytes → AllByRecursion (λ d. d < 128) (take i bytes) → value ≡ low (take i bytes) → scale ≡ 128 ^ i → (value < scale) × (scale ≤ 128 ^ 8)
+small : (bytes : List ℕ) (i value scale : ℕ) → i ≤ 8 → i < length bytes → AllByRecursion (λ d. d < 128) (take i bytes) → value ≡ low (take i bytes) → scale ≡ 128 ^ i
+    → (value < scale) × (scale ≤ 128 ^ 8)
 small bytes i value scale few lt below v s =
     let len : length (take i bytes) ≡ i = omega (arith, length-take i bytes) in
     (omega (arith, low_below (take i bytes) below, ap (λ (n : ℕ). 128 ^ n) len), omega (arith, pow-le-pow_right {n = 128} (omega arith) few))
@@ -31,24 +33,44 @@ returns-then-i-gt0 c = sym (found_none (2 ^ 64) c.args.bytes.now (front_zero c.a
 pub returns-in_err-checked_mul : goal.returns-in_err-checked_mul
 returns-in_err-checked_mul c =
     let inv = c.loop-i.invariant in
-    let some : (0 < c.from-high.result) ⊎ (c.loop-i.i ≡ 0) = elim c.else-high-eq0.branch [ else-high-eq0-via-then-high-eq0+else-i-gt0 w ↦ inr (omega (arith, w.if-i-gt0.false)) | else-high-eq0-via-else-high-eq0 w ↦ inl (pos_of_ne-zero w.if-high-eq0.false) ] in
+    let some : (0 < c.from-high.result) ⊎ (c.loop-i.i ≡ 0) = elim c.else-high-eq0.branch [
+      | else-high-eq0-via-then-high-eq0+else-i-gt0 w ↦ inr
+          (omega (arith, w.if-i-gt0.false))
+      | else-high-eq0-via-else-high-eq0 w ↦ inl (pos_of_ne-zero w.if-high-eq0.false)
+    ] in
     let e = found c.args.bytes.now c.loop-i.i c.loop-i.value c.loop-i.scale c.from-high.result c.loop-i-test.true inv.below inv.value inv.scale c.from-high.ensures c.if-b-ge-STOP_BIT.true some in
-    let large : 2 ^ 64 ≤ c.from-high.result * c.loop-i.scale + c.loop-i.value = elim (cases_lt (c.from-high.result * c.loop-i.scale) (2 ^ 64)) [ inl lt ↦ absurd (c.in_err-checked_mul.ensures lt) | inr le ↦ omega arith ] in
+    let large : 2 ^ 64 ≤ c.from-high.result * c.loop-i.scale + c.loop-i.value = elim (cases_lt (c.from-high.result * c.loop-i.scale) (2 ^ 64)) [
+      | inl lt ↦ absurd
+          (c.in_err-checked_mul.ensures lt)
+      | inr le ↦ omega arith
+    ] in
     rw c.from_residual.ensures (sym (found_above (2 ^ 64) c.args.bytes.now _ _ e large))
 
 pub returns-in_err-number : goal.returns-in_err-number
 returns-in_err-number c =
     let inv = c.loop-i.invariant in
-    let some : (0 < c.from-high.result) ⊎ (c.loop-i.i ≡ 0) = elim c.else-high-eq0.branch [ else-high-eq0-via-then-high-eq0+else-i-gt0 w ↦ inr (omega (arith, w.if-i-gt0.false)) | else-high-eq0-via-else-high-eq0 w ↦ inl (pos_of_ne-zero w.if-high-eq0.false) ] in
+    let some : (0 < c.from-high.result) ⊎ (c.loop-i.i ≡ 0) = elim c.else-high-eq0.branch [
+      | else-high-eq0-via-then-high-eq0+else-i-gt0 w ↦ inr
+          (omega (arith, w.if-i-gt0.false))
+      | else-high-eq0-via-else-high-eq0 w ↦ inl (pos_of_ne-zero w.if-high-eq0.false)
+    ] in
     let e = found c.args.bytes.now c.loop-i.i c.loop-i.value c.loop-i.scale c.from-high.result c.loop-i-test.true inv.below inv.value inv.scale c.from-high.ensures c.if-b-ge-STOP_BIT.true some in
     let product = c.in_ok-checked_mul.ensures.1 in
-    let large : 2 ^ 64 ≤ c.from-high.result * c.loop-i.scale + c.loop-i.value = elim (cases_lt (c.in_ok-checked_mul.field-0 + c.loop-i.value) (2 ^ 64)) [ inl lt ↦ absurd (c.in_err-number.ensures lt) | inr le ↦ omega (arith, product) ] in
+    let large : 2 ^ 64 ≤ c.from-high.result * c.loop-i.scale + c.loop-i.value = elim (cases_lt (c.in_ok-checked_mul.field-0 + c.loop-i.value) (2 ^ 64)) [
+      | inl lt ↦ absurd
+          (c.in_err-number.ensures lt)
+      | inr le ↦ omega (arith, product)
+    ] in
     rw c.from_residual-in_err-number.ensures (sym (found_above (2 ^ 64) c.args.bytes.now _ _ e large))
 
 pub returns-then-b-ge-STOP_BIT : goal.returns-then-b-ge-STOP_BIT
 returns-then-b-ge-STOP_BIT c =
     let inv = c.loop-i.invariant in
-    let some : (0 < c.from-high.result) ⊎ (c.loop-i.i ≡ 0) = elim c.else-high-eq0.branch [ else-high-eq0-via-then-high-eq0+else-i-gt0 w ↦ inr (omega (arith, w.if-i-gt0.false)) | else-high-eq0-via-else-high-eq0 w ↦ inl (pos_of_ne-zero w.if-high-eq0.false) ] in
+    let some : (0 < c.from-high.result) ⊎ (c.loop-i.i ≡ 0) = elim c.else-high-eq0.branch [
+      | else-high-eq0-via-then-high-eq0+else-i-gt0 w ↦ inr
+          (omega (arith, w.if-i-gt0.false))
+      | else-high-eq0-via-else-high-eq0 w ↦ inl (pos_of_ne-zero w.if-high-eq0.false)
+    ] in
     let e = found c.args.bytes.now c.loop-i.i c.loop-i.value c.loop-i.scale c.from-high.result c.loop-i-test.true inv.below inv.value inv.scale c.from-high.ensures c.if-b-ge-STOP_BIT.true some in
     let product = c.in_ok-checked_mul.ensures.1 in
     let total = c.in_ok-number.ensures in
@@ -60,7 +82,8 @@ returns-then-b-ge-STOP_BIT c =
 pub returns-then-i-eq9 : goal.returns-then-i-eq9
 returns-then-i-eq9 c =
     let ten : c.loop-i.i + 1 ≡ 10 = omega (arith, c.if-i-eq9.true) in
-    sym (front_long c.args.bytes.now (omega arith) (subst (λ (n : ℕ). AllByRecursion (λ d. d < 128) (take n c.args.bytes.now)) ten (below_128_more c.args.bytes.now c.loop-i.i c.loop-i-test.true c.loop-i.invariant.below c.if-b-ge-STOP_BIT.false)))
+    sym (front_long c.args.bytes.now (omega arith) (subst (λ (n : ℕ). AllByRecursion (λ d. d < 128) (take n c.args.bytes.now)) ten
+    (below_128_more c.args.bytes.now c.loop-i.i c.loop-i-test.true c.loop-i.invariant.below c.if-b-ge-STOP_BIT.false)))
 
 pub overflow_add-value : goal.overflow_add-value
 overflow_add-value c =
@@ -81,4 +104,5 @@ loop-i-preserved c = record {
 }
 
 pub returns : goal.returns
-returns c = sym (found_none (2 ^ 64) c.args.bytes.now (front_short c.args.bytes.now (subst (AllByRecursion (λ d. d < 128)) (take_all c.loop-i.i c.args.bytes.now (omega arith)) c.loop-i.invariant.below)))
+returns c = sym (found_none (2 ^ 64) c.args.bytes.now (front_short c.args.bytes.now (subst (AllByRecursion (λ d. d < 128))
+    (take_all c.loop-i.i c.args.bytes.now (omega arith)) c.loop-i.invariant.below)))

@@ -26,5 +26,6 @@ returns-in-len3-up c =
     let low = c.from-in-len3-up-3 in
     let middle = c.from-in-len3-up in
     let high = c.from-in-len3-up-2 in
-    three_bytes bytes low.result middle.result high.result c.in-len3-up.len_at_least c.if-last-ge-STOP_BIT.false c.if-middle-lt-STOP_BIT.true c.if-last-gt-STOP_BIT-2.true (omega (arith, fits)) low.ensures middle.ensures high.ensures
+    three_bytes bytes low.result middle.result high.result c.in-len3-up.len_at_least c.if-last-ge-STOP_BIT.false c.if-middle-lt-STOP_BIT.true c.if-last-gt-STOP_BIT-2.true
+    (omega (arith, fits)) low.ensures middle.ensures high.ensures
     ∙ ap (λ (r : List ℕ). Some (low.result + 128 * (middle.result + 128 * high.result), r)) (sym (take_rest bytes 3))

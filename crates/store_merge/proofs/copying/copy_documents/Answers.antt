@@ -12,7 +12,8 @@ loop-document-init g c =
     let first = c.args.reader.now in
     let items = c.iter_raw-document-items in
     let here = c.into_iter-document-iterator.ensures.into_iter_gives in
-    let start : IsBegun first (set_of c.args.alive) c.args.writer.now items.result.reader.now items.result.walk = begins first items.result.reader.now (set_of c.args.alive) items.result.walk c.args.writer.now items.ensures.next items.ensures.first_block in
+    let start : IsBegun first (set_of c.args.alive) c.args.writer.now items.result.reader.now items.result.walk =
+        begins first items.result.reader.now (set_of c.args.alive) items.result.walk c.args.writer.now items.ensures.next items.ensures.first_block in
     let walk_is : c.into_iter-document-iterator.result.walk ≡ items.result.walk = ap (λ x. x.walk) here in
     let reader_is : c.into_iter-document-iterator.result.reader.now ≡ items.result.reader.now = ap (λ x. x.reader.now) here in
     let begun : IsBegun first (set_of c.args.alive) c.args.writer.now c.into_iter-document-iterator.result.reader.now c.into_iter-document-iterator.result.walk =
@@ -44,7 +45,8 @@ loop-document-preserved g c =
       name = steps.2 ∙ inv.name;
       same = same_on first old.reader.now new.reader.now inv.same gives.same;
       set = ap (λ (a : Bor (List (List Bool))). set_in a.now) steps.1 ∙ inv.set;
-      copied = copied_next first old.reader.now new.reader.now set old.walk new.walk c.in-Some.document c.requires.docs inv.same gives c.args.writer.now w inv.copied c.take_document.new.writer c.in_ok-take_document.ensures.taken;
+      copied = copied_next first old.reader.now new.reader.now set old.walk new.walk c.in-Some.document c.requires.docs inv.same gives c.args.writer.now w inv.copied c.take_document.new.writer
+          c.in_ok-take_document.ensures.taken;
       below = below_next first old.reader.now new.reader.now set old.walk new.walk c.in-Some.document c.requires.docs inv.same gives;
       failed = failed_next first old.reader.now new.reader.now set old.walk new.walk c.in-Some.document c.requires.docs inv.same gives inv.same.failures inv.failed;
       count = omega (arith, inv.count, c.take_document.ensures.count);
@@ -59,7 +61,8 @@ returns-clause-copied g c =
     let new = c.next.new.self in
     let gives : GivesNext set old.reader.now old.walk None new.reader.now new.walk =
     subst (λ (x : Option (ℕ → Bool)). GivesNext x old.reader.now old.walk None new.reader.now new.walk) c.loop-document.invariant.set (c.in-None.ensures.steps.0) in
-    copied_all first old.reader.now new.reader.now set old.walk new.walk c.args.writer.now c.loop-document.writer c.requires.docs c.loop-document.invariant.same gives c.loop-document.invariant.below c.loop-document.invariant.copied
+    copied_all first old.reader.now new.reader.now set old.walk new.walk c.args.writer.now c.loop-document.writer c.requires.docs c.loop-document.invariant.same gives c.loop-document.invariant.below
+        c.loop-document.invariant.copied
 
 pub returns-in_err-take_document-clause-stopped : goal.returns-in_err-take_document-clause-stopped
 returns-in_err-take_document-clause-stopped g c =
@@ -75,7 +78,9 @@ returns-in_err-take_document-clause-stopped g c =
     subst (λ (x : Option (ℕ → Bool)). GivesNext x old.reader.now old.walk (Some c.in-Some.document) new.reader.now new.walk) inv.set steps.0 in
     let failed = failed_next first old.reader.now new.reader.now set old.walk new.walk c.in-Some.document c.requires.docs inv.same gives inv.same.failures inv.failed in
     let stopped : StopsAt set first new.reader.now c.args.writer.now after e =
-    stops first old.reader.now new.reader.now set old.walk new.walk c.in-Some.document c.requires.docs inv.same gives c.args.writer.now c.loop-document.writer inv.copied e after inv.count c.in-Some.ensures.goes.keeps failed c.in_err-take_document.ensures.err in
+    stops first old.reader.now new.reader.now set old.walk new.walk c.in-Some.document c.requires.docs inv.same gives c.args.writer.now c.loop-document.writer inv.copied e after inv.count
+        c.in-Some.ensures.goes.keeps failed c.in_err-take_document.ensures.err in
     let given = err_from_is_err_and c.from_residual.result c.from_residual.ensures.1 in
-    let told : IfErr c.from_residual.result (StopsAt set first new.reader.now c.args.writer.now after) = subst (λ r. IfErr r (StopsAt set first new.reader.now c.args.writer.now after)) (sym (given.1 ∙ ap Err given.2)) stopped in
+    let told : IfErr c.from_residual.result (StopsAt set first new.reader.now c.args.writer.now after) =
+        subst (λ r. IfErr r (StopsAt set first new.reader.now c.args.writer.now after)) (sym (given.1 ∙ ap Err given.2)) stopped in
     search rules

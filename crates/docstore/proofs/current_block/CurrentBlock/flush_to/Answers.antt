@@ -47,7 +47,8 @@ write_block-result-requires-clause-few_docs g c =
     omega arith
 
 pub invariant_of-self : goal.invariant_of-self
-invariant_of-self g c = rw (c.clear-2.ensures.items, c.clear.ensures.items) (none_pending _ _ c.self.invariant.small (omega (arith, c.self.invariant.room, c.append_table.ensures.capacity, c.clear.ensures.capacity)))
+invariant_of-self g c = rw (c.clear-2.ensures.items, c.clear.ensures.items) (none_pending _ _ c.self.invariant.small
+    (omega (arith, c.self.invariant.room, c.append_table.ensures.capacity, c.clear.ensures.capacity)))
 
 pub returns-clause-emptied : goal.returns-clause-emptied
 returns-clause-emptied g c = rw c.clear-2.ensures.items (documents_none _)

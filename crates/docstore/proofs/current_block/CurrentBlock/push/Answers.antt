@@ -32,7 +32,8 @@ invariant_of-self-2 c =
     let h = c.in_ok-self-inside.ensures.room.ok in
     let starts_is : c.push.new.self.items ≡ starts ++ length bytes ∷ [] = grind (arith, common_steps) in
     let bytes_is : c.extend_from_slice.new.self.items ≡ bytes ++ d = grind (arith, common_steps) in
-    rw (starts_is, bytes_is) (pushed starts bytes c.self.inside.limit (vec_capacity c.self.inside.bytes) d c.in_ok-self-inside.field-0 (vec_capacity c.extend_from_slice.new.self) c.self.invariant (omega (arith, h.within)) h.small (omega (arith, h.room, c.extend_from_slice.ensures.capacity)))
+    rw (starts_is, bytes_is) (pushed starts bytes c.self.inside.limit (vec_capacity c.self.inside.bytes) d c.in_ok-self-inside.field-0 (vec_capacity c.extend_from_slice.new.self) c.self.invariant
+    (omega (arith, h.within)) h.small (omega (arith, h.room, c.extend_from_slice.ensures.capacity)))
 
 pub returns-clause-ok : goal.returns-clause-ok
 returns-clause-ok c =

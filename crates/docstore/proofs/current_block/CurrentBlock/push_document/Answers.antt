@@ -10,7 +10,8 @@ invariant_of-self g c =
     let starts = c.self.inside.starts.items in
     let bytes = c.self.inside.bytes.items in
     let h = c.in-Ok.ensures.ok in
-    rw (h.3, h.2) (pushed starts bytes c.self.inside.limit (vec_capacity c.self.inside.bytes) h.0 c.in-Ok.limit (vec_capacity c.append_document.new.bytes) c.self.invariant h.4.within h.4.small h.4.room)
+    rw (h.3, h.2) (pushed starts bytes c.self.inside.limit (vec_capacity c.self.inside.bytes) h.0 c.in-Ok.limit
+    (vec_capacity c.append_document.new.bytes) c.self.invariant h.4.within h.4.small h.4.room)
 
 pub returns-in-Ok-clause-ok : goal.returns-in-Ok-clause-ok
 returns-in-Ok-clause-ok g c =
@@ -21,7 +22,8 @@ returns-in-Ok-clause-ok g c =
       h.0,
       h.1,
       subst (λ (docs : List (List ℕ)). length (block (docs ++ h.0 ∷ [])) < 2 ^ 32) c.self.view_is (omega (arith, size, h.4.within, h.4.small)),
-      (λ i. documents_at (h.3 i) (h.2 i)) ∙ documents_pushed starts bytes c.self.inside.limit (vec_capacity c.self.inside.bytes) h.0 c.self.invariant ∙ ap (λ (docs : List (List ℕ)). docs ++ h.0 ∷ []) c.self.view_is,
+      (λ i. documents_at (h.3 i) (h.2 i)) ∙ documents_pushed starts bytes c.self.inside.limit (vec_capacity c.self.inside.bytes) h.0 c.self.invariant
+          ∙ ap (λ (docs : List (List ℕ)). docs ++ h.0 ∷ []) c.self.view_is,
     )
 
 pub returns-in-Err-clause-cause : goal.returns-in-Err-clause-cause

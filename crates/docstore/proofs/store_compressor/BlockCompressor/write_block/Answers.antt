@@ -25,7 +25,9 @@ overflow_add-checkpoint g c =
     let count = c.args.num_docs_in_block in
     let bs : List StoreBlock = record { count = count; bytes = bytes } ∷ [] in
     let a : AreAdded period first cs content written bs bytes count =
-    block_added c.self.inside.compressor period first cs content written (g.W.TerminatingWrite.termination c.self.inside.writer.output) (g.W.TerminatingWrite.failures c.self.inside.writer.output) c.self.inside.failure c.args.self.now count bytes c.self.view_is c.self.invariant c.requires.works c.requires.some_bytes c.requires.few_bytes c.requires.some_docs c.requires.few_docs in
+    block_added c.self.inside.compressor period first cs content written (g.W.TerminatingWrite.termination c.self.inside.writer.output)
+    (g.W.TerminatingWrite.failures c.self.inside.writer.output) c.self.inside.failure c.args.self.now count bytes c.self.view_is c.self.invariant c.requires.works c.requires.some_bytes
+    c.requires.few_bytes c.requires.some_docs c.requires.few_docs in
     omega (arith, a.ids)
 
 pub overflow_add-checkpoint-2 : goal.overflow_add-checkpoint-2
@@ -39,7 +41,9 @@ overflow_add-checkpoint-2 g c =
     let count = c.args.num_docs_in_block in
     let bs : List StoreBlock = record { count = count; bytes = bytes } ∷ [] in
     let a : AreAdded period first cs content written bs bytes count =
-    block_added c.self.inside.compressor period first cs content written (g.W.TerminatingWrite.termination c.self.inside.writer.output) (g.W.TerminatingWrite.failures c.self.inside.writer.output) c.self.inside.failure c.args.self.now count bytes c.self.view_is c.self.invariant c.requires.works c.requires.some_bytes c.requires.few_bytes c.requires.some_docs c.requires.few_docs in
+    block_added c.self.inside.compressor period first cs content written (g.W.TerminatingWrite.termination c.self.inside.writer.output)
+    (g.W.TerminatingWrite.failures c.self.inside.writer.output) c.self.inside.failure c.args.self.now count bytes c.self.view_is c.self.invariant c.requires.works c.requires.some_bytes
+    c.requires.few_bytes c.requires.some_docs c.requires.few_docs in
     omega (arith, a.fits, c.written_bytes-start.ensures)
 
 pub insert-requires : goal.insert-requires
@@ -53,7 +57,9 @@ insert-requires g c =
     let count = c.args.num_docs_in_block in
     let bs : List StoreBlock = record { count = count; bytes = bytes } ∷ [] in
     let a : AreAdded period first cs content written bs bytes count =
-    block_added c.self.inside.compressor period first cs content written (g.W.TerminatingWrite.termination c.self.inside.writer.output) (g.W.TerminatingWrite.failures c.self.inside.writer.output) c.self.inside.failure c.args.self.now count bytes c.self.view_is c.self.invariant c.requires.works c.requires.some_bytes c.requires.few_bytes c.requires.some_docs c.requires.few_docs in
+    block_added c.self.inside.compressor period first cs content written (g.W.TerminatingWrite.termination c.self.inside.writer.output)
+    (g.W.TerminatingWrite.failures c.self.inside.writer.output) c.self.inside.failure c.args.self.now count bytes c.self.view_is c.self.invariant c.requires.works c.requires.some_bytes
+    c.requires.few_bytes c.requires.some_docs c.requires.few_docs in
     rw c.written_bytes-start.ensures a.in_line
 
 pub returns-then-is_err-2-clause-sound : goal.returns-then-is_err-2-clause-sound
@@ -72,10 +78,13 @@ overflow_add-self g c =
     let count = c.args.num_docs_in_block in
     let bs : List StoreBlock = record { count = count; bytes = bytes } ∷ [] in
     let a : AreAdded period first cs content written bs bytes count =
-    block_added c.self.inside.compressor period first cs content written (g.W.TerminatingWrite.termination c.self.inside.writer.output) (g.W.TerminatingWrite.failures c.self.inside.writer.output) c.self.inside.failure c.args.self.now count bytes c.self.view_is c.self.invariant c.requires.works c.requires.some_bytes c.requires.few_bytes c.requires.some_docs c.requires.few_docs in
+    block_added c.self.inside.compressor period first cs content written (g.W.TerminatingWrite.termination c.self.inside.writer.output)
+    (g.W.TerminatingWrite.failures c.self.inside.writer.output) c.self.inside.failure c.args.self.now count bytes c.self.view_is c.self.invariant c.requires.works c.requires.some_bytes
+    c.requires.few_bytes c.requires.some_docs c.requires.few_docs in
     omega (arith, a.ids)
 
-is_compressing : (g : Over) (c : goal.After-self-2-1 g) → IsCompressing c.insert.new.self.period (c.self.inside.first_doc_in_block + c.args.num_docs_in_block) c.insert.new.self.checkpoints (g.W.TerminatingWrite.content c.write_all.new.self.output) c.write_all.new.self.written c.self.inside.failure
+is_compressing : (g : Over) (c : goal.After-self-2-1 g) → IsCompressing c.insert.new.self.period (c.self.inside.first_doc_in_block + c.args.num_docs_in_block) c.insert.new.self.checkpoints
+    (g.W.TerminatingWrite.content c.write_all.new.self.output) c.write_all.new.self.written c.self.inside.failure
 is_compressing g c =
     let content = g.W.TerminatingWrite.content c.self.inside.writer.output in
     let written = c.self.inside.writer.written in
@@ -86,17 +95,24 @@ is_compressing g c =
     let count = c.args.num_docs_in_block in
     let bs : List StoreBlock = record { count = count; bytes = bytes } ∷ [] in
     let a : AreAdded period first cs content written bs bytes count =
-    block_added c.self.inside.compressor period first cs content written (g.W.TerminatingWrite.termination c.self.inside.writer.output) (g.W.TerminatingWrite.failures c.self.inside.writer.output) c.self.inside.failure c.args.self.now count bytes c.self.view_is c.self.invariant c.requires.works c.requires.some_bytes c.requires.few_bytes c.requires.some_docs c.requires.few_docs in
+    block_added c.self.inside.compressor period first cs content written (g.W.TerminatingWrite.termination c.self.inside.writer.output)
+    (g.W.TerminatingWrite.failures c.self.inside.writer.output) c.self.inside.failure c.args.self.now count bytes c.self.view_is c.self.invariant c.requires.works c.requires.some_bytes
+    c.requires.few_bytes c.requires.some_docs c.requires.few_docs in
     let content_is : g.W.TerminatingWrite.content c.write_all.new.self.output ≡ content ++ bytes = grind (arith, common_steps) in
     let raised_is : c.write_all.new.self.written ≡ raised written (length bytes) = grind (arith, common_steps) in
     let sum_is : raised written (length bytes) ≡ written + length bytes = omega (arith, a.fits) in
     let written_is = raised_is ∙ sum_is in
-    let index_is : c.insert.new.self ≡ record { period = period; checkpoints = cs ++ checkpoint first (first + count) c.written_bytes-start.result (c.written_bytes-start.result + length bytes) ∷ [] } = grind (arith, common_steps) in
+    let index_is : c.insert.new.self ≡ record {
+      period = period;
+      checkpoints = cs ++ checkpoint first (first + count) c.written_bytes-start.result (c.written_bytes-start.result + length bytes)
+          ∷ [];
+    } = grind (arith, common_steps) in
     let cs_is : c.insert.new.self.checkpoints ≡ cs ++ marks_from first written bs =
     ap (λ (index : Index). index.checkpoints) index_is ∙ ap (λ (n : ℕ). cs ++ checkpoint first (first + count) n (n + length bytes) ∷ []) c.written_bytes-start.ensures in
     let period_is : c.insert.new.self.period ≡ period = ap (λ (index : Index). index.period) index_is in
     let none : None ≡ c.self.inside.failure = sym (ap (λ (out : BlockOutput). out.failure) c.self.view_is ∙ c.requires.works) in
-    rw (period_is, cs_is, content_is, written_is) (subst (λ (f : Option Cause). IsCompressing period (first + count) (cs ++ marks_from first written bs) (content ++ bytes) (written + length bytes) f) none a.compressing)
+    rw (period_is, cs_is, content_is, written_is) (subst (λ (f : Option Cause). IsCompressing period (first + count) (cs ++ marks_from first written bs) (content ++ bytes) (written + length bytes) f)
+    none a.compressing)
 
 pub invariant_of-self-2 : goal.invariant_of-self-2
 invariant_of-self-2 g c = is_compressing g c
@@ -112,18 +128,25 @@ returns-clause-written g c =
     let count = c.args.num_docs_in_block in
     let bs : List StoreBlock = record { count = count; bytes = bytes } ∷ [] in
     let a : AreAdded period first cs content written bs bytes count =
-    block_added c.self.inside.compressor period first cs content written (g.W.TerminatingWrite.termination c.self.inside.writer.output) (g.W.TerminatingWrite.failures c.self.inside.writer.output) c.self.inside.failure c.args.self.now count bytes c.self.view_is c.self.invariant c.requires.works c.requires.some_bytes c.requires.few_bytes c.requires.some_docs c.requires.few_docs in
+    block_added c.self.inside.compressor period first cs content written (g.W.TerminatingWrite.termination c.self.inside.writer.output)
+    (g.W.TerminatingWrite.failures c.self.inside.writer.output) c.self.inside.failure c.args.self.now count bytes c.self.view_is c.self.invariant c.requires.works c.requires.some_bytes
+    c.requires.few_bytes c.requires.some_docs c.requires.few_docs in
     let content_is : g.W.TerminatingWrite.content c.write_all.new.self.output ≡ content ++ bytes = grind (arith, common_steps) in
     let raised_is : c.write_all.new.self.written ≡ raised written (length bytes) = grind (arith, common_steps) in
     let sum_is : raised written (length bytes) ≡ written + length bytes = omega (arith, a.fits) in
     let written_is = raised_is ∙ sum_is in
-    let index_is : c.insert.new.self ≡ record { period = period; checkpoints = cs ++ checkpoint first (first + count) c.written_bytes-start.result (c.written_bytes-start.result + length bytes) ∷ [] } = grind (arith, common_steps) in
+    let index_is : c.insert.new.self ≡ record {
+      period = period;
+      checkpoints = cs ++ checkpoint first (first + count) c.written_bytes-start.result (c.written_bytes-start.result + length bytes)
+          ∷ [];
+    } = grind (arith, common_steps) in
     let cs_is : c.insert.new.self.checkpoints ≡ cs ++ marks_from first written bs =
     ap (λ (index : Index). index.checkpoints) index_is ∙ ap (λ (n : ℕ). cs ++ checkpoint first (first + count) n (n + length bytes) ∷ []) c.written_bytes-start.ensures in
     let period_is : c.insert.new.self.period ≡ period = ap (λ (index : Index). index.period) index_is in
     let risen = g.W.TerminatingWrite.failures c.write_all.new.self.output in
     (λ i. compressing c.self.inside.compressor (period_is i) (cs_is i) (content_is i) (written_is i) (c.write_all.ensures.termination i) risen c.self.inside.failure)
-    ∙ seen_added c.self.inside.compressor period first cs content written (g.W.TerminatingWrite.termination c.self.inside.writer.output) (g.W.TerminatingWrite.failures c.self.inside.writer.output) risen c.self.inside.failure c.args.self.now bs bytes count c.self.view_is a (sym (append-nil bytes))
+    ∙ seen_added c.self.inside.compressor period first cs content written (g.W.TerminatingWrite.termination c.self.inside.writer.output)
+    (g.W.TerminatingWrite.failures c.self.inside.writer.output) risen c.self.inside.failure c.args.self.now bs bytes count c.self.view_is a (sym (append-nil bytes))
 
 pub returns-clause-sound : goal.returns-clause-sound
 returns-clause-sound g c = sound _ _ _ _ _ _ _ _ _ (is_compressing g c)

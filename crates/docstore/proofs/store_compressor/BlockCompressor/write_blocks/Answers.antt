@@ -26,7 +26,9 @@ register_all-registered-requires-clause-in_line g c =
     let bytes = c.args.bytes.now in
     let bs = blocks_at c.args.checkpoints bytes in
     let a : AreCut period first cs content written c.args.checkpoints bytes =
-    are_cut c.self.inside.compressor period first cs content written (g.W.TerminatingWrite.termination c.self.inside.writer.output) (g.W.TerminatingWrite.failures c.self.inside.writer.output) c.self.inside.failure c.args.self.now c.args.checkpoints bytes c.self.view_is c.self.invariant c.requires.works c.requires.covers c.requires.few_docs in
+    are_cut c.self.inside.compressor period first cs content written (g.W.TerminatingWrite.termination c.self.inside.writer.output)
+    (g.W.TerminatingWrite.failures c.self.inside.writer.output) c.self.inside.failure c.args.self.now c.args.checkpoints bytes c.self.view_is c.self.invariant c.requires.works c.requires.covers
+    c.requires.few_docs in
     rw (c.written_bytes-start.ensures, a.places) a.added.runs
 
 pub returns-then-is_err-2-clause-err : goal.returns-then-is_err-2-clause-err
@@ -41,7 +43,9 @@ returns-then-is_err-2-clause-err g c =
     let bytes = c.args.bytes.now in
     let bs = blocks_at c.args.checkpoints bytes in
     let a : AreCut period first cs content written c.args.checkpoints bytes =
-    are_cut c.self.inside.compressor period first cs content written (g.W.TerminatingWrite.termination c.self.inside.writer.output) (g.W.TerminatingWrite.failures c.self.inside.writer.output) c.self.inside.failure c.args.self.now c.args.checkpoints bytes c.self.view_is c.self.invariant c.requires.works c.requires.covers c.requires.few_docs in
+    are_cut c.self.inside.compressor period first cs content written (g.W.TerminatingWrite.termination c.self.inside.writer.output)
+    (g.W.TerminatingWrite.failures c.self.inside.writer.output) c.self.inside.failure c.args.self.now c.args.checkpoints bytes c.self.view_is c.self.invariant c.requires.works c.requires.covers
+    c.requires.few_docs in
     record {
       worked = c.requires.works;
       failure = refl;
@@ -74,18 +78,24 @@ invariant_of-self-else-is_err-2 g c =
     let bytes = c.args.bytes.now in
     let bs = blocks_at c.args.checkpoints bytes in
     let a : AreCut period first cs content written c.args.checkpoints bytes =
-    are_cut c.self.inside.compressor period first cs content written (g.W.TerminatingWrite.termination c.self.inside.writer.output) (g.W.TerminatingWrite.failures c.self.inside.writer.output) c.self.inside.failure c.args.self.now c.args.checkpoints bytes c.self.view_is c.self.invariant c.requires.works c.requires.covers c.requires.few_docs in
+    are_cut c.self.inside.compressor period first cs content written (g.W.TerminatingWrite.termination c.self.inside.writer.output)
+    (g.W.TerminatingWrite.failures c.self.inside.writer.output) c.self.inside.failure c.args.self.now c.args.checkpoints bytes c.self.view_is c.self.invariant c.requires.works c.requires.covers
+    c.requires.few_docs in
     let content_is : g.W.TerminatingWrite.content c.write_all.new.self.output ≡ content ++ bytes = grind (arith, common_steps) in
     let raised_is : c.write_all.new.self.written ≡ raised written (length bytes) = grind (arith, common_steps) in
     let sum_is : raised written (length bytes) ≡ written + length bytes = omega (arith, a.added.fits) in
     let written_is = raised_is ∙ sum_is in
-    let index_is : c.register_all-registered.new.index ≡ record { period = period; checkpoints = cs ++ map (shifted first c.written_bytes-start.result) c.args.checkpoints } = grind (arith, common_steps) in
+    let index_is : c.register_all-registered.new.index ≡ record { period = period; checkpoints = cs ++ map (shifted first c.written_bytes-start.result) c.args.checkpoints } =
+    grind (arith, common_steps) in
     let cs_is : c.register_all-registered.new.index.checkpoints ≡ cs ++ marks_from first written bs =
-    ap (λ (index : Index). index.checkpoints) index_is ∙ ap (λ (n : ℕ). cs ++ map (shifted first n) c.args.checkpoints) c.written_bytes-start.ensures ∙ ap (λ (xs : List Checkpoint). cs ++ xs) a.places in
+    ap (λ (index : Index). index.checkpoints) index_is ∙ ap (λ (n : ℕ). cs ++ map (shifted first n) c.args.checkpoints) c.written_bytes-start.ensures
+    ∙ ap (λ (xs : List Checkpoint). cs ++ xs) a.places in
     let period_is : c.register_all-registered.new.index.period ≡ period = c.register_all-registered.ensures.period in
-    let next : c.register_all-registered.new.next_id ≡ first + docs_in bs = c.register_all-registered.ensures.ids ∙ ap (λ (xs : List Checkpoint). sum_by doc_count xs) cs_is ∙ sym a.added.compressing.ids in
+    let next : c.register_all-registered.new.next_id ≡ first + docs_in bs = c.register_all-registered.ensures.ids ∙ ap (λ (xs : List Checkpoint). sum_by doc_count xs) cs_is
+    ∙ sym a.added.compressing.ids in
     let none : None ≡ c.self.inside.failure = sym (ap (λ (out : BlockOutput). out.failure) c.self.view_is ∙ c.requires.works) in
-    rw (period_is, next, cs_is, content_is, written_is) (subst (λ (f : Option Cause). IsCompressing period (first + docs_in bs) (cs ++ marks_from first written bs) (content ++ bytes) (written + length bytes) f) none a.added.compressing)
+    rw (period_is, next, cs_is, content_is, written_is) (subst (λ (f : Option Cause). IsCompressing period (first + docs_in bs) (cs ++ marks_from first written bs) (content ++ bytes)
+    (written + length bytes) f) none a.added.compressing)
 
 pub returns-clause-written : goal.returns-clause-written
 returns-clause-written g c =
@@ -97,18 +107,23 @@ returns-clause-written g c =
     let bytes = c.args.bytes.now in
     let bs = blocks_at c.args.checkpoints bytes in
     let a : AreCut period first cs content written c.args.checkpoints bytes =
-    are_cut c.self.inside.compressor period first cs content written (g.W.TerminatingWrite.termination c.self.inside.writer.output) (g.W.TerminatingWrite.failures c.self.inside.writer.output) c.self.inside.failure c.args.self.now c.args.checkpoints bytes c.self.view_is c.self.invariant c.requires.works c.requires.covers c.requires.few_docs in
+    are_cut c.self.inside.compressor period first cs content written (g.W.TerminatingWrite.termination c.self.inside.writer.output)
+    (g.W.TerminatingWrite.failures c.self.inside.writer.output) c.self.inside.failure c.args.self.now c.args.checkpoints bytes c.self.view_is c.self.invariant c.requires.works c.requires.covers
+    c.requires.few_docs in
     let content_is : g.W.TerminatingWrite.content c.write_all.new.self.output ≡ content ++ bytes = grind (arith, common_steps) in
     let raised_is : c.write_all.new.self.written ≡ raised written (length bytes) = grind (arith, common_steps) in
     let sum_is : raised written (length bytes) ≡ written + length bytes = omega (arith, a.added.fits) in
     let written_is = raised_is ∙ sum_is in
-    let index_is : c.register_all-registered.new.index ≡ record { period = period; checkpoints = cs ++ map (shifted first c.written_bytes-start.result) c.args.checkpoints } = grind (arith, common_steps) in
+    let index_is : c.register_all-registered.new.index ≡ record { period = period; checkpoints = cs ++ map (shifted first c.written_bytes-start.result) c.args.checkpoints } =
+    grind (arith, common_steps) in
     let cs_is : c.register_all-registered.new.index.checkpoints ≡ cs ++ marks_from first written bs =
-    ap (λ (index : Index). index.checkpoints) index_is ∙ ap (λ (n : ℕ). cs ++ map (shifted first n) c.args.checkpoints) c.written_bytes-start.ensures ∙ ap (λ (xs : List Checkpoint). cs ++ xs) a.places in
+    ap (λ (index : Index). index.checkpoints) index_is ∙ ap (λ (n : ℕ). cs ++ map (shifted first n) c.args.checkpoints) c.written_bytes-start.ensures
+    ∙ ap (λ (xs : List Checkpoint). cs ++ xs) a.places in
     let period_is : c.register_all-registered.new.index.period ≡ period = c.register_all-registered.ensures.period in
     let risen = g.W.TerminatingWrite.failures c.write_all.new.self.output in
     (λ i. compressing c.self.inside.compressor (period_is i) (cs_is i) (content_is i) (written_is i) (c.write_all.ensures.termination i) risen c.self.inside.failure)
-    ∙ seen_added c.self.inside.compressor period first cs content written (g.W.TerminatingWrite.termination c.self.inside.writer.output) (g.W.TerminatingWrite.failures c.self.inside.writer.output) risen c.self.inside.failure c.args.self.now bs bytes (docs_in bs) c.self.view_is a.added a.joined
+    ∙ seen_added c.self.inside.compressor period first cs content written (g.W.TerminatingWrite.termination c.self.inside.writer.output)
+    (g.W.TerminatingWrite.failures c.self.inside.writer.output) risen c.self.inside.failure c.args.self.now bs bytes (docs_in bs) c.self.view_is a.added a.joined
 
 pub returns-clause-sound : goal.returns-clause-sound
 returns-clause-sound g c = sound _ _ _ _ _ _ _ _ _ (invariant_of-self-else-is_err-2 g c)

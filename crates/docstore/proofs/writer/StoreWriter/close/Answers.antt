@@ -21,7 +21,9 @@ returns-clause-err g c =
     let mid_is : mid ≡ with_risen mid.failures (with_blocks c.self.inside.block_compressor bs) = grind (arith, common_steps) in
     let le : old.failures ≤ mid.failures = omega (arith, ap (λ (out : BlockOutput). out.failures) old_is, c.flush_to.ensures.count) in
     let some : 0 < length (data_of bs) = omega (arith, length-append (block docs) [], length-block docs) in
-    let h : AfterClose c.in-Err.refusal.error mid (g.W.TerminatingWrite.content c.in-Err.refusal.output) (g.W.TerminatingWrite.termination c.in-Err.refusal.output) (g.W.TerminatingWrite.failures c.in-Err.refusal.output) = c.in-Err.ensures.err in
+    let h : AfterClose c.in-Err.refusal.error mid (g.W.TerminatingWrite.content c.in-Err.refusal.output) (g.W.TerminatingWrite.termination c.in-Err.refusal.output)
+    (g.W.TerminatingWrite.failures c.in-Err.refusal.output) = c.in-Err.ensures.err in
     rw (c.behind_bytes.ensures.error, c.behind_bytes.ensures.output)
-    (closed_behind c.in-Err.refusal.error old mid bs (g.W.TerminatingWrite.content c.in-Err.refusal.output) (g.W.TerminatingWrite.termination c.in-Err.refusal.output) (g.W.TerminatingWrite.failures c.in-Err.refusal.output)
+    (closed_behind c.in-Err.refusal.error old mid bs (g.W.TerminatingWrite.content c.in-Err.refusal.output) (g.W.TerminatingWrite.termination c.in-Err.refusal.output)
+    (g.W.TerminatingWrite.failures c.in-Err.refusal.output)
     (mid_is ∙ ap (λ (out : BlockOutput). with_risen mid.failures (with_blocks out bs)) old_is) le none some h)

@@ -15,7 +15,8 @@ alive : (c : goal.After-self-2-1) → get_or (flags_from c.self.inside.max_doc 0
 alive c = ap (λ (flags : List Bool). is_alive_at flags c.args.id) c.self.view_is ∙ not_dead _ (sym c.is_deleted.ensures ∙ c.if-is_deleted.false)
 
 step : (c : goal.After-self-2-1)
-    → Deletes c.self.inside.max_doc c.self.inside.num_alive c.args.id c.self.inside.words.items (set c.self.inside.words.items (c.args.id / 64) (bit_and c.index_mut.result.now (bit_not w64 (1 * 2 ^ (c.args.id % 64) % 2 ^ 64))))
+    → Deletes c.self.inside.max_doc c.self.inside.num_alive c.args.id c.self.inside.words.items
+    (set c.self.inside.words.items (c.args.id / 64) (bit_and c.index_mut.result.now (bit_not w64 (1 * 2 ^ (c.args.id % 64) % 2 ^ 64))))
 step c = deletes c.self.inside.max_doc c.self.inside.num_alive c.args.id c.self.inside.words.items c.index_mut.result.now c.self.invariant.0 c.self.invariant.2 (alive c) c.index_mut.ensures.value
 
 pub invariant_of-self : goal.invariant_of-self

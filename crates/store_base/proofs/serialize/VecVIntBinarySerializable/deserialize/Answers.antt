@@ -31,9 +31,11 @@ loop-preserved c =
     let count = c.in_ok-count.count in
     let pushed : values c.push.new.self ≡ ns ++ n ∷ [] = rw c.in_ok-push.ensures.items (map_push _ c.loop.values.items _) in
     let read = c.in_ok-value.ensures.text in
-    let step : flat_map number (ns ++ n ∷ []) ++ c.in_ok-value.after.now ≡ flat_map number ns ++ c.loop.rest.now = numbers-push ns n c.in_ok-value.after.now ∙ ap (λ (t : List ℕ). flat_map number ns ++ t) (sym read.1) in
+    let step : flat_map number (ns ++ n ∷ []) ++ c.in_ok-value.after.now ≡ flat_map number ns ++ c.loop.rest.now = numbers-push ns n c.in_ok-value.after.now
+    ∙ ap (λ (t : List ℕ). flat_map number ns ++ t) (sym read.1) in
     rw pushed (record {
-      parts = i.parts ∙ append_assoc (number count) (flat_map number ns) c.loop.rest.now ∙ ap (λ (t : List ℕ). number count ++ t) (sym step) ∙ sym (append_assoc (number count) (flat_map number (ns ++ n ∷ [])) c.in_ok-value.after.now);
+      parts = i.parts ∙ append_assoc (number count) (flat_map number ns) c.loop.rest.now ∙ ap (λ (t : List ℕ). number count ++ t) (sym step)
+          ∙ sym (append_assoc (number count) (flat_map number (ns ++ n ∷ [])) c.in_ok-value.after.now);
       below = below-push (2 ^ 64) ns n i.below read.0;
       counted = omega (arith, i.counted, length_push ns n);
       enough = rw step i.enough;

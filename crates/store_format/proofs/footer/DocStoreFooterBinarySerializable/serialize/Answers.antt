@@ -12,4 +12,5 @@ returns-clause-ok g c =
     let first : g.W.TerminatingWrite.content c.serialize-2.new.output ≡ (old ++ fixed 4 3) ++ fixed 8 c.args.self.now.offset =
     c.in_ok-serialize-2.ensures.ok ∙ ap (λ (x : List ℕ). x ++ fixed 8 c.args.self.now.offset) c.in_ok-serialize.ensures.ok in
     IfOk-equal c.write_all.result _ _ _ c.write_all.ensures.ok
-    (ap (λ (x : List ℕ). g.W.TerminatingWrite.content c.serialize-2.new.output ++ x) kind ∙ ap (λ (x : List ℕ). x ++ last) (first ∙ append_assoc old (fixed 4 3) (fixed 8 c.args.self.now.offset)) ∙ append_assoc old (fixed 4 3 ++ fixed 8 c.args.self.now.offset) last)
+    (ap (λ (x : List ℕ). g.W.TerminatingWrite.content c.serialize-2.new.output ++ x) kind ∙ ap (λ (x : List ℕ). x ++ last) (first ∙ append_assoc old (fixed 4 3) (fixed 8 c.args.self.now.offset))
+    ∙ append_assoc old (fixed 4 3 ++ fixed 8 c.args.self.now.offset) last)
