@@ -1,4 +1,4 @@
-//! Writes a store into memory, reads it, and stacks it behind another document.
+//! Writes a store into memory, stacks it behind another document, and reads what came.
 #![tactic(auto)]
 
 use docstore::{
@@ -21,33 +21,29 @@ fn opened(alloc: Global, bytes: Vec<u8>) -> Result<Reader, StoreError> {
     StoreReader::open(alloc, file, 100).map_err(|refusal| refusal.error)
 }
 
-fn stacked(alloc: Global, front: &str, store: &mut Reader) -> Result<Vec<u8>, StoreError> {
+fn stacked(alloc: Global, front: &str, mut store: Reader) -> Result<Vec<u8>, StoreError> {
     let mut writer = StoreWriter::new(alloc, MemSink::new(alloc), Compressor::None, 16384);
     writer.store_bytes(front.as_bytes())?;
-    writer.stack(store)?;
+    writer.stack(&mut store)?;
     Ok(writer.close()?.into_bytes())
+}
+
+fn print_live<R: Print>(rt: &R, alloc: Global, store: &mut Reader) -> anyhow::Result<()> {
+    let alive = AliveBitSet::from_deleted_docs(alloc, &[0], store.num_docs())?;
+    for document in store.iter_raw(alloc, Some(&alive)) {
+        println!(rt; "alive: {}", str::from_utf8(document?.as_slice())?)?;
+    }
+    Ok(())
 }
 
 fn main(rt: HostRuntime) -> anyhow::Result<()> {
     let alloc = rt.alloc();
-    let bytes = written(alloc, &["apple", "banana", "cherry"])?;
-    println!(rt; "a file of {} bytes", bytes.len())?;
+    let fruits = written(alloc, &["apple", "banana", "cherry"])?;
+    println!(rt; "a file of {} bytes", fruits.len())?;
 
-    let mut fruits = opened(alloc, bytes)?;
-    let second = fruits.get_document_bytes(alloc, 1)?;
-    println!(rt; "document 1: {}", str::from_utf8(second.as_slice())?)?;
-
-    let alive = AliveBitSet::from_deleted_docs(alloc, &[0], fruits.num_docs())?;
-    for document in fruits.iter_raw(alloc, Some(&alive)) {
-        println!(rt; "alive: {}", str::from_utf8(document?.as_slice())?)?;
-    }
-
-    let mut all = opened(alloc, stacked(alloc, "almond", &mut fruits)?)?;
-    let last = all.get_document_bytes(alloc, 3)?;
-    println!(rt;
-        "{} documents, the last: {}",
-        all.num_docs(),
-        str::from_utf8(last.as_slice())?
-    )?;
-    Ok(())
+    let all = stacked(alloc, "almond", opened(alloc, fruits)?)?;
+    let mut store = opened(alloc, all)?;
+    let banana = store.get_document_bytes(alloc, 2)?;
+    println!(rt; "document 2: {}", str::from_utf8(banana.as_slice())?)?;
+    print_live(&rt, alloc, &mut store)
 }
