@@ -160,12 +160,18 @@ sizes_are file cs period version v =
     let same = ap (λ (xs : List Checkpoint). length (index_part period xs)) (marks_are file cs period version v) in
     omega (arith, ap length v.store.parts, length-append (text ++ index) foot, length-append text index, size, same)
 
+-- the data stands before the index
+pub data_stands : (file : List ℕ) (cs : List Checkpoint) (period : ℕ) (version : DocStoreVersion) (end : ℕ) → IsView file cs period version
+    → end ≡ length file - 28 - length (index_part period cs) → slice_range file 0 end ≡ data_of (blocks_at cs (data_in file cs))
+data_stands file cs period version end v is =
+    let seen = store_seen (data_in file cs) cs v.covers in
+    let size : end ≡ bytes_end 0 cs = omega (arith, sizes_are file cs period version v, is, ap length seen.data_is, v.covers.end) in
+    ap (slice_range file 0) size ∙ sym seen.data_is
+
 -- how many bytes its data and its index have
 pub usage_is : (file : List ℕ) (cs : List Checkpoint) (period : ℕ) (version : DocStoreVersion) (text index : ℕ) → IsView file cs period version
-    → index ≡ length (index_part period cs) → text ≡ length file - 28 - index
+    → index ≡ length (index_part period cs) → text ≡ length (data_of (blocks_at cs (data_in file cs)))
     → ◌≡◌ {A = ℕ × ℕ} (text, index) (length (data_of (blocks_at cs (data_in file cs))), length (index_part period (marks (blocks_at cs (data_in file cs)))))
 usage_is file cs period version text index v index_is text_is =
-    let sizes = sizes_are file cs period version v in
-    let first : text ≡ length (data_of (blocks_at cs (data_in file cs))) = omega arith in
     let second = index_is ∙ ap (λ (xs : List Checkpoint). length (index_part period xs)) (sym (marks_are file cs period version v)) in
-    λ i. (first i, second i)
+    λ i. (text_is i, second i)

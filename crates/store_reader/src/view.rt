@@ -6,7 +6,7 @@ ghost use Rattle.store_format.specs.Block.{damaged};
 ghost use Rattle.store_reader.specs.Documents.{document_version, ReadsFrom, ReadsTruly};
 ghost use Rattle.store_format.specs.Footer.{version_number};
 ghost use Rattle.store_reader.specs.Opening.{IsSomeStore};
-ghost use Rattle.store_format.specs.StoreFile.{IsStore, data_of, marks};
+ghost use Rattle.store_format.specs.StoreFile.{AreBlocks, IsStore, data_of, marks};
 ghost use Rattle.store_reader.specs.Viewing.{Finds, IsViewOf, IsAt, IsBlockOf, StandsAt};
 ghost use Rattle.store_reader.specs.Viewing.{slot_of, count_in, document_of, given, placed_in};
 
@@ -194,6 +194,15 @@ impl<'a> StoreView<'a> {
         self.index.period()
     }
 
+    /// The data of all blocks: what stands in the file before the index.
+    pub fn block_data(&self) -> &'a [u8]
+        ensures data { result.now ≡ data_of self.now.store }
+        ensures blocks { AreBlocks self.now.store }
+    {
+        let index = self.index.len() as usize;
+        part(self.file, 0, self.file.len() - FOOTER_LEN as usize - index)
+    }
+
     /// How many bytes the data and the index take.
     pub fn space_usage(&self) -> StoreSpaceUsage
         ensures { result ≡ (
@@ -201,8 +210,7 @@ impl<'a> StoreView<'a> {
           length (index_part self.now.period (marks self.now.store)),
         ) }
     {
-        let index = self.index.len();
-        StoreSpaceUsage::new(self.file.len() as u64 - FOOTER_LEN - index, index)
+        StoreSpaceUsage::new(self.block_data().len() as u64, self.index.len())
     }
 
     /// Where the blocks lie, in order.
