@@ -2,19 +2,17 @@
 use Rattle.std.proofs.Common.{◌≡◌, ℕ, suc, ◌+◌, ◌-◌, ◌*◌, ◌^◌, ◌<◌, ◌≤◌, List, [], ◌∷◌, ◌++◌, length, take, drop, refl, sym, ◌∙◌, ap, arith, append_assoc, length-append, Option, Some, None, Result}
 use Rattle.std.proofs.Common.{Ok, Err, OnOk, IfSome, false, inl, inr}
 use Rattle.std.proofs.lemmas.List.{append-nil}
-use Rattle.std.proofs.lemmas.List.Concat.{concat_is, length-flat_map}
 use Rattle.std.proofs.Math.Seq.{drop-append_seam, take-append_seam}
-use Rattle.std.specs.List.{flat_map, concat, sum_by}
+use Rattle.std.specs.List.{flat_map, concat}
 use Rattle.std.specs.Prelude.{slice_range}
 use Rattle.std.specs.Result.{is_err}
 use Rattle.store_base.specs.Serialize.{fixed}
-use Rattle.store_base.specs.SerializeLemmas.{length-fixed}
 use Rattle.store_format.specs.Block.{starts_from, block}
 use Rattle.docstore.specs.Trace.{weight}
 use Rattle.store_base.specs.declared.error.StoreError.{StoreError}
 use Rattle.store_base.specs.declared.error.StoreError.TheVariants.{Memory, BlockTooLarge}
 use Rattle.docstore.specs.Pending.{first_or, documents_at, IsPending, IsDocumentRefusal}
-use Rattle.store_format.proofs.BlockLemmas.{length-fixeds, length-starts_from, starts_from-append, concat-append, length-block, length-concat}
+use Rattle.store_format.proofs.BlockLemmas.{starts_from-append, concat-append, length-block, length-concat}
 
 -- ---- cutting
 

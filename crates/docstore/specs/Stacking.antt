@@ -1,8 +1,9 @@
 -- Putting a store behind what a writer has.
-use Rattle.std.specs.Prelude.{◌≡◌, ◌≢◌, ℕ, ◌+◌, ◌≤◌, ◌^◌, IsTrue, List, [], None}
+use Rattle.std.specs.Prelude.{◌≡◌, ◌≢◌, ℕ, ◌+◌, ◌<◌, ◌≤◌, ◌^◌, IsTrue, List, [], Some, None}
 use Rattle.store_base.specs.Counts.{HasRisen}
 use Rattle.store_base.specs.declared.error.StoreError.{StoreError}
 use Rattle.store_base.specs.declared.error.StoreError.TheVariants.{Read, Memory, OldVersion, TooManyDocs, Failed}
+use Rattle.store_format.specs.declared.version.DocStoreVersion.{DocStoreVersion}
 use Rattle.store_format.specs.declared.version.DocStoreVersion.TheVariants.{V1}
 use Rattle.layered_index.specs.declared.index.Checkpoint.{Checkpoint}
 use Rattle.layered_index.specs.Checkpoint.{checkpoint}
@@ -41,6 +42,32 @@ pub record HasTooMany (w : Writing) (reader : Reading) : Type 0 where
   pub works : w.output.failure ≡ None
   pub version : reader.version ≢ V1
   pub many : 2 ^ 32 ≤ num_docs w + docs_of reader
+
+-- The writer works, a store in this form can be stacked, and the documents of both can be numbered.
+pub record HasRoomFor (w : Writing) (version : DocStoreVersion) (docs : ℕ) : Type 0 where
+  pub works : w.output.failure ≡ None
+  pub form : version ≢ V1
+  pub few : num_docs w + docs < 2 ^ 32
+
+-- The same, but they can't be numbered.
+pub record HasNoIdsFor (w : Writing) (version : DocStoreVersion) (docs : ℕ) : Type 0 where
+  pub works : w.output.failure ≡ None
+  pub form : version ≢ V1
+  pub many : 2 ^ 32 ≤ num_docs w + docs
+
+-- the first reason why such a store can't be stacked
+abbrev pub HasNoRoomFor : Writing → DocStoreVersion → ℕ → StoreError → Type 0
+HasNoRoomFor w version docs (Failed cause) = w.output.failure ≡ Some cause
+HasNoRoomFor w version docs OldVersion = (w.output.failure ≡ None) × (version ≡ V1)
+HasNoRoomFor w version docs TooManyDocs = HasNoIdsFor w version docs
+HasNoRoomFor w version docs _ = ⊥
+
+-- what a refused stacking of a view leaves
+abbrev pub AfterStackedView : Writing → Writing → StoreError → Type 0
+AfterStackedView old new OldVersion = new ≡ old
+AfterStackedView old new TooManyDocs = new ≡ old
+AfterStackedView old new (Failed cause) = AfterFailed old.output.failure cause old new
+AfterStackedView old new _ = ⊥
 
 -- the pending documents were written as a block, if there were any
 abbrev pub IsFlushed : Writing → Writing → Type 0

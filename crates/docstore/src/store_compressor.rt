@@ -12,6 +12,7 @@ ghost use Rattle.docstore.specs.BlockOutput.{new_output, with_blocks, with_risen
 ghost use Rattle.docstore.specs.BlockOutput.{AfterClose, IsEndRefusal};
 ghost use Rattle.store_reader.specs.Reading.{num_docs as docs_of, IsReadOnce};
 ghost use Rattle.docstore.specs.Stacking.{AreRead, shifted, AfterStacking};
+ghost use Rattle.store_reader.specs.Viewing.{count_in};
 
 use crate::close_error::CloseError;
 use layered_index::{CHECKPOINT_PERIOD, Checkpoint, LayerCursor, SkipIndexBuilder};
@@ -21,7 +22,7 @@ use store_base::{
     BinarySerializable, Cause, CountingWriter, FileHandle, StoreError, TerminatingWrite,
 };
 use store_format::{Compressor, DOC_STORE_VERSION, Decompressor, DocStoreFooter, DocStoreVersion};
-use store_reader::StoreReader;
+use store_reader::{StoreReader, StoreView};
 
 /// Writes the blocks of a store to an output.
 #[derive(Drop)]
@@ -194,6 +195,20 @@ impl<W: TerminatingWrite> BlockCompressor<W> {
         let data = reader.block_data(self.alloc)?;
         self.write_blocks(data.as_slice(), reader.block_checkpoints())?;
         Ok(())
+    }
+
+    /// Puts the blocks of a store whose bytes are at hand behind the others.
+    pub(crate) fn stack_view(&mut self, view: &StoreView<'_>) -> Result<(), Cause>
+        requires works { self.old.failure ≡ None }
+        requires few_docs { docs_in self.old.finished + count_in view.now < 2 ^ 32 }
+        ensures stacked { OnOk result (self.new
+            ≡ with_risen self.new.failures (with_blocks self.old view.now.store)) }
+        ensures err { IfErr result (λ cause. FailsFor cause self.old self.new) }
+        ensures termination { self.new.termination ≡ self.old.termination }
+        ensures count { self.old.failures ≤ self.new.failures }
+        ensures sound { IsSound self.new }
+    {
+        self.write_blocks(view.block_data(), view.block_checkpoints())
     }
 
     // Puts the blocks that these checkpoints cut from the bytes behind the others.

@@ -12,6 +12,8 @@ ghost use Rattle.docstore.specs.Writer.{with_failures, HasIdLeft, HasNoIdLeft, I
 ghost use Rattle.docstore.specs.Writer.{Takes, AfterRefusal, AfterDocument};
 ghost use Rattle.store_reader.specs.Reading.{IsReadOnce, IsReadAtMostOnce};
 ghost use Rattle.docstore.specs.Stacking.{AreRead, with_store, IsOld, HasTooMany, AfterStack};
+ghost use Rattle.docstore.specs.Stacking.{HasRoomFor, HasNoIdsFor, HasNoRoomFor, AfterStackedView};
+ghost use Rattle.store_reader.specs.Viewing.{count_in};
 
 use crate::close_error::CloseError;
 use crate::current_block::CurrentBlock;
@@ -21,7 +23,7 @@ use std::alloc::Global;
 use std::marker::Model;
 use store_base::{Cause, Document, FileHandle, Schema, StoreError, TerminatingWrite};
 use store_format::{Compressor, DocStoreVersion};
-use store_reader::StoreReader;
+use store_reader::{StoreReader, StoreView};
 
 /// Writes a store. Blocks go out while documents are added; the index stays in memory until `close`.
 #[derive(Drop)]
@@ -124,6 +126,23 @@ impl<W: TerminatingWrite> StoreWriter<W> {
             return Err(StoreError::Failed(cause));
         }
         if self.num_docs() == u32::MAX {
+            return Err(StoreError::TooManyDocs);
+        }
+        Ok(())
+    }
+
+    // Refuses where a store in this form, with so many documents, can't be stacked.
+    fn check_room_for(&self, version: DocStoreVersion, num_docs: u32) -> Result<(), StoreError>
+        ensures { MatchResult result (λ _. HasRoomFor self.now version num_docs)
+            (HasNoRoomFor self.now version num_docs) }
+    {
+        if let Some(cause) = self.block_compressor.failure() {
+            return Err(StoreError::from(cause));
+        }
+        if version == DocStoreVersion::V1 {
+            return Err(StoreError::OldVersion);
+        }
+        if num_docs > u32::MAX - self.num_docs() {
             return Err(StoreError::TooManyDocs);
         }
         Ok(())
@@ -238,17 +257,38 @@ impl<W: TerminatingWrite> StoreWriter<W> {
         ensures count { self.old.output.failures ≤ self.new.output.failures }
         ensures sound { IsStoreWriter self.new }
     {
-        if let Some(cause) = self.block_compressor.failure() {
-            return Err(StoreError::from(cause));
-        }
-        if reader.version() == DocStoreVersion::V1 {
-            return Err(StoreError::OldVersion);
-        }
-        if reader.num_docs() > u32::MAX - self.num_docs() {
-            return Err(StoreError::TooManyDocs);
-        }
+        self.check_room_for(reader.version(), reader.num_docs())?;
         flush(&mut self.current_block, &mut self.block_compressor)?;
         self.block_compressor.stack_reader(reader)?;
+        Ok(())
+    }
+
+    /// Puts the documents of a store whose bytes are at hand behind those that were taken, as `stack` does.
+    ///
+    /// Nothing is read and nothing copied but into the output. After `Failed` the writer answers only
+    /// `Failed`. Any other error leaves it as it was.
+    pub fn stack_view(&mut self, view: &StoreView<'_>) -> Result<(), StoreError>
+        ensures stacked { OnOk result (self.new
+            ≡ with_failures self.new.output.failures (with_store self.old view.now.store)) }
+        ensures works { OnOk result (self.old.output.failure ≡ None) }
+
+        // Each cause, where none above it holds.
+        ensures failed { IfSome self.old.output.failure (λ cause. IsErrOf result (StoreError.Failed cause)) }
+        ensures old_version { IsErrOf result StoreError.OldVersion
+            ↔ ((self.old.output.failure ≡ None) × (view.now.version ≡ DocStoreVersion.V1)) }
+        ensures too_many { IsErrOf result StoreError.TooManyDocs
+            ↔ HasNoIdsFor self.old view.now.version (count_in view.now) }
+
+        // After an error: as it was, or failed for good.
+        ensures err { IfErr result (AfterStackedView self.old self.new) }
+
+        ensures termination { self.new.output.termination ≡ self.old.output.termination }
+        ensures count { self.old.output.failures ≤ self.new.output.failures }
+        ensures sound { IsStoreWriter self.new }
+    {
+        self.check_room_for(view.version(), view.num_docs())?;
+        flush(&mut self.current_block, &mut self.block_compressor)?;
+        self.block_compressor.stack_view(view)?;
         Ok(())
     }
 

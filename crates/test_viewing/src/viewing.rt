@@ -1,9 +1,11 @@
 //! Stores over bytes at hand, beside readers of files that hold the same bytes.
 
-use docstore::{Checkpoint, DocStoreVersion, StoreError, StoreReader, StoreView};
+use docstore::{
+    Checkpoint, Compressor, DocStoreVersion, StoreError, StoreReader, StoreView, StoreWriter,
+};
 use std::alloc::Global;
 use std::test::Fail;
-use store_base::{AliveBitSet, MemFile, RecordDocument};
+use store_base::{AliveBitSet, MemFile, MemSink, RecordDocument};
 use test_devices::making::{opened_bytes, written};
 
 // A record of the field 5 with the byte `x`: as version 1 spells it, and as version 2 does.
@@ -58,6 +60,33 @@ fn a_view_tells_of_its_store(rt: HostRuntime) -> Result<(), Fail> {
         assert_eq!(rt; blocks.next(), Some(expected));
     }
     assert!(rt; blocks.next().is_none());
+    Ok(())
+}
+
+// The file of a document, with the store of these bytes stacked behind it.
+fn stacked_behind(alloc: Global, front: &[u8], file: &[u8]) -> Result<Vec<u8>, StoreError> {
+    let view = StoreView::open(alloc, file)?;
+    let mut writer = StoreWriter::new(alloc, MemSink::new(alloc), Compressor::None, 16384);
+    writer.store_bytes(front)?;
+    writer.stack_view(&view)?;
+    match writer.close() {
+        Ok(output) => Ok(output.into_bytes()),
+        Err(refusal) => Err(refusal.error),
+    }
+}
+
+#[test]
+fn a_view_is_stacked(rt: HostRuntime) -> Result<(), Fail> {
+    let alloc = rt.alloc();
+    let file = written(alloc, 0, &[b"a", b"bc"])?;
+    let all = stacked_behind(alloc, b"x", file.as_slice())?;
+    let same = written(alloc, 0, &[b"x", b"a", b"bc"])?;
+    assert_eq!(rt; all.as_slice(), same.as_slice());
+    let old = by_version(alloc, file.as_slice(), 1)?;
+    assert_eq!(rt;
+        stacked_behind(alloc, b"x", old.as_slice()).err(),
+        Some(StoreError::OldVersion)
+    );
     Ok(())
 }
 

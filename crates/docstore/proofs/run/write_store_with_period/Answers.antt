@@ -7,7 +7,7 @@ use Rattle.store_base.specs.declared.error.StoreError.{StoreError}
 use Rattle.docstore.specs.declared.run.StoreCommand.{StoreCommand}
 use Rattle.docstore.specs.Causes.{first_stage, HaveCauses}
 use Rattle.docstore.specs.Run.{told, stage_of, AreKept, IsTrace, AfterRun}
-use Rattle.store_format.specs.StoreFile.{docs_in, file, IsStore}
+use Rattle.store_format.specs.StoreFile.{file, IsStore}
 use Rattle.docstore.specs.Trace.{Blocks}
 use Rattle.docstore.specs.Writer.{Writing, flushed}
 use Rattle.docstore.proofs.CommandLemmas.{IsRun, none_failed, run_by_more, all_kept, kept_more, failed_more, after_run, front_more, rest_more}
