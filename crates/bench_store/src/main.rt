@@ -1,7 +1,7 @@
 //! Times workloads over this store. Without arguments it does small ones, and prints a check of each.
 //!
-//! The arguments are `all`, or the name of a workload, and then words like `n=1000`. Each is done `reps` times, and the
-//! fastest is printed: the name, how many, the nanoseconds, those of each, and 10^6 bytes a second.
+//! The arguments are `all`, `growth`, or the name of a workload, and then words like `n=1000`. Each is done `reps`
+//! times, and the fastest is printed: the name, how many, the nanoseconds, those of each, and 10^6 bytes a second.
 #![tactic(auto)]
 
 mod arguments;
@@ -16,12 +16,13 @@ mod plans;
 mod shared_file;
 mod store_work;
 mod stores;
+mod view_work;
 mod workloads;
 
 use anyhow::Result;
 use arguments::Numbers;
 use measure::Telling;
-use plans::{LARGE, SMALL};
+use plans::{GROWTH, LARGE, SMALL};
 use std::env;
 use workloads::Bench;
 
@@ -52,10 +53,10 @@ fn main(rt: HostRuntime) -> Result<()> {
     for word in words {
         numbers.take(word.as_str())?;
     }
-    let plan = if name.as_str() == "all" {
-        LARGE
-    } else {
-        name.as_str()
+    let plan = match name.as_str() {
+        "all" => LARGE,
+        "growth" => GROWTH,
+        workload => workload,
     };
     run_plan(&rt, plan, Telling::Times, numbers)
 }

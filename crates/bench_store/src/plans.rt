@@ -14,6 +14,12 @@ get_zipf n=5000 q=2000
 get_seq n=5000
 iter_raw n=5000
 iter_raw_deleted n=5000
+view_open n=20000 q=3
+view_uniform n=5000 q=2000
+view_hot n=5000 q=2000 hot=500
+view_zipf n=5000 q=2000
+view_seq n=5000
+view_iter n=5000
 stack k=10 n=500
 stack k=100 n=3
 seek n=10 q=1000
@@ -39,6 +45,13 @@ get_zipf
 get_seq
 iter_raw
 iter_raw_deleted
+view_open n=1000
+view_open n=1000000
+view_uniform
+view_hot
+view_zipf
+view_seq
+view_iter
 stack
 stack k=1000 n=10
 seek n=1000
@@ -49,3 +62,30 @@ index_open n=1000
 index_open n=100000
 index_open n=1000000
 index_walk";
+
+/// Stores of 10^2 to 10^7 blocks, of one document each.
+pub const GROWTH: &str = "\
+open n=100 l=8 bs=0 q=2000
+open n=1000 l=8 bs=0 q=2000
+open n=10000 l=8 bs=0 q=200
+open n=100000 l=8 bs=0 q=20
+open n=1000000 l=8 bs=0 q=2
+open n=10000000 l=8 bs=0 q=1
+get_uniform n=100 l=8 bs=0
+get_uniform n=1000 l=8 bs=0
+get_uniform n=10000 l=8 bs=0
+get_uniform n=100000 l=8 bs=0
+get_uniform n=1000000 l=8 bs=0
+get_uniform n=10000000 l=8 bs=0
+view_open n=100 l=8 bs=0 q=2000
+view_open n=1000 l=8 bs=0 q=2000
+view_open n=10000 l=8 bs=0 q=200
+view_open n=100000 l=8 bs=0 q=20
+view_open n=1000000 l=8 bs=0 q=2
+view_open n=10000000 l=8 bs=0 q=1
+view_uniform n=100 l=8 bs=0
+view_uniform n=1000 l=8 bs=0
+view_uniform n=10000 l=8 bs=0
+view_uniform n=100000 l=8 bs=0
+view_uniform n=1000000 l=8 bs=0
+view_uniform n=10000000 l=8 bs=0";

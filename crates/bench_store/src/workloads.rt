@@ -9,6 +9,7 @@ use crate::marks::{Marks, targets};
 use crate::measure::{Measure, Telling, Workload, perform};
 use crate::store_work::{Get, Iterate, Open, Source, Stack, Write};
 use crate::stores::written;
+use crate::view_work::{GetView, IterateView, OpenView};
 use anyhow::{Result, bail};
 use docstore::SkipIndex;
 use std::alloc::Global;
@@ -28,6 +29,14 @@ fn documents_of(alloc: Global, length: u64) -> Result<Documents> {
     match Documents::of_length(alloc, length as usize)? {
         Some(documents) => Ok(documents),
         None => bail!("l is not below the pool's length: {length}"),
+    }
+}
+
+// How many ids are asked for in this order, where no number is given.
+fn usual_questions(order: Order, documents: u64) -> u64 {
+    match order {
+        Order::Sequential => documents,
+        _ => 200_000,
     }
 }
 
@@ -51,6 +60,12 @@ impl<'a, R: Print + Eprint + Clock> Bench<'a, R> {
             "get_hot" => self.get(name, Order::Hot(numbers.hot()), numbers),
             "get_zipf" => self.get(name, Order::Zipf, numbers),
             "get_seq" => self.get(name, Order::Sequential, numbers),
+            "view_open" => self.open_view(numbers),
+            "view_uniform" => self.get_view(name, Order::Uniform, numbers),
+            "view_hot" => self.get_view(name, Order::Hot(numbers.hot()), numbers),
+            "view_zipf" => self.get_view(name, Order::Zipf, numbers),
+            "view_seq" => self.get_view(name, Order::Sequential, numbers),
+            "view_iter" => self.iterate_view(numbers),
             "iter_raw" => self.iterate(name, false, numbers),
             "iter_raw_deleted" => self.iterate(name, true, numbers),
             "stack" => self.stack(numbers),
@@ -119,11 +134,7 @@ impl<'a, R: Print + Eprint + Clock> Bench<'a, R> {
 
     fn get(&self, kind: &str, order: Order, numbers: &Numbers) -> Result<()> {
         let count = numbers.documents(1_000_000);
-        let usual = match order {
-            Order::Sequential => count,
-            _ => 200_000,
-        };
-        let questions = numbers.questions(usual);
+        let questions = numbers.questions(usual_questions(order, count));
         let shape = self.shape_of_reader(count, numbers)?;
         let name = format!(in self.alloc; "{kind}/{shape}/q={questions}")?;
         let Some(num_docs) = some_documents(count) else {
@@ -133,6 +144,45 @@ impl<'a, R: Print + Eprint + Clock> Bench<'a, R> {
             source: self.source(count, numbers.capacity(), numbers)?,
             ids: ids(self.alloc, order, questions, num_docs)?,
         };
+        self.measure(name.as_str(), numbers, &mut work)
+    }
+
+    // The file of a store of so many documents, and what names say of it.
+    fn file(&self, documents: u64, numbers: &Numbers) -> Result<(OwnedBytes, String)> {
+        let length = numbers.length();
+        let block_size = numbers.block_size();
+        let shape = format!(in self.alloc; "n={documents}/l={length}/bs={block_size}")?;
+        Ok((self.source(documents, 0, numbers)?.file, shape))
+    }
+
+    fn open_view(&self, numbers: &Numbers) -> Result<()> {
+        let times = numbers.questions(2000);
+        let (file, shape) = self.file(numbers.documents(1_000_000), numbers)?;
+        let name = format!(in self.alloc; "view_open/{shape}/q={times}")?;
+        let alloc = self.alloc;
+        let mut work = OpenView { alloc, file, times };
+        self.measure(name.as_str(), numbers, &mut work)
+    }
+
+    fn get_view(&self, kind: &str, order: Order, numbers: &Numbers) -> Result<()> {
+        let alloc = self.alloc;
+        let count = numbers.documents(1_000_000);
+        let questions = numbers.questions(usual_questions(order, count));
+        let (file, shape) = self.file(count, numbers)?;
+        let name = format!(in alloc; "{kind}/{shape}/q={questions}")?;
+        let Some(num_docs) = some_documents(count) else {
+            bail!("n is not from 1 to 4294967295: {count}");
+        };
+        let ids = ids(alloc, order, questions, num_docs)?;
+        let mut work = GetView { alloc, file, ids };
+        self.measure(name.as_str(), numbers, &mut work)
+    }
+
+    fn iterate_view(&self, numbers: &Numbers) -> Result<()> {
+        let (file, shape) = self.file(numbers.documents(1_000_000), numbers)?;
+        let name = format!(in self.alloc; "view_iter/{shape}")?;
+        let alloc = self.alloc;
+        let mut work = IterateView { alloc, file };
         self.measure(name.as_str(), numbers, &mut work)
     }
 

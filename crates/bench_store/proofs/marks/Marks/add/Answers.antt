@@ -15,14 +15,14 @@ pub push-requires : goal.push-requires
 push-requires c =
     let inside = c.self.inside in
     ends_in_line c.in-Some.doc_end c.in-Some-checked_add.byte_end _ (one_more inside.doc c.args.docs c.in-Some.doc_end inside.byte c.args.bytes c.in-Some-checked_add.byte_end inside.block
-        c.self.invariant
+    c.self.invariant
     (omega (arith, c.in-Some.ensures)) (omega (arith, c.in-Some.ensures)) (omega (arith, c.in-Some-checked_add.ensures)) (omega (arith, c.ranges.bytes.fits))
-        (omega (arith, c.in-Some-checked_add.ensures)))
+    (omega (arith, c.in-Some-checked_add.ensures)))
 
 pub invariant_of-self-2 : goal.invariant_of-self-2
 invariant_of-self-2 c =
     let inside = c.self.inside in
     subst (EndsAt c.in-Some.doc_end c.in-Some-checked_add.byte_end) (sym c.in_ok-push.ensures.ok)
-        (one_more inside.doc c.args.docs c.in-Some.doc_end inside.byte c.args.bytes c.in-Some-checked_add.byte_end inside.block c.self.invariant
+    (one_more inside.doc c.args.docs c.in-Some.doc_end inside.byte c.args.bytes c.in-Some-checked_add.byte_end inside.block c.self.invariant
     (omega (arith, c.in-Some.ensures)) (omega (arith, c.in-Some.ensures)) (omega (arith, c.in-Some-checked_add.ensures)) (omega (arith, c.ranges.bytes.fits))
-        (omega (arith, c.in-Some-checked_add.ensures)))
+    (omega (arith, c.in-Some-checked_add.ensures)))

@@ -1,0 +1,91 @@
+//! Workloads over a store whose bytes are at hand.
+use crate::checks::Slots;
+use crate::measure::{Run, Workload};
+use anyhow::Result;
+use docstore::{DocId, OwnedBytes, StoreError, StoreView};
+use std::alloc::Global;
+use std::rt::Clock;
+use std::time::Instant;
+
+/// Opens the bytes so many times.
+#[derive(Drop)]
+pub struct OpenView {
+    pub alloc: Global,
+    pub file: OwnedBytes,
+    pub times: u64,
+}
+
+// The sum of what the views tell of the index's length.
+fn open_again(alloc: Global, file: &[u8], times: u64) -> Result<u64, StoreError> {
+    let mut sum: u64 = 0;
+    for _ in 0..times {
+        let view = StoreView::open(alloc, file)?;
+        sum = sum.wrapping_add(view.space_usage().offsets_usage());
+    }
+    Ok(sum)
+}
+
+impl Workload for OpenView {
+    fn run<C: Clock>(&mut self, clock: &C) -> Result<Run> {
+        let start = Instant::now(clock)?;
+        let check = open_again(self.alloc, self.file.as_slice(), self.times)?;
+        let time = start.elapsed(clock)?;
+        Ok(Run {
+            time,
+            count: self.times,
+            bytes: 0,
+            check,
+        })
+    }
+}
+
+/// Gets documents by their ids.
+#[derive(Drop)]
+pub struct GetView {
+    pub alloc: Global,
+    pub file: OwnedBytes,
+    pub ids: Vec<DocId>,
+}
+
+fn get_all(view: &StoreView<'_>, ids: &[DocId]) -> Result<Slots, StoreError> {
+    let mut slots = Slots::new();
+    for id in ids {
+        slots.add(view.get(*id)?);
+    }
+    Ok(slots)
+}
+
+impl Workload for GetView {
+    fn run<C: Clock>(&mut self, clock: &C) -> Result<Run> {
+        let view = StoreView::open(self.alloc, self.file.as_slice())?;
+        let start = Instant::now(clock)?;
+        let slots = get_all(&view, &self.ids)?;
+        let time = start.elapsed(clock)?;
+        Ok(slots.run(time))
+    }
+}
+
+/// Goes over all documents.
+#[derive(Drop)]
+pub struct IterateView {
+    pub alloc: Global,
+    pub file: OwnedBytes,
+}
+
+fn iterate_all(view: &StoreView<'_>) -> Result<Slots, StoreError> {
+    let mut slots = Slots::new();
+    for document in view.iter() {
+        slots.add(document?);
+    }
+    Ok(slots)
+}
+
+impl Workload for IterateView {
+    fn run<C: Clock>(&mut self, clock: &C) -> Result<Run> {
+        let view = StoreView::open(self.alloc, self.file.as_slice())?;
+        let start = Instant::now(clock)?;
+        let slots = iterate_all(&view)?;
+        let time = start.elapsed(clock)?;
+        Ok(slots.run(time))
+    }
+}
