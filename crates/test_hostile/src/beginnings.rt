@@ -3,6 +3,7 @@
 use docstore::StoreError;
 use std::alloc::Global;
 use std::test::Fail;
+use test_devices::agreeing::agree;
 use test_devices::making::{opened_bytes, written};
 
 // Version 2 files: of `abc`; of no documents; of three empty ones; of `a` and `b` in a block each.
@@ -74,8 +75,11 @@ fn are_refused(alloc: Global, file: &[u8], exceptions: &[Exception]) -> Result<b
         if refusal_of(alloc, beginning)? != Some(expected(beginning, exceptions)) {
             return Ok(false);
         }
+        if !agree(alloc, beginning)? {
+            return Ok(false);
+        }
     }
-    Ok(refusal_of(alloc, file)?.is_none())
+    Ok(refusal_of(alloc, file)?.is_none() && agree(alloc, file)?)
 }
 
 #[test]

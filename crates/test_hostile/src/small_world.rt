@@ -5,6 +5,7 @@ use docstore::{Compressor, StoreError, StoreReader, StoreWriter};
 use std::alloc::{AllocError, Global};
 use std::test::Fail;
 use store_base::{MemFile, MemSink};
+use test_devices::agreeing::agree;
 use test_devices::making::{closed, is_found, listed, opened_bytes, opened_with_cache, written};
 
 // At zero each document is a block. A document weighs eight more than its bytes: of one document, or of two empty ones,
@@ -127,7 +128,7 @@ fn has_exactly(
     )
 }
 
-// Whether the file has these documents, through every cache.
+// Whether the file has these documents, through every cache, and a view gives the same.
 fn is_read_as(alloc: Global, file: &[u8], documents: &[&[u8]]) -> Result<bool, StoreError> {
     for capacity in CAPACITIES {
         let file = MemFile::new(alloc, Vec::from_slice(alloc, file)?)?;
@@ -136,7 +137,7 @@ fn is_read_as(alloc: Global, file: &[u8], documents: &[&[u8]]) -> Result<bool, S
             return Ok(false);
         }
     }
-    Ok(true)
+    agree(alloc, file)
 }
 
 // The first list of so many calls whose file has other documents.

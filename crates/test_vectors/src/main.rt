@@ -1,10 +1,13 @@
 //! Answers each script that `names` lists, and tells whether the answers are those that are expected, byte for byte.
+//! Then it reads each file that a script or its answers have by both readers, and tells how many it were.
 #![tactic(auto)]
 
-use std::alloc::Alloc;
+use docstore::StoreError;
+use std::alloc::{Alloc, Global};
 use std::rt::Files;
 use std::{fs, io};
 use store_script::ToolFault;
+use test_devices::agreeing::agree;
 
 // Whether a script is answered as expected.
 fn is_as_expected(
@@ -18,16 +21,63 @@ fn is_as_expected(
     Ok(answers.as_slice() == expected)
 }
 
+// The words of a text that a view and a reader were made of.
+#[derive(Clone, Copy)]
+struct Comparison {
+    alike: u64,
+    apart: u64,
+}
+
+// Whether a word is bytes, and enough of them for a footer.
+fn may_be_file(bytes: &[u8]) -> bool {
+    bytes.len() >= 28
+}
+
+// Opens each word of a text that may be a file by both readers.
+fn compared(alloc: Global, text: &str) -> Result<Comparison, StoreError> {
+    let mut comparison = Comparison { alike: 0, apart: 0 };
+    for word in text.split_whitespace() {
+        let Ok(bytes) = hex::decode(alloc, word.as_bytes()) else {
+            continue;
+        };
+        if !may_be_file(&bytes) {
+            continue;
+        }
+        if agree(alloc, &bytes)? {
+            comparison.alike = comparison.alike.saturating_add(1);
+        } else {
+            comparison.apart = comparison.apart.saturating_add(1);
+        }
+    }
+    Ok(comparison)
+}
+
+// Tells how many files of a text both readers read alike.
+fn compare(rt: &HostRuntime, name: &str, text: &[u8]) -> io::Result<()> {
+    let Ok(text) = str::from_utf8(text) else {
+        return println!(rt; "{name} is no text");
+    };
+    match compared(rt.alloc(), text) {
+        Ok(files) => println!(rt;
+            "{name}: {} files read alike, {} apart",
+            files.alike, files.apart
+        ),
+        Err(error) => println!(rt; "{name}: {error}"),
+    }
+}
+
 fn try_vector(rt: &HostRuntime, name: &str) -> io::Result<()> {
     let alloc = rt.alloc();
     let script = fs::read(rt, format!(in alloc; "{name}.script")?.as_str())?;
     let expected = fs::read(rt, format!(in alloc; "{name}.expected")?.as_str())?;
     let mut answers = Vec::new(alloc);
     match is_as_expected(&script, &expected, &mut answers) {
-        Ok(true) => println!(rt; "{name} same"),
-        Ok(false) => println!(rt; "{name} differs"),
-        Err(fault) => println!(rt; "{name}: {fault}"),
+        Ok(true) => println!(rt; "{name} same")?,
+        Ok(false) => println!(rt; "{name} differs")?,
+        Err(fault) => println!(rt; "{name}: {fault}")?,
     }
+    compare(rt, "in its script", &script)?;
+    compare(rt, "in its answers", &expected)
 }
 
 fn main(rt: HostRuntime) -> io::Result<()> {
