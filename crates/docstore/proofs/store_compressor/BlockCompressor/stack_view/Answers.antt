@@ -25,6 +25,6 @@ pub returns-clause-stacked : goal.returns-clause-stacked
 returns-clause-stacked g c =
     let bs = c.args.view.now.store in
     let cut : blocks_at c.block_checkpoints.result c.block_data.result.now ≡ bs =
-        ap (λ (cs : List Checkpoint). blocks_at cs c.block_data.result.now) c.block_checkpoints.ensures
-            ∙ ap (blocks_at (marks bs)) c.block_data.ensures.data ∙ blocks_back 0 0 bs in
+    ap (λ (cs : List Checkpoint). blocks_at cs c.block_data.result.now) c.block_checkpoints.ensures
+    ∙ ap (blocks_at (marks bs)) c.block_data.ensures.data ∙ blocks_back 0 0 bs in
     rw (← cut) c.write_blocks.ensures.written

@@ -7,7 +7,7 @@ use Rattle.layered_index.specs.Checkpoint.{checkpoint}
 use Rattle.layered_index.specs.Layers.{Index}
 use Rattle.store_format.specs.StoreFile.{StoreBlock, marks_from}
 use Rattle.docstore.specs.BlockOutput.{BlockOutput, IsCompressing, compressing}
-use Rattle.docstore.proofs.OutputLemmas.{AreAdded, sound, failed, block_added, seen_added}
+use Rattle.docstore.proofs.OutputLemmas.{sound, failed, block_added, seen_added}
 use Rattle.docstore.proofs.store_compressor.BlockCompressor.write_block.Given.{Over}
 use Rattle.docstore.proofs.store_compressor.BlockCompressor.write_block.Goals as goal
 
@@ -16,50 +16,17 @@ returns-then-is_err-clause-sound g c = sound _ _ _ _ _ _ _ _ _ (failed _ _ _ _ _
 
 pub overflow_add-checkpoint : goal.overflow_add-checkpoint
 overflow_add-checkpoint g c =
-    let content = g.W.TerminatingWrite.content c.self.inside.writer.output in
-    let written = c.self.inside.writer.written in
-    let first = c.self.inside.first_doc_in_block in
-    let period = c.self.inside.index.period in
-    let cs = c.self.inside.index.checkpoints in
-    let bytes = c.args.bytes.now in
-    let count = c.args.num_docs_in_block in
-    let bs : List StoreBlock = record { count = count; bytes = bytes } ∷ [] in
-    let a : AreAdded period first cs content written bs bytes count =
-    block_added c.self.inside.compressor period first cs content written (g.W.TerminatingWrite.termination c.self.inside.writer.output)
-    (g.W.TerminatingWrite.failures c.self.inside.writer.output) c.self.inside.failure c.args.self.now count bytes c.self.view_is c.self.invariant c.requires.works c.requires.some_bytes
-    c.requires.few_bytes c.requires.some_docs c.requires.few_docs in
+    let a = block_added _ _ _ _ _ _ _ _ _ _ _ _ c.self.view_is c.self.invariant c.requires.works c.requires.some_bytes c.requires.few_bytes c.requires.some_docs c.requires.few_docs in
     omega (arith, a.ids)
 
 pub overflow_add-checkpoint-2 : goal.overflow_add-checkpoint-2
 overflow_add-checkpoint-2 g c =
-    let content = g.W.TerminatingWrite.content c.self.inside.writer.output in
-    let written = c.self.inside.writer.written in
-    let first = c.self.inside.first_doc_in_block in
-    let period = c.self.inside.index.period in
-    let cs = c.self.inside.index.checkpoints in
-    let bytes = c.args.bytes.now in
-    let count = c.args.num_docs_in_block in
-    let bs : List StoreBlock = record { count = count; bytes = bytes } ∷ [] in
-    let a : AreAdded period first cs content written bs bytes count =
-    block_added c.self.inside.compressor period first cs content written (g.W.TerminatingWrite.termination c.self.inside.writer.output)
-    (g.W.TerminatingWrite.failures c.self.inside.writer.output) c.self.inside.failure c.args.self.now count bytes c.self.view_is c.self.invariant c.requires.works c.requires.some_bytes
-    c.requires.few_bytes c.requires.some_docs c.requires.few_docs in
+    let a = block_added _ _ _ _ _ _ _ _ _ _ _ _ c.self.view_is c.self.invariant c.requires.works c.requires.some_bytes c.requires.few_bytes c.requires.some_docs c.requires.few_docs in
     omega (arith, a.fits, c.written_bytes-start.ensures)
 
 pub insert-requires : goal.insert-requires
 insert-requires g c =
-    let content = g.W.TerminatingWrite.content c.self.inside.writer.output in
-    let written = c.self.inside.writer.written in
-    let first = c.self.inside.first_doc_in_block in
-    let period = c.self.inside.index.period in
-    let cs = c.self.inside.index.checkpoints in
-    let bytes = c.args.bytes.now in
-    let count = c.args.num_docs_in_block in
-    let bs : List StoreBlock = record { count = count; bytes = bytes } ∷ [] in
-    let a : AreAdded period first cs content written bs bytes count =
-    block_added c.self.inside.compressor period first cs content written (g.W.TerminatingWrite.termination c.self.inside.writer.output)
-    (g.W.TerminatingWrite.failures c.self.inside.writer.output) c.self.inside.failure c.args.self.now count bytes c.self.view_is c.self.invariant c.requires.works c.requires.some_bytes
-    c.requires.few_bytes c.requires.some_docs c.requires.few_docs in
+    let a = block_added _ _ _ _ _ _ _ _ _ _ _ _ c.self.view_is c.self.invariant c.requires.works c.requires.some_bytes c.requires.few_bytes c.requires.some_docs c.requires.few_docs in
     rw c.written_bytes-start.ensures a.in_line
 
 pub returns-then-is_err-2-clause-sound : goal.returns-then-is_err-2-clause-sound
@@ -69,18 +36,7 @@ returns-then-is_err-2-clause-sound g c =
 
 pub overflow_add-self : goal.overflow_add-self
 overflow_add-self g c =
-    let content = g.W.TerminatingWrite.content c.self.inside.writer.output in
-    let written = c.self.inside.writer.written in
-    let first = c.self.inside.first_doc_in_block in
-    let period = c.self.inside.index.period in
-    let cs = c.self.inside.index.checkpoints in
-    let bytes = c.args.bytes.now in
-    let count = c.args.num_docs_in_block in
-    let bs : List StoreBlock = record { count = count; bytes = bytes } ∷ [] in
-    let a : AreAdded period first cs content written bs bytes count =
-    block_added c.self.inside.compressor period first cs content written (g.W.TerminatingWrite.termination c.self.inside.writer.output)
-    (g.W.TerminatingWrite.failures c.self.inside.writer.output) c.self.inside.failure c.args.self.now count bytes c.self.view_is c.self.invariant c.requires.works c.requires.some_bytes
-    c.requires.few_bytes c.requires.some_docs c.requires.few_docs in
+    let a = block_added _ _ _ _ _ _ _ _ _ _ _ _ c.self.view_is c.self.invariant c.requires.works c.requires.some_bytes c.requires.few_bytes c.requires.some_docs c.requires.few_docs in
     omega (arith, a.ids)
 
 is_compressing : (g : Over) (c : goal.After-self-2-1 g) → IsCompressing c.insert.new.self.period (c.self.inside.first_doc_in_block + c.args.num_docs_in_block) c.insert.new.self.checkpoints
@@ -94,10 +50,7 @@ is_compressing g c =
     let bytes = c.args.bytes.now in
     let count = c.args.num_docs_in_block in
     let bs : List StoreBlock = record { count = count; bytes = bytes } ∷ [] in
-    let a : AreAdded period first cs content written bs bytes count =
-    block_added c.self.inside.compressor period first cs content written (g.W.TerminatingWrite.termination c.self.inside.writer.output)
-    (g.W.TerminatingWrite.failures c.self.inside.writer.output) c.self.inside.failure c.args.self.now count bytes c.self.view_is c.self.invariant c.requires.works c.requires.some_bytes
-    c.requires.few_bytes c.requires.some_docs c.requires.few_docs in
+    let a = block_added _ _ _ _ _ _ _ _ _ _ _ _ c.self.view_is c.self.invariant c.requires.works c.requires.some_bytes c.requires.few_bytes c.requires.some_docs c.requires.few_docs in
     let content_is : g.W.TerminatingWrite.content c.write_all.new.self.output ≡ content ++ bytes = grind (arith, common_steps) in
     let raised_is : c.write_all.new.self.written ≡ raised written (length bytes) = grind (arith, common_steps) in
     let sum_is : raised written (length bytes) ≡ written + length bytes = omega (arith, a.fits) in
@@ -127,10 +80,7 @@ returns-clause-written g c =
     let bytes = c.args.bytes.now in
     let count = c.args.num_docs_in_block in
     let bs : List StoreBlock = record { count = count; bytes = bytes } ∷ [] in
-    let a : AreAdded period first cs content written bs bytes count =
-    block_added c.self.inside.compressor period first cs content written (g.W.TerminatingWrite.termination c.self.inside.writer.output)
-    (g.W.TerminatingWrite.failures c.self.inside.writer.output) c.self.inside.failure c.args.self.now count bytes c.self.view_is c.self.invariant c.requires.works c.requires.some_bytes
-    c.requires.few_bytes c.requires.some_docs c.requires.few_docs in
+    let a = block_added _ _ _ _ _ _ _ _ _ _ _ _ c.self.view_is c.self.invariant c.requires.works c.requires.some_bytes c.requires.few_bytes c.requires.some_docs c.requires.few_docs in
     let content_is : g.W.TerminatingWrite.content c.write_all.new.self.output ≡ content ++ bytes = grind (arith, common_steps) in
     let raised_is : c.write_all.new.self.written ≡ raised written (length bytes) = grind (arith, common_steps) in
     let sum_is : raised written (length bytes) ≡ written + length bytes = omega (arith, a.fits) in
@@ -145,8 +95,7 @@ returns-clause-written g c =
     let period_is : c.insert.new.self.period ≡ period = ap (λ (index : Index). index.period) index_is in
     let risen = g.W.TerminatingWrite.failures c.write_all.new.self.output in
     (λ i. compressing c.self.inside.compressor (period_is i) (cs_is i) (content_is i) (written_is i) (c.write_all.ensures.termination i) risen c.self.inside.failure)
-    ∙ seen_added c.self.inside.compressor period first cs content written (g.W.TerminatingWrite.termination c.self.inside.writer.output)
-    (g.W.TerminatingWrite.failures c.self.inside.writer.output) risen c.self.inside.failure c.args.self.now bs bytes count c.self.view_is a (sym (append-nil bytes))
+    ∙ seen_added _ _ _ _ _ _ _ _ risen _ _ bs bytes count c.self.view_is a (sym (append-nil bytes))
 
 pub returns-clause-sound : goal.returns-clause-sound
 returns-clause-sound g c = sound _ _ _ _ _ _ _ _ _ (is_compressing g c)

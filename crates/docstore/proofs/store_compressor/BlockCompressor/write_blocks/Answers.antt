@@ -10,7 +10,7 @@ use Rattle.store_format.specs.StoreFile.{docs_in, marks_from, blocks_at}
 use Rattle.docstore.specs.BlockOutput.{BlockOutput, IsCompressing, compressing}
 use Rattle.docstore.specs.Stacking.{shifted}
 use Rattle.docstore.proofs.OutputLemmas.{sound, failed, seen_added}
-use Rattle.docstore.proofs.StackingLemmas.{AreCut, are_cut}
+use Rattle.docstore.proofs.StackingLemmas.{are_cut}
 use Rattle.docstore.proofs.store_compressor.BlockCompressor.write_blocks.Goals as goal
 
 pub returns-then-is_err-clause-sound : goal.returns-then-is_err-clause-sound
@@ -18,41 +18,21 @@ returns-then-is_err-clause-sound g c = sound _ _ _ _ _ _ _ _ _ (failed _ _ _ _ _
 
 pub register_all-registered-requires-clause-in_line : goal.register_all-registered-requires-clause-in_line
 register_all-registered-requires-clause-in_line g c =
-    let content = g.W.TerminatingWrite.content c.self.inside.writer.output in
-    let written = c.self.inside.writer.written in
-    let first = c.self.inside.first_doc_in_block in
-    let period = c.self.inside.index.period in
-    let cs = c.self.inside.index.checkpoints in
-    let bytes = c.args.bytes.now in
-    let bs = blocks_at c.args.checkpoints bytes in
-    let a : AreCut period first cs content written c.args.checkpoints bytes =
-    are_cut c.self.inside.compressor period first cs content written (g.W.TerminatingWrite.termination c.self.inside.writer.output)
-    (g.W.TerminatingWrite.failures c.self.inside.writer.output) c.self.inside.failure c.args.self.now c.args.checkpoints bytes c.self.view_is c.self.invariant c.requires.works c.requires.covers
-    c.requires.few_docs in
+    let a = are_cut _ _ _ _ _ _ _ _ _ _ c.args.checkpoints c.args.bytes.now c.self.view_is c.self.invariant c.requires.works c.requires.covers c.requires.few_docs in
     rw (c.written_bytes-start.ensures, a.places) a.added.runs
 
 pub returns-then-is_err-2-clause-err : goal.returns-then-is_err-2-clause-err
 returns-then-is_err-2-clause-err g c =
     let content_is : g.W.TerminatingWrite.content c.write_all.new.self.output ≡ g.W.TerminatingWrite.content c.self.inside.writer.output ++ c.args.bytes.now = grind (arith, common_steps) in
     let some : 0 < length c.args.checkpoints = grind (arith, common_steps) in
-    let content = g.W.TerminatingWrite.content c.self.inside.writer.output in
-    let written = c.self.inside.writer.written in
-    let first = c.self.inside.first_doc_in_block in
-    let period = c.self.inside.index.period in
-    let cs = c.self.inside.index.checkpoints in
-    let bytes = c.args.bytes.now in
-    let bs = blocks_at c.args.checkpoints bytes in
-    let a : AreCut period first cs content written c.args.checkpoints bytes =
-    are_cut c.self.inside.compressor period first cs content written (g.W.TerminatingWrite.termination c.self.inside.writer.output)
-    (g.W.TerminatingWrite.failures c.self.inside.writer.output) c.self.inside.failure c.args.self.now c.args.checkpoints bytes c.self.view_is c.self.invariant c.requires.works c.requires.covers
-    c.requires.few_docs in
+    let a = are_cut _ _ _ _ _ _ _ _ _ _ c.args.checkpoints c.args.bytes.now c.self.view_is c.self.invariant c.requires.works c.requires.covers c.requires.few_docs in
     record {
       worked = c.requires.works;
       failure = refl;
       why = record {
-        more = bytes;
+        more = c.args.bytes.now;
         some = a.some some;
-        parts = content_is ∙ ap (λ (out : BlockOutput). out.content ++ bytes) c.self.view_is;
+        parts = content_is ∙ ap (λ (out : BlockOutput). out.content ++ c.args.bytes.now) c.self.view_is;
       };
     }
 
@@ -77,10 +57,7 @@ invariant_of-self-else-is_err-2 g c =
     let cs = c.self.inside.index.checkpoints in
     let bytes = c.args.bytes.now in
     let bs = blocks_at c.args.checkpoints bytes in
-    let a : AreCut period first cs content written c.args.checkpoints bytes =
-    are_cut c.self.inside.compressor period first cs content written (g.W.TerminatingWrite.termination c.self.inside.writer.output)
-    (g.W.TerminatingWrite.failures c.self.inside.writer.output) c.self.inside.failure c.args.self.now c.args.checkpoints bytes c.self.view_is c.self.invariant c.requires.works c.requires.covers
-    c.requires.few_docs in
+    let a = are_cut _ _ _ _ _ _ _ _ _ _ c.args.checkpoints c.args.bytes.now c.self.view_is c.self.invariant c.requires.works c.requires.covers c.requires.few_docs in
     let content_is : g.W.TerminatingWrite.content c.write_all.new.self.output ≡ content ++ bytes = grind (arith, common_steps) in
     let raised_is : c.write_all.new.self.written ≡ raised written (length bytes) = grind (arith, common_steps) in
     let sum_is : raised written (length bytes) ≡ written + length bytes = omega (arith, a.added.fits) in
@@ -106,10 +83,7 @@ returns-clause-written g c =
     let cs = c.self.inside.index.checkpoints in
     let bytes = c.args.bytes.now in
     let bs = blocks_at c.args.checkpoints bytes in
-    let a : AreCut period first cs content written c.args.checkpoints bytes =
-    are_cut c.self.inside.compressor period first cs content written (g.W.TerminatingWrite.termination c.self.inside.writer.output)
-    (g.W.TerminatingWrite.failures c.self.inside.writer.output) c.self.inside.failure c.args.self.now c.args.checkpoints bytes c.self.view_is c.self.invariant c.requires.works c.requires.covers
-    c.requires.few_docs in
+    let a = are_cut _ _ _ _ _ _ _ _ _ _ c.args.checkpoints c.args.bytes.now c.self.view_is c.self.invariant c.requires.works c.requires.covers c.requires.few_docs in
     let content_is : g.W.TerminatingWrite.content c.write_all.new.self.output ≡ content ++ bytes = grind (arith, common_steps) in
     let raised_is : c.write_all.new.self.written ≡ raised written (length bytes) = grind (arith, common_steps) in
     let sum_is : raised written (length bytes) ≡ written + length bytes = omega (arith, a.added.fits) in
@@ -122,8 +96,7 @@ returns-clause-written g c =
     let period_is : c.register_all-registered.new.index.period ≡ period = c.register_all-registered.ensures.period in
     let risen = g.W.TerminatingWrite.failures c.write_all.new.self.output in
     (λ i. compressing c.self.inside.compressor (period_is i) (cs_is i) (content_is i) (written_is i) (c.write_all.ensures.termination i) risen c.self.inside.failure)
-    ∙ seen_added c.self.inside.compressor period first cs content written (g.W.TerminatingWrite.termination c.self.inside.writer.output)
-    (g.W.TerminatingWrite.failures c.self.inside.writer.output) risen c.self.inside.failure c.args.self.now bs bytes (docs_in bs) c.self.view_is a.added a.joined
+    ∙ seen_added _ _ _ _ _ _ _ _ risen _ _ bs bytes (docs_in bs) c.self.view_is a.added a.joined
 
 pub returns-clause-sound : goal.returns-clause-sound
 returns-clause-sound g c = sound _ _ _ _ _ _ _ _ _ (invariant_of-self-else-is_err-2 g c)
