@@ -20,6 +20,7 @@ pub mod SplitLemmas
 pub mod SplitLoopLemmas
 pub mod OpenLemmas
 pub mod TableLemmas
+pub mod CoveredLemmas
 pub mod RefusalLemmas
 pub mod BlockLemmas
 pub mod BuilderLemmas

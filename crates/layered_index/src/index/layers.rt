@@ -57,10 +57,10 @@ fn keep_steps<'a>(
         let Some((checkpoint, after)) = step_front(doc_end, byte_end, rest) else {
             return Err(IndexFault::Malformed);
         };
+        ends.push(&checkpoint)?;
         doc_end = checkpoint.doc_range.end;
         byte_end = checkpoint.byte_range.end;
         rest = after;
-        ends.push(doc_end, byte_end)?;
     }
     Ok((doc_end, byte_end, rest))
 }
