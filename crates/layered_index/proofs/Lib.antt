@@ -19,6 +19,7 @@ pub mod PassLemmas
 pub mod SplitLemmas
 pub mod SplitLoopLemmas
 pub mod OpenLemmas
+pub mod ShortNumberLemmas
 pub mod TableLemmas
 pub mod CoveredLemmas
 pub mod RefusalLemmas

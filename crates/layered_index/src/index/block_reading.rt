@@ -9,6 +9,7 @@ ghost use Rattle.layered_index.specs.Refusal.{Gives, RefusesOnlyUnless, FailsOnl
 use crate::index::Checkpoint;
 use crate::index::block::CheckpointBlock;
 use crate::index::fault::IndexFault;
+use crate::index::short_number::{first_count, first_length};
 use std::alloc::Global;
 use store_base::{StoreError, first_number};
 
@@ -26,8 +27,8 @@ pub(crate) struct Heading {
 pub(crate) fn step_front(doc: u32, byte: usize, bytes: &[u8]) -> Option<(Checkpoint, &[u8])>
     ensures { option_map (λ x. (x.0, x.1.now)) result ≡ step_at doc byte bytes.now }
 {
-    let (docs, rest) = first_number(bytes, u64::from(u32::MAX))?;
-    let (len, rest) = first_number(rest, u64::from(u32::MAX))?;
+    let (docs, rest) = first_count(bytes)?;
+    let (len, rest) = first_length(rest)?;
     let doc_end = doc.checked_add(docs as u32)?;
     let byte_end = byte.checked_add(len as usize)?;
     Some((
