@@ -1,7 +1,8 @@
 //! Numbers of a few bytes, read without a branch on how many bytes they have.
 //!
-//! Where a block's documents are about 128, or its bytes about 2^14, how many bytes the next number has can't be
-//! foreseen, and a wrong guess of the processor costs more than the number.
+//! Where blocks have now less than 128 documents and now more, or less than 2^14 bytes and more, how many bytes the
+//! next number has can't be foreseen, and a wrong guess of the processor costs more than the number. Where it can be
+//! foreseen, the branch is quicker.
 ghost use Rattle.std.specs.Prelude.{◌≡◌, ◌+◌, ◌^◌, ◌<◌, Some, IfSome};
 ghost use Rattle.std.specs.Option.{option_map};
 ghost use Rattle.store_base.specs.VInt.{number_at, number_below};
@@ -30,16 +31,19 @@ fn split_pair(bytes: &[u8]) -> Option<(u64, &[u8])>
     Some((value, &bytes[more + 1..]))
 }
 
-/// The number below 2^32 at the front and what follows it; quickest where it has one byte or two.
+/// The number below 2^32 at the front and what follows it. Where numbers are uneven it is quickest if it has one byte
+/// or two.
 #[inline(always)]
-pub(crate) fn first_count(bytes: &[u8]) -> Option<(u64, &[u8])>
+pub(crate) fn first_count(uneven: bool, bytes: &[u8]) -> Option<(u64, &[u8])>
     ensures read { option_map (λ x. (x.0, x.1.now)) result ≡ number_below (2 ^ 32) bytes.now }
     ensures most { IfSome result (λ x. x.0 < 2 ^ 32) }
 {
-    match split_pair(bytes) {
-        Some(found) => Some(found),
-        None => first_number(bytes, u64::from(u32::MAX)),
+    if uneven {
+        if let Some(found) = split_pair(bytes) {
+            return Some(found);
+        }
     }
+    first_number(bytes, u64::from(u32::MAX))
 }
 
 // The number at the front and what follows it, where it has two bytes or three.
@@ -60,14 +64,17 @@ fn split_longer(bytes: &[u8]) -> Option<(u64, &[u8])>
     }
 }
 
-/// The number below 2^32 at the front and what follows it; quickest where it has two bytes or three.
+/// The number below 2^32 at the front and what follows it. Where numbers are uneven it is quickest if it has two bytes
+/// or three.
 #[inline(always)]
-pub(crate) fn first_length(bytes: &[u8]) -> Option<(u64, &[u8])>
+pub(crate) fn first_length(uneven: bool, bytes: &[u8]) -> Option<(u64, &[u8])>
     ensures read { option_map (λ x. (x.0, x.1.now)) result ≡ number_below (2 ^ 32) bytes.now }
     ensures most { IfSome result (λ x. x.0 < 2 ^ 32) }
 {
-    match split_longer(bytes) {
-        Some(found) => Some(found),
-        None => first_number(bytes, u64::from(u32::MAX)),
+    if uneven {
+        if let Some(found) = split_longer(bytes) {
+            return Some(found);
+        }
     }
+    first_number(bytes, u64::from(u32::MAX))
 }
