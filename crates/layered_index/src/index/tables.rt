@@ -1,5 +1,5 @@
 //! A list of checkpoints, decoded once and looked at by index.
-ghost use Rattle.std.specs.Prelude.{◌≡◌, ◌<◌, [], ◌∷◌, length, slice_get, Some, IfOk};
+ghost use Rattle.std.specs.Prelude.{◌≡◌, ◌<◌, ◌↔◌, [], ◌∷◌, length, slice_get, Some, IfOk, IsTrue};
 ghost use Rattle.layered_index.specs.Checkpoint.{IsInLine, IsInLineFrom};
 ghost use Rattle.layered_index.specs.Covering.{covered_to};
 ghost use Rattle.layered_index.specs.LayerReading.{items};
@@ -121,6 +121,13 @@ fn start_of(layer: &[u8]) -> (DocId, usize)
     }
 }
 
+// Whether checkpoints that begin there, and are filled or not, cover all that is before their end.
+fn is_covering(doc: DocId, byte: usize, filled: bool) -> bool
+    ensures { IsTrue result ↔ ((doc ≡ 0) × (byte ≡ 0) × IsTrue filled) }
+{
+    doc == 0 && byte == 0 && filled
+}
+
 impl Tables {
     /// Those of a layer whose checkpoints end there.
     pub fn new(alloc: Global, layer: &[u8], ends: Ends) -> Result<Tables, NoMemory>
@@ -171,7 +178,7 @@ impl Tables {
         let Some(last) = self.ends.len().checked_sub(1) else {
             return Some((0, 0));
         };
-        if self.doc == 0 && self.byte == 0 && self.ends.filled {
+        if is_covering(self.doc, self.byte, self.ends.filled) {
             Some(self.ends.get(last))
         } else {
             None
