@@ -19,7 +19,9 @@ pub mod PassLemmas
 pub mod SplitLemmas
 pub mod SplitLoopLemmas
 pub mod OpenLemmas
+pub mod ShortNumberLemmas
 pub mod TableLemmas
+pub mod CoveredLemmas
 pub mod RefusalLemmas
 pub mod BlockLemmas
 pub mod BuilderLemmas

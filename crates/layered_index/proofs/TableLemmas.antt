@@ -1,27 +1,28 @@
 -- A list in line is told by where it begins and where each ends.
-use Rattle.std.proofs.Common.{◌≡◌, ℕ, zero, suc, ◌-◌, List, [], ◌∷◌, ◌++◌, append_assoc, length, map, Some, refl, sym, ◌∙◌, ap, arith}
+use Rattle.std.proofs.Common.{◌≡◌, ℕ, zero, suc, ◌-◌, List, [], ◌∷◌, append_assoc, length, map, Some, refl, sym, ◌∙◌, ap, arith}
 use Rattle.std.proofs.lemmas.List.{append-nil, length-map}
 use Rattle.std.specs.Prelude.{slice_get}
 use Rattle.store_base.specs.ReadingLemmas.{some_is}
 use Rattle.layered_index.specs.declared.index.Checkpoint.{Checkpoint}
 use Rattle.layered_index.specs.Checkpoint.{checkpoint, IsInLineFrom}
-use Rattle.layered_index.specs.Tables.{EndLists, doc_end, byte_end, with_ends, between}
+use Rattle.layered_index.specs.Tables.{EndLists, doc_end, byte_end, are_filled, with_ends, between}
 use Rattle.layered_index.proofs.CheckpointLemmas.{same_checkpoint}
 
-no_item : (i x : ℕ) → slice_get [] i ≡ Some x → ⊥
+pub no_item : (i x : ℕ) → slice_get [] i ≡ Some x → ⊥
 no_item zero x e = cc
 no_item (suc i) x e = cc
 
 -- one more is kept
-pub one_more_kept : (ends : EndLists) (c : Checkpoint) (cs : List Checkpoint) → with_ends (record { docs = ends.docs ++ c.doc_range.end ∷ []; bytes = ends.bytes ++ c.byte_range.end ∷ [] }) cs ≡ with_ends ends (c ∷ cs)
+pub one_more_kept : (ends : EndLists) (c : Checkpoint) (cs : List Checkpoint) → with_ends (with_ends ends (c ∷ [])) cs ≡ with_ends ends (c ∷ cs)
 one_more_kept ends c cs = λ i. record {
   docs = append_assoc ends.docs (c.doc_range.end ∷ []) (map doc_end cs) i;
   bytes = append_assoc ends.bytes (c.byte_range.end ∷ []) (map byte_end cs) i;
+  filled = are_filled ends.filled (c ∷ cs);
 }
 
 -- no more are to come
 pub none_to_come : (ends : EndLists) → with_ends ends [] ≡ ends
-none_to_come ends = λ i. record { docs = append-nil ends.docs i; bytes = append-nil ends.bytes i }
+none_to_come ends = λ i. record { docs = append-nil ends.docs i; bytes = append-nil ends.bytes i; filled = ends.filled }
 
 pub kept_as_many : (cs : List Checkpoint) → length (map doc_end cs) ≡ length (map byte_end cs)
 kept_as_many cs = length-map cs doc_end ∙ sym (length-map cs byte_end)

@@ -3,6 +3,7 @@ pub mod LineLemmas
 pub mod Layers
 pub mod BlockReading
 pub mod LayerReading
+pub mod Covering
 pub mod Tables
 pub mod IndexReading
 pub mod Building

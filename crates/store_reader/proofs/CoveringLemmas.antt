@@ -1,37 +1,15 @@
 -- When checkpoints cover.
-use Rattle.std.proofs.Common.{◌≡◌, ℕ, ◌<◌, ◌≤◌, Bool, true, false, cond, List, [], ◌∷◌, Option, Some, None, nat_lt, refl, sym, ap, ◌∙◌, arith}
-use Rattle.std.specs.Prelude.{◌&&◌, ◌==◌}
+use Rattle.std.proofs.Common.{◌≡◌, ℕ, ◌≤◌, Bool, true, false, cond, List, [], ◌∷◌, Option, Some, None, refl, sym, ap, ◌∙◌, arith}
 use Rattle.std.specs.List.{AllByRecursion}
-use Rattle.std.proofs.lemmas.Bool.{ltb-true, lt-ltb, eqb-true, eq-eqb}
 use Rattle.store_base.specs.ReadingLemmas.{some_is}
 use Rattle.layered_index.specs.declared.index.Checkpoint.{Checkpoint}
 use Rattle.layered_index.specs.Checkpoint.{IsInLineFrom, IsInLine, IsFilled, Covers, docs_end, bytes_end}
 use Rattle.layered_index.specs.LineLemmas.{in_line_from, in_line_somewhere}
 use Rattle.layered_index.specs.IndexReading.{IsIndexPart}
-use Rattle.store_reader.specs.Covering.{goes_on, covered_to, HasIndexOf}
+use Rattle.layered_index.specs.Covering.{goes_on, covered_to}
+use Rattle.layered_index.proofs.CoveredLemmas.{goes_on-true, true-goes_on}
+use Rattle.store_reader.specs.Covering.{HasIndexOf}
 use Rattle.layered_index.proofs.IndexLemmas.{index_parts_are_apart}
-
-both : (a b : Bool) → (a && b) ≡ true → (a ≡ true) × (b ≡ true)
-both true true e = (refl, refl)
-both true false e = absurd cc
-both false b e = absurd cc
-
--- what the test of one checkpoint tells
-record GoesOn (doc byte : ℕ) (c : Checkpoint) : Type 0 where
-  docs : c.doc_range.start ≡ doc
-  bytes : c.byte_range.start ≡ byte
-  some_docs : doc < c.doc_range.end
-  some_bytes : byte < c.byte_range.end
-
-goes_on-true : (doc byte : ℕ) (c : Checkpoint) → goes_on doc byte c ≡ true → GoesOn doc byte c
-goes_on-true doc byte c t =
-    let p = both ((c.doc_range.start == doc) && (c.byte_range.start == byte) && nat_lt doc c.doc_range.end) (nat_lt byte c.byte_range.end) t in
-    let q = both ((c.doc_range.start == doc) && (c.byte_range.start == byte)) (nat_lt doc c.doc_range.end) p.0 in
-    let r = both (c.doc_range.start == doc) (c.byte_range.start == byte) q.0 in
-    record { docs = eqb-true _ _ r.0; bytes = eqb-true _ _ r.1; some_docs = ltb-true _ _ q.1; some_bytes = ltb-true _ _ p.1 }
-
-true-goes_on : (doc byte : ℕ) (c : Checkpoint) → c.doc_range.start ≡ doc → c.byte_range.start ≡ byte → doc < c.doc_range.end → byte < c.byte_range.end → goes_on doc byte c ≡ true
-true-goes_on doc byte c d b docs bytes = rw (eq-eqb c.doc_range.start doc d, eq-eqb c.byte_range.start byte b, lt-ltb doc c.doc_range.end docs, lt-ltb byte c.byte_range.end bytes) refl
 
 pass : {A : Type 0} (b : Bool) (x : Option A) (y : A) → cond b x None ≡ Some y → (b ≡ true) × (x ≡ Some y)
 pass true x y e = (refl, e)

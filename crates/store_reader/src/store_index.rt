@@ -1,7 +1,7 @@
 //! The index of a store, whose checkpoints cover the data.
 ghost use Rattle.std.specs.Prelude.{◌≡◌, ◌≤◌, length, MatchResult};
 ghost use Rattle.layered_index.specs.Checkpoint.{docs_end, first_past};
-ghost use Rattle.store_reader.specs.Covering.{goes_on, covered_to, IsIndexOf, HasIndexOf};
+ghost use Rattle.store_reader.specs.Covering.{IsIndexOf, HasIndexOf};
 ghost use Rattle.layered_index.specs.Layers.{Index, index_part};
 ghost use Rattle.layered_index.specs.Refusal.{RefusesOnlyUnless};
 
@@ -9,32 +9,6 @@ use layered_index::{Checkpoint, LayerCursor, SkipIndex};
 use std::alloc::Global;
 use std::marker::Model;
 use store_base::{DocId, OwnedBytes, StoreError};
-
-// Whether a checkpoint begins at this document and this byte, and has one of each.
-fn goes_on(doc: DocId, byte: usize, checkpoint: &Checkpoint) -> bool
-    ensures { result ≡ goes_on doc byte checkpoint.now }
-{
-    checkpoint.doc_range.start == doc
-        && checkpoint.byte_range.start == byte
-        && doc < checkpoint.doc_range.end
-        && byte < checkpoint.byte_range.end
-}
-
-// Where checkpoints end, if they begin at the first document and the first byte and none is empty.
-fn covered_to(checkpoints: LayerCursor<'_>) -> Option<(DocId, usize)>
-    ensures { result ≡ covered_to 0 0 checkpoints.entry }
-{
-    let mut doc = 0;
-    let mut byte = 0;
-    for checkpoint in checkpoints {
-        if !goes_on(doc, byte, &checkpoint) {
-            return None;
-        }
-        doc = checkpoint.doc_range.end;
-        byte = checkpoint.byte_range.end;
-    }
-    Some((doc, byte))
-}
 
 /// The index of a store: how its blocks lie, how many documents they have, and how many bytes it
 /// takes in the file.
@@ -77,7 +51,7 @@ impl StoreIndex {
     {
         let len = bytes.len() as u64;
         let index = SkipIndex::open_with_period(alloc, bytes, period)?;
-        match covered_to(index.checkpoints()) {
+        match index.covered_to() {
             Some((num_docs, end)) if end as u64 == covered => Ok(StoreIndex {
                 index,
                 period,

@@ -9,6 +9,7 @@ ghost use Rattle.layered_index.specs.Refusal.{Gives, RefusesOnlyUnless, FailsOnl
 use crate::index::Checkpoint;
 use crate::index::block::CheckpointBlock;
 use crate::index::fault::IndexFault;
+use crate::index::short_number::{first_count, first_length};
 use std::alloc::Global;
 use store_base::{StoreError, first_number};
 
@@ -20,14 +21,20 @@ pub(crate) struct Heading {
     pub byte: usize,
 }
 
-/// The checkpoint that begins at this document and this byte, and what follows it.
+/// The checkpoint that begins at this document and this byte, and what follows it. Whether numbers are uneven matters
+/// to the speed alone.
 #[inline(always)]
 #[tactic(auto, unfolding(crate::specs::BlockReading::step_at))]
-pub(crate) fn step_front(doc: u32, byte: usize, bytes: &[u8]) -> Option<(Checkpoint, &[u8])>
+pub(crate) fn step_front(
+    uneven: bool,
+    doc: u32,
+    byte: usize,
+    bytes: &[u8],
+) -> Option<(Checkpoint, &[u8])>
     ensures { option_map (λ x. (x.0, x.1.now)) result ≡ step_at doc byte bytes.now }
 {
-    let (docs, rest) = first_number(bytes, u64::from(u32::MAX))?;
-    let (len, rest) = first_number(rest, u64::from(u32::MAX))?;
+    let (docs, rest) = first_count(uneven, bytes)?;
+    let (len, rest) = first_length(uneven, rest)?;
     let doc_end = doc.checked_add(docs as u32)?;
     let byte_end = byte.checked_add(len as usize)?;
     Some((
@@ -40,6 +47,7 @@ pub(crate) fn step_front(doc: u32, byte: usize, bytes: &[u8]) -> Option<(Checkpo
 }
 
 /// The heading of a checkpoint block, and what follows it. It claims no more checkpoints than could follow.
+#[inline(always)]
 #[tactic(auto, unfolding(crate::specs::BlockReading::heading_at))]
 pub(crate) fn heading_front(bytes: &[u8]) -> Option<(Heading, &[u8])>
     ensures { option_map (λ x. (x.0, x.1.now)) result ≡ heading_at bytes.now }
@@ -81,7 +89,7 @@ fn steps_front(
     let mut doc_end = heading.doc;
     let mut byte_end = heading.byte;
     for _ in 0..heading.count {
-        let Some((checkpoint, after)) = step_front(doc_end, byte_end, rest) else {
+        let Some((checkpoint, after)) = step_front(false, doc_end, byte_end, rest) else {
             return Err(IndexFault::Malformed);
         };
         doc_end = checkpoint.doc_range.end;

@@ -6,6 +6,9 @@ use store_base::{DocId, NoMemory};
 // How many checkpoints a stretch has, on the average.
 const STRETCH: usize = 64;
 
+// How many checkpoints a stretch's beginning is sought among first.
+const NEAR: usize = 256;
+
 /// The documents parted into equal stretches, and how many checkpoints end before each of them.
 ///
 /// The pace is how many checkpoints there are to a document, in parts of 2^32; by it a stretch has
@@ -29,6 +32,17 @@ fn at_pace(pace: u64, docs: DocId) -> usize {
     (u64::from(docs).saturating_mul(pace) >> 32) as usize
 }
 
+// How many checkpoints end before a stretch, whose first is this one by the pace. So many are known to end
+// before it.
+fn ends_before(doc_ends: &[DocId], pace: u64, first: usize, known: usize) -> usize {
+    let rest = doc_ends.get(known..).unwrap_or(&[]);
+    let near = match rest.get(..NEAR) {
+        Some(near) if near.last().is_some_and(|end| at_pace(pace, *end) >= first) => near,
+        _ => rest,
+    };
+    known.saturating_add(near.partition_point(|end| at_pace(pace, *end) < first))
+}
+
 impl Guide {
     /// That of checkpoints whose documents end there.
     pub fn new(alloc: Global, doc_ends: &[DocId]) -> Result<Guide, NoMemory> {
@@ -37,9 +51,10 @@ impl Guide {
         let stretches = doc_ends.len() / STRETCH;
         if stretches > 0 {
             starts.reserve_exact(stretches + 2)?;
+            let mut start = 0;
             for stretch in 0..stretches + 2 {
-                let first = stretch.saturating_mul(STRETCH);
-                starts.push(doc_ends.partition_point(|end| at_pace(pace, *end) < first))?;
+                start = ends_before(doc_ends, pace, stretch.saturating_mul(STRETCH), start);
+                starts.push(start)?;
             }
         }
         Ok(Guide { pace, starts })

@@ -24,7 +24,7 @@ fn next_in_block(
     if left == 0 {
         return None;
     }
-    let (checkpoint, rest) = step_front(doc, byte, bytes)?;
+    let (checkpoint, rest) = step_front(false, doc, byte, bytes)?;
     Some((checkpoint, left - 1, rest))
 }
 

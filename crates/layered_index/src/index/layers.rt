@@ -27,6 +27,34 @@ pub(crate) struct Run {
     pub byte_end: usize,
 }
 
+// How many bytes a layer has from which on it is too long for a processor to learn.
+const LONG: usize = 1 << 16;
+
+// Whether a block of a long layer has another length than the one before it, so that how many bytes its
+// numbers have can't be foreseen. No answer depends on it.
+#[derive(Drop)]
+struct Evenness {
+    long: bool,
+    len: usize,
+    uneven: bool,
+}
+
+impl Evenness {
+    fn of(text: &[u8]) -> Evenness {
+        Evenness {
+            long: text.len() >= LONG,
+            len: 0,
+            uneven: false,
+        }
+    }
+
+    // After a block of this length.
+    fn tell(&mut self, len: usize) {
+        self.uneven = self.long && len != self.len;
+        self.len = len;
+    }
+}
+
 /// How many digits a number has in this base.
 pub(crate) fn digit_count(base: usize, n: usize) -> usize
     requires { 2 ≤ base }
@@ -41,6 +69,7 @@ pub(crate) fn digit_count(base: usize, n: usize) -> usize
 
 // Keeps where the checkpoints of a block end. Answers where the last does, and what follows it.
 fn keep_steps<'a>(
+    uneven: bool,
     heading: Heading,
     bytes: &'a [u8],
     ends: &mut Ends,
@@ -54,20 +83,24 @@ fn keep_steps<'a>(
     let mut doc_end = heading.doc;
     let mut byte_end = heading.byte;
     for _ in 0..heading.count {
-        let Some((checkpoint, after)) = step_front(doc_end, byte_end, rest) else {
+        let Some((checkpoint, after)) = step_front(uneven, doc_end, byte_end, rest) else {
             return Err(IndexFault::Malformed);
         };
+        ends.push(&checkpoint)?;
         doc_end = checkpoint.doc_range.end;
         byte_end = checkpoint.byte_range.end;
         rest = after;
-        ends.push(doc_end, byte_end)?;
     }
     Ok((doc_end, byte_end, rest))
 }
 
 // The block at the front in short, and what follows it.
 #[tactic(auto, unfolding(crate::specs::BlockReading::run_at))]
-fn run_front<'a>(bytes: &'a [u8], ends: &mut Ends) -> Result<(Run, &'a [u8]), IndexFault>
+fn run_front<'a>(
+    uneven: bool,
+    bytes: &'a [u8],
+    ends: &mut Ends,
+) -> Result<(Run, &'a [u8]), IndexFault>
     ensures read { Gives (λ x. (x.0, x.1.now)) result (run_at bytes.now) }
     ensures kept { IfOk result (λ x. 0 < x.0.count → with_ends ends.new (items 0 0 0 x.1.now)
         ≡ with_ends ends.old (items 0 0 0 bytes.now)) }
@@ -75,7 +108,7 @@ fn run_front<'a>(bytes: &'a [u8], ends: &mut Ends) -> Result<(Run, &'a [u8]), In
     let Some((heading, steps)) = heading_front(bytes) else {
         return Err(IndexFault::Malformed);
     };
-    let (doc_end, byte_end, rest) = keep_steps(heading, steps, ends)?;
+    let (doc_end, byte_end, rest) = keep_steps(uneven, heading, steps, ends)?;
     let run = Run {
         count: heading.count,
         doc: heading.doc,
@@ -151,8 +184,9 @@ fn walk_runs(
     let mut place = 0;
     let mut doc_end = heading.doc;
     let mut byte_end = heading.byte;
+    let mut evenness = Evenness::of(text);
     while !rest.is_empty() {
-        let (run, after) = run_front(rest, ends)?;
+        let (run, after) = run_front(evenness.uneven, rest, ends)?;
         let end = place + (rest.len() - after.len());
         if !may_stand(period, doc_end, byte_end, &run, after.len())
             || !next_points(&mut above, &run, place, end)
@@ -161,6 +195,7 @@ fn walk_runs(
         }
         doc_end = run.doc_end;
         byte_end = run.byte_end;
+        evenness.tell(end - place);
         place = end;
         rest = after;
     }

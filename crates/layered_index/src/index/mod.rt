@@ -9,6 +9,7 @@ mod guide;
 pub mod layer_cursor;
 mod layers;
 pub mod looks;
+mod short_number;
 pub mod skip_index;
 pub mod skip_index_builder;
 mod split;

@@ -2,6 +2,7 @@
 ghost use Rattle.std.specs.Prelude.{◌≡◌, ◌≤◌, ◌<◌, ◌+◌, ◌*◌, ℕ, [], length, IfOk, IfErr, MatchResult};
 ghost use Rattle.store_base.specs.Counts.{raised};
 ghost use Rattle.layered_index.specs.Checkpoint.{IsInLine, first_past};
+ghost use Rattle.layered_index.specs.Covering.{covered_to};
 ghost use Rattle.layered_index.specs.Layers.{Index, digit_count, index_part};
 ghost use Rattle.layered_index.specs.LayerReading.{items};
 ghost use Rattle.layered_index.specs.IndexReading.{last_items, IsIndexPart, HasIndex};
@@ -133,6 +134,14 @@ impl SkipIndex {
         let found = seek_over(&mut looks, target);
         steps.add(looks.count);
         found
+    }
+
+    /// Where the checkpoints end, their documents and their bytes, if they begin at the first document
+    /// and the first byte and none is empty.
+    pub fn covered_to(&self) -> Option<(DocId, usize)>
+        ensures { result ≡ covered_to 0 0 self.now.checkpoints }
+    {
+        self.tables.covered_to()
     }
 
     /// The checkpoints, in order.

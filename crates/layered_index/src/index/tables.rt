@@ -1,8 +1,9 @@
 //! A list of checkpoints, decoded once and looked at by index.
-ghost use Rattle.std.specs.Prelude.{◌≡◌, ◌<◌, [], ◌∷◌, ◌++◌, length, slice_get, Some, IfOk};
+ghost use Rattle.std.specs.Prelude.{◌≡◌, ◌<◌, ◌↔◌, [], ◌∷◌, length, slice_get, Some, IfOk, IsTrue};
 ghost use Rattle.layered_index.specs.Checkpoint.{IsInLine, IsInLineFrom};
+ghost use Rattle.layered_index.specs.Covering.{covered_to};
 ghost use Rattle.layered_index.specs.LayerReading.{items};
-ghost use Rattle.layered_index.specs.Tables.{EndLists, no_ends, with_ends};
+ghost use Rattle.layered_index.specs.Tables.{EndLists, no_ends, is_filled, with_ends};
 
 use crate::index::Checkpoint;
 use crate::index::guide::Guide;
@@ -12,11 +13,12 @@ use std::alloc::Global;
 use std::marker::Model;
 use store_base::{DocId, NoMemory};
 
-/// Where checkpoints end: their documents, and their bytes.
+/// Where checkpoints end: their documents, and their bytes; and whether each has a document and a byte.
 #[derive(Drop)]
 pub(crate) struct Ends {
     docs: Vec<DocId>,
     bytes: Vec<usize>,
+    filled: bool,
 }
 
 impl Model for Ends {
@@ -24,7 +26,15 @@ impl Model for Ends {
 
     ghost Value = { EndLists };
 
-    ghost view = { λ a. record { docs = a.docs.items; bytes = a.bytes.items } };
+    ghost view = { λ a. record { docs = a.docs.items; bytes = a.bytes.items; filled = a.filled } };
+}
+
+// Whether it has a document and a byte.
+fn is_filled(checkpoint: &Checkpoint) -> bool
+    ensures { result ≡ is_filled checkpoint.now }
+{
+    checkpoint.doc_range.start < checkpoint.doc_range.end
+        && checkpoint.byte_range.start < checkpoint.byte_range.end
 }
 
 impl Ends {
@@ -34,6 +44,7 @@ impl Ends {
         Ends {
             docs: Vec::new(alloc),
             bytes: Vec::new(alloc),
+            filled: true,
         }
     }
 
@@ -60,19 +71,19 @@ impl Ends {
     {
         self.docs.clear();
         self.bytes.clear();
+        self.filled = true;
         self.docs.reserve_exact(most)?;
         self.bytes.reserve_exact(most)?;
         Ok(())
     }
 
-    pub fn push(&mut self, doc_end: DocId, byte_end: usize) -> Result<(), NoMemory>
-        ensures { IfOk result (λ _. self.new ≡ record {
-          docs = self.old.docs ++ doc_end ∷ [];
-          bytes = self.old.bytes ++ byte_end ∷ [];
-        }) }
+    /// Keeps where one more ends.
+    pub fn push(&mut self, checkpoint: &Checkpoint) -> Result<(), NoMemory>
+        ensures { IfOk result (λ _. self.new ≡ with_ends self.old (checkpoint.now ∷ [])) }
     {
-        self.docs.push(doc_end)?;
-        self.bytes.push(byte_end)?;
+        self.docs.push(checkpoint.doc_range.end)?;
+        self.bytes.push(checkpoint.byte_range.end)?;
+        self.filled = self.filled && is_filled(checkpoint);
         Ok(())
     }
 }
@@ -108,6 +119,13 @@ fn start_of(layer: &[u8]) -> (DocId, usize)
         None => (0, 0),
         Some(first) => (first.doc_range.start, first.byte_range.start),
     }
+}
+
+// Whether checkpoints that begin there, and are filled or not, cover all that is before their end.
+fn is_covering(doc: DocId, byte: usize, filled: bool) -> bool
+    ensures { IsTrue result ↔ ((doc ≡ 0) × (byte ≡ 0) × IsTrue filled) }
+{
+    doc == 0 && byte == 0 && filled
 }
 
 impl Tables {
@@ -149,6 +167,21 @@ impl Tables {
         Checkpoint {
             doc_range: doc..doc_end,
             byte_range: byte..byte_end,
+        }
+    }
+
+    /// Where the checkpoints end, if they begin at the first document and the first byte and none is
+    /// empty.
+    pub fn covered_to(&self) -> Option<(DocId, usize)>
+        ensures { result ≡ covered_to 0 0 self.now }
+    {
+        let Some(last) = self.ends.len().checked_sub(1) else {
+            return Some((0, 0));
+        };
+        if is_covering(self.doc, self.byte, self.ends.filled) {
+            Some(self.ends.get(last))
+        } else {
+            None
         }
     }
 

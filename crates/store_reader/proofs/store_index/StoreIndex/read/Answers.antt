@@ -1,14 +1,13 @@
 use Rattle.std.proofs.Common.{◌≡◌, ℕ, Option, Some, None, length, refl, sym, ap, ◌∙◌, subst, inl}
 use Rattle.layered_index.specs.Checkpoint.{Covers}
 use Rattle.layered_index.specs.Layers.{index_part}
-use Rattle.store_reader.specs.Covering.{covered_to}
 use Rattle.store_reader.proofs.CoveringLemmas.{IsCovered, some_pair, covers_by, not_covered}
 use Rattle.store_reader.proofs.store_index.StoreIndex.read.Goals as goal
 use Rattle.store_reader.proofs.store_index.StoreIndex.read.Goals.{in_default-via-in-Some+else-end-covered, in_default-via-in_default}
 
 -- the checkpoints passed the test
 passed : (c : goal.Then-end-covered) → IsCovered c.in_ok-index.index.checkpoints c.in-Some.num_docs c.in-Some.end
-passed c = covers_by c.in_ok-index.index.checkpoints c.in-Some.num_docs c.in-Some.end c.in_ok-index.ensures.ok.1.0 (sym (c.in-Some.ensures ∙ ap (covered_to 0 0) c.checkpoints.ensures))
+passed c = covers_by c.in_ok-index.index.checkpoints c.in-Some.num_docs c.in-Some.end c.in_ok-index.ensures.ok.1.0 (sym c.in-Some.ensures)
 
 pub invariant_of-result : goal.invariant_of-result
 invariant_of-result c =
@@ -31,10 +30,9 @@ returns-in-Some c =
 pub returns-in_default : goal.returns-in_default
 returns-in_default c =
     let refused = not_covered c.args.period c.args.bytes c.args.covered c.in_ok-index.index.checkpoints c.requires.two c.in_ok-index.ensures.ok.1 in
-    let test = ap (covered_to 0 0) c.checkpoints.ensures in
     elim c.in_default.branch [
-      | in_default-via-in-Some+else-end-covered w ↦ inl (refl, refused (λ docs e. w.if-end-covered.false (some_pair w.in-Some.num_docs w.in-Some.end docs c.args.covered (w.in-Some.ensures ∙ test ∙ e)).1))
-      | in_default-via-in_default w ↦ inl (refl, refused (λ docs e. none_is_some docs c.args.covered (sym w.in_default.is ∙ c.covered_to.ensures ∙ test ∙ e)))
+      | in_default-via-in-Some+else-end-covered w ↦ inl (refl, refused (λ docs e. w.if-end-covered.false (some_pair w.in-Some.num_docs w.in-Some.end docs c.args.covered (w.in-Some.ensures ∙ e)).1))
+      | in_default-via-in_default w ↦ inl (refl, refused (λ docs e. none_is_some docs c.args.covered (sym w.in_default.is ∙ c.covered_to.ensures ∙ e)))
     ]
   where
     none_is_some : (docs end : ℕ) → ◌≡◌ {A = Option (ℕ × ℕ)} None (Some (docs, end)) → ⊥

@@ -1,7 +1,7 @@
-use Rattle.std.proofs.Common.{◌∙◌, ap, subst, sym}
+use Rattle.std.proofs.Common.{◌∙◌, true, ap, subst, sym}
 use Rattle.layered_index.specs.Checkpoint.{IsInLine}
 use Rattle.layered_index.specs.LayerReading.{items}
-use Rattle.layered_index.specs.Tables.{EndLists, between, AreTables}
+use Rattle.layered_index.specs.Tables.{EndLists, are_filled, between, AreTables}
 use Rattle.layered_index.proofs.TableLemmas.{between_ends, kept_as_many}
 use Rattle.layered_index.proofs.index.tables.Tables.new.Goals as goal
 
@@ -20,4 +20,5 @@ invariant_of-result c =
     subst (λ (ends : EndLists). AreTables ends (between doc byte ends.docs ends.bytes)) (sym c.requires.ends) (record {
       as_many = kept_as_many all;
       in_line = subst IsInLine (sym (between_ends doc byte all c.start_of-doc.ensures)) c.requires.in_line;
+      filled = ap (are_filled true) (sym (between_ends doc byte all c.start_of-doc.ensures));
     })
