@@ -1,7 +1,7 @@
 //! The blocks that a reader keeps.
 
 ghost use Rattle.std.specs.Prelude.{◌≡◌, ◌-◌, ◌<◌, ◌≤◌, if◌then◌else◌, ◌∷◌, take, length, Bool, Ok, None};
-ghost use Rattle.std.specs.Prelude.{IfOk, IsSome, IsNone, MatchOption, IsSomeAnd, nat_eq};
+ghost use Rattle.std.specs.Prelude.{IfOk, IfSome, IsSome, IsNone, MatchOption, IsSomeAnd, nat_eq};
 ghost use Rattle.std.specs.Map.{lookup};
 ghost use Rattle.lru.specs.LruCache.{lru_cache, promoted};
 ghost use Rattle.store_reader.specs.Cache.{look_up};
@@ -121,6 +121,23 @@ impl BlockCache {
     }
 }
 
+// A share of the block in front, if it has this key. The order stays.
+#[inline(always)]
+fn share_in_front(
+    blocks: &LruCache<usize, OwnedBytes>,
+    key: usize,
+    share: Share,
+) -> Option<Result<OwnedBytes, StoreError>>
+    ensures order { IsSome result → promoted (nat_eq key) blocks.now.entries ≡ blocks.now.entries }
+    ensures answer { IfSome result (λ answer. IsSomeAnd (lookup (nat_eq key) blocks.now.entries)
+        (λ block. IsShare share (Ok block) answer)) }
+{
+    match blocks.peek_mru() {
+        Some((front, block)) if *front == key => Some(share_of(block, share)),
+        _ => None,
+    }
+}
+
 // A share of the block with this key, if it is kept. The block goes to the front.
 #[inline(always)]
 fn share_kept(
@@ -132,6 +149,9 @@ fn share_kept(
     ensures answer { MatchOption result (lookup (nat_eq key) blocks.old.entries ≡ None)
         (λ answer. IsSomeAnd (lookup (nat_eq key) blocks.old.entries) (λ block. IsShare share (Ok block) answer)) }
 {
+    if let Some(answer) = share_in_front(blocks, key, share) {
+        return Some(answer);
+    }
     let block = blocks.get(&key)?;
     Some(share_of(block, share))
 }
