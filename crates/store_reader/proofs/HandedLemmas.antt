@@ -1,5 +1,5 @@
 -- What opening leaves of a file, and when it fails for a read.
-use Rattle.std.proofs.Common.{◌≡◌, ℕ, ◌-◌, ◌≤◌, true, false, List, length, nat_lt, refl, sym, ap, ◌∙◌, subst, arith, inl, inr}
+use Rattle.std.proofs.Common.{◌≡◌, ℕ, ◌-◌, true, false, List, length, nat_lt, refl, sym, ap, ◌∙◌, subst, arith, inl, inr}
 use Rattle.std.specs.Prelude.{Result, Ok, Err}
 use Rattle.std.proofs.lemmas.Bool.{ltb-true, ltb-false}
 use Rattle.store_base.specs.Counts.{HasRisen}
@@ -7,7 +7,7 @@ use Rattle.store_base.specs.Files.{Part}
 use Rattle.store_base.specs.declared.error.StoreError.{StoreError}
 use Rattle.store_base.specs.declared.error.StoreError.TheVariants.{Read}
 use Rattle.store_format.specs.declared.footer.DocStoreFooter.{DocStoreFooter}
-use Rattle.store_format.specs.Extraction.{SaysFrom, ExtractsFooter}
+use Rattle.store_format.specs.Extraction.{ExtractsFooter}
 use Rattle.store_format.specs.FileReading.{Comes}
 use Rattle.layered_index.specs.Layers.{Index}
 use Rattle.store_reader.specs.Opening.{IndexFrom, ReadsIndex, Opens, OpensFrom}

@@ -1,6 +1,6 @@
 -- What look-ups do to the blocks that are kept.
 use Rattle.std.proofs.Common.{◌≡◌, ℕ, zero, suc, ◌-◌, ◌≤◌, Bool, true, false, not, List, [], ◌∷◌, length, take, Option, Some, None, IsNone, IsSome, is_some, nat_eq, nat_lt, refl, sym, ap, ◌∙◌, subst, arith, sub-one}
-use Rattle.std.specs.Prelude.{◌==◌, if◌then◌else◌}
+use Rattle.std.specs.Prelude.{◌==◌, if◌then◌else◌, slice_get}
 use Rattle.std.proofs.lemmas.Bool.{eqb-true, eqb-false, eq-eqb, ne_eqb, lt-ltb}
 use Rattle.std.specs.List.{AllByRecursion, IsDistinct, filter, list_any}
 use Rattle.std.specs.Map.{keys_of, lookup, lookup_entry, remove_entry}
@@ -168,6 +168,14 @@ promoted_none {X} k es none = (elim (lookup_entry (nat_eq k) es) as (λ o. looku
   | Some e ↦ λ h. let found : Some e.1 ≡ None = sym (lookup-entry (nat_eq k) es ∙ ap (λ o. option_map_or (λ e. Some e.1) o None) h) ∙ none in cc
   | None ↦ λ h. refl
 ]) refl
+
+-- where the pair in front has the key, its block is found, and nothing moves
+pub front_found : {X : Type 0} (k front : ℕ) (x : X) (es : List (ℕ × X)) → Some (front, x) ≡ slice_get es 0 → front ≡ k → (lookup (nat_eq k) es ≡ Some x) × (promoted (nat_eq k) es ≡ es)
+front_found {X} k front x [] at same = absurd cc
+front_found {X} k front x (e ∷ es) at same =
+    let is : (front, x) ≡ e = cc in
+    let key : nat_eq k e.0 ≡ true = eq-eqb k e.0 (sym same ∙ ap (λ (p : ℕ × X). p.0) is) in
+    rw key (ap (λ (p : ℕ × X). Some p.1) (sym is), refl)
 
 pub AreKept-promoted : (k capacity : ℕ) (es : List (ℕ × List ℕ)) → AreKept capacity es → AreKept capacity (promoted (nat_eq k) es)
 AreKept-promoted k capacity es a = (elim (lookup (nat_eq k) es) as (λ o. lookup (nat_eq k) es ≡ o → AreKept capacity (promoted (nat_eq k) es)) [

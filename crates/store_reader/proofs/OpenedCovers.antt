@@ -1,15 +1,14 @@
 -- The checkpoints of an opened reader cover its data, whatever the file gave.
 use Rattle.std.proofs.Common.{◌≡◌, ℕ, ◌-◌, ◌≤◌, true, false, List, length, nat_lt, refl, ap, ◌∙◌, sym, subst, arith}
-use Rattle.std.specs.Prelude.{Result, Ok, Err, slice_range}
+use Rattle.std.specs.Prelude.{Result, Ok, Err}
 use Rattle.std.proofs.lemmas.Bool.{ltb-true, ltb-false}
 use Rattle.store_base.specs.Files.{Part}
 use Rattle.store_base.specs.declared.error.StoreError.{StoreError}
-use Rattle.layered_index.specs.declared.index.Checkpoint.{Checkpoint}
 use Rattle.layered_index.specs.Checkpoint.{Covers}
 use Rattle.layered_index.specs.Layers.{Index}
 use Rattle.store_format.specs.declared.footer.DocStoreFooter.{DocStoreFooter}
 use Rattle.store_format.specs.FileReading.{Comes}
-use Rattle.store_reader.specs.Opening.{IndexFrom, ReadsIndex, Opens, OpensFrom, IsOpened, index_of}
+use Rattle.store_reader.specs.Opening.{IndexFrom, ReadsIndex, OpensFrom, IsOpened, index_of}
 use Rattle.store_reader.specs.Reading.{Reading}
 use Rattle.store_reader.proofs.SeenLemmas.{length-slice}
 

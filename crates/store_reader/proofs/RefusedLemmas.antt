@@ -1,27 +1,25 @@
 -- An honest file that was refused is no store, failed reads and memory aside.
-use Rattle.std.proofs.Common.{◌≡◌, ℕ, ◌+◌, ◌-◌, ◌<◌, ◌≤◌, ◌^◌, true, false, List, [], ◌∷◌, ◌++◌, length, take, drop, nat_lt, refl, sym, ap, ◌∙◌, subst, arith, append_assoc, length-append, inl, inr, ◌⊎◌}
+use Rattle.std.proofs.Common.{◌≡◌, ℕ, ◌+◌, ◌-◌, ◌<◌, ◌≤◌, ◌^◌, true, false, List, [], ◌∷◌, ◌++◌, length, nat_lt, refl, sym, ap, ◌∙◌, subst, arith, append_assoc, length-append, inl, inr, ◌⊎◌}
 use Rattle.std.specs.Prelude.{Result, Ok, Err, IsTrue, slice_range}
-use Rattle.std.specs.List.{AllByRecursion}
 use Rattle.std.proofs.lemmas.Bool.{ltb-true, ltb-false}
 use Rattle.std.proofs.lemmas.List.{append-nil}
-use Rattle.std.proofs.Math.Seq.{drop-append_seam, take-append_seam}
 use Rattle.store_base.specs.Files.{Part}
 use Rattle.store_base.specs.Serialize.{fixed}
 use Rattle.store_base.specs.SerializeLemmas.{fixed_numbers_are_apart}
 use Rattle.store_base.specs.declared.error.StoreError.{StoreError}
 use Rattle.store_base.specs.declared.error.StoreError.TheVariants.{BadVersion, BadBlockKind, Read, Memory, BadPeriod}
 use Rattle.store_format.specs.declared.footer.DocStoreFooter.{DocStoreFooter}
-use Rattle.layered_index.specs.Checkpoint.{IsFilled, Covers, bytes_end}
+use Rattle.layered_index.specs.Checkpoint.{Covers}
 use Rattle.store_format.specs.Extraction.{Says, SaysFrom, ExtractsFooter}
 use Rattle.store_format.specs.FileReading.{Comes}
 use Rattle.store_format.specs.Footer.{footer, version_number}
 use Rattle.layered_index.specs.Layers.{index_part}
 use Rattle.store_reader.specs.Opening.{IndexFrom, ReadsIndex, Opens, OpensFrom, IsSomeStore, RefusesNoStore}
-use Rattle.store_format.specs.StoreFile.{StoreBlock, IsStoreBlock, AreBlocks, data_of, marks_from, marks, HasForm}
+use Rattle.store_format.specs.StoreFile.{data_of, marks, HasForm}
 use Rattle.store_format.proofs.ExtractionLemmas.{length-reserved, length-footer}
 use Rattle.store_reader.proofs.OpenedLemmas.{IsTail, tail_of}
-use Rattle.store_format.proofs.StoreLemmas.{length-data_of-cons, data_fits, marks_in_line_from}
-use Rattle.store_format.proofs.FileLemmas.{slice_between, beginnings_apart, known_version, known_period, heads, tails, one_period}
+use Rattle.store_format.proofs.StoreLemmas.{data_fits}
+use Rattle.store_format.proofs.FileLemmas.{slice_between, beginnings_apart, known_version, heads, tails, one_period}
 use Rattle.store_format.proofs.StoreLemmas.{marks_cover}
 
 -- ---- the parts of a file

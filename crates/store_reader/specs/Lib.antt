@@ -6,6 +6,7 @@ pub mod LookingUp
 pub mod Covering
 pub mod Reading
 pub mod Answering
+pub mod Sharing
 pub mod Documents
 pub mod Iteration
 pub mod Walking

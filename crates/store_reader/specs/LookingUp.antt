@@ -34,11 +34,6 @@ pub record LooksUp (c : Checkpoint) (file : Part) (cache : Blocks) (came : Resul
   pub is_kept : Bool
   pub step : state_of cache' ≡ look_up cache.capacity (state_of cache) (record { key = c.byte_range.start; kept = is_kept })
 
--- the block, or no memory for a share of it
-abbrev pub IsCopy : List ℕ → Result (List ℕ) StoreError → Type 0
-IsCopy block (Ok copy) = copy ≡ block
-IsCopy block (Err e) = e ≡ Memory
-
 -- what came, or no memory for a share of it
 abbrev pub Takes : Result (List ℕ) StoreError → Result (List ℕ) StoreError → Type 0
 Takes came (Ok block) = came ≡ Ok block

@@ -1,22 +1,20 @@
 //! The blocks that a reader keeps.
 
-ghost use Rattle.std.specs.Prelude.{◌≡◌, ◌-◌, ◌<◌, ◌≤◌, if◌then◌else◌, ◌∷◌, take, length, Bool, None, IsSome, IsNone};
-ghost use Rattle.std.specs.Prelude.{IfOk, MatchOption, IsSomeAnd, nat_eq};
+ghost use Rattle.std.specs.Prelude.{◌≡◌, ◌-◌, ◌<◌, ◌≤◌, if◌then◌else◌, ◌∷◌, take, length, Bool, Ok, None};
+ghost use Rattle.std.specs.Prelude.{IfOk, IfSome, IsSome, IsNone, MatchOption, IsSomeAnd, nat_eq};
 ghost use Rattle.std.specs.Map.{lookup};
 ghost use Rattle.lru.specs.LruCache.{lru_cache, promoted};
-ghost use Rattle.store_reader.specs.Answering.{Answers};
-ghost use Rattle.store_format.specs.Block.{slot};
 ghost use Rattle.store_reader.specs.Cache.{look_up};
 ghost use Rattle.store_reader.specs.Kept.{capacity_of, entries_of, with_pair, no_blocks, block_at, last_key};
 ghost use Rattle.store_reader.specs.Kept.{after_hit, after_miss, with_block, state_of};
-ghost use Rattle.store_reader.specs.LookingUp.{IsCopy};
+ghost use Rattle.store_reader.specs.Sharing.{IsShare};
 
-use crate::slot::document_in;
+use crate::share::{Share, share_of};
 use lru::LruCache;
 use std::alloc::Global;
 use std::marker::Model;
 use std::num::NonZeroUsize;
-use store_base::{DocId, NoMemory, OwnedBytes, StoreError};
+use store_base::{NoMemory, OwnedBytes, StoreError};
 
 /// The blocks that a reader keeps, and how many look-ups found theirs.
 #[derive(Drop)]
@@ -57,39 +55,17 @@ impl BlockCache {
         })
     }
 
-    /// A look-up: the document at a position of the block with this key, if it is kept.
-    pub fn document(
-        &mut self,
-        key: usize,
-        doc_id: DocId,
-        doc_pos: u32,
-    ) -> Option<Result<OwnedBytes, StoreError>>
-        ensures answer { MatchOption result (block_at key self.old ≡ None)
-            (λ answer. IsSomeAnd (block_at key self.old) (λ block. Answers doc_id (slot block doc_pos) answer)) }
-        ensures hit { IsSome result → self.new ≡ after_hit key self.old }
-        ensures step { IsSome result → (is_kept : Bool) → state_of self.new
-            ≡ look_up self.old.capacity (state_of self.old) (record { key = key; kept = is_kept }) }
-        ensures miss { IsNone result → self.new ≡ after_miss self.old }
-    {
-        let found = document_of(&mut self.blocks, key, doc_id, doc_pos);
-        if found.is_some() {
-            self.hits = self.hits.saturating_add(1);
-        } else {
-            self.misses = self.misses.saturating_add(1);
-        }
-        found
-    }
-
     /// A look-up: a share of the block with this key, if it is kept.
-    pub fn block(&mut self, key: usize) -> Option<Result<OwnedBytes, StoreError>>
+    #[inline(always)]
+    pub fn look_up(&mut self, key: usize, share: Share) -> Option<Result<OwnedBytes, StoreError>>
         ensures answer { MatchOption result (block_at key self.old ≡ None)
-            (λ answer. IsSomeAnd (block_at key self.old) (λ block. IsCopy block answer)) }
+            (λ answer. IsSomeAnd (block_at key self.old) (λ block. IsShare share (Ok block) answer)) }
         ensures hit { IsSome result → self.new ≡ after_hit key self.old }
         ensures step { IsSome result → (is_kept : Bool) → state_of self.new
             ≡ look_up self.old.capacity (state_of self.old) (record { key = key; kept = is_kept }) }
         ensures miss { IsNone result → self.new ≡ after_miss self.old }
     {
-        let found = block_of(&mut self.blocks, key);
+        let found = share_in(&mut self.blocks, key, share);
         if found.is_some() {
             self.hits = self.hits.saturating_add(1);
         } else {
@@ -143,88 +119,57 @@ impl BlockCache {
     {
         put_in(&mut self.blocks, key, block);
     }
-
-    /// Keeps a share of a block that is not kept yet, unless memory for it is refused.
-    pub fn put_copy(&mut self, key: usize, block: &OwnedBytes)
-        requires { block_at key self.old ≡ None }
-        ensures { (is_kept : Bool) × (self.new ≡ with_block key block.now is_kept self.old) }
-    {
-        if let Ok(copy) = block.clone() {
-            self.put(key, copy);
-        }
-    }
 }
 
-// The document at a position of the block with this key, if it is kept. The block goes to the front.
-fn document_kept(
-    blocks: &mut LruCache<usize, OwnedBytes>,
+// A share of the block in front, if it has this key. The order stays.
+#[inline(always)]
+fn share_in_front(
+    blocks: &LruCache<usize, OwnedBytes>,
     key: usize,
-    doc_id: DocId,
-    doc_pos: u32,
+    share: Share,
 ) -> Option<Result<OwnedBytes, StoreError>>
-    ensures entries { blocks.new ≡ lru_cache (promoted (nat_eq key) blocks.old.entries) blocks.old.cap }
-    ensures answer { MatchOption result (lookup (nat_eq key) blocks.old.entries ≡ None)
-        (λ answer. IsSomeAnd (lookup (nat_eq key) blocks.old.entries)
-        (λ block. Answers doc_id (slot block doc_pos) answer)) }
+    ensures order { IsSome result → promoted (nat_eq key) blocks.now.entries ≡ blocks.now.entries }
+    ensures answer { IfSome result (λ answer. IsSomeAnd (lookup (nat_eq key) blocks.now.entries)
+        (λ block. IsShare share (Ok block) answer)) }
 {
-    let block = blocks.get(&key)?;
-    Some(document_in(block, doc_id, doc_pos))
-}
-
-// The same, where there may be no cache.
-fn document_of(
-    blocks: &mut Option<LruCache<usize, OwnedBytes>>,
-    key: usize,
-    doc_id: DocId,
-    doc_pos: u32,
-) -> Option<Result<OwnedBytes, StoreError>>
-    ensures capacity { capacity_of blocks.new ≡ capacity_of blocks.old }
-    ensures entries { entries_of blocks.new ≡ promoted (nat_eq key) (entries_of blocks.old) }
-    ensures answer { MatchOption result (lookup (nat_eq key) (entries_of blocks.old) ≡ None)
-        (λ answer. IsSomeAnd (lookup (nat_eq key) (entries_of blocks.old))
-        (λ block. Answers doc_id (slot block doc_pos) answer)) }
-{
-    match blocks {
-        Some(blocks) => document_kept(blocks, key, doc_id, doc_pos),
-        None => None,
-    }
-}
-
-// A share of a block.
-fn copy_of(block: &OwnedBytes) -> Result<OwnedBytes, StoreError>
-    ensures { IsCopy block.now result }
-{
-    match block.clone() {
-        Ok(copy) => Ok(copy),
-        Err(_) => Err(StoreError::Memory),
+    match blocks.peek_mru() {
+        Some((front, block)) if *front == key => Some(share_of(block, share)),
+        _ => None,
     }
 }
 
 // A share of the block with this key, if it is kept. The block goes to the front.
-fn block_kept(
+#[inline(always)]
+fn share_kept(
     blocks: &mut LruCache<usize, OwnedBytes>,
     key: usize,
+    share: Share,
 ) -> Option<Result<OwnedBytes, StoreError>>
     ensures entries { blocks.new ≡ lru_cache (promoted (nat_eq key) blocks.old.entries) blocks.old.cap }
     ensures answer { MatchOption result (lookup (nat_eq key) blocks.old.entries ≡ None)
-        (λ answer. IsSomeAnd (lookup (nat_eq key) blocks.old.entries) (λ block. IsCopy block answer)) }
+        (λ answer. IsSomeAnd (lookup (nat_eq key) blocks.old.entries) (λ block. IsShare share (Ok block) answer)) }
 {
+    if let Some(answer) = share_in_front(blocks, key, share) {
+        return Some(answer);
+    }
     let block = blocks.get(&key)?;
-    Some(copy_of(block))
+    Some(share_of(block, share))
 }
 
 // The same, where there may be no cache.
-fn block_of(
+#[inline(always)]
+fn share_in(
     blocks: &mut Option<LruCache<usize, OwnedBytes>>,
     key: usize,
+    share: Share,
 ) -> Option<Result<OwnedBytes, StoreError>>
     ensures capacity { capacity_of blocks.new ≡ capacity_of blocks.old }
     ensures entries { entries_of blocks.new ≡ promoted (nat_eq key) (entries_of blocks.old) }
     ensures answer { MatchOption result (lookup (nat_eq key) (entries_of blocks.old) ≡ None)
-        (λ answer. IsSomeAnd (lookup (nat_eq key) (entries_of blocks.old)) (λ block. IsCopy block answer)) }
+        (λ answer. IsSomeAnd (lookup (nat_eq key) (entries_of blocks.old)) (λ block. IsShare share (Ok block) answer)) }
 {
     match blocks {
-        Some(blocks) => block_kept(blocks, key),
+        Some(blocks) => share_kept(blocks, key, share),
         None => None,
     }
 }

@@ -10,6 +10,7 @@ pub mod laws;
 mod look_up;
 mod opening;
 pub mod reader;
+mod share;
 mod slot;
 mod store_index;
 pub mod view;

@@ -18,8 +18,9 @@ use crate::cache::BlockCache;
 use crate::cache_stats::CacheStats;
 use crate::documents::read_document;
 use crate::iter::{DocIter, Items, RawIter, sets_of};
-use crate::look_up::{Entered, look_up_block, look_up_document};
+use crate::look_up::{Entered, look_up};
 use crate::opening::read_store;
+use crate::share::Share;
 use crate::store_index::StoreIndex;
 use crate::walk::{DocWalk, first_walk};
 use layered_index::LayerCursor;
@@ -122,13 +123,15 @@ impl<H: FileHandle> StoreReader<H> {
         let Some(checkpoint) = self.index.seek(doc_id) else {
             return Err(StoreError::InvalidArgument(doc_id));
         };
-        look_up_document(
+        look_up(
             &mut self.file,
             &mut self.cache,
             alloc,
             &checkpoint,
-            doc_id,
-            doc_id - checkpoint.doc_range.start,
+            Share::Document {
+                doc_id,
+                doc_pos: doc_id - checkpoint.doc_range.start,
+            },
         )
     }
 
@@ -161,7 +164,13 @@ impl<H: FileHandle> StoreReader<H> {
         ensures covers { Covers self.old.checkpoints (length self.old.file.content) }
     {
         let checkpoint = self.index.seek(doc_id).unwrap();
-        let block = look_up_block(&mut self.file, &mut self.cache, alloc, &checkpoint);
+        let block = look_up(
+            &mut self.file,
+            &mut self.cache,
+            alloc,
+            &checkpoint,
+            Share::Block,
+        );
         Entered {
             first: checkpoint.doc_range.start,
             end: checkpoint.doc_range.end,

@@ -13,27 +13,27 @@ unwrap-checkpoint-requires g c =
 place : (g : _) (c : goal.After-checkpoint-1 g) → IsWithin 0 0 c.self.inside.index.checkpoints c.args.doc_id c.unwrap-checkpoint.result
 place g c = within 0 0 c.self.inside.index.checkpoints c.args.doc_id c.unwrap-checkpoint.result (omega arith) c.self.invariant.covers.in_line (sym c.seek.ensures ∙ c.unwrap-checkpoint.ensures)
 
-pub look_up_block-block-requires-clause-order : goal.look_up_block-block-requires-clause-order
-look_up_block-block-requires-clause-order g c = (place g c).order
+pub look_up-block-requires-clause-order : goal.look_up-block-requires-clause-order
+look_up-block-requires-clause-order g c = (place g c).order
 
-pub look_up_block-block-requires-clause-within : goal.look_up_block-block-requires-clause-within
-look_up_block-block-requires-clause-within g c = let end = (place g c).end in omega (arith, c.self.invariant.covers.end)
+pub look_up-block-requires-clause-within : goal.look_up-block-requires-clause-within
+look_up-block-requires-clause-within g c = let end = (place g c).end in omega (arith, c.self.invariant.covers.end)
 
 pub invariant_of-self : goal.invariant_of-self
-invariant_of-self g c = reader_after c.self.inside.file c.look_up_block-block.new.file c.self.inside.index.checkpoints c.self.inside.index.period c.args.doc_id c.unwrap-checkpoint.result c.self.inside.cache c.look_up_block-block.new.cache c.look_up_block-block.ensures.0 c.self.invariant (sym c.seek.ensures ∙ c.unwrap-checkpoint.ensures) c.look_up_block-block.ensures.1
+invariant_of-self g c = reader_after c.self.inside.file c.look_up-block.new.file c.self.inside.index.checkpoints c.self.inside.index.period c.args.doc_id c.unwrap-checkpoint.result c.self.inside.cache c.look_up-block.new.cache c.look_up-block.ensures.0 c.self.invariant (sym c.seek.ensures ∙ c.unwrap-checkpoint.ensures) c.look_up-block.ensures.1
 
 pub returns-clause-entered : goal.returns-clause-entered
 returns-clause-entered g c = rw (← c.self.view_is) (record {
   checkpoint = c.unwrap-checkpoint.result;
   looked = record {
-    came = c.look_up_block-block.ensures.0;
+    came = c.look_up-block.ensures.0;
     looked = record {
       seeks = sym c.seek.ensures ∙ c.unwrap-checkpoint.ensures;
-      looks_up = c.look_up_block-block.ensures.1;
+      looks_up = c.look_up-block.ensures.1;
       stays = refl;
-      honest = (stays_honest c.self.inside.file c.look_up_block-block.new.file c.self.inside.index.checkpoints c.self.inside.index.period c.args.doc_id c.unwrap-checkpoint.result c.self.inside.cache c.look_up_block-block.new.cache c.look_up_block-block.ensures.0 c.self.invariant (sym c.seek.ensures ∙ c.unwrap-checkpoint.ensures) c.look_up_block-block.ensures.1).given;
+      honest = (stays_honest c.self.inside.file c.look_up-block.new.file c.self.inside.index.checkpoints c.self.inside.index.period c.args.doc_id c.unwrap-checkpoint.result c.self.inside.cache c.look_up-block.new.cache c.look_up-block.ensures.0 c.self.invariant (sym c.seek.ensures ∙ c.unwrap-checkpoint.ensures) c.look_up-block.ensures.1).given;
     };
-    taken = c.look_up_block-block.ensures.2;
+    taken = c.look_up-block.ensures.2;
   };
   first = refl;
   end = refl;

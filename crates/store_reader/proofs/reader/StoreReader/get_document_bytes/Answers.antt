@@ -26,32 +26,32 @@ returns-in_default-clause-answered g c lt = let le = past g c in absurd (omega a
 pub overflow_sub-doc_id : goal.overflow_sub-doc_id
 overflow_sub-doc_id g c = (place g c).from
 
-pub look_up_document-requires-clause-order : goal.look_up_document-requires-clause-order
-look_up_document-requires-clause-order g c = (place g c).order
+pub look_up-requires-clause-order : goal.look_up-requires-clause-order
+look_up-requires-clause-order g c = (place g c).order
 
-pub look_up_document-requires-clause-within : goal.look_up_document-requires-clause-within
-look_up_document-requires-clause-within g c = let end = (place g c).end in omega (arith, c.self.invariant.covers.end)
+pub look_up-requires-clause-within : goal.look_up-requires-clause-within
+look_up-requires-clause-within g c = let end = (place g c).end in omega (arith, c.self.invariant.covers.end)
 
 -- the document is below the count
-below : (g : _) (c : goal.After-look_up_document g) → c.args.doc_id < num_docs c.args.self.now
+below : (g : _) (c : goal.After-look_up g) → c.args.doc_id < num_docs c.args.self.now
 below g c =
     let w = within 0 0 c.self.inside.index.checkpoints c.args.doc_id c.in-Some.checkpoint (omega arith) c.self.invariant.covers.in_line (sym c.in-Some.ensures) in
     rw (← c.self.view_is) (let to = w.to in let last = w.last in omega arith)
 
 pub invariant_of-self : goal.invariant_of-self
-invariant_of-self g c = reader_after c.self.inside.file c.look_up_document.new.file c.self.inside.index.checkpoints c.self.inside.index.period c.args.doc_id c.in-Some.checkpoint c.self.inside.cache c.look_up_document.new.cache c.look_up_document.ensures.0 c.self.invariant (sym c.in-Some.ensures) c.look_up_document.ensures.1
+invariant_of-self g c = reader_after c.self.inside.file c.look_up.new.file c.self.inside.index.checkpoints c.self.inside.index.period c.args.doc_id c.in-Some.checkpoint c.self.inside.cache c.look_up.new.cache c.look_up.ensures.0 c.self.invariant (sym c.in-Some.ensures) c.look_up.ensures.1
 
-answered : (g : _) (c : goal.After-look_up_document g) → IsAnswered c.args.self.now c.args.doc_id c.look_up_document.result (the_view (param 0 g.row.H) g.H.FileHandle (record { file = c.look_up_document.new.file; index = c.self.inside.index; version = c.self.inside.version; decompressor = c.self.inside.decompressor; cache = c.look_up_document.new.cache }))
+answered : (g : _) (c : goal.After-look_up g) → IsAnswered c.args.self.now c.args.doc_id c.look_up.result (the_view (param 0 g.row.H) g.H.FileHandle (record { file = c.look_up.new.file; index = c.self.inside.index; version = c.self.inside.version; decompressor = c.self.inside.decompressor; cache = c.look_up.new.cache }))
 answered g c = rw (← c.self.view_is) (record {
   checkpoint = c.in-Some.checkpoint;
-  came = c.look_up_document.ensures.0;
+  came = c.look_up.ensures.0;
   looked = record {
     seeks = sym c.in-Some.ensures;
-    looks_up = c.look_up_document.ensures.1;
+    looks_up = c.look_up.ensures.1;
     stays = refl;
-    honest = (stays_honest c.self.inside.file c.look_up_document.new.file c.self.inside.index.checkpoints c.self.inside.index.period c.args.doc_id c.in-Some.checkpoint c.self.inside.cache c.look_up_document.new.cache c.look_up_document.ensures.0 c.self.invariant (sym c.in-Some.ensures) c.look_up_document.ensures.1).given;
+    honest = (stays_honest c.self.inside.file c.look_up.new.file c.self.inside.index.checkpoints c.self.inside.index.period c.args.doc_id c.in-Some.checkpoint c.self.inside.cache c.look_up.new.cache c.look_up.ensures.0 c.self.invariant (sym c.in-Some.ensures) c.look_up.ensures.1).given;
   };
-  answer = c.look_up_document.ensures.2;
+  answer = c.look_up.ensures.2;
 })
 
 pub returns-in_default-clause-honest : goal.returns-in_default-clause-honest
