@@ -1,6 +1,6 @@
 //! Workloads over indexes without a store.
+use crate::checkpoint_list::CheckpointList;
 use crate::checks::{chained, hash};
-use crate::marks::Marks;
 use crate::measure::{Run, Workload};
 use anyhow::Result;
 use docstore::{SkipIndex, StoreError};
@@ -47,14 +47,14 @@ impl Workload for Seek {
 #[derive(Drop)]
 pub struct Build {
     pub alloc: Global,
-    pub marks: Marks,
+    pub list: CheckpointList,
     pub count: u64,
 }
 
 impl Workload for Build {
     fn run<C: Clock>(&mut self, clock: &C) -> Result<Run> {
         let start = Instant::now(clock)?;
-        let part = self.marks.index_part(self.alloc)?;
+        let part = self.list.index_part(self.alloc)?;
         let time = start.elapsed(clock)?;
         Ok(Run {
             time,

@@ -5,12 +5,12 @@
 #![tactic(auto)]
 
 mod arguments;
+mod checkpoint_list;
 mod checks;
 mod documents;
 mod generator;
 mod ids;
 mod index_work;
-mod marks;
 mod measure;
 mod plans;
 mod shared_file;

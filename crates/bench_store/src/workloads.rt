@@ -2,10 +2,10 @@
 ghost use Rattle.std.specs.Prelude.{◌<◌, IfSome};
 
 use crate::arguments::Numbers;
+use crate::checkpoint_list::{CheckpointList, targets};
 use crate::documents::Documents;
 use crate::ids::{Order, deleted, ids};
 use crate::index_work::{Build, OpenIndex, Seek, Walk};
-use crate::marks::{Marks, targets};
 use crate::measure::{Measure, Telling, Workload, perform};
 use crate::store_work::{Get, Iterate, Open, Source, Stack, Write};
 use crate::stores::written;
@@ -217,11 +217,11 @@ impl<'a, R: Print + Eprint + Clock> Bench<'a, R> {
         let count = numbers.documents(1_000_000);
         let questions = numbers.questions(1_000_000);
         let name = format!(in alloc; "seek/n={count}/q={questions}")?;
-        let marks = Marks::of_count(alloc, count)?;
-        let part = OwnedBytes::new(alloc, marks.index_part(alloc)?.into_bytes())?;
+        let list = CheckpointList::of_count(alloc, count)?;
+        let part = OwnedBytes::new(alloc, list.index_part(alloc)?.into_bytes())?;
         let mut work = Seek {
             index: SkipIndex::open(alloc, part)?,
-            targets: targets(alloc, questions, marks.num_docs())?,
+            targets: targets(alloc, questions, list.num_docs())?,
         };
         self.measure(name.as_str(), numbers, &mut work)
     }
@@ -232,7 +232,7 @@ impl<'a, R: Print + Eprint + Clock> Bench<'a, R> {
         let name = format!(in alloc; "index_build/n={count}")?;
         let mut work = Build {
             alloc,
-            marks: Marks::of_count(alloc, count)?,
+            list: CheckpointList::of_count(alloc, count)?,
             count,
         };
         self.measure(name.as_str(), numbers, &mut work)
@@ -243,7 +243,7 @@ impl<'a, R: Print + Eprint + Clock> Bench<'a, R> {
         let count = numbers.documents(1_000_000);
         let times = numbers.questions(1000);
         let name = format!(in alloc; "index_open/n={count}/q={times}")?;
-        let part = Marks::of_count(alloc, count)?.index_part(alloc)?;
+        let part = CheckpointList::of_count(alloc, count)?.index_part(alloc)?;
         let mut work = OpenIndex {
             alloc,
             part: OwnedBytes::new(alloc, part.into_bytes())?,
@@ -256,7 +256,7 @@ impl<'a, R: Print + Eprint + Clock> Bench<'a, R> {
         let alloc = self.alloc;
         let count = numbers.documents(1_000_000);
         let name = format!(in alloc; "index_walk/n={count}")?;
-        let part = Marks::of_count(alloc, count)?.index_part(alloc)?;
+        let part = CheckpointList::of_count(alloc, count)?.index_part(alloc)?;
         let len = part.as_slice().len() as u64;
         let mut work = Walk {
             index: SkipIndex::open(alloc, OwnedBytes::new(alloc, part.into_bytes())?)?,

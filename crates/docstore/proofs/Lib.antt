@@ -2,8 +2,8 @@ pub mod PendingLemmas
 pub mod OutputLemmas
 pub mod WriterLemmas
 pub mod TakenLemmas
-pub mod StackingLemmas
-pub mod StackedLemmas
+pub mod ShiftedCheckpointLemmas
+pub mod StackLawLemmas
 pub mod CallLemmas
 pub mod CutLemmas
 pub mod RunSoFarLemmas

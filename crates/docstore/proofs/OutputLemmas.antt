@@ -7,23 +7,24 @@ use Rattle.store_base.specs.Outputs.{Termination}
 use Rattle.layered_index.specs.declared.index.Checkpoint.{Checkpoint}
 use Rattle.store_base.specs.declared.error.Cause.{Cause}
 use Rattle.layered_index.specs.Checkpoint.{IsInLineFrom, IsInLine}
-use Rattle.store_format.specs.StoreFile.{StoreBlock, IsStoreBlock, docs_in, AreBlocks, data_of, marks_from, marks, file, reserved_of}
+use Rattle.store_format.specs.StoreFile.{StoreBlock, IsStoreBlock, docs_in, AreBlocks, data_of, checkpoints_from, checkpoints_of, file, reserved_of}
 use Rattle.store_format.specs.declared.kinds.Compressor.{Compressor}
 use Rattle.store_format.specs.declared.kinds.Compressor.TheVariants as packed
 use Rattle.store_format.specs.Footer.{footer, kind_of, unpacks}
 use Rattle.layered_index.specs.Layers.{index_part}
 use Rattle.docstore.specs.BlockOutput.{BlockOutput, new_output, with_blocks, with_risen, IsSound, data_in, front_of, blocks_in, AreWritten, IsCompressing, compressing}
-use Rattle.store_format.proofs.StoreLemmas.{docs_in-cons, docs_in-append, data_of-append, data_fits, AreBlocks-append, marks_from-append, marks_in_line_from, marks_in_line, docs_in-blocks_at}
+use Rattle.store_format.proofs.StoreLemmas.{docs_in-cons, docs_in-append, data_of-append, data_fits, AreBlocks-append, checkpoints_from-append, checkpoints_in_line_from, checkpoints_in_line}
+use Rattle.store_format.proofs.StoreLemmas.{docs_in-blocks_at}
 use Rattle.store_format.proofs.StoreLemmas.{blocks_from, blocks_none}
 
 -- what is known once these blocks are written behind the others
 pub record AreAdded (period next_id : ℕ) (cs : List Checkpoint) (content : List ℕ) (written : ℕ) (bs : List StoreBlock) (bytes : List ℕ) (count : ℕ) : Type 0 where
   pub ids : next_id + count < 2 ^ 32
   pub fits : written + length bytes < 2 ^ 64
-  pub in_line : IsInLine (cs ++ marks_from next_id written bs)
-  pub runs : IsInLineFrom 0 0 (cs ++ marks_from next_id written bs)
-  pub compressing : IsCompressing period (next_id + count) (cs ++ marks_from next_id written bs) (content ++ bytes) (written + length bytes) None
-  pub finished : blocks_in (cs ++ marks_from next_id written bs) (content ++ bytes) (written + length bytes) ≡ blocks_in cs content written ++ bs
+  pub in_line : IsInLine (cs ++ checkpoints_from next_id written bs)
+  pub runs : IsInLineFrom 0 0 (cs ++ checkpoints_from next_id written bs)
+  pub compressing : IsCompressing period (next_id + count) (cs ++ checkpoints_from next_id written bs) (content ++ bytes) (written + length bytes) None
+  pub finished : blocks_in (cs ++ checkpoints_from next_id written bs) (content ++ bytes) (written + length bytes) ≡ blocks_in cs content written ++ bs
   pub before : front_of (content ++ bytes) (written + length bytes) ≡ front_of content written
 
 length-data_in : (content : List ℕ) (written : ℕ) → written ≤ length content → length (data_in content written) ≡ written
@@ -38,9 +39,10 @@ are_added period next_id cs content written bs h each few =
     let docs : next_id ≡ docs_in old = h.ids ∙ sym (docs_in-blocks_at cs (data_in content written)) in
     let len : written ≡ length (data_of old) = sym (length-data_in content written is.held) ∙ ap length is.joined in
     let blocks : AreBlocks new = AreBlocks-append old bs is.blocks each (omega arith) in
-    let marked : cs ++ marks_from next_id written bs ≡ marks new =
-    (λ i. is.places i ++ marks_from (docs i) (len i) bs) ∙ sym (marks_from-append 0 0 old bs ∙ ap (λ (n : ℕ). marks old ++ marks_from n (0 + length (data_of old)) bs) (omega arith)
-    ∙ ap (λ (n : ℕ). marks old ++ marks_from (docs_in old) n bs) (omega arith)) in
+    let marked : cs ++ checkpoints_from next_id written bs ≡ checkpoints_of new =
+    (λ i. is.places i ++ checkpoints_from (docs i) (len i) bs) ∙ sym (checkpoints_from-append 0 0 old bs
+    ∙ ap (λ (n : ℕ). checkpoints_of old ++ checkpoints_from n (0 + length (data_of old)) bs) (omega arith)
+    ∙ ap (λ (n : ℕ). checkpoints_of old ++ checkpoints_from (docs_in old) n bs) (omega arith)) in
     let size : length (data_of new) ≡ written + length (data_of bs) = ap length (data_of-append old bs) ∙ length-append (data_of old) (data_of bs)
     ∙ ap (λ (n : ℕ). n + length (data_of bs)) (sym len) in
     let cut : length (content ++ data_of bs) - (written + length (data_of bs)) ≡ length content - written = omega (arith, length-append content (data_of bs)) in
@@ -48,22 +50,22 @@ are_added period next_id cs content written bs h each few =
     let data_is : data_in (content ++ data_of bs) (written + length (data_of bs)) ≡ data_of new =
     ap (λ (n : ℕ). drop n (content ++ data_of bs)) cut ∙ drop-append-le (length content - written) content (data_of bs) shorter ∙ ap (λ (x : List ℕ). x ++ data_of bs) is.joined
     ∙ sym (data_of-append old bs) in
-    let same : blocks_in (cs ++ marks_from next_id written bs) (content ++ data_of bs) (written + length (data_of bs)) ≡ new =
-    blocks_from (cs ++ marks_from next_id written bs) (data_in (content ++ data_of bs) (written + length (data_of bs))) new marked data_is in
+    let same : blocks_in (cs ++ checkpoints_from next_id written bs) (content ++ data_of bs) (written + length (data_of bs)) ≡ new =
+    blocks_from (cs ++ checkpoints_from next_id written bs) (data_in (content ++ data_of bs) (written + length (data_of bs))) new marked data_is in
     record {
       ids = few;
       fits = omega (arith, size, data_fits new blocks);
-      in_line = subst IsInLine (sym marked) (marks_in_line new blocks);
-      runs = subst (IsInLineFrom 0 0) (sym marked) (marks_in_line_from 0 0 new blocks.each (omega (arith, blocks.few_docs)) (omega (arith, data_fits new blocks)));
+      in_line = subst IsInLine (sym marked) (checkpoints_in_line new blocks);
+      runs = subst (IsInLineFrom 0 0) (sym marked) (checkpoints_in_line_from 0 0 new blocks.each (omega (arith, blocks.few_docs)) (omega (arith, data_fits new blocks)));
       compressing = record {
         least = h.least;
         most = h.most;
         ids = ap (λ (n : ℕ). n + docs_in bs) docs ∙ sym (docs_in-append old bs) ∙ ap docs_in (sym same)
-            ∙ docs_in-blocks_at (cs ++ marks_from next_id written bs) (data_in (content ++ data_of bs) (written + length (data_of bs)));
+            ∙ docs_in-blocks_at (cs ++ checkpoints_from next_id written bs) (data_in (content ++ data_of bs) (written + length (data_of bs)));
         few_ids = few;
         works = λ _. record {
           held = omega (arith, length-append content (data_of bs), is.held);
-          places = marked ∙ ap marks (sym same);
+          places = marked ∙ ap checkpoints_of (sym same);
           joined = data_is ∙ ap data_of (sym same);
           blocks = subst AreBlocks (sym same) blocks;
         };
@@ -120,7 +122,7 @@ begins period content failure least most =
       few_ids = omega arith;
       works = λ _. record {
         held = omega arith;
-        places = ap marks (sym (blocks_none (data_in content 0)));
+        places = ap checkpoints_of (sym (blocks_none (data_in content 0)));
         joined = whole ∙ ap data_of (sym (blocks_none (data_in content 0)));
         blocks = subst AreBlocks (sym (blocks_none (data_in content 0))) (record { each = tt; few_docs = omega arith });
       };
@@ -158,10 +160,10 @@ block_added compressor period next_id cs content written termination failures fa
 -- what is seen once blocks are added
 pub seen_added : (compressor : Compressor) (period next_id : ℕ) (cs : List Checkpoint) (content : List ℕ) (written : ℕ) (termination : Termination) (failures new_failures : ℕ) (failure : Option Cause)
     (now : BlockOutput) (bs : List StoreBlock) (bytes : List ℕ) (count : ℕ) → compressing compressor period cs content written termination failures failure ≡ now
-    → AreAdded period next_id cs content written bs bytes count → bytes ≡ data_of bs → compressing compressor period (cs ++ marks_from next_id written bs) (content ++ bytes)
+    → AreAdded period next_id cs content written bs bytes count → bytes ≡ data_of bs → compressing compressor period (cs ++ checkpoints_from next_id written bs) (content ++ bytes)
     (written + length bytes) termination new_failures failure ≡ with_risen new_failures (with_blocks now bs)
 seen_added compressor period next_id cs content written termination failures new_failures failure now bs bytes count view_is a bytes_is =
-    let step : compressing compressor period (cs ++ marks_from next_id written bs) (content ++ bytes) (written + length bytes) termination new_failures failure
+    let step : compressing compressor period (cs ++ checkpoints_from next_id written bs) (content ++ bytes) (written + length bytes) termination new_failures failure
     ≡ with_risen new_failures (with_blocks (compressing compressor period cs content written termination failures failure) bs) =
     λ i. record {
       compressor = compressor;
@@ -191,5 +193,5 @@ closed_file compressor period next_id cs content written h =
     let content_is : content ≡ front ++ data_of bs = sym (take-append-drop (length content - written) content) ∙ ap (λ (x : List ℕ). front ++ x) is.joined in
     let end = footer 3 (length (data_of bs)) 0 (reserved_of period 3) in
     (λ i. (content_is i ++ index_part period (is.places i)) ++ footer 3 (len i) (kind_none compressor i) (reserved_of period 3))
-    ∙ ap (λ (x : List ℕ). x ++ end) (append_assoc front (data_of bs) (index_part period (marks bs)))
-    ∙ append_assoc front (data_of bs ++ index_part period (marks bs)) end
+    ∙ ap (λ (x : List ℕ). x ++ end) (append_assoc front (data_of bs) (index_part period (checkpoints_of bs)))
+    ∙ append_assoc front (data_of bs ++ index_part period (checkpoints_of bs)) end

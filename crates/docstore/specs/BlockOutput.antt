@@ -10,9 +10,10 @@ use Rattle.store_base.specs.declared.error.StoreError.{StoreError}
 use Rattle.store_base.specs.declared.error.StoreError.TheVariants.{Memory, Failed}
 use Rattle.layered_index.specs.declared.index.Checkpoint.{Checkpoint}
 use Rattle.layered_index.specs.Checkpoint.{doc_count}
-use Rattle.store_format.specs.StoreFile.{StoreBlock, AreBlocks, docs_in, data_of, marks, blocks_at}
+use Rattle.store_format.specs.StoreFile.{StoreBlock, AreBlocks, docs_in, data_of, checkpoints_of, blocks_at}
 
--- How blocks are packed and the index is grouped; the finished blocks; why the writer has failed, if it has; what the output held when it was handed in, what it holds, its ends, and how often it failed.
+-- How blocks are packed and the index is grouped; the finished blocks; why the writer has failed, if it has; what the
+-- output held when it was handed in, what it holds, its ends, and how often it failed.
 pub record BlockOutput : Type 0 where
   pub compressor : Compressor
   pub period : ℕ
@@ -90,19 +91,24 @@ HasNotEnded OutOfMemory old new = new ≡ old
 
 -- what a refused `close` leaves in the output
 abbrev pub AfterFailedClose : Option Cause → Cause → BlockOutput → List ℕ → Termination → ℕ → Type 0
-AfterFailedClose None cause old content termination failures = HasCause cause old.failures failures old.content content × HasNotEnded cause old.termination termination
-AfterFailedClose (Some first) cause old content termination failures = (cause ≡ first) × (content ≡ old.content) × (failures ≡ old.failures) × (termination ≡ old.termination)
+AfterFailedClose None cause old content termination failures = HasCause cause old.failures failures old.content content
+    × HasNotEnded cause old.termination termination
+AfterFailedClose (Some first) cause old content termination failures = (cause ≡ first) × (content ≡ old.content)
+    × (failures ≡ old.failures) × (termination ≡ old.termination)
 
 -- For want of memory nothing went out; otherwise the writer had failed, or fails now.
 abbrev pub AfterClose : StoreError → BlockOutput → List ℕ → Termination → ℕ → Type 0
-AfterClose Memory old content termination failures = (old.failure ≡ None) × (content ≡ old.content) × (failures ≡ old.failures) × (termination ≡ old.termination)
-AfterClose (Failed cause) old content termination failures = AfterFailedClose old.failure cause old content termination failures
+AfterClose Memory old content termination failures = (old.failure ≡ None) × (content ≡ old.content)
+    × (failures ≡ old.failures) × (termination ≡ old.termination)
+AfterClose (Failed cause) old content termination failures =
+    AfterFailedClose old.failure cause old content termination failures
 AfterClose _ old content termination failures = ⊥
 
 -- The end of a file was refused: for want of memory before anything was written, or as the output failed.
 abbrev pub IsEndRefusal : StoreError → List ℕ → List ℕ → Termination → Termination → ℕ → ℕ → Type 0
 IsEndRefusal e old new termination ended failures risen =
-    ((e ≡ Memory) × (new ≡ old) × (risen ≡ failures) × (ended ≡ termination)) ⊎ ((e ≡ Failed Write) × HasRisen failures risen × HasNotEnded Write termination ended)
+    ((e ≡ Memory) × (new ≡ old) × (risen ≡ failures) × (ended ≡ termination))
+    ⊎ ((e ≡ Failed Write) × HasRisen failures risen × HasNotEnded Write termination ended)
 
 -- ---- how the blocks are told from the checkpoints and the output
 
@@ -119,12 +125,13 @@ blocks_in cs content written = blocks_at cs (data_in content written)
 -- The checkpoints are those of the blocks, and the blocks are all that was written.
 pub record AreWritten (cs : List Checkpoint) (content : List ℕ) (written : ℕ) : Type 0 where
   pub held : written ≤ length content
-  pub places : cs ≡ marks (blocks_in cs content written)
+  pub places : cs ≡ checkpoints_of (blocks_in cs content written)
   pub joined : data_in content written ≡ data_of (blocks_in cs content written)
   pub blocks : AreBlocks (blocks_in cs content written)
 
 -- The ids are given up to the next one, and the checkpoints are right unless the writer has failed.
-pub record IsCompressing (period next_id : ℕ) (cs : List Checkpoint) (content : List ℕ) (written : ℕ) (failure : Option Cause) : Type 0 where
+pub record IsCompressing (period next_id : ℕ) (cs : List Checkpoint) (content : List ℕ) (written : ℕ)
+    (failure : Option Cause) : Type 0 where
   pub least : 2 ≤ period
   pub most : period ≤ 64
   pub ids : next_id ≡ sum_by doc_count cs

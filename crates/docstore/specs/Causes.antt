@@ -1,8 +1,10 @@
 -- Why the calls of a list were refused.
-use Rattle.std.specs.Prelude.{◌≡◌, ◌≢◌, ℕ, ◌+◌, ◌-◌, ◌<◌, ◌≤◌, ◌^◌, nat_lt, if◌then◌else◌, List, [], ◌∷◌, ◌++◌, length, Option, None, Result, Ok, Err, MatchOption}
+use Rattle.std.specs.Prelude.{◌≡◌, ◌≢◌, ℕ, ◌+◌, ◌-◌, ◌<◌, ◌≤◌, ◌^◌, nat_lt, if◌then◌else◌, List, [], ◌∷◌, ◌++◌, length}
+use Rattle.std.specs.Prelude.{Option, None, Result, Ok, Err, MatchOption}
 use Rattle.store_base.specs.Counts.{HasRisen}
 use Rattle.store_base.specs.declared.error.StoreError.{StoreError}
-use Rattle.store_base.specs.declared.error.StoreError.TheVariants.{Read, Memory, OldVersion, Unserializable, BlockTooLarge, TooManyDocs}
+use Rattle.store_base.specs.declared.error.StoreError.TheVariants.{Read, Memory, OldVersion, Unserializable}
+use Rattle.store_base.specs.declared.error.StoreError.TheVariants.{BlockTooLarge, TooManyDocs}
 use Rattle.store_format.specs.declared.version.DocStoreVersion.TheVariants.{V1}
 use Rattle.docstore.specs.declared.run.StoreCommand.{StoreCommand}
 use Rattle.docstore.specs.declared.run.StoreCommand.TheVariants.{Doc, Bytes, Stack}
@@ -76,14 +78,18 @@ StoreGets at old new (Err OldVersion) = old.version ≡ V1
 StoreGets at old new (Err TooManyDocs) = HasTooMany at old
 StoreGets at old new (Err _) = ⊥
 
-abbrev pub CommandGets : {D H : Type 0} → (D → Option (List ℕ)) → Stage → StoreCommand D H → StoreCommand D H → Result (Unit {0}) StoreError → Type 0
+abbrev pub CommandGets : {D H : Type 0} → (D → Option (List ℕ)) → Stage → StoreCommand D H → StoreCommand D H
+    → Result (Unit {0}) StoreError → Type 0
 CommandGets doc_bytes at (Doc d) new result = DocumentGets at (doc_bytes d) result
 CommandGets doc_bytes at (Bytes v) new result = BytesGet at v.items result
 CommandGets doc_bytes at (Stack old) (Stack new) result = StoreGets at old new result
 CommandGets doc_bytes at (Stack old) _ result = ⊥
 
 -- Each command got its result where the calls before it had led.
-abbrev pub HaveCauses : {D H : Type 0} → ℕ → (D → Option (List ℕ)) → Stage → List (StoreCommand D H) → List (StoreCommand D H) → List (Result (Unit {0}) StoreError) → List Step → Type 0
+abbrev pub HaveCauses : {D H : Type 0} → ℕ → (D → Option (List ℕ)) → Stage → List (StoreCommand D H)
+    → List (StoreCommand D H) → List (Result (Unit {0}) StoreError) → List Step → Type 0
 HaveCauses size doc_bytes at [] [] [] [] = Unit {0}
-HaveCauses size doc_bytes at (old ∷ olds) (new ∷ news) (result ∷ results) (s ∷ trace) = CommandGets doc_bytes at old new result × HaveCauses size doc_bytes (stage_after size at (effect s)) olds news results trace
+HaveCauses size doc_bytes at (old ∷ olds) (new ∷ news) (result ∷ results) (s ∷ trace) =
+    CommandGets doc_bytes at old new result × HaveCauses size doc_bytes
+    (stage_after size at (effect s)) olds news results trace
 HaveCauses size doc_bytes at _ _ _ _ = ⊥

@@ -1,5 +1,6 @@
 -- Documents that wait, in their bytes and the places where they begin.
-use Rattle.std.specs.Prelude.{◌≡◌, ◌⊎◌, ◌↔◌, ℕ, ◌+◌, ◌*◌, ◌<◌, ◌≤◌, ◌^◌, List, [], ◌∷◌, length, slice_range, Option, Some, None, Result, IfOk, IfErr, IsErrOf}
+use Rattle.std.specs.Prelude.{◌≡◌, ◌⊎◌, ◌↔◌, ℕ, ◌+◌, ◌*◌, ◌<◌, ◌≤◌, ◌^◌, List, [], ◌∷◌, length, slice_range, Option}
+use Rattle.std.specs.Prelude.{Some, None, Result, IfOk, IfErr, IsErrOf}
 use Rattle.std.specs.List.{concat}
 use Rattle.store_base.specs.declared.fault.DocFault.{DocFault}
 use Rattle.store_base.specs.declared.fault.DocFault.TheVariants as fault
@@ -15,9 +16,11 @@ first_or (start ∷ starts) end = start
 -- the documents that begin at these places of the bytes
 unfoldable pub documents_at : List ℕ → List ℕ → List (List ℕ)
 documents_at [] bytes = []
-documents_at (start ∷ starts) bytes = slice_range bytes start (first_or starts (length bytes)) ∷ documents_at starts bytes
+documents_at (start ∷ starts) bytes = slice_range bytes start (first_or starts (length bytes))
+    ∷ documents_at starts bytes
 
--- The places and the bytes are those of the documents, of which a block can be made. A block of this limit has its place in 32 bits and in the room, and that of the documents is no longer.
+-- The places and the bytes are those of the documents, of which a block can be made. A block of this limit has its
+-- place in 32 bits and in the room, and that of the documents is no longer.
 pub record IsPending (starts bytes : List ℕ) (limit capacity : ℕ) : Type 0 where
   pub places : starts ≡ starts_from 0 (documents_at starts bytes)
   pub joined : bytes ≡ concat (documents_at starts bytes)
@@ -32,7 +35,8 @@ pub record HasRoom (long capacity limit : ℕ) : Type 0 where
   pub small : limit < 2 ^ 32
   pub room : limit ≤ capacity
 
--- There is room for a block so long, or it is refused: exactly where its length has no place in 32 bits, want of memory aside.
+-- There is room for a block so long, or it is refused: exactly where its length has no place in 32 bits, want of memory
+-- aside.
 pub record FindsRoom (long capacity : ℕ) (result : Result ℕ StoreError) : Type 0 where
   pub ok : IfOk result (HasRoom long capacity)
   pub too_large : IsErrOf result BlockTooLarge ↔ (2 ^ 32 ≤ long)

@@ -8,7 +8,8 @@ use Rattle.docstore.specs.declared.run.StoreCommand.TheVariants.{Doc, Bytes, Sta
 use Rattle.store_format.specs.StoreFile.{StoreBlock, AreBlocks, data_of, file, IsStore}
 use Rattle.store_format.specs.Slots.{slots}
 use Rattle.docstore.specs.BlockOutput.{HasCause, HasNotEnded}
-use Rattle.docstore.specs.Trace.{Step, Answer, accepted, read_failed, no_memory, refused, store, store_bytes, stack, Effect, adds, ends, may_end, no_effect, effect, meaning, Blocks}
+use Rattle.docstore.specs.Trace.{Step, Answer, accepted, read_failed, no_memory, refused, store, store_bytes, stack}
+use Rattle.docstore.specs.Trace.{Effect, adds, ends, may_end, no_effect, effect, meaning, Blocks}
 use Rattle.docstore.specs.Causes.{Stage, first_stage, CommandGets, HaveCauses}
 use Rattle.docstore.specs.Writer.{Writing, num_docs, flushed, with_document, with_failures}
 use Rattle.store_reader.specs.Reading.{Reading, IsReadAtMostOnce}
@@ -28,7 +29,8 @@ pub record IsStacking (reader : Reading) (result : Result (Unit {0}) StoreError)
   pub read : OnOk result (AreRead reader blocks)
 
 -- A command and its result in a trace.
-abbrev pub IsStep : {D H : Type 0} → (D → Option (List ℕ)) → StoreCommand D H → Result (Unit {0}) StoreError → Step → Type 0
+abbrev pub IsStep : {D H : Type 0} → (D → Option (List ℕ)) → StoreCommand D H → Result (Unit {0}) StoreError → Step
+    → Type 0
 IsStep doc_bytes (Doc d) result s = s ≡ record { call = store (doc_bytes d); answer = answer_of result }
 IsStep doc_bytes (Bytes v) result s = s ≡ record { call = store_bytes v.items; answer = answer_of result }
 IsStep doc_bytes (Stack reader) result s = IsStacking reader result s
@@ -52,7 +54,8 @@ abbrev pub stage_of : Writing → Stage
 stage_of w = record { count = num_docs w; pending = w.pending }
 
 -- The call was made by a writer that worked and works.
-pub record IsCall {D H : Type 0} (doc_bytes : D → Option (List ℕ)) (command left : StoreCommand D H) (result : Result (Unit {0}) StoreError) (old new : Writing) : Type 0 where
+pub record IsCall {D H : Type 0} (doc_bytes : D → Option (List ℕ)) (command left : StoreCommand D H)
+    (result : Result (Unit {0}) StoreError) (old new : Writing) : Type 0 where
   pub step : Step
   pub is : IsStep doc_bytes command result step
   pub cause : CommandGets doc_bytes (stage_of old) command left result
@@ -60,9 +63,11 @@ pub record IsCall {D H : Type 0} (doc_bytes : D → Option (List ℕ)) (command 
   pub after : new ≡ with_failures new.output.failures (after_effect old (effect step))
 
 -- These steps are the commands with their results.
-abbrev pub IsTrace : {D H : Type 0} → (D → Option (List ℕ)) → List (StoreCommand D H) → List (Result (Unit {0}) StoreError) → List Step → Type 0
+abbrev pub IsTrace : {D H : Type 0} → (D → Option (List ℕ)) → List (StoreCommand D H)
+    → List (Result (Unit {0}) StoreError) → List Step → Type 0
 IsTrace doc_bytes [] [] [] = Unit {0}
-IsTrace doc_bytes (command ∷ commands) (result ∷ results) (s ∷ trace) = IsStep doc_bytes command result s × IsTrace doc_bytes commands results trace
+IsTrace doc_bytes (command ∷ commands) (result ∷ results) (s ∷ trace) = IsStep doc_bytes command result s
+    × IsTrace doc_bytes commands results trace
 IsTrace doc_bytes _ _ _ = ⊥
 
 -- Each command is as it was, but for what its reader's file counts.
@@ -71,8 +76,11 @@ AreKept [] [] = Unit {0}
 AreKept (old ∷ commands) (new ∷ others) = IsKept old new × AreKept commands others
 AreKept _ _ = ⊥
 
--- Behind what it held, the output has the file of the blocks that these calls leave, whose slots are what the calls brought; and each result has its cause.
-pub record IsWritten {D H : Type 0} (period size : ℕ) (doc_bytes : D → Option (List ℕ)) (commands left : List (StoreCommand D H)) (results : List (Result (Unit {0}) StoreError)) (old new : List ℕ) : Type 0 where
+-- Behind what it held, the output has the file of the blocks that these calls leave, whose slots are what the calls
+-- brought; and each result has its cause.
+pub record IsWritten {D H : Type 0} (period size : ℕ) (doc_bytes : D
+    → Option (List ℕ)) (commands left : List (StoreCommand D H)) (results : List (Result (Unit {0}) StoreError))
+    (old new : List ℕ) : Type 0 where
   pub trace : List Step
   pub blocks : List StoreBlock
   pub calls : IsTrace doc_bytes commands results trace
@@ -82,8 +90,10 @@ pub record IsWritten {D H : Type 0} (period size : ℕ) (doc_bytes : D → Optio
   pub slots_are : slots blocks ≡ meaning trace
   pub output : new ≡ old ++ file period 3 blocks
 
--- The calls were made and memory was wanting for the file's end: behind what the output held are the finished blocks of theirs, and at most one block waited.
-pub record IsUnclosed {D H : Type 0} (size : ℕ) (doc_bytes : D → Option (List ℕ)) (commands left : List (StoreCommand D H)) (old new : List ℕ) : Type 0 where
+-- The calls were made and memory was wanting for the file's end: behind what the output held are the finished blocks of
+-- theirs, and at most one block waited.
+pub record IsUnclosed {D H : Type 0} (size : ℕ) (doc_bytes : D
+    → Option (List ℕ)) (commands left : List (StoreCommand D H)) (old new : List ℕ) : Type 0 where
   pub results : List (Result (Unit {0}) StoreError)
   pub trace : List Step
   pub blocks : List StoreBlock
@@ -104,11 +114,15 @@ abbrev pub told : List ℕ → Termination → ℕ → Told
 told content termination failures = record { content = content; termination = termination; failures = failures }
 
 -- What a refused run leaves. Where memory was wanting for the results, no call was made, and the output is as it came.
-abbrev pub AfterRun : {D H : Type 0} → ℕ → (D → Option (List ℕ)) → List (StoreCommand D H) → List (StoreCommand D H) → Told → Told → StoreError → Type 0
-AfterRun size doc_bytes commands left old new Memory = ((left ≡ commands) × (new ≡ old)) ⊎ (IsUnclosed size doc_bytes commands left old.content new.content × (new.termination ≡ old.termination))
-AfterRun size doc_bytes commands left old new (Failed cause) = HasCause cause old.failures new.failures old.content new.content × HasNotEnded cause old.termination new.termination
+abbrev pub AfterRun : {D H : Type 0} → ℕ → (D → Option (List ℕ)) → List (StoreCommand D H) → List (StoreCommand D H)
+    → Told → Told → StoreError → Type 0
+AfterRun size doc_bytes commands left old new Memory = ((left ≡ commands) × (new ≡ old))
+    ⊎ (IsUnclosed size doc_bytes commands left old.content new.content × (new.termination ≡ old.termination))
+AfterRun size doc_bytes commands left old new (Failed cause) =
+    HasCause cause old.failures new.failures old.content new.content × HasNotEnded cause old.termination new.termination
 AfterRun size doc_bytes commands left old new _ = ⊥
 
 -- The slots of the blocks that calls may leave are what the calls brought, whatever the block size.
 abbrev pub BlocksMeanTheirCalls : Type 0
-BlocksMeanTheirCalls = (size : ℕ) (trace : List Step) (bs : List StoreBlock) → AreBlocks bs → Blocks size trace bs → slots bs ≡ meaning trace
+BlocksMeanTheirCalls = (size : ℕ) (trace : List Step) (bs : List StoreBlock) → AreBlocks bs → Blocks size trace bs
+    → slots bs ≡ meaning trace

@@ -7,24 +7,26 @@ use Rattle.store_format.specs.declared.version.DocStoreVersion.{DocStoreVersion}
 use Rattle.store_format.specs.declared.version.DocStoreVersion.TheVariants.{V1}
 use Rattle.layered_index.specs.declared.index.Checkpoint.{Checkpoint}
 use Rattle.layered_index.specs.Checkpoint.{checkpoint}
-use Rattle.store_format.specs.StoreFile.{StoreBlock, marks}
+use Rattle.store_format.specs.StoreFile.{StoreBlock, checkpoints_of}
 use Rattle.store_reader.specs.Reading.{Reading, num_docs as docs_of, store_of, IsReadOnce}
 use Rattle.docstore.specs.BlockOutput.{BlockOutput, with_blocks, AfterFailedBlock}
 use Rattle.docstore.specs.Writer.{Writing, num_docs, flushed, with_failures, AfterFailed}
 
 -- The blocks that came of a reader's file: at the places of its own, and its own if the file is honest.
 pub record AreRead (reader : Reading) (bs : List StoreBlock) : Type 0 where
-  pub places : marks bs ≡ reader.checkpoints
+  pub places : checkpoints_of bs ≡ reader.checkpoints
   pub honest : IsTrue reader.file.honest → bs ≡ store_of reader
 
 -- a checkpoint so many documents and bytes further on
 abbrev pub shifted : ℕ → ℕ → Checkpoint → Checkpoint
-shifted docs bytes c = checkpoint (c.doc_range.start + docs) (c.doc_range.end + docs) (c.byte_range.start + bytes) (c.byte_range.end + bytes)
+shifted docs bytes c = checkpoint (c.doc_range.start + docs) (c.doc_range.end + docs) (c.byte_range.start + bytes)
+    (c.byte_range.end + bytes)
 
 -- What a refused stacking of blocks leaves: where the reading is refused, the writer as it was.
 abbrev pub AfterStacking : Reading → Reading → BlockOutput → BlockOutput → StoreError → Type 0
 AfterStacking reader read old new Memory = (old.failure ≡ None) × (new ≡ old)
-AfterStacking reader read old new Read = (old.failure ≡ None) × (new ≡ old) × HasRisen reader.file.failures read.file.failures
+AfterStacking reader read old new Read = (old.failure ≡ None) × (new ≡ old)
+    × HasRisen reader.file.failures read.file.failures
 AfterStacking reader read old new (Failed cause) = AfterFailedBlock old.failure cause old new
 AfterStacking reader read old new _ = ⊥
 
@@ -78,6 +80,7 @@ abbrev pub AfterStack : Reading → Reading → Writing → Writing → StoreErr
 AfterStack reader read old new OldVersion = (new ≡ old) × (read ≡ reader)
 AfterStack reader read old new TooManyDocs = (new ≡ old) × (read ≡ reader)
 AfterStack reader read old new Memory = IsFlushed old new × IsReadOnce reader read
-AfterStack reader read old new Read = IsFlushed old new × IsReadOnce reader read × HasRisen reader.file.failures read.file.failures
+AfterStack reader read old new Read = IsFlushed old new × IsReadOnce reader read
+    × HasRisen reader.file.failures read.file.failures
 AfterStack reader read old new (Failed cause) = AfterFailed old.output.failure cause old new
 AfterStack reader read old new _ = ⊥

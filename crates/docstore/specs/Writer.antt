@@ -1,8 +1,10 @@
 -- A store that is written, and what its calls do.
-use Rattle.std.specs.Prelude.{◌≡◌, ℕ, ◌+◌, ◌-◌, ◌<◌, ◌≤◌, ◌^◌, nat_lt, if◌then◌else◌, List, [], ◌∷◌, ◌++◌, length, Option, Some, None}
+use Rattle.std.specs.Prelude.{◌≡◌, ℕ, ◌+◌, ◌-◌, ◌<◌, ◌≤◌, ◌^◌, nat_lt, if◌then◌else◌, List, [], ◌∷◌, ◌++◌, length}
+use Rattle.std.specs.Prelude.{Option, Some, None}
 use Rattle.store_base.specs.declared.error.Cause.{Cause}
 use Rattle.store_base.specs.declared.error.StoreError.{StoreError}
-use Rattle.store_base.specs.declared.error.StoreError.TheVariants.{Memory, Unserializable, BlockTooLarge, TooManyDocs, Failed}
+use Rattle.store_base.specs.declared.error.StoreError.TheVariants.{Memory, Unserializable, BlockTooLarge, TooManyDocs}
+use Rattle.store_base.specs.declared.error.StoreError.TheVariants.{Failed}
 use Rattle.store_format.specs.Block.{block}
 use Rattle.store_format.specs.StoreFile.{StoreBlock, docs_in}
 use Rattle.docstore.specs.Trace.{weight}
@@ -44,7 +46,8 @@ with_document w document = flushed_if_full (record w { pending = w.pending ++ do
 abbrev pub with_failures : ℕ → Writing → Writing
 with_failures n w = record w { output = record w.output { failures = n } }
 
--- The documents can be numbered, the pending ones weigh no more than the block size, and the output holds the finished blocks unless the writer has failed.
+-- The documents can be numbered, the pending ones weigh no more than the block size, and the output holds the finished
+-- blocks unless the writer has failed.
 pub record IsStoreWriter (w : Writing) : Type 0 where
   pub ids : num_docs w < 2 ^ 32
   pub light : weight w.pending ≤ w.block_size

@@ -8,7 +8,7 @@ use Rattle.layered_index.specs.declared.index.Checkpoint.{Checkpoint}
 use Rattle.layered_index.specs.Checkpoint.{docs_end}
 use Rattle.store_reader.specs.declared.answers.ReadCall.{ReadCall}
 use Rattle.store_reader.specs.declared.answers.ReadCall.TheVariants.{Bytes as Get, Iter}
-use Rattle.store_reader.specs.Answers.{CanAnswer}
+use Rattle.store_reader.specs.CallAnswers.{CanAnswer}
 use Rattle.store_reader.specs.Reading.{Reading, IsSeen, num_docs, store_of}
 use Rattle.store_format.specs.Slots.{slots}
 use Rattle.store_format.specs.StoreFile.{StoreBlock, docs_in, file, IsStore}
@@ -19,7 +19,7 @@ use Rattle.docstore.specs.declared.run.StoreCommand.TheVariants.{Doc, Bytes, Sta
 use Rattle.docstore.specs.Run.{answer_of, IsStacking, IsTrace, IsWritten}
 use Rattle.docstore.specs.Stacking.{AreRead}
 use Rattle.docstore.specs.Trace.{Answer, accepted, read_failed, no_memory, refused, store, store_bytes, stack, Step, effect, effect_of, slots_of, meaning}
-use Rattle.docstore.proofs.StackedLemmas.{marks_end}
+use Rattle.docstore.proofs.StackLawLemmas.{checkpoints_end}
 use Rattle.docstore.proofs.TakenLemmas.{length-slots}
 use Rattle.headline.specs.Lists.{most_docs}
 use Rattle.headline.specs.Want.{IsWant}
@@ -37,7 +37,7 @@ all_reach few many (call ∷ calls) le h = (reaches few many call le h.0, all_re
 
 -- a reader that sees its store has as many documents as its blocks
 pub docs_seen : (r : Reading) → IsSeen r → num_docs r ≡ docs_in (store_of r)
-docs_seen r seen = omega (arith, ap (λ (cs : List Checkpoint). docs_end 0 cs) seen.marks_are, marks_end 0 0 (store_of r))
+docs_seen r seen = omega (arith, ap (λ (cs : List Checkpoint). docs_end 0 cs) seen.checkpoints_are, checkpoints_end 0 0 (store_of r))
 
 -- ---- how many documents a list brings
 
@@ -58,7 +58,7 @@ one_of_bytes bytes no_memory = omega arith
 one_of_bytes bytes refused = omega arith
 
 read_docs : (reader : Reading) (bs : List StoreBlock) → AreRead reader bs → length (slots bs) ≡ num_docs reader
-read_docs reader bs read = omega (arith, length-slots bs, marks_end 0 0 bs, ap (λ (cs : List Checkpoint). docs_end 0 cs) read.places)
+read_docs reader bs read = omega (arith, length-slots bs, checkpoints_end 0 0 bs, ap (λ (cs : List Checkpoint). docs_end 0 cs) read.places)
 
 no_slots : (bs : List StoreBlock) (e : StoreError) → length (slots_of (effect_of (stack bs) (answer_of (Err e)))) ≡ 0
 no_slots bs Read = refl
@@ -86,11 +86,21 @@ pub few_slots : {D H : Type 0} (doc_bytes : D → Option (List ℕ)) (commands :
     → IsTrace doc_bytes commands results trace → length (meaning trace) ≤ most_docs commands
 few_slots doc_bytes [] [] [] h = omega arith
 few_slots doc_bytes (Doc d ∷ commands) (result ∷ results) (s ∷ trace) h =
-    omega (arith, length-append (slots_of (effect s)) (meaning trace), few_slots doc_bytes commands results trace h.1, ap (λ (t : Step). length (slots_of (effect t))) h.0,
-        one_document (doc_bytes d) (answer_of result))
+    omega (
+      arith,
+      length-append (slots_of (effect s)) (meaning trace),
+      few_slots doc_bytes commands results trace h.1,
+      ap (λ (t : Step). length (slots_of (effect t))) h.0,
+      one_document (doc_bytes d) (answer_of result),
+    )
 few_slots doc_bytes (Bytes v ∷ commands) (result ∷ results) (s ∷ trace) h =
-    omega (arith, length-append (slots_of (effect s)) (meaning trace), few_slots doc_bytes commands results trace h.1, ap (λ (t : Step). length (slots_of (effect t))) h.0,
-        one_of_bytes v.items (answer_of result))
+    omega (
+      arith,
+      length-append (slots_of (effect s)) (meaning trace),
+      few_slots doc_bytes commands results trace h.1,
+      ap (λ (t : Step). length (slots_of (effect t))) h.0,
+      one_of_bytes v.items (answer_of result),
+    )
 few_slots doc_bytes (Stack reader ∷ commands) (result ∷ results) (s ∷ trace) h =
     omega (arith, length-append (slots_of (effect s)) (meaning trace), few_slots doc_bytes commands results trace h.1, stacked_docs reader result s h.0)
 few_slots doc_bytes [] [] (s ∷ trace) h = absurd h
@@ -103,7 +113,7 @@ few_slots doc_bytes (command ∷ commands) (result ∷ results) [] h = absurd h
 pub written_reach : {D H : Type 0} (doc_bytes : D → Option (List ℕ)) (period size : ℕ) (commands left : List (StoreCommand D H)) (results : List (Result (Unit {0}) StoreError)) (old new : List ℕ)
     (w : IsWritten period size doc_bytes commands left results old new)
     (calls : List ReadCall) (p v : ℕ) (bs : List StoreBlock) → StoresAreApart → IsStore p (file period 3 w.blocks) v bs → AllByRecursion (CanAnswer (most_docs commands)) calls
-        → AllByRecursion (CanAnswer (docs_in bs)) calls
+    → AllByRecursion (CanAnswer (docs_in bs)) calls
 written_reach doc_bytes period size commands left results old new w calls p v bs apart found reach =
     let same = apart p period (file period 3 w.blocks) v 3 bs w.blocks found w.store in
     let count : docs_in bs ≤ most_docs commands = omega (arith, ap docs_in same.2, length-slots w.blocks, ap length w.slots_are, few_slots doc_bytes commands results w.trace w.calls) in

@@ -17,7 +17,7 @@ use Rattle.store_format.specs.StoreFile.{StoreBlock, docs_in, file, IsStore}
 use Rattle.docstore.specs.Writer.{Writing, num_docs, blocks_of, flushed, new_writing, with_failures}
 use Rattle.docstore.specs.BlockOutput.{BlockOutput}
 use Rattle.docstore.specs.Stacking.{AreRead, with_store, IsOld, HasTooMany, AfterStack}
-use Rattle.docstore.proofs.StackedLemmas.{marks_end}
+use Rattle.docstore.proofs.StackLawLemmas.{checkpoints_end}
 use Rattle.headline.specs.Stacking.{IsNewStore}
 use Rattle.headline.specs.Want.{IsWant}
 
@@ -41,7 +41,7 @@ is_that bytes bs r apart new store seen =
     record {
       same = same.2;
       newer = λ old. absurd (omega (arith, same.1, ap version_number old, new.newer));
-      docs = omega (arith, ap (λ (cs : List Checkpoint). docs_end 0 cs) seen.marks_are, marks_end 0 0 (store_of r), ap docs_in same.2);
+      docs = omega (arith, ap (λ (cs : List Checkpoint). docs_end 0 cs) seen.checkpoints_are, checkpoints_end 0 0 (store_of r), ap docs_in same.2);
     }
 
 pub put_behind : (r left : Reading) (bs : List StoreBlock) (old new : Writing) (result : Result (Unit {0}) StoreError) → IsThat r bs → IsTrue r.file.honest → r.file.failures ≡ 0

@@ -3,7 +3,7 @@ use Rattle.std.specs.Prelude.{◌≡◌, ℕ, ◌+◌, List, [], ◌∷◌, map,
 use Rattle.store_base.specs.declared.error.StoreError.{StoreError}
 use Rattle.store_reader.specs.declared.answers.Answer.{Answer}
 use Rattle.store_reader.specs.declared.answers.ReadCall.{ReadCall}
-use Rattle.store_reader.specs.Answers.{exact_results, results_of}
+use Rattle.store_reader.specs.CallAnswers.{exact_results, results_of}
 use Rattle.store_reader.specs.Reading.{num_docs}
 use Rattle.docstore.specs.declared.run.StoreCommand.{StoreCommand}
 use Rattle.docstore.specs.declared.run.StoreCommand.TheVariants.{Doc, Bytes, Stack}
@@ -18,8 +18,11 @@ most_docs (Doc d ∷ commands) = 1 + most_docs commands
 most_docs (Bytes v ∷ commands) = 1 + most_docs commands
 most_docs (Stack reader ∷ commands) = num_docs reader + most_docs commands
 
--- The results of the commands have their causes, and both readers answer each call exactly by the slots that the accepted commands brought.
-pub record IsAsked {D H : Type 0} (size : ℕ) (doc_bytes : D → Option (List ℕ)) (commands left : List (StoreCommand D H)) (calls : List ReadCall) (results : List (Result (Unit {0}) StoreError)) (first second : List Answer) : Type 0 where
+-- The results of the commands have their causes, and both readers answer each call exactly by the slots that the
+-- accepted commands brought.
+pub record IsAsked {D H : Type 0} (size : ℕ) (doc_bytes : D
+    → Option (List ℕ)) (commands left : List (StoreCommand D H)) (calls : List ReadCall)
+    (results : List (Result (Unit {0}) StoreError)) (first second : List Answer) : Type 0 where
   pub trace : List Step
   pub commands_are : IsTrace doc_bytes commands results trace
   pub causes : HaveCauses size doc_bytes first_stage commands left results trace

@@ -1,7 +1,7 @@
 //! Whole lists of calls, from the writing to the answers.
 ghost use Rattle.std.specs.Prelude.{◌≡◌, ◌≤◌, ◌⊎◌, ℕ, List, IfOk, IfErr, map};
 ghost use Rattle.std.specs.List.{AllByRecursion};
-ghost use Rattle.store_reader.specs.Answers.{CanAnswer, exact_results, results_of};
+ghost use Rattle.store_reader.specs.CallAnswers.{CanAnswer, exact_results, results_of};
 ghost use Rattle.store_reader.specs.Opening.{IsSomeStore};
 ghost use Rattle.store_format.specs.Slots.{slots};
 ghost use Rattle.store_format.specs.StoreFile.{StoreBlock, docs_in, IsStore};

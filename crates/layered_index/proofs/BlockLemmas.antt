@@ -8,7 +8,8 @@ docs_end_last doc c [] last e = let same : c ≡ last = cc in ap (λ (x : Checkp
 docs_end_last doc c (x ∷ xs) last e = docs_end_last c.doc_range.end x xs last e
 
 -- the documents of a block by its first and its last checkpoint
-pub interval_is : (cs : List Checkpoint) (first last : Checkpoint) → slice_get cs 0 ≡ Some first → slice_get cs (length cs - 1) ≡ Some last → doc_interval cs ≡ Some (record { start = first.doc_range.start; end = last.doc_range.end })
+pub interval_is : (cs : List Checkpoint) (first last : Checkpoint) → slice_get cs 0 ≡ Some first → slice_get cs (length cs - 1) ≡ Some last
+    → doc_interval cs ≡ Some (record { start = first.doc_range.start; end = last.doc_range.end })
 interval_is [] first last e f = cc
 interval_is (c ∷ cs) first last e f =
     let here : c ≡ first = cc in

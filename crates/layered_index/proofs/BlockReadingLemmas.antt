@@ -1,5 +1,6 @@
 -- A checkpoint block that was spelled is read, and what is read is spelled so.
-use Rattle.std.proofs.Common.{◌≡◌, ℕ, zero, suc, ◌+◌, ◌-◌, ◌*◌, ◌/◌, ◌<◌, ◌≤◌, ◌^◌, ◌⊎◌, inl, inr, Bool, true, false, cond, eqb, ltb, List, [], ◌∷◌, ◌++◌, length, Option, Some, None, refl, sym, ◌∙◌, ap, subst, arith, append_assoc, length-append}
+use Rattle.std.proofs.Common.{◌≡◌, ℕ, zero, suc, ◌+◌, ◌-◌, ◌*◌, ◌/◌, ◌<◌, ◌≤◌, ◌^◌, ◌⊎◌, inl, inr, Bool, true, false, cond, eqb, ltb, List, [], ◌∷◌, ◌++◌, length, Option, Some, None, refl, sym, ◌∙◌}
+use Rattle.std.proofs.Common.{ap, subst, arith, append_assoc, length-append}
 use Rattle.std.proofs.lemmas.Bool.{lt-ltb, le-ltb, ltb-true, eqb-true, eqb-false, ne_eqb}
 use Rattle.std.proofs.lemmas.List.{append-nil}
 use Rattle.std.specs.List.{flat_map}
@@ -29,7 +30,8 @@ step_again c rest fits =
     let here : ltb (c.doc_range.start + docs) (2 ^ 32) ≡ true = lt-ltb _ _ (omega (arith, fits.doc_end)) in
     let there : ltb (c.byte_range.start + len) (2 ^ 64) ≡ true = lt-ltb _ _ (omega (arith, fits.byte_end)) in
     ap (step_at c.doc_range.start c.byte_range.start) regrouped
-    ∙ rw (first, second, here, there) (ap (λ (d : Checkpoint). Some (d, rest)) (same_checkpoint (checkpoint c.doc_range.start (c.doc_range.start + docs) c.byte_range.start (c.byte_range.start + len)) c refl doc_end refl byte_end))
+    ∙ rw (first, second, here, there) (ap (λ (d : Checkpoint). Some (d, rest)) (same_checkpoint
+    (checkpoint c.doc_range.start (c.doc_range.start + docs) c.byte_range.start (c.byte_range.start + len)) c refl doc_end refl byte_end))
 
 -- what a step is where it was read
 pub record IsStep (doc byte : ℕ) (bytes : List ℕ) (c : Checkpoint) (rest : List ℕ) : Type 0 where
@@ -38,7 +40,8 @@ pub record IsStep (doc byte : ℕ) (bytes : List ℕ) (c : Checkpoint) (rest : L
   pub limits : IsWithinLimits c
   pub takes : Takes bytes (step c) rest
 
-step_made : (doc byte docs len : ℕ) (bytes middle rest : List ℕ) → docs < 2 ^ 32 → len < 2 ^ 32 → doc + docs < 2 ^ 32 → byte + len < 2 ^ 64 → Takes bytes (number docs) middle → Takes middle (number len) rest
+step_made : (doc byte docs len : ℕ) (bytes middle rest : List ℕ) → docs < 2 ^ 32 → len < 2 ^ 32 → doc + docs < 2 ^ 32 → byte + len < 2 ^ 64 → Takes bytes (number docs) middle
+    → Takes middle (number len) rest
     → IsStep doc byte bytes (checkpoint doc (doc + docs) byte (byte + len)) rest
 step_made doc byte docs len bytes middle rest a b d e p q =
     let docs_is : docs ≡ doc + docs - doc = omega arith in
@@ -46,15 +49,18 @@ step_made doc byte docs len bytes middle rest a b d e p q =
       doc_start = refl;
       byte_start = refl;
       limits = record { doc_order = omega arith; doc_end = d; byte_order = omega arith; byte_len = omega arith; byte_end = e };
-      takes = subst (λ (m : ℕ). Takes bytes (number m ++ number (byte + len - byte)) rest) docs_is (subst (λ (m : ℕ). Takes bytes (number docs ++ number m) rest) len_is (takes_then bytes (number docs) middle (number len) rest p q));
+      takes = subst (λ (m : ℕ). Takes bytes (number m ++ number (byte + len - byte)) rest) docs_is
+          (subst (λ (m : ℕ). Takes bytes (number docs ++ number m) rest) len_is (takes_then bytes (number docs) middle (number len) rest p q));
     }
 
 pub step_read : (doc byte : ℕ) (bytes : List ℕ) (c : Checkpoint) (rest : List ℕ) → IsBytes bytes → step_at doc byte bytes ≡ Some (c, rest) → IsStep doc byte bytes c rest
 unfolding step_at
 step_read doc byte bytes c rest fits e =
-    let a = bind_some (number_below (2 ^ 32) bytes) (λ docs. number_below (2 ^ 32) docs.1 >>= λ len. cond (ltb (doc + docs.0) (2 ^ 32)) (cond (ltb (byte + len.0) (2 ^ 64)) (Some (checkpoint doc (doc + docs.0) byte (byte + len.0), len.1)) None) None) (c, rest) e in
+    let a = bind_some (number_below (2 ^ 32) bytes) (λ docs. number_below (2 ^ 32) docs.1 >>= λ len. cond (ltb (doc + docs.0) (2 ^ 32))
+    (cond (ltb (byte + len.0) (2 ^ 64)) (Some (checkpoint doc (doc + docs.0) byte (byte + len.0), len.1)) None) None) (c, rest) e in
     let docs = a.0.0 in
-    let b = bind_some (number_below (2 ^ 32) a.0.1) (λ len. cond (ltb (doc + docs) (2 ^ 32)) (cond (ltb (byte + len.0) (2 ^ 64)) (Some (checkpoint doc (doc + docs) byte (byte + len.0), len.1)) None) None) (c, rest) a.2 in
+    let b = bind_some (number_below (2 ^ 32) a.0.1) (λ len. cond (ltb (doc + docs) (2 ^ 32))
+    (cond (ltb (byte + len.0) (2 ^ 64)) (Some (checkpoint doc (doc + docs) byte (byte + len.0), len.1)) None) None) (c, rest) a.2 in
     let len = b.0.0 in
     let p = pass_both (ltb (doc + docs) (2 ^ 32)) (ltb (byte + len) (2 ^ 64)) (checkpoint doc (doc + docs) byte (byte + len), b.0.1) (c, rest) b.2 in
     let one = below_takes (2 ^ 32) bytes docs a.0.1 fits a.1 in
@@ -73,7 +79,8 @@ pub steps_again : (doc byte : ℕ) (cs : List Checkpoint) (rest : List ℕ) → 
 unfolding steps_at
 steps_again doc byte [] rest h = refl
 steps_again doc byte (c ∷ cs) rest h =
-    let first : step_at doc byte (step c ++ (flat_map step cs ++ rest)) ≡ Some (c, flat_map step cs ++ rest) = (λ i. step_at (sym h.0 i) (sym h.1 i) (step c ++ (flat_map step cs ++ rest))) ∙ step_again c (flat_map step cs ++ rest) h.2 in
+    let first : step_at doc byte (step c ++ (flat_map step cs ++ rest)) ≡ Some (c, flat_map step cs ++ rest) = (λ i. step_at (sym h.0 i) (sym h.1 i) (step c ++ (flat_map step cs ++ rest)))
+    ∙ step_again c (flat_map step cs ++ rest) h.2 in
     ap (steps_at (suc (length cs)) doc byte) (append_assoc (step c) (flat_map step cs) rest)
     ∙ rw (first, steps_again c.doc_range.end c.byte_range.end cs rest h.3) refl
 
@@ -85,7 +92,8 @@ pub record AreSteps (count doc byte : ℕ) (bytes : List ℕ) (cs : List Checkpo
 pub steps_read : (count doc byte : ℕ) (bytes : List ℕ) (cs : List Checkpoint) (rest : List ℕ) → IsBytes bytes → steps_at count doc byte bytes ≡ Some (cs, rest) → AreSteps count doc byte bytes cs rest
 unfolding steps_at
 steps_read zero doc byte bytes cs rest fits e =
-    subst (λ (x : List Checkpoint × List ℕ). AreSteps 0 doc byte bytes x.0 x.1) (some_is ([], bytes) (cs, rest) e) (record { counted = refl; runs = tt; takes = record { parts = refl; rest_fits = fits } })
+    subst (λ (x : List Checkpoint × List ℕ). AreSteps 0 doc byte bytes x.0 x.1) (some_is ([], bytes) (cs, rest) e)
+    (record { counted = refl; runs = tt; takes = record { parts = refl; rest_fits = fits } })
 steps_read (suc count) doc byte bytes cs rest fits e =
     let a = bind_some (step_at doc byte bytes) (λ c. steps_at count c.0.doc_range.end c.0.byte_range.end c.1 >>= λ others. Some (c.0 ∷ others.0, others.1)) (cs, rest) e in
     let c = a.0.0 in
@@ -102,7 +110,14 @@ steps_read (suc count) doc byte bytes cs rest fits e =
 -- each takes two bytes
 pub length-steps-ge : (cs : List Checkpoint) → 2 * length cs ≤ length (flat_map step cs)
 length-steps-ge [] = omega arith
-length-steps-ge (c ∷ cs) = omega (arith, length-append (step c) (flat_map step cs), length-append (number (doc_count c)) (number (byte_len c)), number_some (doc_count c), number_some (byte_len c), length-steps-ge cs)
+length-steps-ge (c ∷ cs) = omega (
+  arith,
+  length-append (step c) (flat_map step cs),
+  length-append (number (doc_count c)) (number (byte_len c)),
+  number_some (doc_count c),
+  number_some (byte_len c),
+  length-steps-ge cs,
+)
 
 -- ---- a block
 
@@ -113,11 +128,14 @@ heading_again c cs rest h few =
     let doc = c.doc_range.start in
     let byte = c.byte_range.start in
     let steps = flat_map step (c ∷ cs) ++ rest in
-    let count : number_below (2 ^ 64) (number (length (c ∷ cs)) ++ (number doc ++ (number byte ++ steps))) ≡ Some (length (c ∷ cs), number doc ++ (number byte ++ steps)) = below_again (2 ^ 64) (length (c ∷ cs)) (number doc ++ (number byte ++ steps)) few in
-    let docs : number_below (2 ^ 32) (number doc ++ (number byte ++ steps)) ≡ Some (doc, number byte ++ steps) = below_again (2 ^ 32) doc (number byte ++ steps) (omega (arith, h.2.doc_order, h.2.doc_end)) in
+    let count : number_below (2 ^ 64) (number (length (c ∷ cs)) ++ (number doc ++ (number byte ++ steps))) ≡ Some (length (c ∷ cs), number doc ++ (number byte ++ steps)) =
+    below_again (2 ^ 64) (length (c ∷ cs)) (number doc ++ (number byte ++ steps)) few in
+    let docs : number_below (2 ^ 32) (number doc ++ (number byte ++ steps)) ≡ Some (doc, number byte ++ steps) =
+    below_again (2 ^ 32) doc (number byte ++ steps) (omega (arith, h.2.doc_order, h.2.doc_end)) in
     let bytes : number_below (2 ^ 64) (number byte ++ steps) ≡ Some (byte, steps) = below_again (2 ^ 64) byte steps (omega (arith, h.2.byte_order, h.2.byte_end)) in
     let not_none : eqb (length (c ∷ cs)) 0 ≡ false = ne_eqb (length (c ∷ cs)) 0 (λ e. omega arith) in
-    let enough : ltb (length (number doc ++ (number byte ++ steps)) / 2) (length (c ∷ cs)) ≡ false = le-ltb _ _ (omega (arith, length-append (number doc) (number byte ++ steps), length-append (number byte) steps, length-append (flat_map step (c ∷ cs)) rest, length-steps-ge (c ∷ cs))) in
+    let enough : ltb (length (number doc ++ (number byte ++ steps)) / 2) (length (c ∷ cs)) ≡ false =
+    le-ltb _ _ (omega (arith, length-append (number doc) (number byte ++ steps), length-append (number byte) steps, length-append (flat_map step (c ∷ cs)) rest, length-steps-ge (c ∷ cs))) in
     let begin : starts (c ∷ cs) ++ steps ≡ number doc ++ (number byte ++ steps) = append_assoc (number doc) (number byte) steps in
     ap heading_at (block_then (c ∷ cs) rest ∙ ap (λ (t : List ℕ). number (length (c ∷ cs)) ++ t) begin) ∙ rw (count, not_none, enough, docs, bytes) refl
 
@@ -126,7 +144,8 @@ unfolding checkpoint_block_at heading_at steps_at
 block_again [] rest h few = ap checkpoint_block_at (block_then [] rest) ∙ rw (below_again (2 ^ 64) 0 rest (omega arith)) refl
 block_again (c ∷ cs) rest h few = block_by (c ∷ cs) rest (checkpoint_block (c ∷ cs) ++ rest) (heading_again c cs rest h few) (steps_again c.doc_range.start c.byte_range.start (c ∷ cs) rest h)
   where
-    block_by : (cs : List Checkpoint) (rest : List ℕ) (bytes : List ℕ) {h : Heading} {steps : List ℕ} → heading_at bytes ≡ Some (h, steps) → steps_at h.count h.doc h.byte steps ≡ Some (cs, rest) → checkpoint_block_at bytes ≡ Some (cs, rest)
+    block_by : (cs : List Checkpoint) (rest : List ℕ) (bytes : List ℕ) {h : Heading} {steps : List ℕ} → heading_at bytes ≡ Some (h, steps) → steps_at h.count h.doc h.byte steps ≡ Some (cs, rest)
+        → checkpoint_block_at bytes ≡ Some (cs, rest)
     block_by cs rest bytes e f = rw e f
 
 pub record IsBlock (bytes : List ℕ) (cs : List Checkpoint) (rest : List ℕ) : Type 0 where
@@ -134,7 +153,8 @@ pub record IsBlock (bytes : List ℕ) (cs : List Checkpoint) (rest : List ℕ) :
   pub few : length cs < 2 ^ 64
   pub takes : Takes bytes (checkpoint_block cs) rest
 
-pub some_block : (count doc byte : ℕ) (bytes a b c : List ℕ) (cs : List Checkpoint) (rest : List ℕ) → 0 < count → count < 2 ^ 64 → Takes bytes (number count) a → Takes a (number doc) b → Takes b (number byte) c → AreSteps count doc byte c cs rest → IsBlock bytes cs rest
+pub some_block : (count doc byte : ℕ) (bytes a b c : List ℕ) (cs : List Checkpoint) (rest : List ℕ) → 0 < count → count < 2 ^ 64 → Takes bytes (number count) a → Takes a (number doc) b
+    → Takes b (number byte) c → AreSteps count doc byte c cs rest → IsBlock bytes cs rest
 unfolding checkpoint_block
 some_block count doc byte bytes a b c [] rest some few p q r s = absurd (omega (arith, s.counted))
 some_block count doc byte bytes a b c (x ∷ cs) rest some few p q r s =
@@ -189,7 +209,8 @@ heading_read bytes h rest fits e =
     elim (chosen (eqb count 0) (Some (none, a.0.1)) (cond (ltb (length a.0.1 / 2) count) None (starts_at count a.0.1)) (Some (h, rest)) a.2) [
       | inl p ↦
           let is_zero : count ≡ 0 = eqb-true count 0 p.0 in
-          inl (subst (λ (x : Heading × List ℕ). CountsNone bytes x.0 x.1) (some_is (none, a.0.1) (h, rest) p.1) (record { none = refl; takes = subst (λ (n : ℕ). Takes bytes (number n) a.0.1) is_zero takes.0 }))
+          inl (subst (λ (x : Heading × List ℕ). CountsNone bytes x.0 x.1) (some_is (none, a.0.1) (h, rest) p.1)
+          (record { none = refl; takes = subst (λ (n : ℕ). Takes bytes (number n) a.0.1) is_zero takes.0 }))
       | inr p ↦
           let not_zero = eqb-false count 0 p.0 in
           elim (chosen (ltb (length a.0.1 / 2) count) None (starts_at count a.0.1) (Some (h, rest)) p.1) [

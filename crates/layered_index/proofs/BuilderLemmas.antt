@@ -25,7 +25,8 @@ groups_front : (period : ℕ) (run ys : List Checkpoint) → 1 ≤ period → le
 groups_front period run ys one full = groups-append 1 period run ys one (omega arith) ∙ ap (λ (rs : List (List Checkpoint)). rs ++ groups period ys) (groups_one period run (omega arith) (omega arith))
 
 -- full runs are groups, and then those of the rest
-groups_full : (period : ℕ) (runs : List (List Checkpoint)) (rest : List Checkpoint) → 1 ≤ period → AllByRecursion (λ run. length run ≡ period) runs → groups period (flat_map (λ run. run) runs ++ rest) ≡ runs ++ groups period rest
+groups_full : (period : ℕ) (runs : List (List Checkpoint)) (rest : List Checkpoint) → 1 ≤ period → AllByRecursion (λ run. length run ≡ period) runs
+    → groups period (flat_map (λ run. run) runs ++ rest) ≡ runs ++ groups period rest
 groups_full period [] rest one full = refl
 groups_full period (run ∷ runs) rest one full =
     ap (groups period) (append_assoc run (flat_map (λ (r : List Checkpoint). r) runs) rest)
@@ -43,14 +44,16 @@ pointer_last period place (x ∷ xs) few = ap (pointers place) (groups_one perio
 
 -- ---- a layer, and some more behind its list
 
-layer_groups : (period : ℕ) (cs : List Checkpoint) (runs : List (List Checkpoint)) (l : Layer) (more : List Checkpoint) → 1 ≤ period → IsLayer period cs runs l → groups period (cs ++ more) ≡ runs ++ groups period (l.rest ++ more)
+layer_groups : (period : ℕ) (cs : List Checkpoint) (runs : List (List Checkpoint)) (l : Layer) (more : List Checkpoint) → 1 ≤ period → IsLayer period cs runs l
+    → groups period (cs ++ more) ≡ runs ++ groups period (l.rest ++ more)
 layer_groups period cs runs l more one is =
     ap (λ (xs : List Checkpoint). groups period (xs ++ more)) (sym is.joined)
     ∙ ap (groups period) (append_assoc (flat_map (λ (r : List Checkpoint). r) runs) l.rest more)
     ∙ groups_full period runs (l.rest ++ more) one is.full
 
 -- the text of the longer list
-pub layer_text_more : (period : ℕ) (cs : List Checkpoint) (runs : List (List Checkpoint)) (l : Layer) (more : List Checkpoint) → 1 ≤ period → IsLayer period cs runs l → length (l.rest ++ more) ≤ period
+pub layer_text_more : (period : ℕ) (cs : List Checkpoint) (runs : List (List Checkpoint)) (l : Layer) (more : List Checkpoint) → 1 ≤ period → IsLayer period cs runs l
+    → length (l.rest ++ more) ≤ period
     → layer_text period (cs ++ more) ≡ l.bytes ++ block_text (l.rest ++ more)
 layer_text_more period cs runs l more one is few =
     ap (flat_map checkpoint_block) (layer_groups period cs runs l more one is)
@@ -58,7 +61,8 @@ layer_text_more period cs runs l more one is few =
     ∙ (λ i. sym is.written i ++ text_last period (l.rest ++ more) few i)
 
 -- the layer above it
-pub layer_above_more : (period : ℕ) (cs : List Checkpoint) (runs : List (List Checkpoint)) (l : Layer) (more : List Checkpoint) → 1 ≤ period → IsLayer period cs runs l → length (l.rest ++ more) ≤ period
+pub layer_above_more : (period : ℕ) (cs : List Checkpoint) (runs : List (List Checkpoint)) (l : Layer) (more : List Checkpoint) → 1 ≤ period → IsLayer period cs runs l
+    → length (l.rest ++ more) ≤ period
     → layer_above period (cs ++ more) ≡ pointers 0 runs ++ option_to_list (pointer_at (length l.bytes) (l.rest ++ more))
 layer_above_more period cs runs l more one is few =
     let place : length (flat_map checkpoint_block runs) ≡ length l.bytes = ap length (sym is.written) in
@@ -68,13 +72,16 @@ layer_above_more period cs runs l more one is few =
     ∙ ap (λ (xs : List Checkpoint). pointers 0 runs ++ xs) (pointer_last period (length l.bytes) (l.rest ++ more) few)
 
 -- the open block of a longer list is in line, and so is the layer above, if the text can be addressed
-pub rest_in_line : (period : ℕ) (cs : List Checkpoint) (runs : List (List Checkpoint)) (l : Layer) (more : List Checkpoint) → IsLayer period cs runs l → IsInLine (cs ++ more) → IsInLine (l.rest ++ more)
+pub rest_in_line : (period : ℕ) (cs : List Checkpoint) (runs : List (List Checkpoint)) (l : Layer) (more : List Checkpoint) → IsLayer period cs runs l → IsInLine (cs ++ more)
+    → IsInLine (l.rest ++ more)
 rest_in_line period cs runs l more is h =
-    let joined : cs ++ more ≡ flat_map (λ (r : List Checkpoint). r) runs ++ (l.rest ++ more) = ap (λ (xs : List Checkpoint). xs ++ more) (sym is.joined) ∙ append_assoc (flat_map (λ (r : List Checkpoint). r) runs) l.rest more in
+    let joined : cs ++ more ≡ flat_map (λ (r : List Checkpoint). r) runs ++ (l.rest ++ more) = ap (λ (xs : List Checkpoint). xs ++ more) (sym is.joined)
+    ∙ append_assoc (flat_map (λ (r : List Checkpoint). r) runs) l.rest more in
     let from = in_line_somewhere (flat_map (λ (r : List Checkpoint). r) runs ++ (l.rest ++ more)) (subst IsInLine joined h) in
     in_line_from _ _ (l.rest ++ more) (in_line-split from.0 from.1 (flat_map (λ (r : List Checkpoint). r) runs) (l.rest ++ more) from.2).1
 
-pub above_in_line : (period : ℕ) (cs : List Checkpoint) (runs : List (List Checkpoint)) (l : Layer) (more : List Checkpoint) → 1 ≤ period → period ≤ 64 → IsLayer period cs runs l → length (l.rest ++ more) ≤ period → IsInLine (cs ++ more)
+pub above_in_line : (period : ℕ) (cs : List Checkpoint) (runs : List (List Checkpoint)) (l : Layer) (more : List Checkpoint) → 1 ≤ period → period ≤ 64 → IsLayer period cs runs l
+    → length (l.rest ++ more) ≤ period → IsInLine (cs ++ more)
     → length (l.bytes ++ block_text (l.rest ++ more)) < 2 ^ 64 → IsInLine (pointers 0 runs ++ option_to_list (pointer_at (length l.bytes) (l.rest ++ more)))
 above_in_line period cs runs l more one small is few h fits =
     let len : length (layer_text period (cs ++ more)) ≡ length (l.bytes ++ block_text (l.rest ++ more)) = ap length (layer_text_more period cs runs l more one is few) in
@@ -100,11 +107,14 @@ inserted_none period c = refl
 
 pub inserted_stays : (period : ℕ) (l : Layer) (ls : List Layer) (c : Checkpoint) → length (put l c).rest < period → inserted period (l ∷ ls) c ≡ put l c ∷ ls
 unfolding inserted
-inserted_stays period l ls c lt = cond-true (ltb (length (put l c).rest) period) (put l c ∷ ls) (flushed (put l c) ∷ inserted period ls (pointer_to (put l c))) (lt-ltb (length (put l c).rest) period lt)
+inserted_stays period l ls c lt = cond-true (ltb (length (put l c).rest) period) (put l c ∷ ls) (flushed (put l c) ∷ inserted period ls (pointer_to (put l c)))
+    (lt-ltb (length (put l c).rest) period lt)
 
-pub inserted_flushes : (period : ℕ) (l : Layer) (ls : List Layer) (c : Checkpoint) → period ≤ length (put l c).rest → inserted period (l ∷ ls) c ≡ flushed (put l c) ∷ inserted period ls (pointer_to (put l c))
+pub inserted_flushes : (period : ℕ) (l : Layer) (ls : List Layer) (c : Checkpoint) → period ≤ length (put l c).rest
+    → inserted period (l ∷ ls) c ≡ flushed (put l c) ∷ inserted period ls (pointer_to (put l c))
 unfolding inserted
-inserted_flushes period l ls c le = cond-false (ltb (length (put l c).rest) period) (put l c ∷ ls) (flushed (put l c) ∷ inserted period ls (pointer_to (put l c))) (le-ltb (length (put l c).rest) period le)
+inserted_flushes period l ls c le = cond-false (ltb (length (put l c).rest) period) (put l c ∷ ls) (flushed (put l c) ∷ inserted period ls (pointer_to (put l c)))
+    (le-ltb (length (put l c).rest) period le)
 
 all_append : {A : Type 0} (P : A → Type 0) (xs : List A) (y : A) → AllByRecursion P xs → P y → AllByRecursion P (xs ++ y ∷ [])
 all_append P [] y h p = (p, tt)
@@ -113,7 +123,8 @@ all_append P (x ∷ xs) y h p = (h.0, all_append P xs y h.1 p)
 joined_more : (runs : List (List Checkpoint)) (run : List Checkpoint) → flat_map (λ r. r) (runs ++ run ∷ []) ≡ flat_map (λ r. r) runs ++ run
 joined_more runs run = flat_map-append (λ (r : List Checkpoint). r) runs (run ∷ []) ∙ ap (λ (xs : List Checkpoint). flat_map (λ (r : List Checkpoint). r) runs ++ xs) (append-nil run)
 
-stays_layer : (period : ℕ) (cs : List Checkpoint) (runs : List (List Checkpoint)) (l : Layer) (c : Checkpoint) → IsLayer period cs runs l → length (put l c).rest < period → IsLayer period (cs ++ c ∷ []) runs (put l c)
+stays_layer : (period : ℕ) (cs : List Checkpoint) (runs : List (List Checkpoint)) (l : Layer) (c : Checkpoint) → IsLayer period cs runs l → length (put l c).rest < period
+    → IsLayer period (cs ++ c ∷ []) runs (put l c)
 stays_layer period cs runs l c is lt = record {
   some = omega (arith, length_push cs c);
   full = is.full;
@@ -122,7 +133,8 @@ stays_layer period cs runs l c is lt = record {
   written = is.written;
 }
 
-flushed_layer : (period : ℕ) (cs : List Checkpoint) (runs : List (List Checkpoint)) (l : Layer) (c : Checkpoint) → 2 ≤ period → IsLayer period cs runs l → period ≤ length (put l c).rest → IsLayer period (cs ++ c ∷ []) (runs ++ (l.rest ++ c ∷ []) ∷ []) (flushed (put l c))
+flushed_layer : (period : ℕ) (cs : List Checkpoint) (runs : List (List Checkpoint)) (l : Layer) (c : Checkpoint) → 2 ≤ period → IsLayer period cs runs l → period ≤ length (put l c).rest
+    → IsLayer period (cs ++ c ∷ []) (runs ++ (l.rest ++ c ∷ []) ∷ []) (flushed (put l c))
 flushed_layer period cs runs l c two is le = record {
   some = omega (arith, length_push cs c);
   full = all_append (λ (r : List Checkpoint). length r ≡ period) runs (l.rest ++ c ∷ []) is.full (omega (arith, length_push l.rest c, is.few));
@@ -135,7 +147,8 @@ flushed_layer period cs runs l c two is le = record {
 }
 
 -- the pointers to one more run
-pointers_flushed : (period : ℕ) (cs : List Checkpoint) (runs : List (List Checkpoint)) (l : Layer) (c : Checkpoint) → IsLayer period cs runs l → pointers 0 (runs ++ (l.rest ++ c ∷ []) ∷ []) ≡ pointers 0 runs ++ pointer_to (put l c) ∷ []
+pointers_flushed : (period : ℕ) (cs : List Checkpoint) (runs : List (List Checkpoint)) (l : Layer) (c : Checkpoint) → IsLayer period cs runs l
+    → pointers 0 (runs ++ (l.rest ++ c ∷ []) ∷ []) ≡ pointers 0 runs ++ pointer_to (put l c) ∷ []
 pointers_flushed period cs runs l c is =
     let place : length (flat_map checkpoint_block runs) ≡ length l.bytes = ap length (sym is.written) in
     pointers-append 0 runs ((l.rest ++ c ∷ []) ∷ [])
@@ -155,7 +168,8 @@ inserted_built period cs (l ∷ ls) c two built = elim (cases_lt (length (put l 
       subst (IsBuilt period (cs ++ c ∷ [])) (sym (inserted_flushes period l ls c le)) (
         built.0 ++ (l.rest ++ c ∷ []) ∷ [],
         flushed_layer period cs built.0 l c two built.1 le,
-        subst (λ (xs : List Checkpoint). IsBuilt period xs (inserted period ls (pointer_to (put l c)))) (sym (pointers_flushed period cs built.0 l c built.1)) (inserted_built period (pointers 0 built.0) ls (pointer_to (put l c)) two built.2),
+        subst (λ (xs : List Checkpoint). IsBuilt period xs (inserted period ls (pointer_to (put l c)))) (sym (pointers_flushed period cs built.0 l c built.1))
+            (inserted_built period (pointers 0 built.0) ls (pointer_to (put l c)) two built.2),
       )
 ]
 
@@ -168,7 +182,8 @@ takes period cs (l ∷ ls) c two small built h =
       λ full fits.
           let text : length (l.bytes ++ block_text (l.rest ++ c ∷ [])) < 2 ^ 64 = subst (λ (t : List ℕ). length (l.bytes ++ t) < 2 ^ 64) (sym (block_text_put l.rest c)) fits in
           let above = above_in_line period cs built.0 l (c ∷ []) (omega (arith, two)) small built.1 few h text in
-          takes period (pointers 0 built.0) ls (pointer_to (put l c)) two small built.2 (subst (λ (o : Option Checkpoint). IsInLine (pointers 0 built.0 ++ option_to_list o)) (pointer_put l.bytes l.rest c) above),
+          takes period (pointers 0 built.0) ls (pointer_to (put l c)) two small built.2 (subst (λ (o : Option Checkpoint). IsInLine (pointers 0 built.0 ++ option_to_list o))
+          (pointer_put l.bytes l.rest c) above),
     )
 
 -- an index in the making takes what follows its list
@@ -178,7 +193,8 @@ builder_takes period ls c is h = takes period (list_of ls) ls c is.least is.most
 -- ---- what is seen
 
 -- full runs of a list in line are runs of a layer
-full_are_runs : (period doc byte : ℕ) (runs : List (List Checkpoint)) → 1 ≤ period → AllByRecursion (λ run. length run ≡ period) runs → IsInLineFrom doc byte (flat_map (λ run. run) runs) → AllByRecursion (IsRun period) runs
+full_are_runs : (period doc byte : ℕ) (runs : List (List Checkpoint)) → 1 ≤ period → AllByRecursion (λ run. length run ≡ period) runs → IsInLineFrom doc byte (flat_map (λ run. run) runs)
+    → AllByRecursion (IsRun period) runs
 full_are_runs period doc byte [] one full h = tt
 full_are_runs period doc byte (run ∷ runs) one full h =
     let both = in_line-split doc byte run (flat_map (λ (r : List Checkpoint). r) runs) h in
@@ -220,7 +236,13 @@ pub length-built : (period : ℕ) (cs : List Checkpoint) (ls : List Layer) → 2
 length-built period cs [] two none = sym (ap (λ (xs : List Checkpoint). digit_count period (length xs)) none ∙ digit_count_zero period)
 length-built period cs (l ∷ ls) two built =
     let runs = built.0 in
-    let total : length runs * period + length l.rest ≡ length cs = omega (arith, ap length built.1.joined, length-append (flat_map (λ (r : List Checkpoint). r) runs) l.rest, length-joined period runs built.1.full) in
-    let quotient : length cs / period ≡ length (pointers 0 runs) = ap (λ (n : ℕ). n / period) (sym total) ∙ div-mul-add (length runs) period (length l.rest) built.1.few ∙ sym (length-pointers 0 runs) in
+    let total : length runs * period + length l.rest ≡ length cs = omega (
+      arith,
+      ap length built.1.joined,
+      length-append (flat_map (λ (r : List Checkpoint). r) runs) l.rest,
+      length-joined period runs built.1.full,
+    ) in
+    let quotient : length cs / period ≡ length (pointers 0 runs) = ap (λ (n : ℕ). n / period) (sym total) ∙ div-mul-add (length runs) period (length l.rest) built.1.few
+    ∙ sym (length-pointers 0 runs) in
     let above = length-built period (pointers 0 runs) ls two built.2 in
     omega (arith, digit_count_more period (length cs) two built.1.some, ap (digit_count period) quotient, above)

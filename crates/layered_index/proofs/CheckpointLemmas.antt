@@ -9,11 +9,13 @@ use Rattle.layered_index.specs.Laws.{CheckpointBlocksAreApart}
 use Rattle.layered_index.proofs.ListLemmas.{regroup_3}
 
 -- a checkpoint is its four numbers
-pub same_checkpoint : (c d : Checkpoint) → c.doc_range.start ≡ d.doc_range.start → c.doc_range.end ≡ d.doc_range.end → c.byte_range.start ≡ d.byte_range.start → c.byte_range.end ≡ d.byte_range.end → c ≡ d
+pub same_checkpoint : (c d : Checkpoint) → c.doc_range.start ≡ d.doc_range.start → c.doc_range.end ≡ d.doc_range.end → c.byte_range.start ≡ d.byte_range.start → c.byte_range.end ≡ d.byte_range.end
+    → c ≡ d
 same_checkpoint c d e f g h = λ i. record { doc_range = record { start = e i; end = f i }; byte_range = record { start = g i; end = h i } }
 
 -- the step of a checkpoint tells it, where it is known to begin
-step_apart : (c d : Checkpoint) (r s : List ℕ) → IsWithinLimits c → IsWithinLimits d → c.doc_range.start ≡ d.doc_range.start → c.byte_range.start ≡ d.byte_range.start → step c ++ r ≡ step d ++ s → (c ≡ d) × (r ≡ s)
+step_apart : (c d : Checkpoint) (r s : List ℕ) → IsWithinLimits c → IsWithinLimits d → c.doc_range.start ≡ d.doc_range.start → c.byte_range.start ≡ d.byte_range.start → step c ++ r ≡ step d ++ s
+    → (c ≡ d) × (r ≡ s)
 step_apart c d r s p q doc byte e =
     let regrouped : number (doc_count c) ++ (number (byte_len c) ++ r) ≡ number (doc_count d) ++ (number (byte_len d) ++ s) =
     sym (append_assoc (number (doc_count c)) (number (byte_len c)) r) ∙ e ∙ append_assoc (number (doc_count d)) (number (byte_len d)) s in
@@ -22,7 +24,8 @@ step_apart c d r s p q doc byte e =
     (same_checkpoint c d doc (omega (arith, docs.0, p.doc_order, q.doc_order)) byte (omega (arith, bytes.0, p.byte_order, q.byte_order)), bytes.1)
 
 -- the steps of a list tell it, where it is known to begin and how long it is
-pub steps_apart : (doc byte : ℕ) (cs ds : List Checkpoint) (r s : List ℕ) → IsInLineFrom doc byte cs → IsInLineFrom doc byte ds → length cs ≡ length ds → flat_map step cs ++ r ≡ flat_map step ds ++ s → (cs ≡ ds) × (r ≡ s)
+pub steps_apart : (doc byte : ℕ) (cs ds : List Checkpoint) (r s : List ℕ) → IsInLineFrom doc byte cs → IsInLineFrom doc byte ds → length cs ≡ length ds → flat_map step cs ++ r ≡ flat_map step ds ++ s
+    → (cs ≡ ds) × (r ≡ s)
 steps_apart doc byte [] [] r s p q n e = (refl, e)
 steps_apart doc byte [] (d ∷ ds) r s p q n e = absurd (omega arith)
 steps_apart doc byte (c ∷ cs) [] r s p q n e = absurd (omega arith)
@@ -40,12 +43,14 @@ unfolding checkpoint_block
 block_then cs r = regroup_3 (number (length cs)) (starts cs) (flat_map step cs) r
 
 -- where two lists begin, and their steps
-starts_apart : (cs ds : List Checkpoint) (r s : List ℕ) → IsInLine cs → IsInLine ds → length cs ≡ length ds → starts cs ++ (flat_map step cs ++ r) ≡ starts ds ++ (flat_map step ds ++ s) → (cs ≡ ds) × (r ≡ s)
+starts_apart : (cs ds : List Checkpoint) (r s : List ℕ) → IsInLine cs → IsInLine ds → length cs ≡ length ds → starts cs ++ (flat_map step cs ++ r) ≡ starts ds ++ (flat_map step ds ++ s)
+    → (cs ≡ ds) × (r ≡ s)
 starts_apart [] [] r s p q n e = (refl, e)
 starts_apart [] (d ∷ ds) r s p q n e = absurd (omega arith)
 starts_apart (c ∷ cs) [] r s p q n e = absurd (omega arith)
 starts_apart (c ∷ cs) (d ∷ ds) r s p q n e =
-    let regrouped = sym (append_assoc (number c.doc_range.start) (number c.byte_range.start) (flat_map step (c ∷ cs) ++ r)) ∙ e ∙ append_assoc (number d.doc_range.start) (number d.byte_range.start) (flat_map step (d ∷ ds) ++ s) in
+    let regrouped = sym (append_assoc (number c.doc_range.start) (number c.byte_range.start) (flat_map step (c ∷ cs) ++ r)) ∙ e
+    ∙ append_assoc (number d.doc_range.start) (number d.byte_range.start) (flat_map step (d ∷ ds) ++ s) in
     let docs = numbers_are_apart c.doc_range.start d.doc_range.start _ _ regrouped in
     let bytes = numbers_are_apart c.byte_range.start d.byte_range.start _ _ docs.1 in
     let behind : IsInLineFrom c.doc_range.start c.byte_range.start (d ∷ ds) = (sym docs.0, sym bytes.0, q.2, q.3) in

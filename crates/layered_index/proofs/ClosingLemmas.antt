@@ -44,7 +44,8 @@ closes period cs (l ∷ ls) o two small built h =
     )
 
 -- so many layers of the list, with a pointer from below
-closed_texts : (period : ℕ) (cs : List Checkpoint) (ls : List Layer) (o : Option Checkpoint) → 2 ≤ period → IsBuilt period cs ls → closed ls o ≡ map (layer_text period) (layers_from period (length ls) (cs ++ option_to_list o))
+closed_texts : (period : ℕ) (cs : List Checkpoint) (ls : List Layer) (o : Option Checkpoint) → 2 ≤ period → IsBuilt period cs ls
+    → closed ls o ≡ map (layer_text period) (layers_from period (length ls) (cs ++ option_to_list o))
 unfolding closed
 closed_texts period cs [] o two built = refl
 closed_texts period cs (l ∷ ls) o two built =
@@ -79,7 +80,8 @@ index_part_is period ls is =
 
 -- ---- closing one layer
 
-closes_some : (l : Layer) (ls : List Layer) (o : Option Checkpoint) → Closes (l ∷ ls) o → IsInLine (put_some l o).rest × (length (closed_text (put_some l o)) < 2 ^ 64 → Closes ls (last_pointer (put_some l o)))
+closes_some : (l : Layer) (ls : List Layer) (o : Option Checkpoint) → Closes (l ∷ ls) o → IsInLine (put_some l o).rest
+    × (length (closed_text (put_some l o)) < 2 ^ 64 → Closes ls (last_pointer (put_some l o)))
 unfolding Closes
 closes_some l ls o h = h
 
@@ -94,7 +96,8 @@ closed_some l ls o = refl
 pub closes_here : (ls : List Layer) (at : ℕ) (l : Layer) (o : Option Checkpoint) → IsAt ls at l → Closes (drop at ls) o → IsInLine (put_some l o).rest
 closes_here ls at l o here h = (closes_some l (drop (at + 1) ls) o (subst (λ (xs : List Layer). Closes xs o) (from_here ls at l here) h)).0
 
-pub closes_next : (ls : List Layer) (at : ℕ) (l new : Layer) (o : Option Checkpoint) → IsAt ls at l → Closes (drop at ls) o → length (closed_text (put_some l o)) < 2 ^ 64 → Closes (drop (at + 1) (set ls at new)) (last_pointer (put_some l o))
+pub closes_next : (ls : List Layer) (at : ℕ) (l new : Layer) (o : Option Checkpoint) → IsAt ls at l → Closes (drop at ls) o → length (closed_text (put_some l o)) < 2 ^ 64
+    → Closes (drop (at + 1) (set ls at new)) (last_pointer (put_some l o))
 closes_next ls at l new o here h fits =
     let same : drop (at + 1) (set ls at new) ≡ drop (at + 1) ls = drop-set-lt (at + 1) ls at new (omega arith) in
     subst (λ (xs : List Layer). Closes xs (last_pointer (put_some l o))) (sym same) ((closes_some l (drop (at + 1) ls) o (subst (λ (xs : List Layer). Closes xs o) (from_here ls at l here) h)).1 fits)

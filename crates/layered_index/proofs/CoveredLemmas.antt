@@ -46,7 +46,8 @@ goes_on_filled doc byte c on =
     rw (lt-ltb c.doc_range.start c.doc_range.end (omega arith), lt-ltb c.byte_range.start c.byte_range.end (omega arith)) refl
 
 -- from where they begin, up to the last ends
-pub covered_between : (doc byte : ℕ) (docs bytes : List ℕ) (last d b : ℕ) → length docs ≡ suc last → length bytes ≡ suc last → slice_get docs last ≡ Some d → slice_get bytes last ≡ Some b → are_filled true (between doc byte docs bytes) ≡ true
+pub covered_between : (doc byte : ℕ) (docs bytes : List ℕ) (last d b : ℕ) → length docs ≡ suc last → length bytes ≡ suc last → slice_get docs last ≡ Some d → slice_get bytes last ≡ Some b
+    → are_filled true (between doc byte docs bytes) ≡ true
     → covered_to doc byte (between doc byte docs bytes) ≡ Some (d, b)
 covered_between doc byte [] bytes last d b p q e f filled = absurd (no_item last d e)
 covered_between doc byte (x ∷ docs) [] last d b p q e f filled = absurd (no_item last b f)
@@ -78,13 +79,15 @@ not_from_there c cs doc byte other = by_test (goes_on doc byte c) refl
     by_test true t = let on = goes_on-true doc byte c t in absurd (other (on.docs, on.bytes))
 
 -- The tables of a list tell where it is covered to.
-pub told_covered : (doc byte last : ℕ) (docs bytes : List ℕ) (cs : List Checkpoint) (ends : ℕ × ℕ) → between doc byte docs bytes ≡ cs → length docs ≡ suc last → length bytes ≡ suc last → doc ≡ 0 → byte ≡ 0 → are_filled true (between doc byte docs bytes) ≡ true
+pub told_covered : (doc byte last : ℕ) (docs bytes : List ℕ) (cs : List Checkpoint) (ends : ℕ × ℕ) → between doc byte docs bytes ≡ cs → length docs ≡ suc last → length bytes ≡ suc last → doc ≡ 0
+    → byte ≡ 0 → are_filled true (between doc byte docs bytes) ≡ true
     → slice_get docs last ≡ Some ends.0 → slice_get bytes last ≡ Some ends.1 → ◌≡◌ {A = Option (ℕ × ℕ)} (Some ends) (covered_to 0 0 cs)
 told_covered doc byte last docs bytes cs ends view p q d b filled e f =
     sym (covered_between doc byte docs bytes last ends.0 ends.1 p q e f filled) ∙ (λ i. covered_to (d i) (b i) (view i))
 
 -- They tell that it is not covered.
-pub told_uncovered : (doc byte : ℕ) (docs bytes : List ℕ) (cs : List Checkpoint) → between doc byte docs bytes ≡ cs → length docs ≡ length bytes → 1 ≤ length docs → (doc ≡ 0 → byte ≡ 0 → are_filled true (between doc byte docs bytes) ≡ true → ⊥)
+pub told_uncovered : (doc byte : ℕ) (docs bytes : List ℕ) (cs : List Checkpoint) → between doc byte docs bytes ≡ cs → length docs ≡ length bytes → 1 ≤ length docs
+    → (doc ≡ 0 → byte ≡ 0 → are_filled true (between doc byte docs bytes) ≡ true → ⊥)
     → ◌≡◌ {A = Option (ℕ × ℕ)} None (covered_to 0 0 cs)
 told_uncovered doc byte [] bytes cs view p some other = absurd (omega arith)
 told_uncovered doc byte (x ∷ docs) [] cs view p some other = absurd (omega arith)

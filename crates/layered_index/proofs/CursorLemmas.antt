@@ -1,5 +1,6 @@
 -- The checkpoints that bytes of a layer give: one step of it.
-use Rattle.std.proofs.Common.{◌≡◌, ℕ, zero, suc, ◌+◌, ◌-◌, ◌*◌, ◌/◌, ◌<◌, ◌≤◌, ◌^◌, Bool, true, false, cond, eqb, ltb, leb, List, [], ◌∷◌, ◌++◌, length, Option, Some, None, refl, sym, ◌∙◌, ap, arith, append_assoc}
+use Rattle.std.proofs.Common.{◌≡◌, ℕ, zero, suc, ◌+◌, ◌-◌, ◌*◌, ◌/◌, ◌<◌, ◌≤◌, ◌^◌, Bool, true, false, cond, eqb, ltb, leb, List, [], ◌∷◌, ◌++◌, length, Option, Some, None, refl, sym, ◌∙◌, ap, arith}
+use Rattle.std.proofs.Common.{append_assoc}
 use Rattle.std.specs.Option.{option_map_or}
 use Rattle.std.specs.List.{flat_map, AllByRecursion}
 use Rattle.store_base.specs.VInt.{◌>>=◌, number_at, number_below}
@@ -20,13 +21,14 @@ use Rattle.layered_index.proofs.RunLemmas.{IsRun, groups_are_runs}
 number_shorter : (bytes : List ℕ) (x : ℕ × List ℕ) → number_at bytes ≡ Some x → length x.1 < length bytes
 unfolding number_at
 number_shorter [] x e = absurd (cc)
-number_shorter (b ∷ bytes) x e = elim (leb 128 b) as (λ v. cond v (Some (b - 128, bytes)) (number_at bytes >>= λ high. cond (eqb high.0 0) None (Some (b + 128 * high.0, high.1))) ≡ Some x → length x.1 < length (b ∷ bytes)) [
-  | true ↦ λ h. omega (arith, ap (λ (y : ℕ × List ℕ). length y.1) (some_is (b - 128, bytes) x h))
-  | false ↦ λ h.
-      let found = bind_some (number_at bytes) (λ high. cond (eqb high.0 0) None (Some (b + 128 * high.0, high.1))) x h in
-      let passed = guard_some (eqb found.0.0 0) (b + 128 * found.0.0, found.0.1) x found.2 in
-      omega (arith, number_shorter bytes found.0 found.1, ap (λ (y : ℕ × List ℕ). length y.1) passed.1)
-] e
+number_shorter (b ∷ bytes) x e = elim (leb 128 b) as (λ v. cond v (Some (b - 128, bytes)) (number_at bytes >>= λ high. cond (eqb high.0 0) None (Some (b + 128 * high.0, high.1))) ≡ Some x
+    → length x.1 < length (b ∷ bytes)) [
+      | true ↦ λ h. omega (arith, ap (λ (y : ℕ × List ℕ). length y.1) (some_is (b - 128, bytes) x h))
+      | false ↦ λ h.
+          let found = bind_some (number_at bytes) (λ high. cond (eqb high.0 0) None (Some (b + 128 * high.0, high.1))) x h in
+          let passed = guard_some (eqb found.0.0 0) (b + 128 * found.0.0, found.0.1) x found.2 in
+          omega (arith, number_shorter bytes found.0 found.1, ap (λ (y : ℕ × List ℕ). length y.1) passed.1)
+    ] e
 
 below_shorter : (limit : ℕ) (bytes : List ℕ) (x : ℕ × List ℕ) → number_below limit bytes ≡ Some x → length x.1 < length bytes
 below_shorter limit bytes x e =
@@ -42,9 +44,11 @@ pass_both false c x y e = absurd cc
 pub step_shorter : (doc byte : ℕ) (bytes : List ℕ) (x : Checkpoint × List ℕ) → step_at doc byte bytes ≡ Some x → length x.1 < length bytes
 unfolding step_at
 step_shorter doc byte bytes x e =
-    let a = bind_some (number_below (2 ^ 32) bytes) (λ docs. number_below (2 ^ 32) docs.1 >>= λ len. cond (ltb (doc + docs.0) (2 ^ 32)) (cond (ltb (byte + len.0) (2 ^ 64)) (Some (checkpoint doc (doc + docs.0) byte (byte + len.0), len.1)) None) None) x e in
+    let a = bind_some (number_below (2 ^ 32) bytes) (λ docs. number_below (2 ^ 32) docs.1 >>= λ len. cond (ltb (doc + docs.0) (2 ^ 32))
+    (cond (ltb (byte + len.0) (2 ^ 64)) (Some (checkpoint doc (doc + docs.0) byte (byte + len.0), len.1)) None) None) x e in
     let docs = a.0.0 in
-    let b = bind_some (number_below (2 ^ 32) a.0.1) (λ len. cond (ltb (doc + docs) (2 ^ 32)) (cond (ltb (byte + len.0) (2 ^ 64)) (Some (checkpoint doc (doc + docs) byte (byte + len.0), len.1)) None) None) x a.2 in
+    let b = bind_some (number_below (2 ^ 32) a.0.1) (λ len. cond (ltb (doc + docs) (2 ^ 32))
+    (cond (ltb (byte + len.0) (2 ^ 64)) (Some (checkpoint doc (doc + docs) byte (byte + len.0), len.1)) None) None) x a.2 in
     let len = b.0.0 in
     let p = pass_both (ltb (doc + docs) (2 ^ 32)) (ltb (byte + len) (2 ^ 64)) (checkpoint doc (doc + docs) byte (byte + len), b.0.1) x b.2 in
     omega (arith, below_shorter (2 ^ 32) bytes a.0 a.1, below_shorter (2 ^ 32) a.0.1 b.0 b.1, ap (λ (y : Checkpoint × List ℕ). length y.1) p)
@@ -53,9 +57,11 @@ step_shorter doc byte bytes x e =
 pub step_takes : (doc byte : ℕ) (bytes : List ℕ) (x : Checkpoint × List ℕ) → step_at doc byte bytes ≡ Some x → 2 + length x.1 ≤ length bytes
 unfolding step_at
 step_takes doc byte bytes x e =
-    let a = bind_some (number_below (2 ^ 32) bytes) (λ docs. number_below (2 ^ 32) docs.1 >>= λ len. cond (ltb (doc + docs.0) (2 ^ 32)) (cond (ltb (byte + len.0) (2 ^ 64)) (Some (checkpoint doc (doc + docs.0) byte (byte + len.0), len.1)) None) None) x e in
+    let a = bind_some (number_below (2 ^ 32) bytes) (λ docs. number_below (2 ^ 32) docs.1 >>= λ len. cond (ltb (doc + docs.0) (2 ^ 32))
+    (cond (ltb (byte + len.0) (2 ^ 64)) (Some (checkpoint doc (doc + docs.0) byte (byte + len.0), len.1)) None) None) x e in
     let docs = a.0.0 in
-    let b = bind_some (number_below (2 ^ 32) a.0.1) (λ len. cond (ltb (doc + docs) (2 ^ 32)) (cond (ltb (byte + len.0) (2 ^ 64)) (Some (checkpoint doc (doc + docs) byte (byte + len.0), len.1)) None) None) x a.2 in
+    let b = bind_some (number_below (2 ^ 32) a.0.1) (λ len. cond (ltb (doc + docs) (2 ^ 32))
+    (cond (ltb (byte + len.0) (2 ^ 64)) (Some (checkpoint doc (doc + docs) byte (byte + len.0), len.1)) None) None) x a.2 in
     let len = b.0.0 in
     let p = pass_both (ltb (doc + docs) (2 ^ 32)) (ltb (byte + len) (2 ^ 64)) (checkpoint doc (doc + docs) byte (byte + len), b.0.1) x b.2 in
     omega (arith, below_shorter (2 ^ 32) bytes a.0 a.1, below_shorter (2 ^ 32) a.0.1 b.0 b.1, ap (λ (y : Checkpoint × List ℕ). length y.1) p)
@@ -77,7 +83,12 @@ heading_shorter bytes x e =
     inner count rest x false false e =
         let p = bind_some (number_below (2 ^ 32) rest) (λ doc. number_below (2 ^ 64) doc.1 >>= λ byte. Some (record { count = count; doc = doc.0; byte = byte.0 }, byte.1)) x e in
         let q = bind_some (number_below (2 ^ 64) p.0.1) (λ byte. Some (record { count = count; doc = p.0.0; byte = byte.0 }, byte.1)) x p.2 in
-        omega (arith, below_shorter (2 ^ 32) rest p.0 p.1, below_shorter (2 ^ 64) p.0.1 q.0 q.1, ap (λ (y : Heading × List ℕ). length y.1) (some_is (record { count = count; doc = p.0.0; byte = q.0.0 }, q.0.1) x q.2))
+        omega (
+          arith,
+          below_shorter (2 ^ 32) rest p.0 p.1,
+          below_shorter (2 ^ 64) p.0.1 q.0 q.1,
+          ap (λ (y : Heading × List ℕ). length y.1) (some_is (record { count = count; doc = p.0.0; byte = q.0.0 }, q.0.1) x q.2),
+        )
 
 in_block_shorter : (left doc byte : ℕ) (bytes : List ℕ) (x : Checkpoint × ℕ × List ℕ) → next_in_block left doc byte bytes ≡ Some x → length x.2 < length bytes
 unfolding next_in_block
@@ -98,7 +109,8 @@ next_shorter (suc left) doc byte bytes x e = in_block_shorter (suc left) doc byt
 abbrev items_of : ℕ → Option (Checkpoint × ℕ × List ℕ) → List Checkpoint
 items_of more o = option_map_or (λ n. n.0 ∷ items_within more n.1 n.0.doc_range.end n.0.byte_range.end n.2) o []
 
-same_of : (f g : ℕ) (o : Option (Checkpoint × ℕ × List ℕ)) → ((x : Checkpoint × ℕ × List ℕ) → o ≡ Some x → items_within f x.1 x.0.doc_range.end x.0.byte_range.end x.2 ≡ items_within g x.1 x.0.doc_range.end x.0.byte_range.end x.2) → items_of f o ≡ items_of g o
+same_of : (f g : ℕ) (o : Option (Checkpoint × ℕ × List ℕ)) → ((x : Checkpoint × ℕ × List ℕ) → o ≡ Some x
+    → items_within f x.1 x.0.doc_range.end x.0.byte_range.end x.2 ≡ items_within g x.1 x.0.doc_range.end x.0.byte_range.end x.2) → items_of f o ≡ items_of g o
 same_of f g None h = refl
 same_of f g (Some x) h = ap (λ (cs : List Checkpoint). x.0 ∷ cs) (h x refl)
 
@@ -113,7 +125,8 @@ turns zero zero left doc byte bytes p q = refl
 turns zero (suc g) left doc byte bytes p q = sym (none_of g (next_at left doc byte bytes) (λ x e. omega (arith, next_shorter left doc byte bytes x e)))
 turns (suc f) zero left doc byte bytes p q = none_of f (next_at left doc byte bytes) (λ x e. omega (arith, next_shorter left doc byte bytes x e))
 turns (suc f) (suc g) left doc byte bytes p q =
-    same_of f g (next_at left doc byte bytes) (λ x e. turns f g x.1 x.0.doc_range.end x.0.byte_range.end x.2 (omega (arith, next_shorter left doc byte bytes x e)) (omega (arith, next_shorter left doc byte bytes x e)))
+    same_of f g (next_at left doc byte bytes) (λ x e. turns f g x.1 x.0.doc_range.end x.0.byte_range.end x.2 (omega (arith, next_shorter left doc byte bytes x e))
+    (omega (arith, next_shorter left doc byte bytes x e)))
 
 -- what a reading gives, and then the others
 abbrev pub items_behind : Option (Checkpoint × ℕ × List ℕ) → List Checkpoint
@@ -151,13 +164,15 @@ unfolding next_at next_in_block
 next_is_step left doc byte bytes = refl
 
 -- one checkpoint of a block, and then the others
-pub items_step : (left doc byte : ℕ) (bytes : List ℕ) (c : Checkpoint) (rest : List ℕ) → step_at doc byte bytes ≡ Some (c, rest) → items (suc left) doc byte bytes ≡ c ∷ items left c.doc_range.end c.byte_range.end rest
+pub items_step : (left doc byte : ℕ) (bytes : List ℕ) (c : Checkpoint) (rest : List ℕ) → step_at doc byte bytes ≡ Some (c, rest)
+    → items (suc left) doc byte bytes ≡ c ∷ items left c.doc_range.end c.byte_range.end rest
 items_step left doc byte bytes c rest e =
     let next : next_at (suc left) doc byte bytes ≡ Some (c, left, rest) = next_is_step left doc byte bytes ∙ rw e refl in
     items_next (suc left) doc byte bytes ∙ ap items_behind next
 
 -- the same in a loop, and where it ends
-pub items_left : (count i doc byte : ℕ) (bytes : List ℕ) (c : Checkpoint) (rest : List ℕ) → i < count → step_at doc byte bytes ≡ Some (c, rest) → items (count - i) doc byte bytes ≡ c ∷ items (count - (i + 1)) c.doc_range.end c.byte_range.end rest
+pub items_left : (count i doc byte : ℕ) (bytes : List ℕ) (c : Checkpoint) (rest : List ℕ) → i < count → step_at doc byte bytes ≡ Some (c, rest)
+    → items (count - i) doc byte bytes ≡ c ∷ items (count - (i + 1)) c.doc_range.end c.byte_range.end rest
 items_left count i doc byte bytes c rest lt e =
     let k : count - i ≡ suc (count - (i + 1)) = omega arith in
     ap (λ (n : ℕ). items n doc byte bytes) k ∙ items_step (count - (i + 1)) doc byte bytes c rest e

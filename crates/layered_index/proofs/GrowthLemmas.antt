@@ -35,13 +35,18 @@ pub pointers-append : (place : ℕ) (gs hs : List (List Checkpoint)) → pointer
 pointers-append place [] hs = ap (λ (p : ℕ). pointers p hs) (omega arith)
 pointers-append place (g ∷ gs) hs =
     let after = place + length (checkpoint_block g) in
-    let places : after + length (flat_map checkpoint_block gs) ≡ place + length (flat_map checkpoint_block (g ∷ gs)) = omega (arith, length-append (checkpoint_block g) (flat_map checkpoint_block gs)) in
+    let places : after + length (flat_map checkpoint_block gs) ≡ place + length (flat_map checkpoint_block (g ∷ gs)) =
+    omega (arith, length-append (checkpoint_block g) (flat_map checkpoint_block gs)) in
     ap (λ (ps : List Checkpoint). checkpoint (docs_start g) (docs_end 0 g) place after ∷ ps) (pointers-append after gs hs ∙ ap (λ (p : ℕ). pointers after gs ++ pointers p hs) places)
 
-pub layer_above-append : (runs period : ℕ) (cs ds : List Checkpoint) → 1 ≤ period → length cs ≡ runs * period → layer_above period (cs ++ ds) ≡ layer_above period cs ++ pointers (length (layer_text period cs)) (groups period ds)
-layer_above-append runs period cs ds one whole = ap (pointers 0) (groups-append runs period cs ds one whole) ∙ pointers-append 0 (groups period cs) (groups period ds) ∙ ap (λ (p : ℕ). layer_above period cs ++ pointers p (groups period ds)) (omega arith)
+pub layer_above-append : (runs period : ℕ) (cs ds : List Checkpoint) → 1 ≤ period → length cs ≡ runs * period
+    → layer_above period (cs ++ ds) ≡ layer_above period cs ++ pointers (length (layer_text period cs)) (groups period ds)
+layer_above-append runs period cs ds one whole = ap (pointers 0) (groups-append runs period cs ds one whole) ∙ pointers-append 0 (groups period cs) (groups period ds)
+    ∙ ap (λ (p : ℕ). layer_above period cs ++ pointers p (groups period ds)) (omega arith)
 
 -- one more run behind whole runs is one more pointer
 pub layer_above_one_more : (runs period : ℕ) (cs run : List Checkpoint) → length cs ≡ runs * period → 0 < length run → length run ≤ period
-    → layer_above period (cs ++ run) ≡ layer_above period cs ++ checkpoint (docs_start run) (docs_end 0 run) (length (layer_text period cs)) (length (layer_text period cs) + length (checkpoint_block run)) ∷ []
-layer_above_one_more runs period cs run whole some few = layer_above-append runs period cs run (omega arith) whole ∙ ap (λ (g : List (List Checkpoint)). layer_above period cs ++ pointers (length (layer_text period cs)) g) (groups_one period run some few)
+    → layer_above period (cs ++ run) ≡ layer_above period cs ++ checkpoint (docs_start run) (docs_end 0 run) (length (layer_text period cs))
+    (length (layer_text period cs) + length (checkpoint_block run)) ∷ []
+layer_above_one_more runs period cs run whole some few = layer_above-append runs period cs run (omega arith) whole
+    ∙ ap (λ (g : List (List Checkpoint)). layer_above period cs ++ pointers (length (layer_text period cs)) g) (groups_one period run some few)

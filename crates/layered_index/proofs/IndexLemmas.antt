@@ -72,7 +72,8 @@ texts_from_ends place (t ∷ ts) (u ∷ us) ends e =
 
 -- ---- the whole
 
-pub index_parts : (period : ℕ) (cs : List Checkpoint) → index_part period cs ≡ number (digit_count period (length cs)) ++ (flat_map number (ends_from 0 (texts_down period cs)) ++ concat (texts_down period cs))
+pub index_parts : (period : ℕ) (cs : List Checkpoint) → index_part period cs ≡ number (digit_count period (length cs))
+    ++ (flat_map number (ends_from 0 (texts_down period cs)) ++ concat (texts_down period cs))
 unfolding index_part
 index_parts period cs = append_assoc (number (digit_count period (length cs))) (flat_map number (ends_from 0 (texts_down period cs))) (concat (texts_down period cs))
 
@@ -81,7 +82,8 @@ texts_up : (period : ℕ) (cs ds : List Checkpoint) → texts_down period cs ≡
 texts_up period cs ds e = sym (reverse-reverse (map (layer_text period) (layers period cs))) ∙ ap reverse e ∙ reverse-reverse (map (layer_text period) (layers period ds))
 
 -- the bottom layer's text, where there is one
-bottom : (period j k : ℕ) (cs ds : List Checkpoint) → map (layer_text period) (layers_from period (suc j) cs) ≡ map (layer_text period) (layers_from period (suc k) ds) → layer_text period cs ≡ layer_text period ds
+bottom : (period j k : ℕ) (cs ds : List Checkpoint) → map (layer_text period) (layers_from period (suc j) cs) ≡ map (layer_text period) (layers_from period (suc k) ds)
+    → layer_text period cs ≡ layer_text period ds
 bottom period j k cs ds e = cc
 
 same_lists : (period j k : ℕ) (cs ds : List Checkpoint) → 2 ≤ period → IsInLine cs → IsInLine ds → digit_count period (length cs) ≡ j → digit_count period (length ds) ≡ k → j ≡ k

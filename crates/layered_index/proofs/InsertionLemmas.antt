@@ -1,6 +1,8 @@
 -- An insertion among layers, one layer at a time.
-use Rattle.std.proofs.Common.{◌≡◌, ◌⊎◌, inl, inr, Result, Ok, Err, OnOk, OnErr, ℕ, suc, ◌+◌, ◌-◌, ◌^◌, ◌<◌, ◌≤◌, List, [], ◌∷◌, ◌++◌, length, take, drop, get_or, set, sym, ◌∙◌, ap, subst, arith, append_assoc}
-use Rattle.std.proofs.lemmas.List.{take_all, drop_all, take_at, drop_more, take_more_set, drop-set-lt, set_split, set_at, set-set, set-get_or, get_or_at, get_or-set_same, get_or_default, length-take, length_push}
+use Rattle.std.proofs.Common.{◌≡◌, ◌⊎◌, inl, inr, Result, Ok, Err, OnOk, OnErr, ℕ, suc, ◌+◌, ◌-◌, ◌^◌, ◌<◌, ◌≤◌, List, [], ◌∷◌, ◌++◌, length, take, drop, get_or, set, sym, ◌∙◌, ap, subst, arith}
+use Rattle.std.proofs.Common.{append_assoc}
+use Rattle.std.proofs.lemmas.List.{take_all, drop_all, take_at, drop_more, take_more_set, drop-set-lt, set_split, set_at, set-set, set-get_or, get_or_at, get_or-set_same, get_or_default, length-take}
+use Rattle.std.proofs.lemmas.List.{length_push}
 use Rattle.layered_index.specs.declared.index.Checkpoint.{Checkpoint}
 use Rattle.layered_index.specs.Checkpoint.{IsInLine, checkpoint_block}
 use Rattle.layered_index.specs.Building.{Layer, put, text_with, pointer_to, flushed, inserted, Takes}
@@ -46,7 +48,8 @@ takes_top period ls at c le h = takes_none period c (subst (λ (xs : List Layer)
 pub takes_here : (period : ℕ) (ls : List Layer) (at : ℕ) (l : Layer) (c : Checkpoint) → IsAt ls at l → Takes period (drop at ls) c → IsInLine (put l c).rest
 takes_here period ls at l c here h = (takes_some period l (drop (at + 1) ls) c (subst (λ (xs : List Layer). Takes period xs c) (from_here ls at l here) h)).0
 
-pub takes_above : (period : ℕ) (ls : List Layer) (at : ℕ) (l new : Layer) (c pointer : Checkpoint) → IsAt ls at l → Takes period (drop at ls) c → period ≤ length (put l c).rest → length (text_with (put l c)) < 2 ^ 64 → pointer ≡ pointer_to (put l c)
+pub takes_above : (period : ℕ) (ls : List Layer) (at : ℕ) (l new : Layer) (c pointer : Checkpoint) → IsAt ls at l → Takes period (drop at ls) c → period ≤ length (put l c).rest
+    → length (text_with (put l c)) < 2 ^ 64 → pointer ≡ pointer_to (put l c)
     → Takes period (drop (at + 1) (set ls at new)) pointer
 takes_above period ls at l new c pointer here h full fits e =
     let all = takes_some period l (drop (at + 1) ls) c (subst (λ (xs : List Layer). Takes period xs c) (from_here ls at l here) h) in
@@ -60,12 +63,15 @@ top_at period ls at c e =
     let le : length ls ≤ at = omega arith in
     sym (λ i. take_all at ls le i ++ (ap (λ (xs : List Layer). inserted period xs c) (drop_all at ls le) ∙ inserted_none period c) i)
 
-pub stays_at : (period : ℕ) (ls : List Layer) (at : ℕ) (l new : Layer) (c : Checkpoint) → IsAt ls at l → length (put l c).rest < period → new ≡ put l c → set ls at new ≡ take at ls ++ inserted period (drop at ls) c
+pub stays_at : (period : ℕ) (ls : List Layer) (at : ℕ) (l new : Layer) (c : Checkpoint) → IsAt ls at l → length (put l c).rest < period → new ≡ put l c
+    → set ls at new ≡ take at ls ++ inserted period (drop at ls) c
 stays_at period ls at l new c here lt e =
-    let behind : inserted period (drop at ls) c ≡ put l c ∷ drop (at + 1) ls = ap (λ (xs : List Layer). inserted period xs c) (from_here ls at l here) ∙ inserted_stays period l (drop (at + 1) ls) c lt in
+    let behind : inserted period (drop at ls) c ≡ put l c ∷ drop (at + 1) ls = ap (λ (xs : List Layer). inserted period xs c) (from_here ls at l here)
+    ∙ inserted_stays period l (drop (at + 1) ls) c lt in
     split ls at l new here ∙ ap (λ (x : Layer). take at ls ++ x ∷ drop (at + 1) ls) e ∙ ap (λ (xs : List Layer). take at ls ++ xs) (sym behind)
 
-pub flushes_at : (period : ℕ) (ls : List Layer) (at : ℕ) (l mid found new : Layer) (c pointer : Checkpoint) (above : List Layer) → IsAt ls at l → period ≤ length (put l c).rest → mid ≡ written (put l c) → pointer ≡ pointer_to (put l c)
+pub flushes_at : (period : ℕ) (ls : List Layer) (at : ℕ) (l mid found new : Layer) (c pointer : Checkpoint) (above : List Layer) → IsAt ls at l → period ≤ length (put l c).rest
+    → mid ≡ written (put l c) → pointer ≡ pointer_to (put l c)
     → above ≡ take (at + 1) (set ls at mid) ++ inserted period (drop (at + 1) (set ls at mid)) pointer → found ≡ get_or above at found → new ≡ record { bytes = found.bytes; rest = [] }
     → set above at new ≡ take at ls ++ inserted period (drop at ls) c
 flushes_at period ls at l mid found new c pointer above here full mid_is pointer_is above_is found_is new_is =
@@ -83,7 +89,8 @@ flushes_at period ls at l mid found new c pointer above here full mid_is pointer
     ∙ ap (λ (x : Layer). take at ls ++ x ∷ behind) new_flushed
     ∙ ap (λ (xs : List Layer). take at ls ++ xs) (sym wanted)
 
-pub back_at : (ls : List Layer) (at start : ℕ) (l mid found new : Layer) (c : Checkpoint) (above : List Layer) → IsAt ls at l → start ≡ length l.bytes → mid ≡ written (put l c) → above ≡ set ls at mid → found ≡ get_or above at found
+pub back_at : (ls : List Layer) (at start : ℕ) (l mid found new : Layer) (c : Checkpoint) (above : List Layer) → IsAt ls at l → start ≡ length l.bytes → mid ≡ written (put l c) → above ≡ set ls at mid
+    → found ≡ get_or above at found
     → new ≡ record { bytes = take start found.bytes; rest = take (length found.rest - 1) found.rest } → set above at new ≡ ls
 back_at ls at start l mid found new c above here start_is mid_is above_is found_is new_is =
     let it : found ≡ written (put l c) = found_is ∙ ap (λ (xs : List Layer). get_or xs at found) above_is ∙ get_or-set_same ls at mid found here.within ∙ mid_is in

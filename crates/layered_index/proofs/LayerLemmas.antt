@@ -16,7 +16,12 @@ use Rattle.layered_index.proofs.IndexLemmas.{length-layers}
 -- ---- how long a block can be
 
 length-step-le : (c : Checkpoint) → IsWithinLimits c → length (step c) ≤ 10
-length-step-le c h = omega (arith, length-append (number (doc_count c)) (number (byte_len c)), length-number-le_5 (doc_count c) (omega (arith, h.doc_end)), length-number-le_5 (byte_len c) (omega (arith, h.byte_len)))
+length-step-le c h = omega (
+  arith,
+  length-append (number (doc_count c)) (number (byte_len c)),
+  length-number-le_5 (doc_count c) (omega (arith, h.doc_end)),
+  length-number-le_5 (byte_len c) (omega (arith, h.byte_len)),
+)
 
 length-steps-le : (doc byte : ℕ) (cs : List Checkpoint) → IsInLineFrom doc byte cs → length (flat_map step cs) ≤ 10 * length cs
 length-steps-le doc byte [] h = omega arith
@@ -24,13 +29,25 @@ length-steps-le doc byte (c ∷ cs) h = omega (arith, length-append (step c) (fl
 
 length-starts-le : (cs : List Checkpoint) → IsInLine cs → length (starts cs) ≤ 15
 length-starts-le [] h = omega arith
-length-starts-le (c ∷ cs) h = omega (arith, length-append (number c.doc_range.start) (number c.byte_range.start), length-number-le_5 c.doc_range.start (omega (arith, h.2.doc_order, h.2.doc_end)), length-number-le_10 c.byte_range.start (omega (arith, h.2.byte_order, h.2.byte_end)))
+length-starts-le (c ∷ cs) h = omega (
+  arith,
+  length-append (number c.doc_range.start) (number c.byte_range.start),
+  length-number-le_5 c.doc_range.start (omega (arith, h.2.doc_order, h.2.doc_end)),
+  length-number-le_10 c.byte_range.start (omega (arith, h.2.byte_order, h.2.byte_end)),
+)
 
 pub length-block-le : (cs : List Checkpoint) → IsInLine cs → length cs < 2 ^ 64 → length (checkpoint_block cs) ≤ 25 + 10 * length cs
 unfolding checkpoint_block
 length-block-le cs h few =
     let from = in_line_somewhere cs h in
-    omega (arith, length-append (number (length cs) ++ starts cs) (flat_map step cs), length-append (number (length cs)) (starts cs), length-number-le_10 (length cs) (omega arith), length-starts-le cs h, length-steps-le from.0 from.1 cs from.2)
+    omega (
+      arith,
+      length-append (number (length cs) ++ starts cs) (flat_map step cs),
+      length-append (number (length cs)) (starts cs),
+      length-number-le_10 (length cs) (omega arith),
+      length-starts-le cs h,
+      length-steps-le from.0 from.1 cs from.2,
+    )
 
 -- ---- where runs begin and end
 
@@ -43,13 +60,15 @@ docs_fit doc byte [] lt h = lt
 docs_fit doc byte (c ∷ cs) lt h = docs_fit c.doc_range.end c.byte_range.end cs h.2.doc_end h.3
 
 -- the documents of a run, which is not empty
-run_docs : (period doc byte : ℕ) (run : List Checkpoint) → IsRun period run → IsInLineFrom doc byte run → (docs_start run ≡ doc) × (docs_end 0 run ≡ docs_end doc run) × (doc ≤ docs_end doc run) × (docs_end doc run < 2 ^ 32)
+run_docs : (period doc byte : ℕ) (run : List Checkpoint) → IsRun period run → IsInLineFrom doc byte run
+    → (docs_start run ≡ doc) × (docs_end 0 run ≡ docs_end doc run) × (doc ≤ docs_end doc run) × (docs_end doc run < 2 ^ 32)
 run_docs period doc byte [] is_run h = absurd (omega (arith, is_run.some))
 run_docs period doc byte (c ∷ cs) is_run h = (h.0, refl, docs_grow doc byte (c ∷ cs) h, docs_fit c.doc_range.end c.byte_range.end cs h.2.doc_end h.3)
 
 -- ---- the pointers of runs
 
-pub pointers_in_line : (period doc byte place : ℕ) (gs : List (List Checkpoint)) → period ≤ 64 → AllByRecursion (IsRun period) gs → IsInLineFrom doc byte (flat_map (λ g. g) gs) → place + length (flat_map checkpoint_block gs) < 2 ^ 64 → IsInLineFrom doc place (pointers place gs)
+pub pointers_in_line : (period doc byte place : ℕ) (gs : List (List Checkpoint)) → period ≤ 64 → AllByRecursion (IsRun period) gs → IsInLineFrom doc byte (flat_map (λ g. g) gs)
+    → place + length (flat_map checkpoint_block gs) < 2 ^ 64 → IsInLineFrom doc place (pointers place gs)
 pointers_in_line period doc byte place [] small runs h fits = tt
 pointers_in_line period doc byte place (g ∷ gs) small runs h fits =
     let both = in_line-split doc byte g (flat_map (λ (x : List Checkpoint). x) gs) h in
@@ -109,7 +128,8 @@ pub length-layer_above : (period : ℕ) (cs : List Checkpoint) → length (layer
 length-layer_above period cs = length-pointers 0 (groups period cs)
 
 -- what the blocks of runs take at most
-length-texts-le : (period : ℕ) (gs : List (List Checkpoint)) → period ≤ 64 → AllByRecursion (IsRun period) gs → length (flat_map checkpoint_block gs) ≤ 25 * length gs + 10 * length (flat_map (λ g. g) gs)
+length-texts-le : (period : ℕ) (gs : List (List Checkpoint)) → period ≤ 64 → AllByRecursion (IsRun period) gs
+    → length (flat_map checkpoint_block gs) ≤ 25 * length gs + 10 * length (flat_map (λ g. g) gs)
 length-texts-le period [] small runs = omega arith
 length-texts-le period (g ∷ gs) small runs =
     omega (

@@ -1,5 +1,6 @@
 -- The text of a layer is counted and pointed at as the layer is, and what is counted is the text of a layer.
-use Rattle.std.proofs.Common.{◌≡◌, ℕ, zero, suc, ◌+◌, ◌-◌, ◌<◌, ◌≤◌, ◌^◌, ◌⊎◌, inl, inr, Bool, true, false, cond, eqb, ◌&&◌, ◌||◌, eq-eqb, List, [], ◌∷◌, ◌++◌, length, take, drop, Option, Some, None, refl, sym, ◌∙◌, ap, subst, arith, length-append}
+use Rattle.std.proofs.Common.{◌≡◌, ℕ, zero, suc, ◌+◌, ◌-◌, ◌<◌, ◌≤◌, ◌^◌, ◌⊎◌, inl, inr, Bool, true, false, cond, eqb, ◌&&◌, ◌||◌, eq-eqb, List, [], ◌∷◌, ◌++◌, length, take, drop, Option, Some, None}
+use Rattle.std.proofs.Common.{refl, sym, ◌∙◌, ap, subst, arith, length-append}
 use Rattle.std.proofs.lemmas.Bool.{cases_lt, eqb-true, cond-true, lt-ltb, le-leb, ltb-true, leb-true, and_parts}
 use Rattle.std.proofs.lemmas.List.{take-append-drop, length-take, append-nil, drop_all}
 use Rattle.std.specs.Prelude.{IsSome, MatchResult, Result, Ok, Err}
@@ -65,13 +66,18 @@ pub record ReadsRun (bytes : List ℕ) (r : Run) (rest : List ℕ) : Type 0 wher
 pub run_read : (bytes : List ℕ) (r : Run) (rest : List ℕ) → IsBytes bytes → 0 < r.count → run_at bytes ≡ Some (r, rest) → ReadsRun bytes r rest
 unfolding run_at
 run_read bytes r rest fits some e =
-    let a = bind_some (heading_at bytes) (λ h. ends_of h.0.doc h.0.byte (steps_at h.0.count h.0.doc h.0.byte h.1) >>= λ e. Some (record { count = h.0.count; doc = h.0.doc; byte = h.0.byte; doc_end = e.0; byte_end = e.1 }, e.2)) (r, rest) e in
+    let a = bind_some (heading_at bytes) (λ h. ends_of h.0.doc h.0.byte (steps_at h.0.count h.0.doc h.0.byte h.1) >>= λ e. Some
+    (record { count = h.0.count; doc = h.0.doc; byte = h.0.byte; doc_end = e.0; byte_end = e.1 }, e.2)) (r, rest) e in
     let h = a.0.0 in
-    let b = bind_some (ends_of h.doc h.byte (steps_at h.count h.doc h.byte a.0.1)) (λ e. Some (record { count = h.count; doc = h.doc; byte = h.byte; doc_end = e.0; byte_end = e.1 }, e.2)) (r, rest) a.2 in
+    let b = bind_some (ends_of h.doc h.byte (steps_at h.count h.doc h.byte a.0.1)) (λ e. Some (record { count = h.count; doc = h.doc; byte = h.byte; doc_end = e.0; byte_end = e.1 }, e.2)) (
+      r,
+      rest,
+    ) a.2 in
     let s = bind_some (steps_at h.count h.doc h.byte a.0.1) (λ y. Some (docs_end h.doc y.0, bytes_end h.byte y.0, y.1)) b.0 b.1 in
     let made : Run = record { count = h.count; doc = h.doc; byte = h.byte; doc_end = docs_end h.doc s.0.0; byte_end = bytes_end h.byte s.0.0 } in
     let ends = some_is (docs_end h.doc s.0.0, bytes_end h.byte s.0.0, s.0.1) b.0 s.2 in
-    let same : (made, s.0.1) ≡ (r, rest) = (λ i. (record { count = h.count; doc = h.doc; byte = h.byte; doc_end = (ends i).0; byte_end = (ends i).1 }, (ends i).2)) ∙ some_is (record { count = h.count; doc = h.doc; byte = h.byte; doc_end = b.0.0; byte_end = b.0.1 }, b.0.2) (r, rest) b.2 in
+    let same : (made, s.0.1) ≡ (r, rest) = (λ i. (record { count = h.count; doc = h.doc; byte = h.byte; doc_end = (ends i).0; byte_end = (ends i).1 }, (ends i).2))
+    ∙ some_is (record { count = h.count; doc = h.doc; byte = h.byte; doc_end = b.0.0; byte_end = b.0.1 }, b.0.2) (r, rest) b.2 in
     let counts : h.count ≡ r.count = ap (λ (x : Run × List ℕ). x.0.count) same in
     elim (heading_read bytes h a.0.1 fits a.1) [
       | inl none ↦ absurd (omega (arith, none.none))
@@ -152,9 +158,11 @@ len_again period cs one small = by_runs period (λ xs. (d b : ℕ) → IsInLineF
     let few : length g ≤ period = omega (arith, length-take period (x ∷ xs)) in
     let short = in_short d b g some both.0 in
     let behind = layer_text period rest in
-    let stands : may_stand period d b (run_of g) (length behind) ≡ true = all_true _ _ _ _ _ (eq-eqb _ _ short.docs) (eq-eqb _ _ short.bytes) (lt-ltb _ _ (omega (arith, short.counted))) (le-leb _ _ (omega (arith, short.counted)))
+    let stands : may_stand period d b (run_of g) (length behind) ≡ true = all_true _ _ _ _ _ (eq-eqb _ _ short.docs) (eq-eqb _ _ short.bytes) (lt-ltb _ _ (omega (arith, short.counted)))
+    (le-leb _ _ (omega (arith, short.counted)))
     (ap (λ (n : ℕ). eqb n period || eqb (length behind) 0) short.counted ∙ last_or_full period x xs one) in
-    let counted : len_from period (run_of g).doc_end (run_of g).byte_end behind ≡ Some (length rest) = (λ i. len_from period (short.docs_done i) (short.bytes_done i) behind) ∙ others (docs_end d g) (bytes_end b g) both.1 in
+    let counted : len_from period (run_of g).doc_end (run_of g).byte_end behind ≡ Some (length rest) = (λ i. len_from period (short.docs_done i) (short.bytes_done i) behind)
+    ∙ others (docs_end d g) (bytes_end b g) both.1 in
     let whole : (run_of g).count + length rest ≡ length (x ∷ xs) = omega (arith, short.counted, length-append g rest, ap length parts) in
     ap (len_from period d b) (text_more period x xs one)
     ∙ len_from_some period d b (checkpoint_block g ++ behind) (omega (arith, block_some g, length-append (checkpoint_block g) behind))
@@ -174,8 +182,10 @@ pub record ReadsRuns (period doc byte : ℕ) (bytes : List ℕ) (n : ℕ) : Type
   pub counted : length list ≡ n
 
 -- a run in front of a layer
-text_cons : (period : ℕ) (g cs : List Checkpoint) → 1 ≤ period → 0 < length g → length g ≤ period → (length g ≡ period) ⊎ (length cs ≡ 0) → layer_text period (g ++ cs) ≡ checkpoint_block g ++ layer_text period cs
-text_cons period g cs one some few (inl full) = ap (flat_map checkpoint_block) (groups-append 1 period g cs one (omega arith) ∙ ap (λ (gs : List (List Checkpoint)). gs ++ groups period cs) (groups_one period g some few))
+text_cons : (period : ℕ) (g cs : List Checkpoint) → 1 ≤ period → 0 < length g → length g ≤ period → (length g ≡ period) ⊎ (length cs ≡ 0)
+    → layer_text period (g ++ cs) ≡ checkpoint_block g ++ layer_text period cs
+text_cons period g cs one some few (inl full) = ap (flat_map checkpoint_block) (groups-append 1 period g cs one (omega arith)
+    ∙ ap (λ (gs : List (List Checkpoint)). gs ++ groups period cs) (groups_one period g some few))
 text_cons period g (c ∷ cs) one some few (inr none) = absurd (omega arith)
 text_cons period g [] one some few (inr none) =
     ap (layer_text period) (append-nil g) ∙ ap (flat_map checkpoint_block) (groups_one period g some few) ∙ ap (λ (t : List ℕ). checkpoint_block g ++ t) (sym (text_none period))
@@ -211,7 +221,8 @@ counts_none : (period doc byte n : ℕ) (bytes : List ℕ) → length bytes ≡ 
 counts_none period doc byte n [] none e = sym (some_is 0 n (sym (len_from_none period doc byte) ∙ e))
 counts_none period doc byte n (b ∷ bytes) none e = absurd (omega arith)
 
-reads_more : (period doc byte : ℕ) (bytes : List ℕ) (n : ℕ) (r : Run) (rest : List ℕ) (m : ℕ) → 1 ≤ period → IsBytes bytes → run_at bytes ≡ Some (r, rest) → Stands period doc byte r (length rest) → len_from period r.doc_end r.byte_end rest ≡ Some m → r.count + m ≡ n
+reads_more : (period doc byte : ℕ) (bytes : List ℕ) (n : ℕ) (r : Run) (rest : List ℕ) (m : ℕ) → 1 ≤ period → IsBytes bytes → run_at bytes ≡ Some (r, rest) → Stands period doc byte r (length rest)
+    → len_from period r.doc_end r.byte_end rest ≡ Some m → r.count + m ≡ n
     → ((reads : ReadsRun bytes r rest) → ReadsRuns period r.doc_end r.byte_end rest m) → ReadsRuns period doc byte bytes n
 reads_more period doc byte bytes n r rest m one fits e stands counts total others =
     let reads = run_read bytes r rest fits stands.some e in
@@ -229,7 +240,8 @@ reads_more period doc byte bytes n r rest m one fits e stands counts total other
     record {
       list = g ++ cs;
       runs = in_line-join doc byte g cs moved behind;
-      text = reads.takes.parts ∙ ap (λ (t : List ℕ). checkpoint_block g ++ t) more.text ∙ sym (text_cons period g cs one (omega (arith, reads.short.counted, stands.some)) (omega (arith, reads.short.counted, stands.few)) last_or_full);
+      text = reads.takes.parts ∙ ap (λ (t : List ℕ). checkpoint_block g ++ t) more.text ∙ sym
+          (text_cons period g cs one (omega (arith, reads.short.counted, stands.some)) (omega (arith, reads.short.counted, stands.few)) last_or_full);
       counted = omega (arith, length-append g cs, reads.short.counted, more.counted, total);
     }
 
@@ -237,7 +249,8 @@ pub len_read : (k period doc byte : ℕ) (bytes : List ℕ) (n : ℕ) → 1 ≤ 
 len_read k period doc byte [] n one fits le e = record { list = []; runs = tt; text = sym (text_none period); counted = some_is 0 n (sym (len_from_none period doc byte) ∙ e) }
 len_read zero period doc byte (b ∷ bytes) n one fits le e = absurd (omega arith)
 len_read (suc k) period doc byte (b ∷ bytes) n one fits le e =
-    let a = bind_some (run_at (b ∷ bytes)) (λ r. cond (may_stand period doc byte r.0 (length r.1)) (plus r.0.count (len_from period r.0.doc_end r.0.byte_end r.1)) None) n (sym (len_from_some period doc byte (b ∷ bytes) (omega arith)) ∙ e) in
+    let a = bind_some (run_at (b ∷ bytes)) (λ r. cond (may_stand period doc byte r.0 (length r.1)) (plus r.0.count (len_from period r.0.doc_end r.0.byte_end r.1)) None) n
+    (sym (len_from_some period doc byte (b ∷ bytes) (omega arith)) ∙ e) in
     let r = a.0.0 in
     let rest = a.0.1 in
     let p = pass_cond (may_stand period doc byte r (length rest)) (plus r.count (len_from period r.doc_end r.byte_end rest)) n a.2 in
@@ -251,7 +264,8 @@ len_read (suc k) period doc byte (b ∷ bytes) n one fits le e =
 
 -- ---- a layer
 
-heading_of : (g : List Checkpoint) (rest : List ℕ) (doc byte : ℕ) → 0 < length g → length g < 2 ^ 64 → IsInLineFrom doc byte g → (h : Heading) × (steps : List ℕ) × (heading_at (checkpoint_block g ++ rest) ≡ Some (h, steps)) × (h.doc ≡ doc) × (h.byte ≡ byte)
+heading_of : (g : List Checkpoint) (rest : List ℕ) (doc byte : ℕ) → 0 < length g → length g < 2 ^ 64 → IsInLineFrom doc byte g
+    → (h : Heading) × (steps : List ℕ) × (heading_at (checkpoint_block g ++ rest) ≡ Some (h, steps)) × (h.doc ≡ doc) × (h.byte ≡ byte)
 heading_of [] rest doc byte some few h = absurd (omega arith)
 heading_of (c ∷ cs) rest doc byte some few h =
     (record { count = length (c ∷ cs); doc = c.doc_range.start; byte = c.byte_range.start }, flat_map step (c ∷ cs) ++ rest, heading_again c cs rest (in_line_from doc byte (c ∷ cs) h) few, h.0, h.1)
@@ -278,7 +292,8 @@ layer_again period (x ∷ xs) one small some h =
     ∙ len_again period (x ∷ xs) one small doc byte h
 
 -- What is counted is the text of a layer in line.
-pub layer_read : (period : ℕ) (bytes : List ℕ) (n : ℕ) → 1 ≤ period → IsBytes bytes → len_at period bytes ≡ Some n → (cs : List Checkpoint) × IsInLine cs × (bytes ≡ layer_text period cs) × (length cs ≡ n)
+pub layer_read : (period : ℕ) (bytes : List ℕ) (n : ℕ) → 1 ≤ period → IsBytes bytes → len_at period bytes ≡ Some n
+    → (cs : List Checkpoint) × IsInLine cs × (bytes ≡ layer_text period cs) × (length cs ≡ n)
 layer_read period bytes n one fits e =
     let a = bind_some (heading_at bytes) (λ h. len_from period h.0.doc h.0.byte bytes) n (sym (len_at_is period bytes) ∙ e) in
     let reads = len_read (length bytes) period a.0.0.doc a.0.0.byte bytes n one fits (omega arith) a.2 in
@@ -295,15 +310,18 @@ layer_none period bytes e some = not_some (len_at period bytes) (len_at_is perio
     not_some (Some x) e h = absurd cc
 
 -- What walking over the runs gives, where the first begins as the heading says, is what walking over the layer gives.
-pub layer_walked : (period : ℕ) (text : List ℕ) (above : Option (List Checkpoint)) (h : Heading) (steps : List ℕ) (old new : EndLists) (r : Result (Unit {0}) IndexFault) → heading_at text ≡ Some (h, steps) → old ≡ no_ends
-    → MatchResult r (λ _. IsSome (len_from period h.doc h.byte text) × ArePointers above (pointers_at 0 text) × (with_ends new [] ≡ with_ends old (items 0 0 0 text))) (FailsOnlyUnless (IsSome (len_from period h.doc h.byte text) × ArePointers above (pointers_at 0 text)))
+pub layer_walked : (period : ℕ) (text : List ℕ) (above : Option (List Checkpoint)) (h : Heading) (steps : List ℕ) (old new : EndLists) (r : Result (Unit {0}) IndexFault)
+    → heading_at text ≡ Some (h, steps) → old ≡ no_ends
+    → MatchResult r (λ _. IsSome (len_from period h.doc h.byte text) × ArePointers above (pointers_at 0 text)
+    × (with_ends new [] ≡ with_ends old (items 0 0 0 text))) (FailsOnlyUnless (IsSome (len_from period h.doc h.byte text) × ArePointers above (pointers_at 0 text)))
     → MatchResult r (λ _. IsLayerBelow period above text × (new ≡ with_ends no_ends (items 0 0 0 text))) (FailsOnlyUnless (IsLayerBelow period above text))
 layer_walked period text above h steps old new r e none walked = by_result r walked
   where
     same : len_at period text ≡ len_from period h.doc h.byte text
     same = len_at_is period text ∙ ap (λ (o : Option (Heading × List ℕ)). o >>= λ h. len_from period h.0.doc h.0.byte text) e
 
-    by_result : (r : Result (Unit {0}) IndexFault) → MatchResult r (λ _. IsSome (len_from period h.doc h.byte text) × ArePointers above (pointers_at 0 text) × (with_ends new [] ≡ with_ends old (items 0 0 0 text))) (FailsOnlyUnless (IsSome (len_from period h.doc h.byte text) × ArePointers above (pointers_at 0 text)))
+    by_result : (r : Result (Unit {0}) IndexFault) → MatchResult r (λ _. IsSome (len_from period h.doc h.byte text) × ArePointers above (pointers_at 0 text)
+        × (with_ends new [] ≡ with_ends old (items 0 0 0 text))) (FailsOnlyUnless (IsSome (len_from period h.doc h.byte text) × ArePointers above (pointers_at 0 text)))
         → MatchResult r (λ _. IsLayerBelow period above text × (new ≡ with_ends no_ends (items 0 0 0 text))) (FailsOnlyUnless (IsLayerBelow period above text))
     by_result (Ok x) w = ((subst IsSome (sym same) w.0, w.1), sym (none_to_come new) ∙ w.2 ∙ ap (λ (ends : EndLists). with_ends ends (items 0 0 0 text)) none)
     by_result (Err fault) w = fails_of_part _ _ fault (λ good. (subst IsSome same good.0, good.1)) w

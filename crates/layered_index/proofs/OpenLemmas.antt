@@ -35,22 +35,30 @@ is_joined : (period : ℕ) (cs : List Checkpoint) → index_part period cs ≡ j
 is_joined period cs = index_parts period cs ∙ ap (λ (n : ℕ). number n ++ (flat_map number (ends_from 0 (texts_down period cs)) ++ concat (texts_down period cs))) (sym (length-texts_down period cs))
 
 -- Texts that are layers are those of an index.
-pub opens_read : (period : ℕ) (bytes : List ℕ) (ts : List (List ℕ)) → 2 ≤ period → period ≤ 64 → IsBytes bytes → split_at bytes ≡ Some ts → AreLayers period ts → IsIndexPart period bytes (last_items [] ts)
+pub opens_read : (period : ℕ) (bytes : List ℕ) (ts : List (List ℕ)) → 2 ≤ period → period ≤ 64 → IsBytes bytes → split_at bytes ≡ Some ts → AreLayers period ts
+    → IsIndexPart period bytes (last_items [] ts)
 opens_read period bytes ts two small fits e are =
     let split = split_read bytes ts fits e in
     let cs = last_items [] ts in
     let same = last_is_first ts in
-    let digits : digit_count period (length (first_items (reverse ts))) ≡ length (reverse ts) = ap (λ (xs : List Checkpoint). digit_count period (length xs)) (sym same) ∙ are.count ∙ sym (length-reverse ts) in
+    let digits : digit_count period (length (first_items (reverse ts))) ≡ length (reverse ts) = ap (λ (xs : List Checkpoint). digit_count period (length xs)) (sym same) ∙ are.count
+    ∙ sym (length-reverse ts) in
     let read = above_read period (reverse ts) two small (all_reverse IsBytes ts (texts_are_bytes ts split.1)) ((turned period ts).0 are.below) digits in
     let down : ts ≡ texts_down period cs = sym (reverse-reverse ts) ∙ ap reverse (read.1 ∙ ap (λ (xs : List Checkpoint). map (layer_text period) (layers period xs)) (sym same)) in
     (subst IsInLine (sym same) read.0, split.0 ∙ ap joined down ∙ sym (is_joined period cs))
 
 -- The texts of the index of a list in line are layers.
-pub opens_again : (period : ℕ) (bytes : List ℕ) (cs : List Checkpoint) → 2 ≤ period → period ≤ 64 → length bytes < 2 ^ 64 → IsIndexPart period bytes cs → (split_at bytes ≡ Some (texts_down period cs)) × AreLayers period (texts_down period cs)
+pub opens_again : (period : ℕ) (bytes : List ℕ) (cs : List Checkpoint) → 2 ≤ period → period ≤ 64 → length bytes < 2 ^ 64 → IsIndexPart period bytes cs
+    → (split_at bytes ≡ Some (texts_down period cs)) × AreLayers period (texts_down period cs)
 opens_again period bytes cs two small fits is =
     let whole : bytes ≡ joined (texts_down period cs) = is.1 ∙ is_joined period cs in
     let ts = texts_down period cs in
-    let size : length (concat ts) < 2 ^ 64 = omega (arith, ap length whole, length-append (number (length ts)) (flat_map number (ends_from 0 ts) ++ concat ts), length-append (flat_map number (ends_from 0 ts)) (concat ts)) in
+    let size : length (concat ts) < 2 ^ 64 = omega (
+      arith,
+      ap length whole,
+      length-append (number (length ts)) (flat_map number (ends_from 0 ts) ++ concat ts),
+      length-append (flat_map number (ends_from 0 ts)) (concat ts),
+    ) in
     let up = map (layer_text period) (layers period cs) in
     let same : reverse ts ≡ up = reverse-reverse up in
     let small_texts : AllByRecursion (λ t. length t < 2 ^ 64) up = subst (AllByRecursion (λ t. length t < 2 ^ 64)) same (all_reverse (λ t. length t < 2 ^ 64) ts (texts_fit ts size)) in
@@ -73,13 +81,15 @@ opens_fail period bytes Malformed two small fits h = λ has.
 opens_fail period bytes OutOfMemory two small fits h = tt
 
 -- Texts that are no layers are those of no index.
-pub opens_refused : (period : ℕ) (bytes : List ℕ) (ts : List (List ℕ)) → 2 ≤ period → period ≤ 64 → length bytes < 2 ^ 64 → split_at bytes ≡ Some ts → (AreLayers period ts → ⊥) → HasIndex period bytes → ⊥
+pub opens_refused : (period : ℕ) (bytes : List ℕ) (ts : List (List ℕ)) → 2 ≤ period → period ≤ 64 → length bytes < 2 ^ 64 → split_at bytes ≡ Some ts → (AreLayers period ts → ⊥) → HasIndex period bytes
+    → ⊥
 opens_refused period bytes ts two small fits e fails has =
     let again = opens_again period bytes has.0 two small fits has.1 in
     fails (subst (AreLayers period) (some_is (texts_down period has.0) ts (sym again.0 ∙ e)) again.1)
 
 -- a fault of the walk
-pub opens_walked : (period : ℕ) (bytes : List ℕ) (ts : List (List ℕ)) (fault : IndexFault) → 2 ≤ period → period ≤ 64 → length bytes < 2 ^ 64 → split_at bytes ≡ Some ts → FailsOnlyUnless (AreLayersBelow period None ts) fault → FailsOnlyUnless (HasIndex period bytes) fault
+pub opens_walked : (period : ℕ) (bytes : List ℕ) (ts : List (List ℕ)) (fault : IndexFault) → 2 ≤ period → period ≤ 64 → length bytes < 2 ^ 64 → split_at bytes ≡ Some ts
+    → FailsOnlyUnless (AreLayersBelow period None ts) fault → FailsOnlyUnless (HasIndex period bytes) fault
 opens_walked period bytes ts Malformed two small fits e fails = opens_refused period bytes ts two small fits e (λ are. fails are.below)
 opens_walked period bytes ts OutOfMemory two small fits e fails = tt
 

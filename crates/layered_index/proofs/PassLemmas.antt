@@ -72,7 +72,8 @@ some_from : {A : Type 0} (o : Option A) → IsSome o → (x : A) × (o ≡ Some 
 some_from (Some x) h = (x, refl)
 some_from None h = absurd cc
 
-rises_read : (period : ℕ) (cs : List Checkpoint) (below : List ℕ) (ts : List (List ℕ)) → 1 ≤ period → period ≤ 64 → IsInLine cs → below ≡ layer_text period cs → AllByRecursion IsBytes ts → Rises period below ts
+rises_read : (period : ℕ) (cs : List Checkpoint) (below : List ℕ) (ts : List (List ℕ)) → 1 ≤ period → period ≤ 64 → IsInLine cs → below ≡ layer_text period cs → AllByRecursion IsBytes ts
+    → Rises period below ts
     → ts ≡ map (layer_text period) (layers_from period (length ts) (layer_above period cs))
 rises_read period cs below [] one small h e fits r = refl
 rises_read period cs below (t ∷ ts) one small h e fits r =
@@ -109,7 +110,8 @@ above_some period cs one some = by_count (length (groups period cs)) refl
     by_count (suc n) e = omega (arith, length-layer_above period cs)
 
 rises_again : (period count : ℕ) (cs : List Checkpoint) → 1 ≤ period → period ≤ 64 → 0 < length cs → IsInLine cs → length (layer_text period cs) < 2 ^ 64
-    → AllByRecursion (λ t. length t < 2 ^ 64) (map (layer_text period) (layers_from period count (layer_above period cs))) → Rises period (layer_text period cs) (map (layer_text period) (layers_from period count (layer_above period cs)))
+    → AllByRecursion (λ t. length t < 2 ^ 64) (map (layer_text period) (layers_from period count (layer_above period cs)))
+    → Rises period (layer_text period cs) (map (layer_text period) (layers_from period count (layer_above period cs)))
 rises_again period zero cs one small some h fits all = tt
 rises_again period (suc count) cs one small some h fits all =
     let above = layer_above_is_in_line period cs one small h fits in
@@ -119,7 +121,8 @@ rises_again period (suc count) cs one small some h fits all =
       rises_again period count (layer_above period cs) one small more above all.0 all.1,
     )
 
-above_by : (period count : ℕ) (cs : List Checkpoint) → 2 ≤ period → period ≤ 64 → IsInLine cs → digit_count period (length cs) ≡ count → AllByRecursion (λ t. length t < 2 ^ 64) (map (layer_text period) (layers_from period count cs))
+above_by : (period count : ℕ) (cs : List Checkpoint) → 2 ≤ period → period ≤ 64 → IsInLine cs → digit_count period (length cs) ≡ count
+    → AllByRecursion (λ t. length t < 2 ^ 64) (map (layer_text period) (layers_from period count cs))
     → AreLayersAbove period (map (layer_text period) (layers_from period count cs)) × (first_items (map (layer_text period) (layers_from period count cs)) ≡ cs)
 above_by period zero cs two small h digits all = (tt, sym (no_layers period cs two digits))
 above_by period (suc count) [] two small h digits all = absurd (omega (arith, digit_count_zero period))
@@ -137,9 +140,16 @@ above_again period cs two small h all = above_by period (digit_count period (len
 
 length-texts-ge : (gs : List (List Checkpoint)) → 2 * length (flat_map (λ g. g) gs) ≤ length (flat_map checkpoint_block gs)
 length-texts-ge [] = omega arith
-length-texts-ge (g ∷ gs) = omega (arith, length-append g (flat_map (λ (x : List Checkpoint). x) gs), length-append (checkpoint_block g) (flat_map checkpoint_block gs), length-block-ge g, length-texts-ge gs)
+length-texts-ge (g ∷ gs) = omega (
+  arith,
+  length-append g (flat_map (λ (x : List Checkpoint). x) gs),
+  length-append (checkpoint_block g) (flat_map checkpoint_block gs),
+  length-block-ge g,
+  length-texts-ge gs,
+)
 
-few_by : (period count : ℕ) (cs : List Checkpoint) → 2 ≤ period → digit_count period (length cs) ≡ count → AllByRecursion (λ t. length t < 2 ^ 64) (map (layer_text period) (layers_from period count cs)) → count ≤ 64
+few_by : (period count : ℕ) (cs : List Checkpoint) → 2 ≤ period → digit_count period (length cs) ≡ count
+    → AllByRecursion (λ t. length t < 2 ^ 64) (map (layer_text period) (layers_from period count cs)) → count ≤ 64
 few_by period zero cs two digits all = omega arith
 few_by period (suc count) cs two digits all =
     let long = length-texts-ge (groups period cs) in

@@ -30,7 +30,8 @@ groups_are_runs period doc byte cs one h = by_runs period (λ xs. (d b : ℕ) �
     cs doc byte h
 
 -- the joined blocks of runs tell the runs
-pub texts_apart : (period : ℕ) (gs hs : List (List Checkpoint)) → AllByRecursion (IsRun period) gs → AllByRecursion (IsRun period) hs → flat_map checkpoint_block gs ≡ flat_map checkpoint_block hs → gs ≡ hs
+pub texts_apart : (period : ℕ) (gs hs : List (List Checkpoint)) → AllByRecursion (IsRun period) gs → AllByRecursion (IsRun period) hs → flat_map checkpoint_block gs ≡ flat_map checkpoint_block hs
+    → gs ≡ hs
 texts_apart period [] [] p q e = refl
 texts_apart period [] (h ∷ hs) p q e = absurd (omega (arith, block_some h, ap length e, length-append (checkpoint_block h) (flat_map checkpoint_block hs)))
 texts_apart period (g ∷ gs) [] p q e = absurd (omega (arith, block_some g, ap length e, length-append (checkpoint_block g) (flat_map checkpoint_block gs)))

@@ -8,7 +8,8 @@ use Rattle.store_base.specs.ReadingLemmas.{last, longer}
 use Rattle.layered_index.proofs.WalkLemmas.{positive}
 
 -- the last byte is the second exactly where there are more than one
-pub pair_read : (bytes : List ℕ) (more : Bool) (low high : ℕ) → nat_lt (get_or bytes 0 0) 128 ≡ more → 2 ≤ length bytes → 128 + from_bool more ≤ get_or bytes (from_bool more) 0 → get_or bytes 0 0 < 256 → get_or bytes 1 0 < 256 → low ≡ get_or bytes 0 0 % 128 → high ≡ get_or bytes 1 0 % 128
+pub pair_read : (bytes : List ℕ) (more : Bool) (low high : ℕ) → nat_lt (get_or bytes 0 0) 128 ≡ more → 2 ≤ length bytes → 128 + from_bool more ≤ get_or bytes (from_bool more) 0
+    → get_or bytes 0 0 < 256 → get_or bytes 1 0 < 256 → low ≡ get_or bytes 0 0 % 128 → high ≡ get_or bytes 1 0 % 128
     → number_at bytes ≡ Some (low + from_bool more * (128 * high), take (length bytes - (from_bool more + 1)) (drop (from_bool more + 1) bytes))
 pair_read [] more low high t some le p q e f = absurd (omega arith)
 pair_read (x ∷ []) more low high t some le p q e f = absurd (omega arith)
@@ -21,7 +22,8 @@ pair_read (x ∷ y ∷ bytes) true low high t some le p q e f =
     longer x (y ∷ bytes) bytes (y - 128) small (omega (arith, le)) (last y bytes (omega (arith, le))) ∙ (λ i. Some (value i, sym (take_rest (x ∷ y ∷ bytes) 2) i))
 
 -- one byte more
-pub longer_read : (bytes rest : List ℕ) (low high : ℕ) → 1 ≤ length bytes → get_or bytes 0 0 < 128 → low ≡ get_or bytes 0 0 → (high ≡ 0 → ⊥) → number_at (take (length bytes - 1) (drop 1 bytes)) ≡ Some (high, rest) → number_at bytes ≡ Some (low + 128 * high, rest)
+pub longer_read : (bytes rest : List ℕ) (low high : ℕ) → 1 ≤ length bytes → get_or bytes 0 0 < 128 → low ≡ get_or bytes 0 0 → (high ≡ 0 → ⊥)
+    → number_at (take (length bytes - 1) (drop 1 bytes)) ≡ Some (high, rest) → number_at bytes ≡ Some (low + 128 * high, rest)
 longer_read [] rest low high some small e more read = absurd (omega arith)
 longer_read (x ∷ bytes) rest low high some small e more read =
     longer x bytes rest high small (positive high more) (ap number_at (sym (take_rest (x ∷ bytes) 1)) ∙ read) ∙ ap (λ (n : ℕ). Some (n + 128 * high, rest)) (sym e)

@@ -14,10 +14,12 @@ pub goes_on : (count i doc byte : ℕ) (bytes : List ℕ) (c : Checkpoint) (afte
 unfolding steps_at
 goes_on count i doc byte bytes c after total lt h so_far =
     let k : count - i ≡ suc (count - (i + 1)) = omega arith in
-    let one : ends_of doc byte (steps_at (count - i) doc byte bytes) ≡ ends_of c.doc_range.end c.byte_range.end (steps_at (count - (i + 1)) c.doc_range.end c.byte_range.end after) = rw (k, h) (regroup doc byte c (steps_at (count - (i + 1)) c.doc_range.end c.byte_range.end after)) in
+    let one : ends_of doc byte (steps_at (count - i) doc byte bytes) ≡ ends_of c.doc_range.end c.byte_range.end (steps_at (count - (i + 1)) c.doc_range.end c.byte_range.end after) =
+    rw (k, h) (regroup doc byte c (steps_at (count - (i + 1)) c.doc_range.end c.byte_range.end after)) in
     sym one ∙ so_far
 
-pub ends : (count i doc byte : ℕ) (bytes : List ℕ) (total : Option (ℕ × ℕ × List ℕ)) → i < count → step_at doc byte bytes ≡ None → ends_of doc byte (steps_at (count - i) doc byte bytes) ≡ total → total ≡ None
+pub ends : (count i doc byte : ℕ) (bytes : List ℕ) (total : Option (ℕ × ℕ × List ℕ)) → i < count → step_at doc byte bytes ≡ None → ends_of doc byte (steps_at (count - i) doc byte bytes) ≡ total
+    → total ≡ None
 unfolding steps_at
 ends count i doc byte bytes total lt h so_far =
     let k : count - i ≡ suc (count - (i + 1)) = omega arith in

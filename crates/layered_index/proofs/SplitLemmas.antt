@@ -1,5 +1,6 @@
 -- The texts of an index are read as they were written.
-use Rattle.std.proofs.Common.{◌≡◌, ℕ, zero, suc, ◌+◌, ◌-◌, ◌<◌, ◌≤◌, ◌^◌, Bool, true, false, cond, eqb, ltb, List, [], ◌∷◌, ◌++◌, length, take, drop, Option, Some, None, refl, sym, ◌∙◌, ap, subst, arith, append_assoc, length-append}
+use Rattle.std.proofs.Common.{◌≡◌, ℕ, zero, suc, ◌+◌, ◌-◌, ◌<◌, ◌≤◌, ◌^◌, Bool, true, false, cond, eqb, ltb, List, [], ◌∷◌, ◌++◌, length, take, drop, Option, Some, None, refl, sym, ◌∙◌, ap, subst}
+use Rattle.std.proofs.Common.{arith, append_assoc, length-append}
 use Rattle.std.proofs.lemmas.Bool.{eqb-true, ltb-false, le-ltb}
 use Rattle.std.proofs.lemmas.List.{take-append-drop, length-take, nil_from_length}
 use Rattle.std.proofs.Math.Seq.{drop-append_seam, take-append_seam}
@@ -115,7 +116,8 @@ split_again ts few fits =
     let ge = length-numbers-ge ends in
     let first : number_below 65 (joined ts) ≡ Some (length ts, flat_map number ends ++ texts) = below_again 65 (length ts) (flat_map number ends ++ texts) (omega arith) in
     let enough : ltb (length (flat_map number ends ++ texts)) (length ts) ≡ false = le-ltb _ _ (omega arith) in
-    let second : numbers_at (length ts) (flat_map number ends ++ texts) ≡ Some (ends, texts) = ap (λ (n : ℕ). numbers_at n (flat_map number ends ++ texts)) (sym many) ∙ numbers_again ends texts (ends_fit 0 ts (omega arith)) in
+    let second : numbers_at (length ts) (flat_map number ends ++ texts) ≡ Some (ends, texts) = ap (λ (n : ℕ). numbers_at n (flat_map number ends ++ texts)) (sym many)
+    ∙ numbers_again ends texts (ends_fit 0 ts (omega arith)) in
     rw (first, enough, second) (texts_again 0 ts)
 
 -- each text of bytes is of bytes

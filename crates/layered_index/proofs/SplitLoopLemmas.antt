@@ -1,5 +1,6 @@
 -- Reading the ends and the texts of layers one after the other, as loops do.
-use Rattle.std.proofs.Common.{◌≡◌, ℕ, zero, suc, ◌-◌, ◌+◌, ◌^◌, ◌≤◌, ◌<◌, Bool, true, false, cond, eqb, ltb, List, [], ◌∷◌, ◌++◌, ◌*◌, leb, eq-eqb, ◌⊎◌, inl, inr, length, take, drop, get_or, Option, Some, None, refl, sym, ap, ◌∙◌, append_assoc, arith, length-append}
+use Rattle.std.proofs.Common.{◌≡◌, ℕ, zero, suc, ◌-◌, ◌+◌, ◌^◌, ◌≤◌, ◌<◌, Bool, true, false, cond, eqb, ltb, List, [], ◌∷◌, ◌++◌, ◌*◌, leb, eq-eqb, ◌⊎◌, inl, inr, length, take, drop, get_or, Option}
+use Rattle.std.proofs.Common.{Some, None, refl, sym, ap, ◌∙◌, append_assoc, arith, length-append}
 use Rattle.std.proofs.lemmas.Bool.{lt-ltb, le-ltb, ne_eqb, cond-true, cond-false, cases_lt}
 use Rattle.std.proofs.lemmas.List.{append-nil, drop-drop, length-drop, drop_all}
 use Rattle.std.proofs.Math.Seq.{drop-cons, drop-append_seam}
@@ -25,17 +26,20 @@ pub number_goes_on : (front : List ℕ) (count i : ℕ) (bytes : List ℕ) (n : 
 unfolding numbers_at
 number_goes_on front count i bytes n after total lt h so_far =
     let k : count - i ≡ suc (count - (i + 1)) = omega arith in
-    let one : with_numbers front (numbers_at (count - i) bytes) ≡ with_numbers (front ++ n ∷ []) (numbers_at (count - (i + 1)) after) = rw (k, h) (regroup front n (numbers_at (count - (i + 1)) after)) in
+    let one : with_numbers front (numbers_at (count - i) bytes) ≡ with_numbers (front ++ n ∷ []) (numbers_at (count - (i + 1)) after) =
+    rw (k, h) (regroup front n (numbers_at (count - (i + 1)) after)) in
     sym one ∙ so_far
 
-pub number_ends : (front : List ℕ) (count i : ℕ) (bytes : List ℕ) (total : Option (List ℕ × List ℕ)) → i < count → number_below (2 ^ 64) bytes ≡ None → with_numbers front (numbers_at (count - i) bytes) ≡ total → total ≡ None
+pub number_ends : (front : List ℕ) (count i : ℕ) (bytes : List ℕ) (total : Option (List ℕ × List ℕ)) → i < count → number_below (2 ^ 64) bytes ≡ None
+    → with_numbers front (numbers_at (count - i) bytes) ≡ total → total ≡ None
 unfolding numbers_at
 number_ends front count i bytes total lt h so_far =
     let k : count - i ≡ suc (count - (i + 1)) = omega arith in
     let one : with_numbers front (numbers_at (count - i) bytes) ≡ None = rw (k, h) refl in
     sym so_far ∙ one
 
-pub numbers_done : (front : List ℕ) (count i : ℕ) (bytes : List ℕ) (total : Option (List ℕ × List ℕ)) → count ≤ i → with_numbers front (numbers_at (count - i) bytes) ≡ total → total ≡ Some (front, bytes)
+pub numbers_done : (front : List ℕ) (count i : ℕ) (bytes : List ℕ) (total : Option (List ℕ × List ℕ)) → count ≤ i → with_numbers front (numbers_at (count - i) bytes) ≡ total
+    → total ≡ Some (front, bytes)
 unfolding numbers_at
 numbers_done front count i bytes total le so_far =
     let k : count - i ≡ 0 = omega arith in
@@ -51,7 +55,8 @@ regroup_texts : (front : List (List ℕ)) (t : List ℕ) (read : Option (List (L
 regroup_texts front t (Some ts) = ap (λ (us : List (List ℕ)). Some us) (simp append_assoc)
 regroup_texts front t None = refl
 
-next_text : (place end : ℕ) (ends bytes : List ℕ) → place ≤ end → end - place ≤ length bytes → texts_at place (end ∷ ends) bytes ≡ (texts_at end ends (drop (end - place) bytes) >>= λ ts. Some (take (end - place) bytes ∷ ts))
+next_text : (place end : ℕ) (ends bytes : List ℕ) → place ≤ end → end - place ≤ length bytes
+    → texts_at place (end ∷ ends) bytes ≡ (texts_at end ends (drop (end - place) bytes) >>= λ ts. Some (take (end - place) bytes ∷ ts))
 unfolding texts_at
 next_text place end ends bytes ordered long = rw (le-ltb end place ordered, le-ltb (length bytes) (end - place) long) refl
 
@@ -71,8 +76,10 @@ more_bytes : (place : ℕ) (bytes : List ℕ) → 0 < length bytes → texts_at 
 unfolding texts_at
 more_bytes place bytes some = cond-false (eqb (length bytes) 0) (Some []) None (ne_eqb (length bytes) 0 (λ e. omega arith))
 
-pub text_goes_on : (front : List (List ℕ)) (base place i end : ℕ) (ends given : List ℕ) (text : List ℕ) (total : Option (List (List ℕ))) → i < length ends → end ≡ get_or ends i 0 → place ≤ end → end ≤ length given - base → base ≤ length given
-    → text ≡ take (base + end - (base + place)) (drop (base + place) given) → with_texts front (texts_at place (drop i ends) (drop (base + place) given)) ≡ total → with_texts (front ++ text ∷ []) (texts_at end (drop (i + 1) ends) (drop (base + end) given)) ≡ total
+pub text_goes_on : (front : List (List ℕ)) (base place i end : ℕ) (ends given : List ℕ) (text : List ℕ) (total : Option (List (List ℕ))) → i < length ends → end ≡ get_or ends i 0 → place ≤ end
+    → end ≤ length given - base → base ≤ length given
+    → text ≡ take (base + end - (base + place)) (drop (base + place) given) → with_texts front (texts_at place (drop i ends) (drop (base + place) given)) ≡ total
+    → with_texts (front ++ text ∷ []) (texts_at end (drop (i + 1) ends) (drop (base + end) given)) ≡ total
 text_goes_on front base place i end ends given text total lt end_is ordered within known text_is so_far =
     let bytes = drop (base + place) given in
     let len : length bytes ≡ length given - (base + place) = length-drop (base + place) given in
@@ -88,7 +95,8 @@ text_goes_on front base place i end ends given text total lt end_is ordered with
     one_more : (i : ℕ) → suc i ≡ i + 1
     one_more i = omega arith
 
-pub text_refused : (front : List (List ℕ)) (base place i end : ℕ) (ends given : List ℕ) (total : Option (List (List ℕ))) → i < length ends → end ≡ get_or ends i 0 → place ≤ length given - base → base ≤ length given → (end < place) ⊎ (length given - base < end)
+pub text_refused : (front : List (List ℕ)) (base place i end : ℕ) (ends given : List ℕ) (total : Option (List (List ℕ))) → i < length ends → end ≡ get_or ends i 0 → place ≤ length given - base
+    → base ≤ length given → (end < place) ⊎ (length given - base < end)
     → with_texts front (texts_at place (drop i ends) (drop (base + place) given)) ≡ total → total ≡ None
 text_refused front base place i end ends given total lt end_is within known why so_far =
     let bytes = drop (base + place) given in
@@ -104,7 +112,8 @@ texts_done front base place i ends given total le whole known so_far =
     let none : length bytes ≡ 0 = omega (arith, length-drop (base + place) given) in
     sym so_far ∙ ap (with_texts front) (ap (λ (es : List ℕ). texts_at place es bytes) (drop_all i ends le) ∙ last_text place bytes none) ∙ ap (λ (ts : List (List ℕ)). Some ts) (append-nil front)
 
-pub texts_left : (front : List (List ℕ)) (base place i : ℕ) (ends given : List ℕ) (total : Option (List (List ℕ))) → length ends ≤ i → place ≤ length given - base → (place ≡ length given - base → ⊥) → base ≤ length given
+pub texts_left : (front : List (List ℕ)) (base place i : ℕ) (ends given : List ℕ) (total : Option (List (List ℕ))) → length ends ≤ i → place ≤ length given - base → (place ≡ length given - base → ⊥)
+    → base ≤ length given
     → with_texts front (texts_at place (drop i ends) (drop (base + place) given)) ≡ total → total ≡ None
 texts_left front base place i ends given total le within differ known so_far =
     let bytes = drop (base + place) given in
@@ -126,14 +135,15 @@ behind_to bytes a b e p = record { front = p.front; parts = p.parts ∙ ap (λ (
 number_behind : (bytes : List ℕ) (x : ℕ × List ℕ) → number_at bytes ≡ Some x → IsBehind bytes x.1
 unfolding number_at
 number_behind [] x e = absurd (cc)
-number_behind (b ∷ bytes) x e = elim (leb 128 b) as (λ v. cond v (Some (b - 128, bytes)) (number_at bytes >>= λ high. cond (eqb high.0 0) None (Some (b + 128 * high.0, high.1))) ≡ Some x → IsBehind (b ∷ bytes) x.1) [
-  | true ↦ λ h. behind_to (b ∷ bytes) bytes x.1 (ap (λ (y : ℕ × List ℕ). y.1) (some_is (b - 128, bytes) x h)) (record { front = b ∷ []; parts = refl })
-  | false ↦ λ h.
-      let found = bind_some (number_at bytes) (λ high. cond (eqb high.0 0) None (Some (b + 128 * high.0, high.1))) x h in
-      let passed = guard_some (eqb found.0.0 0) (b + 128 * found.0.0, found.0.1) x found.2 in
-      let inner = number_behind bytes found.0 found.1 in
-      behind_to (b ∷ bytes) found.0.1 x.1 (ap (λ (y : ℕ × List ℕ). y.1) passed.1) (record { front = b ∷ inner.front; parts = ap (λ (t : List ℕ). b ∷ t) inner.parts })
-] e
+number_behind (b ∷ bytes) x e = elim (leb 128 b) as (λ v. cond v (Some (b - 128, bytes)) (number_at bytes >>= λ high. cond (eqb high.0 0) None (Some (b + 128 * high.0, high.1))) ≡ Some x
+    → IsBehind (b ∷ bytes) x.1) [
+      | true ↦ λ h. behind_to (b ∷ bytes) bytes x.1 (ap (λ (y : ℕ × List ℕ). y.1) (some_is (b - 128, bytes) x h)) (record { front = b ∷ []; parts = refl })
+      | false ↦ λ h.
+          let found = bind_some (number_at bytes) (λ high. cond (eqb high.0 0) None (Some (b + 128 * high.0, high.1))) x h in
+          let passed = guard_some (eqb found.0.0 0) (b + 128 * found.0.0, found.0.1) x found.2 in
+          let inner = number_behind bytes found.0 found.1 in
+          behind_to (b ∷ bytes) found.0.1 x.1 (ap (λ (y : ℕ × List ℕ). y.1) passed.1) (record { front = b ∷ inner.front; parts = ap (λ (t : List ℕ). b ∷ t) inner.parts })
+    ] e
 
 below_behind : (limit : ℕ) (bytes : List ℕ) (x : ℕ × List ℕ) → number_below limit bytes ≡ Some x → IsBehind bytes x.1
 below_behind limit bytes x e =
@@ -147,7 +157,8 @@ numbers_behind zero bytes x e = behind_to bytes bytes x.1 (ap (λ (y : List ℕ 
 numbers_behind (suc count) bytes x e =
     let a = bind_some (number_below (2 ^ 64) bytes) (λ n. numbers_at count n.1 >>= λ others. Some (n.0 ∷ others.0, others.1)) x e in
     let b = bind_some (numbers_at count a.0.1) (λ others. Some (a.0.0 ∷ others.0, others.1)) x a.2 in
-    behind_to bytes b.0.1 x.1 (ap (λ (y : List ℕ × List ℕ). y.1) (some_is (a.0.0 ∷ b.0.0, b.0.1) x b.2)) (behind_then bytes a.0.1 b.0.1 (below_behind (2 ^ 64) bytes a.0 a.1) (numbers_behind count a.0.1 b.0 b.1))
+    behind_to bytes b.0.1 x.1 (ap (λ (y : List ℕ × List ℕ). y.1) (some_is (a.0.0 ∷ b.0.0, b.0.1) x b.2))
+    (behind_then bytes a.0.1 b.0.1 (below_behind (2 ^ 64) bytes a.0 a.1) (numbers_behind count a.0.1 b.0 b.1))
 
 pub ends_behind : (bytes : List ℕ) (x : List ℕ × List ℕ) → ends_at bytes ≡ Some x → IsBehind bytes x.1
 unfolding ends_at

@@ -39,7 +39,8 @@ length-between doc byte (d ∷ docs) [] e = absurd (omega arith)
 length-between doc byte (d ∷ docs) (b ∷ bytes) e = ap suc (length-between d b docs bytes (omega arith))
 
 -- the first, which begins where all begin
-pub first_between : (doc byte : ℕ) (docs bytes : List ℕ) (cs : List Checkpoint) (start : ℕ × ℕ) (i d b : ℕ) → between doc byte docs bytes ≡ cs → i ≡ 0 → start ≡ (doc, byte) → slice_get docs i ≡ Some d → slice_get bytes i ≡ Some b
+pub first_between : (doc byte : ℕ) (docs bytes : List ℕ) (cs : List Checkpoint) (start : ℕ × ℕ) (i d b : ℕ) → between doc byte docs bytes ≡ cs → i ≡ 0 → start ≡ (doc, byte) → slice_get docs i ≡ Some d
+    → slice_get bytes i ≡ Some b
     → slice_get cs i ≡ Some (checkpoint start.0 d start.1 b)
 first_between doc byte [] bytes cs start i d b view none from e f = absurd (no_item i d e)
 first_between doc byte (x ∷ docs) [] cs start i d b view none from e f = absurd (no_item i b f)
@@ -48,7 +49,8 @@ first_between doc byte (x ∷ docs) (y ∷ bytes) cs start zero d b view none fr
 first_between doc byte (x ∷ docs) (y ∷ bytes) cs start (suc i) d b view none from e f = absurd (omega arith)
 
 -- any other, which begins where the one before it ends
-behind : (doc byte : ℕ) (docs bytes : List ℕ) (i d b d_end b_end : ℕ) → slice_get docs i ≡ Some d → slice_get bytes i ≡ Some b → slice_get docs (suc i) ≡ Some d_end → slice_get bytes (suc i) ≡ Some b_end
+behind : (doc byte : ℕ) (docs bytes : List ℕ) (i d b d_end b_end : ℕ) → slice_get docs i ≡ Some d → slice_get bytes i ≡ Some b → slice_get docs (suc i) ≡ Some d_end
+    → slice_get bytes (suc i) ≡ Some b_end
     → slice_get (between doc byte docs bytes) (suc i) ≡ Some (checkpoint d d_end b b_end)
 behind doc byte [] bytes i d b d_end b_end e f g h = absurd (no_item i d e)
 behind doc byte (x ∷ docs) [] i d b d_end b_end e f g h = absurd (no_item i b f)

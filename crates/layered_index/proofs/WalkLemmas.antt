@@ -23,12 +23,18 @@ steps_take zero doc byte bytes x e = omega (arith, ap (λ (y : List Checkpoint �
 steps_take (suc count) doc byte bytes x e =
     let a = bind_some (step_at doc byte bytes) (λ c. steps_at count c.0.doc_range.end c.0.byte_range.end c.1 >>= λ others. Some (c.0 ∷ others.0, others.1)) x e in
     let b = bind_some (steps_at count a.0.0.doc_range.end a.0.0.byte_range.end a.0.1) (λ others. Some (a.0.0 ∷ others.0, others.1)) x a.2 in
-    omega (arith, step_takes doc byte bytes a.0 a.1, steps_take count a.0.0.doc_range.end a.0.0.byte_range.end a.0.1 b.0 b.1, ap (λ (y : List Checkpoint × List ℕ). length y.1) (some_is (a.0.0 ∷ b.0.0, b.0.1) x b.2))
+    omega (
+      arith,
+      step_takes doc byte bytes a.0 a.1,
+      steps_take count a.0.0.doc_range.end a.0.0.byte_range.end a.0.1 b.0 b.1,
+      ap (λ (y : List Checkpoint × List ℕ). length y.1) (some_is (a.0.0 ∷ b.0.0, b.0.1) x b.2),
+    )
 
 pub run_takes : (bytes : List ℕ) (x : Run × List ℕ) → run_at bytes ≡ Some x → (2 * x.0.count + length x.1 < length bytes)
 unfolding run_at
 run_takes bytes x e =
-    let a = bind_some (heading_at bytes) (λ h. ends_of h.0.doc h.0.byte (steps_at h.0.count h.0.doc h.0.byte h.1) >>= λ e. Some (record { count = h.0.count; doc = h.0.doc; byte = h.0.byte; doc_end = e.0; byte_end = e.1 }, e.2)) x e in
+    let a = bind_some (heading_at bytes) (λ h. ends_of h.0.doc h.0.byte (steps_at h.0.count h.0.doc h.0.byte h.1) >>= λ e. Some
+    (record { count = h.0.count; doc = h.0.doc; byte = h.0.byte; doc_end = e.0; byte_end = e.1 }, e.2)) x e in
     let h = a.0.0 in
     let b = bind_some (ends_of h.doc h.byte (steps_at h.count h.doc h.byte a.0.1)) (λ e. Some (record { count = h.count; doc = h.doc; byte = h.byte; doc_end = e.0; byte_end = e.1 }, e.2)) x a.2 in
     let s = bind_some (steps_at h.count h.doc h.byte a.0.1) (λ y. Some (docs_end h.doc y.0, bytes_end h.byte y.0, y.1)) b.0 b.1 in
@@ -65,7 +71,8 @@ plus_plus a b None = refl
 abbrev len_behind : ℕ → ℕ → ℕ → ℕ → Option (Run × List ℕ) → Option ℕ
 len_behind more period doc byte o = o >>= λ r. cond (may_stand period doc byte r.0 (length r.1)) (plus r.0.count (len_within more period r.0.doc_end r.0.byte_end r.1)) None
 
-len_same : (f g period doc byte : ℕ) (o : Option (Run × List ℕ)) → ((r : Run × List ℕ) → o ≡ Some r → len_within f period r.0.doc_end r.0.byte_end r.1 ≡ len_within g period r.0.doc_end r.0.byte_end r.1) → len_behind f period doc byte o ≡ len_behind g period doc byte o
+len_same : (f g period doc byte : ℕ) (o : Option (Run × List ℕ)) → ((r : Run × List ℕ) → o ≡ Some r
+    → len_within f period r.0.doc_end r.0.byte_end r.1 ≡ len_within g period r.0.doc_end r.0.byte_end r.1) → len_behind f period doc byte o ≡ len_behind g period doc byte o
 len_same f g period doc byte None h = refl
 len_same f g period doc byte (Some r) h = ap (λ (o : Option ℕ). cond (may_stand period doc byte r.0 (length r.1)) (plus r.0.count o) None) (h r refl)
 
@@ -98,7 +105,8 @@ len_then period doc byte o = o >>= λ r. cond (may_stand period doc byte r.0 (le
 len_then_is : (more period doc byte : ℕ) (o : Option (Run × List ℕ)) → ((r : Run × List ℕ) → o ≡ Some r → length r.1 ≤ more) → len_behind more period doc byte o ≡ len_then period doc byte o
 unfolding len_from
 len_then_is more period doc byte None h = refl
-len_then_is more period doc byte (Some r) h = ap (λ (o : Option ℕ). cond (may_stand period doc byte r.0 (length r.1)) (plus r.0.count o) None) (len_turns more (length r.1) period r.0.doc_end r.0.byte_end r.1 (h r refl) (omega arith))
+len_then_is more period doc byte (Some r) h = ap (λ (o : Option ℕ). cond (may_stand period doc byte r.0 (length r.1)) (plus r.0.count o) None)
+    (len_turns more (length r.1) period r.0.doc_end r.0.byte_end r.1 (h r refl) (omega arith))
 
 len_from_more : (period doc byte b : ℕ) (bytes : List ℕ) → len_from period doc byte (b ∷ bytes) ≡ len_behind (length bytes) period doc byte (run_at (b ∷ bytes))
 unfolding len_from
@@ -115,7 +123,8 @@ len_from_some period doc byte (b ∷ bytes) some =
 abbrev pointers_of : ℕ → ℕ → ℕ → Option (Run × List ℕ) → List Checkpoint
 pointers_of more place len o = option_map_or (λ r. let after = place + (len - length r.1) in checkpoint r.0.doc r.0.doc_end place after ∷ pointers_within more after r.1) o []
 
-pointers_same : (f g place len : ℕ) (o : Option (Run × List ℕ)) → ((r : Run × List ℕ) (p : ℕ) → o ≡ Some r → pointers_within f p r.1 ≡ pointers_within g p r.1) → pointers_of f place len o ≡ pointers_of g place len o
+pointers_same : (f g place len : ℕ) (o : Option (Run × List ℕ)) → ((r : Run × List ℕ) (p : ℕ) → o ≡ Some r → pointers_within f p r.1 ≡ pointers_within g p r.1)
+    → pointers_of f place len o ≡ pointers_of g place len o
 pointers_same f g place len None h = refl
 pointers_same f g place len (Some r) h = ap (λ (ps : List Checkpoint). checkpoint r.0.doc r.0.doc_end place (place + (len - length r.1)) ∷ ps) (h r (place + (len - length r.1)) refl)
 
@@ -128,7 +137,8 @@ unfolding pointers_within
 pointers_turns zero zero place bytes p q = refl
 pointers_turns zero (suc g) place bytes p q = sym (pointers_none_of g place (length bytes) (run_at bytes) (λ r e. omega (arith, run_takes bytes r e)))
 pointers_turns (suc f) zero place bytes p q = pointers_none_of f place (length bytes) (run_at bytes) (λ r e. omega (arith, run_takes bytes r e))
-pointers_turns (suc f) (suc g) place bytes p q = pointers_same f g place (length bytes) (run_at bytes) (λ r at e. pointers_turns f g at r.1 (omega (arith, run_takes bytes r e)) (omega (arith, run_takes bytes r e)))
+pointers_turns (suc f) (suc g) place bytes p q = pointers_same f g place (length bytes) (run_at bytes)
+    (λ r at e. pointers_turns f g at r.1 (omega (arith, run_takes bytes r e)) (omega (arith, run_takes bytes r e)))
 
 -- the pointer to a run that was read, and then the others
 abbrev pub pointers_behind : ℕ → ℕ → Option (Run × List ℕ) → List Checkpoint
@@ -163,22 +173,27 @@ abbrev pub Counts : ℕ → ℕ → ℕ → List ℕ → Option ℕ → Type 0
 Counts period doc byte rest total = (k : ℕ) × (plus k (len_from period doc byte rest) ≡ total)
 
 -- no run stands here
-pub walk_ends : (period doc byte : ℕ) (rest : List ℕ) (total : Option ℕ) (P : Type 0) (fault : IndexFault) → 0 < length rest → Fails fault (run_at rest) → Counts period doc byte rest total → FailsOnlyUnless (IsSome total × P) fault
+pub walk_ends : (period doc byte : ℕ) (rest : List ℕ) (total : Option ℕ) (P : Type 0) (fault : IndexFault) → 0 < length rest → Fails fault (run_at rest) → Counts period doc byte rest total
+    → FailsOnlyUnless (IsSome total × P) fault
 walk_ends period doc byte rest total P OutOfMemory some e so_far = tt
 walk_ends period doc byte rest total P Malformed some e so_far =
     let none : len_from period doc byte rest ≡ None = len_from_some period doc byte rest some ∙ ap (len_then period doc byte) e in
     λ good. none_is_some total (sym (ap (plus so_far.0) none) ∙ so_far.1) good.0
 
 -- one stands here that may not
-pub walk_refused : (period doc byte : ℕ) (rest : List ℕ) (r : Run) (after : List ℕ) (total : Option ℕ) → run_at rest ≡ Some (r, after) → may_stand period doc byte r (length after) ≡ false → Counts period doc byte rest total → IsSome total → ⊥
+pub walk_refused : (period doc byte : ℕ) (rest : List ℕ) (r : Run) (after : List ℕ) (total : Option ℕ) → run_at rest ≡ Some (r, after) → may_stand period doc byte r (length after) ≡ false
+    → Counts period doc byte rest total → IsSome total → ⊥
 walk_refused period doc byte rest r after total e test so_far =
-    let none : len_from period doc byte rest ≡ None = len_from_some period doc byte rest (omega (arith, run_takes rest (r, after) e)) ∙ ap (len_then period doc byte) e ∙ cond-false (may_stand period doc byte r (length after)) (plus r.count (len_from period r.doc_end r.byte_end after)) None test in
+    let none : len_from period doc byte rest ≡ None = len_from_some period doc byte rest (omega (arith, run_takes rest (r, after) e)) ∙ ap (len_then period doc byte) e
+    ∙ cond-false (may_stand period doc byte r (length after)) (plus r.count (len_from period r.doc_end r.byte_end after)) None test in
     none_is_some total (sym (ap (plus so_far.0) none) ∙ so_far.1)
 
-pub walk_goes_on : (period doc byte : ℕ) (rest : List ℕ) (r : Run) (after : List ℕ) (total : Option ℕ) → run_at rest ≡ Some (r, after) → may_stand period doc byte r (length after) ≡ true → Counts period doc byte rest total → Counts period r.doc_end r.byte_end after total
+pub walk_goes_on : (period doc byte : ℕ) (rest : List ℕ) (r : Run) (after : List ℕ) (total : Option ℕ) → run_at rest ≡ Some (r, after) → may_stand period doc byte r (length after) ≡ true
+    → Counts period doc byte rest total → Counts period r.doc_end r.byte_end after total
 walk_goes_on period doc byte rest r after total e test so_far =
     let k = so_far.0 in
-    let one : len_from period doc byte rest ≡ plus r.count (len_from period r.doc_end r.byte_end after) = len_from_some period doc byte rest (omega (arith, run_takes rest (r, after) e)) ∙ ap (len_then period doc byte) e ∙ cond-true (may_stand period doc byte r (length after)) (plus r.count (len_from period r.doc_end r.byte_end after)) None test in
+    let one : len_from period doc byte rest ≡ plus r.count (len_from period r.doc_end r.byte_end after) = len_from_some period doc byte rest (omega (arith, run_takes rest (r, after) e))
+    ∙ ap (len_then period doc byte) e ∙ cond-true (may_stand period doc byte r (length after)) (plus r.count (len_from period r.doc_end r.byte_end after)) None test in
     (k + r.count, sym (plus_plus k r.count (len_from period r.doc_end r.byte_end after)) ∙ sym (ap (plus k) one) ∙ so_far.1)
 
 pub walk_done : (period doc byte : ℕ) (rest : List ℕ) (total : Option ℕ) → length rest ≡ 0 → Counts period doc byte rest total → IsSome total

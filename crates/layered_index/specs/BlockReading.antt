@@ -1,5 +1,6 @@
 -- What stands at the front of bytes: a checkpoint, the heading of a block, a block, and a block in short.
-use Rattle.std.specs.Prelude.{◌≡◌, ℕ, zero, suc, ◌+◌, ◌/◌, ◌^◌, nat_lt, ◌==◌, if◌then◌else◌, List, [], ◌∷◌, ◌++◌, length, Option, Some, None}
+use Rattle.std.specs.Prelude.{◌≡◌, ℕ, zero, suc, ◌+◌, ◌/◌, ◌^◌, nat_lt, ◌==◌, if◌then◌else◌, List, [], ◌∷◌, ◌++◌}
+use Rattle.std.specs.Prelude.{length, Option, Some, None}
 use Rattle.store_base.specs.VInt.{◌>>=◌, number_below}
 use Rattle.layered_index.specs.declared.index.Checkpoint.{Checkpoint}
 use Rattle.layered_index.specs.declared.index.block_reading.Heading.{Heading}
@@ -10,13 +11,15 @@ use Rattle.layered_index.specs.Checkpoint.{checkpoint, docs_end, bytes_end, IsIn
 unfoldable pub step_at : ℕ → ℕ → List ℕ → Option (Checkpoint × List ℕ)
 step_at doc byte bytes =
     number_below (2 ^ 32) bytes >>= λ docs. number_below (2 ^ 32) docs.1 >>= λ len.
-    if nat_lt (doc + docs.0) (2 ^ 32) then (if nat_lt (byte + len.0) (2 ^ 64) then Some (checkpoint doc (doc + docs.0) byte (byte + len.0), len.1) else None) else None
+    if nat_lt (doc + docs.0) (2 ^ 32) then (if nat_lt (byte + len.0) (2 ^ 64) then Some
+    (checkpoint doc (doc + docs.0) byte (byte + len.0), len.1) else None) else None
 
 -- so many, each from where the one before it ends
 unfoldable pub steps_at : ℕ → ℕ → ℕ → List ℕ → Option (List Checkpoint × List ℕ)
 steps_at zero doc byte bytes = Some ([], bytes)
 steps_at (suc more) doc byte bytes =
-    step_at doc byte bytes >>= λ c. steps_at more c.0.doc_range.end c.0.byte_range.end c.1 >>= λ others. Some (c.0 ∷ others.0, others.1)
+    step_at doc byte bytes >>= λ c. steps_at more c.0.doc_range.end c.0.byte_range.end c.1 >>= λ others. Some
+    (c.0 ∷ others.0, others.1)
 
 -- A checkpoint takes at least two bytes, so no more are claimed than could follow.
 unfoldable pub heading_at : List ℕ → Option (Heading × List ℕ)
@@ -27,7 +30,8 @@ heading_at bytes =
     else (
     if nat_lt (length count.1 / 2) count.0
     then None
-    else (number_below (2 ^ 32) count.1 >>= λ doc. number_below (2 ^ 64) doc.1 >>= λ byte. Some (record { count = count.0; doc = doc.0; byte = byte.0 }, byte.1))
+    else (number_below (2 ^ 32) count.1 >>= λ doc. number_below (2 ^ 64) doc.1 >>= λ byte. Some
+    (record { count = count.0; doc = doc.0; byte = byte.0 }, byte.1))
     )
 
 -- a checkpoint block, and the bytes after it

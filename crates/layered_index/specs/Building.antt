@@ -1,5 +1,6 @@
 -- An index in the making. Each layer has the bytes of its full blocks, and an open block.
-use Rattle.std.specs.Prelude.{◌≡◌, ℕ, ◌+◌, ◌<◌, ◌≤◌, ◌^◌, nat_lt, if◌then◌else◌, List, [], ◌∷◌, ◌++◌, length, map, Option, Some, None}
+use Rattle.std.specs.Prelude.{◌≡◌, ℕ, ◌+◌, ◌<◌, ◌≤◌, ◌^◌, nat_lt, if◌then◌else◌, List, [], ◌∷◌, ◌++◌, length, map}
+use Rattle.std.specs.Prelude.{Option, Some, None}
 use Rattle.std.specs.List.{flat_map, AllByRecursion}
 use Rattle.layered_index.specs.declared.index.Checkpoint.{Checkpoint}
 use Rattle.layered_index.specs.Checkpoint.{checkpoint, docs_end, IsInLine, checkpoint_block}
@@ -27,23 +28,27 @@ pointer_to l = checkpoint (docs_start l.rest) (docs_end 0 l.rest) (length l.byte
 abbrev pub flushed : Layer → Layer
 flushed l = record { bytes = text_with l; rest = [] }
 
--- The layers with one more checkpoint in the first. A block that reaches the period is flushed, and its pointer goes to the layer above.
+-- The layers with one more checkpoint in the first. A block that reaches the period is flushed, and its pointer goes to
+-- the layer above.
 unfoldable pub inserted : ℕ → List Layer → Checkpoint → List Layer
 inserted period [] c = record { bytes = []; rest = c ∷ [] } ∷ []
 inserted period (l ∷ ls) c =
-    if nat_lt (length (put l c).rest) period then put l c ∷ ls else flushed (put l c) ∷ inserted period ls (pointer_to (put l c))
+    if nat_lt (length (put l c).rest) period then put l c ∷ ls else flushed (put l c)
+    ∷ inserted period ls (pointer_to (put l c))
 
 -- The first layer takes this checkpoint, and so on upward, if the texts can be addressed.
 unfoldable pub Takes : ℕ → List Layer → Checkpoint → Type 0
 Takes period [] c = IsInLine (c ∷ [])
 Takes period (l ∷ ls) c =
-    IsInLine (put l c).rest × (period ≤ length (put l c).rest → length (text_with (put l c)) < 2 ^ 64 → Takes period ls (pointer_to (put l c)))
+    IsInLine (put l c).rest × (period ≤ length (put l c).rest → length (text_with (put l c)) < 2 ^ 64
+    → Takes period ls (pointer_to (put l c)))
 
 -- What a layer is after an insertion that gave this pointer. A full block is written, and still open.
 abbrev pub TookOne : ℕ → Layer → Checkpoint → Layer → Option Checkpoint → Type 0
 TookOne period l c new None = (length (put l c).rest < period) × (new ≡ put l c)
 TookOne period l c new (Some pointer) =
-    (period ≤ length (put l c).rest) × (new ≡ record { bytes = text_with (put l c); rest = (put l c).rest }) × (pointer ≡ pointer_to (put l c)) × (length (text_with (put l c)) < 2 ^ 64)
+    (period ≤ length (put l c).rest) × (new ≡ record { bytes = text_with (put l c); rest = (put l c).rest })
+    × (pointer ≡ pointer_to (put l c)) × (length (text_with (put l c)) < 2 ^ 64)
 
 -- one more, if there is one
 abbrev pub put_some : Layer → Option Checkpoint → Layer
@@ -62,7 +67,8 @@ closed_text l = l.bytes ++ block_text l.rest
 -- the pointer to a block at this place, if it has a checkpoint
 abbrev pub pointer_at : ℕ → List Checkpoint → Option Checkpoint
 pointer_at place [] = None
-pointer_at place (c ∷ cs) = Some (checkpoint c.doc_range.start (docs_end 0 (c ∷ cs)) place (place + length (checkpoint_block (c ∷ cs))))
+pointer_at place (c ∷ cs) = Some (checkpoint c.doc_range.start (docs_end 0 (c ∷ cs)) place
+    (place + length (checkpoint_block (c ∷ cs))))
 
 -- the pointer to a closed layer's last block
 abbrev pub last_pointer : Layer → Option Checkpoint
@@ -81,7 +87,8 @@ texts_of ls = map (λ l. l.bytes) ls
 unfoldable pub Closes : List Layer → Option Checkpoint → Type 0
 Closes [] below = Unit {0}
 Closes (l ∷ ls) below =
-    IsInLine (put_some l below).rest × (length (closed_text (put_some l below)) < 2 ^ 64 → Closes ls (last_pointer (put_some l below)))
+    IsInLine (put_some l below).rest × (length (closed_text (put_some l below)) < 2 ^ 64
+    → Closes ls (last_pointer (put_some l below)))
 
 -- The layer has these checkpoints: these full runs, written, and an open one.
 pub record IsLayer (period : ℕ) (cs : List Checkpoint) (runs : List (List Checkpoint)) (l : Layer) : Type 0 where
@@ -94,7 +101,8 @@ pub record IsLayer (period : ℕ) (cs : List Checkpoint) (runs : List (List Chec
 -- The first layer has these checkpoints, and each other the pointers to the full runs below it.
 abbrev pub IsBuilt : ℕ → List Checkpoint → List Layer → Type 0
 IsBuilt period cs [] = cs ≡ []
-IsBuilt period cs (l ∷ ls) = (runs : List (List Checkpoint)) × IsLayer period cs runs l × IsBuilt period (pointers 0 runs) ls
+IsBuilt period cs (l ∷ ls) = (runs : List (List Checkpoint)) × IsLayer period cs runs l
+    × IsBuilt period (pointers 0 runs) ls
 
 -- the checkpoints that were inserted
 abbrev pub list_of : List Layer → List Checkpoint

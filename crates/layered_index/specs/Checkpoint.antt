@@ -1,4 +1,5 @@
--- Checkpoints in line, the bytes of a block of them, the linear answer of a seek, and when they cover the data of a store.
+-- Checkpoints in line, the bytes of a block of them, the linear answer of a seek, and when they cover the data of a
+-- store.
 use Rattle.std.specs.Prelude.{◌≡◌, ℕ, ◌-◌, ◌<◌, ◌≤◌, ◌^◌, nat_lt, List, [], ◌∷◌, ◌++◌, length, Option, Some, None}
 use Rattle.std.specs.declared.ops.Range.{Range}
 use Rattle.std.specs.List.{find, flat_map, AllByRecursion}
@@ -7,7 +8,11 @@ use Rattle.layered_index.specs.declared.index.Checkpoint.{Checkpoint}
 
 -- these documents and these bytes, each from a start to an end
 abbrev pub checkpoint : ℕ → ℕ → ℕ → ℕ → Checkpoint
-checkpoint doc doc_end byte byte_end = record { doc_range = record { start = doc; end = doc_end }; byte_range = record { start = byte; end = byte_end } }
+checkpoint doc doc_end byte byte_end = record {
+  doc_range = record { start = doc; end = doc_end };
+  byte_range =
+      record { start = byte; end = byte_end };
+}
 
 -- how many documents it has
 abbrev pub doc_count : Checkpoint → ℕ
@@ -33,7 +38,8 @@ pub record IsWithinLimits (c : Checkpoint) : Type 0 where
 -- from this document and this byte on, each begins where the one before it ends
 abbrev pub IsInLineFrom : ℕ → ℕ → List Checkpoint → Type 0
 IsInLineFrom doc byte [] = Unit {0}
-IsInLineFrom doc byte (c ∷ cs) = (c.doc_range.start ≡ doc) × (c.byte_range.start ≡ byte) × IsWithinLimits c × IsInLineFrom c.doc_range.end c.byte_range.end cs
+IsInLineFrom doc byte (c ∷ cs) = (c.doc_range.start ≡ doc) × (c.byte_range.start ≡ byte) × IsWithinLimits c
+    × IsInLineFrom c.doc_range.end c.byte_range.end cs
 
 -- where the last of these ends, its documents and its bytes; the number given where there is none
 abbrev pub docs_end : ℕ → List Checkpoint → ℕ

@@ -4,7 +4,8 @@ use Rattle.layered_index.specs.declared.index.Checkpoint.{Checkpoint}
 
 -- whether it begins at this document and this byte, and has one of each
 abbrev pub goes_on : ℕ → ℕ → Checkpoint → Bool
-goes_on doc byte c = (c.doc_range.start == doc) && (c.byte_range.start == byte) && nat_lt doc c.doc_range.end && nat_lt byte c.byte_range.end
+goes_on doc byte c = (c.doc_range.start == doc) && (c.byte_range.start == byte) && nat_lt doc c.doc_range.end && nat_lt
+    byte c.byte_range.end
 
 -- where checkpoints end that begin there, if each goes on where the one before it ends
 abbrev pub covered_to : ℕ → ℕ → List Checkpoint → Option (ℕ × ℕ)

@@ -1,5 +1,6 @@
 -- The texts of an index, and whether they are the layers of one list.
-use Rattle.std.specs.Prelude.{◌≡◌, ℕ, zero, suc, ◌-◌, ◌^◌, nat_lt, ◌==◌, if◌then◌else◌, List, [], ◌∷◌, length, take, drop, Option, Some, None}
+use Rattle.std.specs.Prelude.{◌≡◌, ℕ, zero, suc, ◌-◌, ◌^◌, nat_lt, ◌==◌, if◌then◌else◌, List, [], ◌∷◌, length, take}
+use Rattle.std.specs.Prelude.{drop, Option, Some, None}
 use Rattle.store_base.specs.VInt.{◌>>=◌, number_below}
 use Rattle.layered_index.specs.declared.index.Checkpoint.{Checkpoint}
 use Rattle.layered_index.specs.Checkpoint.{IsInLine}
@@ -10,7 +11,8 @@ use Rattle.layered_index.specs.Tables.{EndLists, no_ends, with_ends}
 -- so many numbers
 unfoldable pub numbers_at : ℕ → List ℕ → Option (List ℕ × List ℕ)
 numbers_at zero bytes = Some ([], bytes)
-numbers_at (suc more) bytes = number_below (2 ^ 64) bytes >>= λ n. numbers_at more n.1 >>= λ others. Some (n.0 ∷ others.0, others.1)
+numbers_at (suc more) bytes = number_below (2 ^ 64) bytes >>= λ n. numbers_at more n.1 >>= λ others. Some
+    (n.0 ∷ others.0, others.1)
 
 -- the texts that end there, the first from this place on; no byte follows them
 unfoldable pub texts_at : ℕ → List ℕ → List ℕ → Option (List (List ℕ))
@@ -18,11 +20,13 @@ texts_at place [] bytes = if length bytes == 0 then Some [] else None
 texts_at place (end ∷ ends) bytes =
     if nat_lt end place
     then None
-    else (if nat_lt (length bytes) (end - place) then None else (texts_at end ends (drop (end - place) bytes) >>= λ others. Some (take (end - place) bytes ∷ others)))
+    else (if nat_lt (length bytes) (end - place) then None else
+    (texts_at end ends (drop (end - place) bytes) >>= λ others. Some (take (end - place) bytes ∷ others)))
 
 -- Where the texts end, and the texts. There are at most 64 and, as an end takes a byte, no more than could follow.
 unfoldable pub ends_at : List ℕ → Option (List ℕ × List ℕ)
-ends_at bytes = number_below 65 bytes >>= λ count. if nat_lt (length count.1) count.0 then None else numbers_at count.0 count.1
+ends_at bytes = number_below 65 bytes >>= λ count. if nat_lt
+    (length count.1) count.0 then None else numbers_at count.0 count.1
 
 -- the texts of an index, from the top down
 unfoldable pub split_at : List ℕ → Option (List (List ℕ))

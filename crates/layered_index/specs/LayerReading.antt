@@ -1,5 +1,7 @@
--- What the text of a layer gives, read from its front: its checkpoints, how many there are, and what points to its runs.
-use Rattle.std.specs.Prelude.{◌≡◌, ℕ, zero, suc, ◌+◌, ◌-◌, Bool, ◌&&◌, ◌||◌, nat_lt, nat_le, ◌==◌, if◌then◌else◌, List, [], ◌∷◌, length, Option, Some, None, IsSome}
+-- What the text of a layer gives, read from its front: its checkpoints, how many there are, and what points to its
+-- runs.
+use Rattle.std.specs.Prelude.{◌≡◌, ℕ, zero, suc, ◌+◌, ◌-◌, Bool, ◌&&◌, ◌||◌, nat_lt, nat_le, ◌==◌, if◌then◌else◌, List}
+use Rattle.std.specs.Prelude.{[], ◌∷◌, length, Option, Some, None, IsSome}
 use Rattle.std.specs.Option.{option_map_or}
 use Rattle.store_base.specs.VInt.{◌>>=◌}
 use Rattle.layered_index.specs.declared.index.Checkpoint.{Checkpoint}
@@ -20,7 +22,8 @@ next_at (suc left) doc byte bytes = next_in_block (suc left) doc byte bytes
 -- at most so many checkpoints, where so many are left in a block and the next one begins at this document and this byte
 unfoldable pub items_within : ℕ → ℕ → ℕ → ℕ → List ℕ → List Checkpoint
 items_within zero left doc byte bytes = []
-items_within (suc more) left doc byte bytes = option_map_or (λ n. n.0 ∷ items_within more n.1 n.0.doc_range.end n.0.byte_range.end n.2) (next_at left doc byte bytes) []
+items_within (suc more) left doc byte bytes = option_map_or
+    (λ n. n.0 ∷ items_within more n.1 n.0.doc_range.end n.0.byte_range.end n.2) (next_at left doc byte bytes) []
 
 -- all of them; each takes a byte
 unfoldable pub items : ℕ → ℕ → ℕ → List ℕ → List Checkpoint
@@ -28,14 +31,16 @@ items left doc byte bytes = items_within (length bytes) left doc byte bytes
 
 -- whether a run may stand here, with so many bytes behind it: only the last one is not full
 abbrev pub may_stand : ℕ → ℕ → ℕ → Run → ℕ → Bool
-may_stand period doc byte r behind = (r.doc == doc) && (r.byte == byte) && nat_lt 0 r.count && nat_le r.count period && ((r.count == period) || (behind == 0))
+may_stand period doc byte r behind = (r.doc == doc) && (r.byte == byte) && nat_lt 0 r.count && nat_le r.count period &&
+    ((r.count == period) || (behind == 0))
 
 -- how many checkpoints there are in runs, which begin at this document and this byte
 unfoldable pub len_within : ℕ → ℕ → ℕ → ℕ → List ℕ → Option ℕ
 len_within zero period doc byte bytes = Some 0
 len_within (suc more) period doc byte [] = Some 0
 len_within (suc more) period doc byte (b ∷ bytes) =
-    run_at (b ∷ bytes) >>= λ r. if may_stand period doc byte r.0 (length r.1) then (len_within more period r.0.doc_end r.0.byte_end r.1 >>= λ n. Some (r.0.count + n)) else None
+    run_at (b ∷ bytes) >>= λ r. if may_stand period doc byte r.0 (length r.1) then
+    (len_within more period r.0.doc_end r.0.byte_end r.1 >>= λ n. Some (r.0.count + n)) else None
 
 unfoldable pub len_from : ℕ → ℕ → ℕ → List ℕ → Option ℕ
 len_from period doc byte bytes = len_within (length bytes) period doc byte bytes
@@ -48,7 +53,8 @@ len_at period bytes = heading_at bytes >>= λ h. len_from period h.0.doc h.0.byt
 unfoldable pub pointers_within : ℕ → ℕ → List ℕ → List Checkpoint
 pointers_within zero place bytes = []
 pointers_within (suc more) place bytes =
-    option_map_or (λ r. let after = place + (length bytes - length r.1) in checkpoint r.0.doc r.0.doc_end place after ∷ pointers_within more after r.1) (run_at bytes) []
+    option_map_or (λ r. let after = place + (length bytes - length r.1) in
+    checkpoint r.0.doc r.0.doc_end place after ∷ pointers_within more after r.1) (run_at bytes) []
 
 unfoldable pub pointers_at : ℕ → List ℕ → List Checkpoint
 pointers_at place bytes = pointers_within (length bytes) place bytes

@@ -61,7 +61,8 @@ texts_down period cs = reverse (map (layer_text period) (layers period cs))
 -- how many layers there are, where each ends, and the layers, from the top down
 unfoldable pub index_part : ℕ → List Checkpoint → List ℕ
 index_part period cs =
-    number (digit_count period (length cs)) ++ flat_map number (ends_from 0 (texts_down period cs)) ++ concat (texts_down period cs)
+    number (digit_count period (length cs)) ++ flat_map number (ends_from 0 (texts_down period cs))
+    ++ concat (texts_down period cs)
 
 -- an index as its callers see it: its period, and its checkpoints in order
 pub record Index : Type 0 where

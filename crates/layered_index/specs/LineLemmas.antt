@@ -2,16 +2,19 @@
 use Rattle.std.proofs.Common.{◌≡◌, ℕ, ◌+◌, ◌^◌, ◌<◌, List, [], ◌∷◌, ◌++◌, take, drop, refl, sym, ◌∙◌, subst, arith}
 use Rattle.std.proofs.lemmas.List.{take-append-drop}
 use Rattle.layered_index.specs.declared.index.Checkpoint.{Checkpoint}
-use Rattle.layered_index.specs.Checkpoint.{checkpoint, docs_end, bytes_end, IsWithinLimits, IsInLineFrom, IsInLine, EndsAt}
+use Rattle.layered_index.specs.Checkpoint.{checkpoint, docs_end, bytes_end, IsWithinLimits, IsInLineFrom, IsInLine}
+use Rattle.layered_index.specs.Checkpoint.{EndsAt}
 
 -- a list that goes on is a front and a rest that goes on from there
-pub in_line-split : (doc byte : ℕ) (xs ys : List Checkpoint) → IsInLineFrom doc byte (xs ++ ys) → IsInLineFrom doc byte xs × IsInLineFrom (docs_end doc xs) (bytes_end byte xs) ys
+pub in_line-split : (doc byte : ℕ) (xs ys : List Checkpoint) → IsInLineFrom doc byte (xs ++ ys)
+    → IsInLineFrom doc byte xs × IsInLineFrom (docs_end doc xs) (bytes_end byte xs) ys
 in_line-split doc byte [] ys h = (tt, h)
 in_line-split doc byte (x ∷ xs) ys h =
     let others = in_line-split x.doc_range.end x.byte_range.end xs ys h.3 in
     ((h.0, h.1, h.2, others.0), others.1)
 
-pub in_line-join : (doc byte : ℕ) (xs ys : List Checkpoint) → IsInLineFrom doc byte xs → IsInLineFrom (docs_end doc xs) (bytes_end byte xs) ys → IsInLineFrom doc byte (xs ++ ys)
+pub in_line-join : (doc byte : ℕ) (xs ys : List Checkpoint) → IsInLineFrom doc byte xs
+    → IsInLineFrom (docs_end doc xs) (bytes_end byte xs) ys → IsInLineFrom doc byte (xs ++ ys)
 in_line-join doc byte [] ys p q = q
 in_line-join doc byte (x ∷ xs) ys p q = (p.0, p.1, p.2, in_line-join x.doc_range.end x.byte_range.end xs ys p.3 q)
 
@@ -28,14 +31,16 @@ in_line_somewhere (c ∷ cs) h = (c.doc_range.start, c.byte_range.start, h)
 pub in_line_take : (n : ℕ) (cs : List Checkpoint) → IsInLine cs → IsInLine (take n cs)
 in_line_take n cs h =
     let from = in_line_somewhere cs h in
-    in_line_from from.0 from.1 (take n cs) (in_line-split from.0 from.1 (take n cs) (drop n cs) (subst (IsInLineFrom from.0 from.1) (sym (take-append-drop n cs)) from.2)).0
+    in_line_from from.0 from.1 (take n cs) (in_line-split from.0 from.1 (take n cs) (drop n cs)
+    (subst (IsInLineFrom from.0 from.1) (sym (take-append-drop n cs)) from.2)).0
 
 -- the end of what one more was put behind
 pub docs_end-put : (doc : ℕ) (cs : List Checkpoint) (c : Checkpoint) → docs_end doc (cs ++ c ∷ []) ≡ c.doc_range.end
 docs_end-put doc [] c = refl
 docs_end-put doc (x ∷ xs) c = docs_end-put x.doc_range.end xs c
 
-pub bytes_end-put : (byte : ℕ) (cs : List Checkpoint) (c : Checkpoint) → bytes_end byte (cs ++ c ∷ []) ≡ c.byte_range.end
+pub bytes_end-put : (byte : ℕ) (cs : List Checkpoint) (c : Checkpoint)
+    → bytes_end byte (cs ++ c ∷ []) ≡ c.byte_range.end
 bytes_end-put byte [] c = refl
 bytes_end-put byte (x ∷ xs) c = bytes_end-put x.byte_range.end xs c
 
@@ -44,7 +49,8 @@ pub ends_none : EndsAt 0 0 []
 ends_none = record { in_line = tt; docs = refl; bytes = refl }
 
 -- one more checkpoint that begins at the ends
-pub ends_put : (doc byte : ℕ) (cs : List Checkpoint) (c : Checkpoint) → EndsAt doc byte cs → c.doc_range.start ≡ doc → c.byte_range.start ≡ byte → IsWithinLimits c → EndsAt c.doc_range.end c.byte_range.end (cs ++ c ∷ [])
+pub ends_put : (doc byte : ℕ) (cs : List Checkpoint) (c : Checkpoint) → EndsAt doc byte cs → c.doc_range.start ≡ doc
+    → c.byte_range.start ≡ byte → IsWithinLimits c → EndsAt c.doc_range.end c.byte_range.end (cs ++ c ∷ [])
 ends_put doc byte cs c h d b within = record {
   in_line = in_line-join 0 0 cs (c ∷ []) h.in_line (d ∙ sym h.docs, b ∙ sym h.bytes, within, tt);
   docs = docs_end-put 0 cs c;
@@ -56,7 +62,16 @@ pub ends_in_line : (doc byte : ℕ) (cs : List Checkpoint) → EndsAt doc byte c
 ends_in_line doc byte cs h = in_line_from 0 0 cs h.in_line
 
 -- one more of so many documents and bytes
-pub ends_more : (docs count start end len : ℕ) (cs : List Checkpoint) → EndsAt docs start cs → docs + count < 2 ^ 32 → end ≡ start + len → len < 2 ^ 32 → end < 2 ^ 64
+pub ends_more : (docs count start end len : ℕ) (cs : List Checkpoint) → EndsAt docs start cs → docs + count < 2 ^ 32
+    → end ≡ start + len → len < 2 ^ 32 → end < 2 ^ 64
     → EndsAt (docs + count) end (cs ++ checkpoint docs (docs + count) start end ∷ [])
 ends_more docs count start end len cs h few is short fits =
-    ends_put docs start cs (checkpoint docs (docs + count) start end) h refl refl (record { doc_order = omega arith; doc_end = few; byte_order = omega arith; byte_len = omega arith; byte_end = fits })
+    ends_put docs start cs (checkpoint docs (docs + count) start end) h refl refl
+    (record {
+      doc_order = omega arith;
+      doc_end = few;
+      byte_order = omega arith;
+      byte_len = omega arith;
+      byte_end =
+          fits;
+    })

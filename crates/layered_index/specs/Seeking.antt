@@ -19,6 +19,7 @@ pub record LiesBetween (cs : List Checkpoint) (target low high : ℕ) : Type 0 w
   pub before : NoneBelow cs target low
   pub past : EndsPast target (slice_get cs high)
 
--- How many looks may be made near a guess among so many, before what is left is halved: one for each two of the binary digits, but the first two.
+-- How many looks may be made near a guess among so many, before what is left is halved: one for each two of the binary
+-- digits, but the first two.
 abbrev pub looks_to_spare : ℕ → ℕ
 looks_to_spare n = digit_count 4 (n / 8)

@@ -29,7 +29,12 @@ are_filled before (c ∷ cs) = are_filled (before && is_filled c) cs
 
 -- these ends, and then those of the checkpoints
 abbrev pub with_ends : EndLists → List Checkpoint → EndLists
-with_ends ends cs = record { docs = ends.docs ++ map doc_end cs; bytes = ends.bytes ++ map byte_end cs; filled = are_filled ends.filled cs }
+with_ends ends cs = record {
+  docs = ends.docs ++ map doc_end cs;
+  bytes = ends.bytes ++ map byte_end cs;
+  filled =
+      are_filled ends.filled cs;
+}
 
 -- the checkpoints that end there, each from the end of the one before it
 abbrev pub between : ℕ → ℕ → List ℕ → List ℕ → List Checkpoint

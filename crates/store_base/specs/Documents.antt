@@ -17,7 +17,8 @@ abbrev pub Fails : {Y : Type 0} → DocFault → Option Y → Type 0
 Fails Refused read = read ≡ None
 Fails Memory read = Unit {0}
 
--- What was returned, seen by view, is what there is to read, and it is refused exactly where there is nothing; memory aside.
+-- What was returned, seen by view, is what there is to read, and it is refused exactly where there is nothing; memory
+-- aside.
 abbrev pub Gives : {X Y : Type 0} → (X → Y) → Result X DocFault → Option Y → Type 0
 Gives view (Ok x) read = read ≡ Some (view x)
 Gives view (Err e) read = Fails e read

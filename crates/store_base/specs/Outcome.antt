@@ -4,7 +4,11 @@ use Rattle.store_base.specs.declared.fault.ReadFault.{ReadFault}
 use Rattle.store_base.specs.declared.fault.ReadFault.TheVariants as fault
 use Rattle.store_base.specs.declared.error.Cause.TheVariants.{Memory as OutOfMemory}
 use Rattle.store_base.specs.declared.error.StoreError.{StoreError}
-use Rattle.store_base.specs.declared.error.StoreError.TheVariants.{ShortFile, BadVersion, BadBlockKind, BadOffset, BadIndex, InvalidArgument, DamagedDocument, BadDocument, Read, Memory, OldVersion, Unserializable, BlockTooLarge, TooManyDocs, Failed, BadPeriod}
+use Rattle.store_base.specs.declared.error.StoreError.TheVariants.{ShortFile, BadVersion, BadBlockKind, BadOffset}
+use Rattle.store_base.specs.declared.error.StoreError.TheVariants.{BadIndex, InvalidArgument, DamagedDocument}
+use Rattle.store_base.specs.declared.error.StoreError.TheVariants.{BadDocument, Read, Memory, OldVersion}
+use Rattle.store_base.specs.declared.error.StoreError.TheVariants.{Unserializable, BlockTooLarge, TooManyDocs, Failed}
+use Rattle.store_base.specs.declared.error.StoreError.TheVariants.{BadPeriod}
 
 -- the number of a refusal
 abbrev pub number_of : StoreError → ℕ

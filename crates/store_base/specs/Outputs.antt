@@ -12,7 +12,11 @@ never_terminated = record { calls = 0; at = None }
 
 -- one call more to end an output of this content, and whether it was answered Ok
 abbrev pub terminated_once : Bool → List ℕ → Termination → Termination
-terminated_once ok content old = record { calls = raised old.calls 1; at = if ok then Some (length content) else old.at }
+terminated_once ok content old = record {
+  calls = raised old.calls 1;
+  at =
+      if ok then Some (length content) else old.at;
+}
 
 -- It ended, and nothing was written behind its end.
 abbrev pub IsTerminated : List ℕ → Termination → Type 0

@@ -1,5 +1,6 @@
 -- The bytes of a plain record, and what bytes are read as one.
-use Rattle.std.specs.Prelude.{ℕ, zero, suc, ◌^◌, Bool, ◌&&◌, nat_lt, ◌==◌, if◌then◌else◌, List, [], ◌∷◌, ◌++◌, length, take, drop, map, Option, Some, None, Vec}
+use Rattle.std.specs.Prelude.{ℕ, zero, suc, ◌^◌, Bool, ◌&&◌, nat_lt, ◌==◌, if◌then◌else◌, List, [], ◌∷◌, ◌++◌, length}
+use Rattle.std.specs.Prelude.{take, drop, map, Option, Some, None, Vec}
 use Rattle.std.specs.List.{flat_map, list_all}
 use Rattle.std.specs.Int.{w32}
 use Rattle.std.specs.declared.alloc.Global.{Global}
@@ -46,7 +47,8 @@ is_writable schema f = nat_lt f.0 schema && has_spelling f
 
 -- the bytes of a record in a schema of this many fields, if it has any
 abbrev pub doc_bytes : Record → ℕ → Option (List ℕ)
-doc_bytes fields schema = if list_all (is_writable schema) fields && nat_lt (length fields) (2 ^ 64) then Some (record_bytes fields) else None
+doc_bytes fields schema = if list_all (is_writable schema) fields && nat_lt (length fields) (2 ^ 64) then Some
+    (record_bytes fields) else None
 
 -- how a version reads the number of a field, and how a count or a length
 pub record Spelling : Type 0 where
@@ -55,26 +57,34 @@ pub record Spelling : Type 0 where
 
 -- in version 1 both have four bytes
 abbrev pub spelling_of : ℕ → Spelling
-spelling_of version = if version == 1 then record { field = fixed_at w32; size = fixed_at w32 } else record { field = number_below (2 ^ 32); size = number_below (2 ^ 64) }
+spelling_of version = if version == 1 then record { field = fixed_at w32; size = fixed_at w32 } else record {
+  field =
+      number_below (2 ^ 32);
+  size = number_below (2 ^ 64);
+}
 
 -- so many bytes
 abbrev pub bytes_at : ℕ → List ℕ → Option (List ℕ × List ℕ)
 bytes_at count bytes = if nat_lt (length bytes) count then None else Some (take count bytes, drop count bytes)
 
 unfoldable pub field_at : Spelling → List ℕ → Option ((ℕ × List ℕ) × List ℕ)
-field_at s bytes = s.field bytes >>= λ field. s.size field.1 >>= λ size. bytes_at size.0 size.1 >>= λ text. Some ((field.0, text.0), text.1)
+field_at s bytes = s.field bytes >>= λ field. s.size field.1 >>= λ size. bytes_at size.0 size.1 >>= λ text. Some
+    ((field.0, text.0), text.1)
 
 unfoldable pub fields_at : Spelling → ℕ → List ℕ → Option (Record × List ℕ)
 fields_at s zero bytes = Some ([], bytes)
-fields_at s (suc more) bytes = field_at s bytes >>= λ first. fields_at s more first.1 >>= λ others. Some (first.0 ∷ others.0, others.1)
+fields_at s (suc more) bytes = field_at s bytes >>= λ first. fields_at s more first.1 >>= λ others. Some
+    (first.0 ∷ others.0, others.1)
 
 -- a record that takes all of the bytes
 unfoldable pub record_at : Spelling → List ℕ → Option Record
-record_at s bytes = s.size bytes >>= λ count. fields_at s count.0 count.1 >>= λ fields. if length fields.1 == 0 then Some fields.0 else None
+record_at s bytes = s.size bytes >>= λ count. fields_at s count.0 count.1 >>= λ fields. if length fields.1 == 0
+    then Some fields.0 else None
 
 -- the record that bytes of a version are read as, if they are read
 abbrev pub reading : ℕ → List ℕ → Option Record
-reading version bytes = if version == 1 then record_at (spelling_of 1) bytes else (if version == 2 then record_at (spelling_of 2) bytes else None)
+reading version bytes = if version == 1 then record_at (spelling_of 1) bytes else
+    (if version == 2 then record_at (spelling_of 2) bytes else None)
 
 -- the form in which a record is kept
 abbrev pub stored : Record → Record

@@ -14,7 +14,10 @@ fixed bytes n = bytes_low_first 0 bytes n
 
 -- the fixed number at the front, and the bytes behind it
 abbrev pub fixed_at : Width → List ℕ → Option (ℕ × List ℕ)
-fixed_at w bytes = if nat_lt (length bytes) (byte_len w) then None else Some (from_le_bytes w (take (byte_len w) bytes), drop (byte_len w) bytes)
+fixed_at w bytes = if nat_lt (length bytes) (byte_len w) then None else Some (
+  from_le_bytes w (take (byte_len w) bytes),
+  drop (byte_len w) bytes,
+)
 
 -- how many numbers there are, and then each
 abbrev pub numbers : List ℕ → List ℕ

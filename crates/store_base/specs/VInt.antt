@@ -1,7 +1,9 @@
 -- A number in groups of seven bits: its spelling, and what stands at the front of bytes.
-use Rattle.std.specs.Prelude.{ℕ, zero, suc, ◌+◌, ◌-◌, ◌*◌, ◌/◌, ◌%◌, nat_lt, nat_le, ◌==◌, if◌then◌else◌, List, [], ◌∷◌, Option, Some, None}
+use Rattle.std.specs.Prelude.{ℕ, zero, suc, ◌+◌, ◌-◌, ◌*◌, ◌/◌, ◌%◌, nat_lt, nat_le, ◌==◌, if◌then◌else◌, List, [], ◌∷◌}
+use Rattle.std.specs.Prelude.{Option, Some, None}
 
--- The lowest group first; the last byte alone has 128 added. There are at most so many bytes before the last. What `let` names
+-- The lowest group first; the last byte alone has 128 added. There are at most so many bytes before the last. What
+-- `let` names
 -- is not computed before it is needed.
 unfoldable pub number_within : ℕ → ℕ → List ℕ
 number_within zero n = (n + 128) ∷ []
@@ -22,7 +24,10 @@ None >>= f = None
 -- A number in front, in its one spelling: behind a byte below 128 the rest is not 0.
 unfoldable pub number_at : List ℕ → Option (ℕ × List ℕ)
 number_at [] = None
-number_at (b ∷ bytes) = if nat_le 128 b then Some (b - 128, bytes) else number_at bytes >>= λ high. if high.0 == 0 then None else Some (b + 128 * high.0, high.1)
+number_at (b ∷ bytes) = if nat_le 128 b then Some (
+  b - 128,
+  bytes,
+) else number_at bytes >>= λ high. if high.0 == 0 then None else Some (b + 128 * high.0, high.1)
 
 -- the same, below a limit
 abbrev pub number_below : ℕ → List ℕ → Option (ℕ × List ℕ)

@@ -1,5 +1,6 @@
 -- The spelling of a number: one step of it, its length, and that no spelling begins another.
-use Rattle.std.proofs.Common.{◌≡◌, ℕ, zero, suc, ◌+◌, ◌*◌, ◌/◌, ◌%◌, ◌<◌, ◌≤◌, ◌^◌, ltb, List, [], ◌∷◌, ◌++◌, length, refl, sym, ◌∙◌, ap, arith, append_assoc, inl, inr}
+use Rattle.std.proofs.Common.{◌≡◌, ℕ, zero, suc, ◌+◌, ◌*◌, ◌/◌, ◌%◌, ◌<◌, ◌≤◌, ◌^◌, ltb, List, [], ◌∷◌, ◌++◌, length}
+use Rattle.std.proofs.Common.{refl, sym, ◌∙◌, ap, arith, append_assoc, inl, inr}
 use Rattle.std.proofs.lemmas.Bool.{cond-true, cond-false, lt-ltb, le-ltb, cases_lt}
 use Rattle.std.proofs.Math.Nat.{pow-suc}
 use Rattle.store_base.specs.Laws.{NumbersAreApart}
@@ -8,7 +9,8 @@ use Rattle.store_base.specs.VInt.{number, number_within}
 small : (turns n : ℕ) → n < 128 → number_within turns n ≡ (n + 128) ∷ []
 unfolding number_within
 small zero n lt = refl
-small (suc turns) n lt = cond-true (ltb n 128) ((n + 128) ∷ []) ((n % 128) ∷ number_within turns (n / 128)) (lt-ltb n 128 lt)
+small (suc turns) n lt = cond-true (ltb n 128) ((n + 128) ∷ []) ((n % 128) ∷ number_within turns (n / 128))
+    (lt-ltb n 128 lt)
 
 large : (turns n : ℕ) → 128 ≤ n → number_within (suc turns) n ≡ (n % 128) ∷ number_within turns (n / 128)
 unfolding number_within
@@ -20,7 +22,8 @@ turns zero g n p q = let lt : n < 128 = omega arith in small zero n lt ∙ sym (
 turns (suc f) zero n p q = let lt : n < 128 = omega arith in small (suc f) n lt ∙ sym (small zero n lt)
 turns (suc f) (suc g) n p q = elim (cases_lt n 128) [
   | inl lt ↦ small (suc f) n lt ∙ sym (small (suc g) n lt)
-  | inr le ↦ large f n le ∙ ap (λ (bytes : List ℕ). (n % 128) ∷ bytes) (turns f g (n / 128) (omega arith) (omega arith)) ∙ sym (large g n le)
+  | inr le ↦ large f n le ∙ ap (λ (bytes : List ℕ). (n % 128) ∷ bytes) (turns f g (n / 128) (omega arith) (omega arith))
+      ∙ sym (large g n le)
 ]
 
 -- a number below 128 is one byte
@@ -32,7 +35,8 @@ number_small n lt = small n n lt
 pub number_large : (n : ℕ) → 128 ≤ n → number n ≡ (n % 128) ∷ number (n / 128)
 unfolding number
 number_large zero le = absurd (omega arith)
-number_large (suc n) le = large n (suc n) le ∙ ap (λ (bytes : List ℕ). (suc n % 128) ∷ bytes) (turns n (suc n / 128) (suc n / 128) (omega arith) (omega arith))
+number_large (suc n) le = large n (suc n) le ∙ ap (λ (bytes : List ℕ). (suc n % 128) ∷ bytes)
+    (turns n (suc n / 128) (suc n / 128) (omega arith) (omega arith))
 
 -- what two spellings have in front, where what follows is joined to them
 pub number_small_then : (n : ℕ) (r : List ℕ) → n < 128 → number n ++ r ≡ (n + 128) ∷ r
@@ -42,8 +46,10 @@ pub number_large_then : (n : ℕ) (r : List ℕ) → 128 ≤ n → number n ++ r
 number_large_then n r le = ap (λ (bytes : List ℕ). bytes ++ r) (number_large n le)
 
 -- one more byte of a number is written behind others
-pub push_number_more : (bytes : List ℕ) (n : ℕ) → 128 ≤ n → (bytes ++ (n % 128) ∷ []) ++ number (n / 128) ≡ bytes ++ number n
-push_number_more bytes n le = append_assoc bytes ((n % 128) ∷ []) (number (n / 128)) ∙ ap (λ (rest : List ℕ). bytes ++ rest) (sym (number_large n le))
+pub push_number_more : (bytes : List ℕ) (n : ℕ) → 128 ≤ n
+    → (bytes ++ (n % 128) ∷ []) ++ number (n / 128) ≡ bytes ++ number n
+push_number_more bytes n le = append_assoc bytes ((n % 128) ∷ []) (number (n / 128))
+    ∙ ap (λ (rest : List ℕ). bytes ++ rest) (sym (number_large n le))
 
 pub push_number_last : (bytes : List ℕ) (n : ℕ) → n < 128 → bytes ++ (n + 128) ∷ [] ≡ bytes ++ number n
 push_number_last bytes n lt = ap (λ (rest : List ℕ). bytes ++ rest) (sym (number_small n lt))
@@ -62,7 +68,8 @@ both_small m n r s a b e =
 
 not_both : (m n : ℕ) (r s : List ℕ) → m < 128 → 128 ≤ n → number m ++ r ≡ number n ++ s → ⊥
 not_both m n r s a b e =
-    let cells : (m + 128) ∷ r ≡ (n % 128) ∷ (number (n / 128) ++ s) = sym (number_small_then m r a) ∙ e ∙ number_large_then n s b in
+    let cells : (m + 128) ∷ r ≡ (n % 128) ∷ (number (n / 128) ++ s) = sym (number_small_then m r a) ∙ e
+    ∙ number_large_then n s b in
     let first = heads (m + 128) (n % 128) r (number (n / 128) ++ s) cells in
     omega arith
 
@@ -77,9 +84,11 @@ apart (suc k) m n r s le e = elim (cases_lt m 128) [
   | inr a ↦ elim (cases_lt n 128) [
     | inl b ↦ absurd (not_both n m s r b a (sym e))
     | inr b ↦
-        let cells : (m % 128) ∷ (number (m / 128) ++ r) ≡ (n % 128) ∷ (number (n / 128) ++ s) = sym (number_large_then m r a) ∙ e ∙ number_large_then n s b in
+        let cells : (m % 128) ∷ (number (m / 128) ++ r) ≡ (n % 128) ∷ (number (n / 128) ++ s) =
+        sym (number_large_then m r a) ∙ e ∙ number_large_then n s b in
         let first = heads (m % 128) (n % 128) (number (m / 128) ++ r) (number (n / 128) ++ s) cells in
-        let others = apart k (m / 128) (n / 128) r s (omega arith) (tails (m % 128) (n % 128) (number (m / 128) ++ r) (number (n / 128) ++ s) cells) in
+        let others = apart k (m / 128) (n / 128) r s (omega arith)
+        (tails (m % 128) (n % 128) (number (m / 128) ++ r) (number (n / 128) ++ s) cells) in
         (omega (arith, first, others.0), others.1)
   ]
 ]

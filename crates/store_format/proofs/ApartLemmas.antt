@@ -3,12 +3,12 @@ use Rattle.std.proofs.Common.{◌≡◌, ℕ, ◌≤◌, List, ◌∷◌, ◌++�
 use Rattle.store_format.specs.Footer.{footer}
 use Rattle.store_format.specs.Laws.{FilesAreStores, StoresAreApart}
 use Rattle.layered_index.specs.Layers.{index_part}
-use Rattle.store_format.specs.StoreFile.{StoreBlock, data_of, marks, reserved_of, HasForm, IsStore}
+use Rattle.store_format.specs.StoreFile.{StoreBlock, data_of, checkpoints_of, reserved_of, HasForm, IsStore}
 use Rattle.store_format.proofs.ExtractionLemmas.{length-reserved, length-footer}
 use Rattle.layered_index.proofs.IndexLemmas.{index_parts_are_apart}
 use Rattle.layered_index.proofs.ListLemmas.{same_fronts}
 use Rattle.store_format.proofs.FileLemmas.{beginnings_apart, known_version, tails, one_period}
-use Rattle.store_format.proofs.StoreLemmas.{data_fits, marks_in_line, blocks_from}
+use Rattle.store_format.proofs.StoreLemmas.{data_fits, checkpoints_in_line, blocks_from}
 
 -- the file that is written for blocks is a store of them
 pub files_are_stores : FilesAreStores
@@ -24,16 +24,16 @@ least_period : (period version : ℕ) (reserved : List ℕ) → HasForm period v
 least_period period version reserved (inl old) = omega (arith, old.1)
 least_period period version reserved (inr new) = new.1
 
--- marks and data tell the blocks
-blocks_are_one : (bs cs : List StoreBlock) → marks bs ≡ marks cs → data_of bs ≡ data_of cs → bs ≡ cs
-blocks_are_one bs cs places bytes = sym (blocks_from (marks bs) (data_of bs) bs refl refl) ∙ blocks_from (marks bs) (data_of bs) cs places bytes
+-- checkpoints_of and data tell the blocks
+blocks_are_one : (bs cs : List StoreBlock) → checkpoints_of bs ≡ checkpoints_of cs → data_of bs ≡ data_of cs → bs ≡ cs
+blocks_are_one bs cs places bytes = sym (blocks_from (checkpoints_of bs) (data_of bs) bs refl refl) ∙ blocks_from (checkpoints_of bs) (data_of bs) cs places bytes
 
 -- the bodies and the footers of two stores of a file
 halves : (p q : ℕ) (bytes : List ℕ) (v w : ℕ) (bs cs : List StoreBlock) (h : IsStore p bytes v bs) (k : IsStore q bytes w cs)
-    → (data_of bs ++ index_part p (marks bs) ≡ data_of cs ++ index_part q (marks cs)) × (footer v (length (data_of bs)) 0 h.reserved ≡ footer w (length (data_of cs)) 0 k.reserved)
+    → (data_of bs ++ index_part p (checkpoints_of bs) ≡ data_of cs ++ index_part q (checkpoints_of cs)) × (footer v (length (data_of bs)) 0 h.reserved ≡ footer w (length (data_of cs)) 0 k.reserved)
 halves p q bytes v w bs cs h k =
-    let front_b = data_of bs ++ index_part p (marks bs) in
-    let front_c = data_of cs ++ index_part q (marks cs) in
+    let front_b = data_of bs ++ index_part p (checkpoints_of bs) in
+    let front_c = data_of cs ++ index_part q (checkpoints_of cs) in
     let foot_b = footer v (length (data_of bs)) 0 h.reserved in
     let foot_c = footer w (length (data_of cs)) 0 k.reserved in
     let whole : front_b ++ foot_b ≡ front_c ++ foot_c = sym h.parts ∙ k.parts in
@@ -49,8 +49,8 @@ stores_are_apart p q bytes v w bs cs h k =
     let parts = halves p q bytes v w bs cs h k in
     let feet = beginnings_apart v w (length (data_of bs)) (length (data_of cs)) (0 ∷ h.reserved) (0 ∷ k.reserved)
     (omega (arith, known_b.1)) (omega (arith, known_c.1)) (data_fits bs h.blocks) (data_fits cs k.blocks) parts.1 in
-    let body = same_fronts (data_of bs) (data_of cs) (index_part p (marks bs)) (index_part q (marks cs)) feet.1 parts.0 in
+    let body = same_fronts (data_of bs) (data_of cs) (index_part p (checkpoints_of bs)) (index_part q (checkpoints_of cs)) feet.1 parts.0 in
     let periods : p ≡ q = one_period p q v w h.reserved k.reserved h.form k.form feet.0 (tails 0 0 h.reserved k.reserved feet.2) in
-    let indexes : index_part p (marks bs) ≡ index_part p (marks cs) = body.1 ∙ ap (λ (x : ℕ). index_part x (marks cs)) (sym periods) in
-    let places = index_parts_are_apart p (marks bs) (marks cs) (least_period p v h.reserved h.form) (marks_in_line bs h.blocks) (marks_in_line cs k.blocks) indexes in
+    let indexes : index_part p (checkpoints_of bs) ≡ index_part p (checkpoints_of cs) = body.1 ∙ ap (λ (x : ℕ). index_part x (checkpoints_of cs)) (sym periods) in
+    let places = index_parts_are_apart p (checkpoints_of bs) (checkpoints_of cs) (least_period p v h.reserved h.form) (checkpoints_in_line bs h.blocks) (checkpoints_in_line cs k.blocks) indexes in
     (periods, feet.0, blocks_are_one bs cs places body.0)

@@ -7,7 +7,7 @@ use Rattle.std.specs.List.{sum_by, AllByRecursion}
 use Rattle.layered_index.specs.declared.index.Checkpoint.{Checkpoint}
 use Rattle.layered_index.specs.Checkpoint.{checkpoint, doc_count, byte_len, IsInLineFrom, IsInLine, IsFilled, bytes_end, Covers}
 use Rattle.layered_index.specs.LineLemmas.{in_line_from}
-use Rattle.store_format.specs.StoreFile.{StoreBlock, IsStoreBlock, docs_in, AreBlocks, data_of, marks_from, marks, blocks_at}
+use Rattle.store_format.specs.StoreFile.{StoreBlock, IsStoreBlock, docs_in, AreBlocks, data_of, checkpoints_from, checkpoints_of, blocks_at}
 
 -- ---- sizes
 
@@ -48,21 +48,22 @@ AreBlocks-append bs cs p q few = record {
   few_docs = omega (arith, docs_in-append bs cs);
 }
 
-pub marks_from-append : (id byte : ℕ) (bs cs : List StoreBlock) → marks_from id byte (bs ++ cs) ≡ marks_from id byte bs ++ marks_from (id + docs_in bs) (byte + length (data_of bs)) cs
-marks_from-append id byte [] cs = let i : id ≡ id + docs_in [] = omega arith in let b : byte ≡ byte + length (data_of []) = omega arith in λ k. marks_from (i k) (b k) cs
-marks_from-append id byte (b ∷ bs) cs =
+pub checkpoints_from-append : (id byte : ℕ) (bs cs : List StoreBlock) → checkpoints_from id byte (bs ++ cs)
+    ≡ checkpoints_from id byte bs ++ checkpoints_from (id + docs_in bs) (byte + length (data_of bs)) cs
+checkpoints_from-append id byte [] cs = let i : id ≡ id + docs_in [] = omega arith in let b : byte ≡ byte + length (data_of []) = omega arith in λ k. checkpoints_from (i k) (b k) cs
+checkpoints_from-append id byte (b ∷ bs) cs =
     let ids : (id + b.count) + docs_in bs ≡ id + docs_in (b ∷ bs) = omega (arith, docs_in-cons b bs) in
     let places : (byte + length b.bytes) + length (data_of bs) ≡ byte + length (data_of (b ∷ bs)) = omega (arith, length-data_of-cons b bs) in
     let here = checkpoint id (id + b.count) byte (byte + length b.bytes) in
-    ap (λ (ms : List Checkpoint). here ∷ ms) (marks_from-append (id + b.count) (byte + length b.bytes) bs cs)
-    ∙ (λ k. here ∷ (marks_from (id + b.count) (byte + length b.bytes) bs ++ marks_from (ids k) (places k) cs))
+    ap (λ (ms : List Checkpoint). here ∷ ms) (checkpoints_from-append (id + b.count) (byte + length b.bytes) bs cs)
+    ∙ (λ k. here ∷ (checkpoints_from (id + b.count) (byte + length b.bytes) bs ++ checkpoints_from (ids k) (places k) cs))
 
--- ---- marks
+-- ---- checkpoints_of
 
-pub marks_in_line_from : (id byte : ℕ) (bs : List StoreBlock) → AllByRecursion IsStoreBlock bs → id + docs_in bs < 2 ^ 32 → byte + length (data_of bs) < 2 ^ 64
-    → IsInLineFrom id byte (marks_from id byte bs)
-marks_in_line_from id byte [] each docs bytes = tt
-marks_in_line_from id byte (b ∷ bs) each docs bytes =
+pub checkpoints_in_line_from : (id byte : ℕ) (bs : List StoreBlock) → AllByRecursion IsStoreBlock bs → id + docs_in bs < 2 ^ 32 → byte + length (data_of bs) < 2 ^ 64
+    → IsInLineFrom id byte (checkpoints_from id byte bs)
+checkpoints_in_line_from id byte [] each docs bytes = tt
+checkpoints_in_line_from id byte (b ∷ bs) each docs bytes =
     let count = docs_in-cons b bs in
     let len = length-data_of-cons b bs in (
       refl,
@@ -74,11 +75,11 @@ marks_in_line_from id byte (b ∷ bs) each docs bytes =
         byte_len = omega (arith, each.0.few_bytes);
         byte_end = omega arith;
       },
-      marks_in_line_from (id + b.count) (byte + length b.bytes) bs each.1 (omega arith) (omega arith),
+      checkpoints_in_line_from (id + b.count) (byte + length b.bytes) bs each.1 (omega arith) (omega arith),
     )
 
-pub marks_in_line : (bs : List StoreBlock) → AreBlocks bs → IsInLine (marks bs)
-marks_in_line bs blocks = in_line_from 0 0 (marks bs) (marks_in_line_from 0 0 bs blocks.each (omega (arith, blocks.few_docs)) (omega (arith, data_fits bs blocks)))
+pub checkpoints_in_line : (bs : List StoreBlock) → AreBlocks bs → IsInLine (checkpoints_of bs)
+checkpoints_in_line bs blocks = in_line_from 0 0 (checkpoints_of bs) (checkpoints_in_line_from 0 0 bs blocks.each (omega (arith, blocks.few_docs)) (omega (arith, data_fits bs blocks)))
 
 -- ---- cutting
 
@@ -92,7 +93,7 @@ docs_in-blocks_at (c ∷ cs) bytes =
     ∙ sym (sum_by-cons doc_count c cs)
 
 -- blocks are told from their checkpoints and their data
-pub blocks_back : (id byte : ℕ) (bs : List StoreBlock) → blocks_at (marks_from id byte bs) (data_of bs) ≡ bs
+pub blocks_back : (id byte : ℕ) (bs : List StoreBlock) → blocks_at (checkpoints_from id byte bs) (data_of bs) ≡ bs
 unfolding blocks_at
 blocks_back id byte [] = refl
 blocks_back id byte (b ∷ bs) =
@@ -102,30 +103,30 @@ blocks_back id byte (b ∷ bs) =
     ap (λ (n : ℕ). take n (b.bytes ++ data_of bs)) len ∙ take-append_seam b.bytes (data_of bs) in
     let rest : drop ((byte + length b.bytes) - byte) (b.bytes ++ data_of bs) ≡ data_of bs =
     ap (λ (n : ℕ). drop n (b.bytes ++ data_of bs)) len ∙ drop-append_seam b.bytes (data_of bs) in
-    let others : blocks_at (marks_from (id + b.count) (byte + length b.bytes) bs) (drop ((byte + length b.bytes) - byte) (b.bytes ++ data_of bs)) ≡ bs =
-    ap (blocks_at (marks_from (id + b.count) (byte + length b.bytes) bs)) rest ∙ blocks_back (id + b.count) (byte + length b.bytes) bs in
+    let others : blocks_at (checkpoints_from (id + b.count) (byte + length b.bytes) bs) (drop ((byte + length b.bytes) - byte) (b.bytes ++ data_of bs)) ≡ bs =
+    ap (blocks_at (checkpoints_from (id + b.count) (byte + length b.bytes) bs)) rest ∙ blocks_back (id + b.count) (byte + length b.bytes) bs in
     λ i. record { count = count i; bytes = text i } ∷ others i
 
-pub blocks_from : (cs : List Checkpoint) (bytes : List ℕ) (bs : List StoreBlock) → cs ≡ marks bs → bytes ≡ data_of bs → blocks_at cs bytes ≡ bs
+pub blocks_from : (cs : List Checkpoint) (bytes : List ℕ) (bs : List StoreBlock) → cs ≡ checkpoints_of bs → bytes ≡ data_of bs → blocks_at cs bytes ≡ bs
 blocks_from cs bytes bs p q = (λ i. blocks_at (p i) (q i)) ∙ blocks_back 0 0 bs
 
 pub blocks_none : (bytes : List ℕ) → blocks_at [] bytes ≡ []
 unfolding blocks_at
 blocks_none bytes = refl
 
--- ---- the marks of a store cover its data
+-- ---- the checkpoints_of of a store cover its data
 
-marks_filled : (id byte : ℕ) (bs : List StoreBlock) → AllByRecursion IsStoreBlock bs → AllByRecursion IsFilled (marks_from id byte bs)
-marks_filled id byte [] each = tt
-marks_filled id byte (b ∷ bs) each = ((omega (arith, each.0.some_docs), omega (arith, each.0.some_bytes)), marks_filled (id + b.count) (byte + length b.bytes) bs each.1)
+checkpoints_filled : (id byte : ℕ) (bs : List StoreBlock) → AllByRecursion IsStoreBlock bs → AllByRecursion IsFilled (checkpoints_from id byte bs)
+checkpoints_filled id byte [] each = tt
+checkpoints_filled id byte (b ∷ bs) each = ((omega (arith, each.0.some_docs), omega (arith, each.0.some_bytes)), checkpoints_filled (id + b.count) (byte + length b.bytes) bs each.1)
 
-marks_end : (id byte : ℕ) (bs : List StoreBlock) → bytes_end byte (marks_from id byte bs) ≡ byte + length (data_of bs)
-marks_end id byte [] = omega arith
-marks_end id byte (b ∷ bs) = omega (arith, length-data_of-cons b bs, marks_end (id + b.count) (byte + length b.bytes) bs)
+checkpoints_end : (id byte : ℕ) (bs : List StoreBlock) → bytes_end byte (checkpoints_from id byte bs) ≡ byte + length (data_of bs)
+checkpoints_end id byte [] = omega arith
+checkpoints_end id byte (b ∷ bs) = omega (arith, length-data_of-cons b bs, checkpoints_end (id + b.count) (byte + length b.bytes) bs)
 
-pub marks_cover : (bs : List StoreBlock) → AreBlocks bs → Covers (marks bs) (length (data_of bs))
-marks_cover bs blocks = record {
-  in_line = marks_in_line_from 0 0 bs blocks.each (omega (arith, blocks.few_docs)) (omega (arith, data_fits bs blocks));
-  filled = marks_filled 0 0 bs blocks.each;
-  end = omega (arith, marks_end 0 0 bs);
+pub checkpoints_cover : (bs : List StoreBlock) → AreBlocks bs → Covers (checkpoints_of bs) (length (data_of bs))
+checkpoints_cover bs blocks = record {
+  in_line = checkpoints_in_line_from 0 0 bs blocks.each (omega (arith, blocks.few_docs)) (omega (arith, data_fits bs blocks));
+  filled = checkpoints_filled 0 0 bs blocks.each;
+  end = omega (arith, checkpoints_end 0 0 bs);
 }

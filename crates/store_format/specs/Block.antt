@@ -1,5 +1,6 @@
 -- The bytes of a block of documents, and the slot of each of its documents.
-use Rattle.std.specs.Prelude.{ℕ, ◌+◌, ◌-◌, ◌*◌, Bool, ◌&&◌, nat_lt, nat_le, if◌then◌else◌, List, [], ◌∷◌, ◌++◌, length, slice_range}
+use Rattle.std.specs.Prelude.{ℕ, ◌+◌, ◌-◌, ◌*◌, Bool, ◌&&◌, nat_lt, nat_le, if◌then◌else◌, List, [], ◌∷◌, ◌++◌, length}
+use Rattle.std.specs.Prelude.{slice_range}
 use Rattle.std.specs.List.{flat_map, concat}
 use Rattle.std.specs.Int.{w32, from_le_bytes}
 use Rattle.store_base.specs.Serialize.{fixed}
@@ -40,7 +41,8 @@ end_of bytes j = if nat_lt (j + 1) (count_of bytes) then start_of bytes (j + 1) 
 -- the table lies in the block, and document j before the table
 abbrev pub is_sound : List ℕ → ℕ → Bool
 is_sound bytes j =
-    nat_le 4 (length bytes) && nat_le (4 * (count_of bytes + 1)) (length bytes) && nat_lt j (count_of bytes) && nat_le (start_of bytes j) (end_of bytes j) && nat_le (end_of bytes j) (table_of bytes)
+    nat_le 4 (length bytes) && nat_le (4 * (count_of bytes + 1)) (length bytes) && nat_lt j (count_of bytes) && nat_le
+    (start_of bytes j) (end_of bytes j) && nat_le (end_of bytes j) (table_of bytes)
 
 -- document j of a block, whatever bytes the block has
 abbrev pub slot : List ℕ → ℕ → Slot

@@ -24,7 +24,8 @@ SaysFrom (Err e) result = result ≡ Err e
 -- One read of the last 28 bytes, if there are so many: what they say decides.
 pub record ExtractsFooter (old : Part) (result : Result DocStoreFooter StoreError) (new : Part) : Type 0 where
   pub short : length old.content < 28 → (result ≡ Err (ShortFile (length old.content))) × (new ≡ old)
-  pub long : 28 ≤ length old.content → (came : Result (List ℕ) StoreError) × Comes old (length old.content - 28) (length old.content) came new × SaysFrom came result
+  pub long : 28 ≤ length old.content → (came : Result (List ℕ) StoreError)
+      × Comes old (length old.content - 28) (length old.content) came new × SaysFrom came result
 
 -- a part of a part, of this content; the file has failed and was read as often
 abbrev pub narrowed : Part → List ℕ → Part

@@ -26,7 +26,8 @@ ReadsVersion old (Err _) new = ⊥
 
 -- the period of a version, where this is the first reserved byte
 abbrev pub IsPeriodOf : DocStoreVersion → ℕ → ℕ → Type 0
-IsPeriodOf version byte period = (others : List ℕ) → length others ≡ 14 → HasForm period (version_number version) (byte ∷ others)
+IsPeriodOf version byte period = (others : List ℕ) → length others ≡ 14
+    → HasForm period (version_number version) (byte ∷ others)
 
 -- what is written of a footer, always by version 3
 abbrev pub footer_bytes : DocStoreFooter → List ℕ
@@ -51,7 +52,10 @@ ReadsFooter old (Ok f) new =
     (reserved : List ℕ) × (f.offset < 2 ^ 64) × HasForm f.period (version_number f.doc_store_version) reserved
     × (old ≡ footer (version_number f.doc_store_version) f.offset (kind_of f.decompressor) reserved ++ new)
 ReadsFooter old (Err Short) new = (length old < 28) × (new ≡ old)
-ReadsFooter old (Err (Version v)) new = (rest : List ℕ) × (28 ≤ length old) × IsUnknown v × (old ≡ fixed 4 v ++ rest) × (new ≡ old)
-ReadsFooter old (Err (Kind kind)) new = (version : ℕ) × (offset : ℕ) × (rest : List ℕ) × Begins old version offset (kind ∷ rest) × (kind ≢ 0) × (new ≡ old)
-ReadsFooter old (Err (Period period)) new = (offset : ℕ) × (rest : List ℕ) × Begins old 3 offset (0 ∷ period ∷ rest) × (2 ≤ period → 64 < period) × (new ≡ old)
+ReadsFooter old (Err (Version v)) new = (rest : List ℕ) × (28 ≤ length old) × IsUnknown v × (old ≡ fixed 4 v ++ rest)
+    × (new ≡ old)
+ReadsFooter old (Err (Kind kind)) new = (version : ℕ) × (offset : ℕ) × (rest : List ℕ)
+    × Begins old version offset (kind ∷ rest) × (kind ≢ 0) × (new ≡ old)
+ReadsFooter old (Err (Period period)) new = (offset : ℕ) × (rest : List ℕ) × Begins old 3 offset (0 ∷ period ∷ rest)
+    × (2 ≤ period → 64 < period) × (new ≡ old)
 ReadsFooter old (Err _) new = ⊥

@@ -15,12 +15,15 @@ BlocksHaveTheirLengths = (docs : List (List ℕ)) → length (block docs) ≡ le
 
 -- So the block of one document, alone or behind an empty one, is short enough up to these lengths of the document.
 abbrev pub LongestDocuments : Type 0
-LongestDocuments = (doc : List ℕ) → ((length (block (doc ∷ [])) < 2 ^ 32) ↔ (length doc ≤ 4294967287)) × ((length (block ([] ∷ doc ∷ [])) < 2 ^ 32) ↔ (length doc ≤ 4294967283))
+LongestDocuments = (doc : List ℕ) → ((length (block (doc ∷ [])) < 2 ^ 32) ↔ (length doc ≤ 4294967287))
+    × ((length (block ([] ∷ doc ∷ [])) < 2 ^ 32) ↔ (length doc ≤ 4294967283))
 
 -- The file that is written for blocks is a store of them.
 abbrev pub FilesAreStores : Type 0
-FilesAreStores = (period : ℕ) (bs : List StoreBlock) → 2 ≤ period → period ≤ 64 → AreBlocks bs → IsStore period (file period 3 bs) 3 bs
+FilesAreStores = (period : ℕ) (bs : List StoreBlock) → 2 ≤ period → period ≤ 64 → AreBlocks bs
+    → IsStore period (file period 3 bs) 3 bs
 
 -- A file is a store of one version, one period and one list of blocks at most.
 abbrev pub StoresAreApart : Type 0
-StoresAreApart = (p q : ℕ) (bytes : List ℕ) (v w : ℕ) (bs cs : List StoreBlock) → IsStore p bytes v bs → IsStore q bytes w cs → (p ≡ q) × (v ≡ w) × (bs ≡ cs)
+StoresAreApart = (p q : ℕ) (bytes : List ℕ) (v w : ℕ) (bs cs : List StoreBlock) → IsStore p bytes v bs
+    → IsStore q bytes w cs → (p ≡ q) × (v ≡ w) × (bs ≡ cs)

@@ -1,5 +1,6 @@
 -- A store as a list of blocks, and its file.
-use Rattle.std.specs.Prelude.{◌≡◌, ℕ, ◌+◌, ◌<◌, ◌≤◌, ◌^◌, ◌==◌, if◌then◌else◌, ◌⊎◌, List, [], ◌∷◌, ◌++◌, length, take, drop, replicate}
+use Rattle.std.specs.Prelude.{◌≡◌, ℕ, ◌+◌, ◌<◌, ◌≤◌, ◌^◌, ◌==◌, if◌then◌else◌, ◌⊎◌, List, [], ◌∷◌, ◌++◌, length, take}
+use Rattle.std.specs.Prelude.{drop, replicate}
 use Rattle.std.specs.List.{flat_map, sum_by, AllByRecursion}
 use Rattle.layered_index.specs.declared.index.Checkpoint.{Checkpoint}
 use Rattle.layered_index.specs.Checkpoint.{checkpoint, doc_count, byte_len}
@@ -36,22 +37,25 @@ abbrev pub data_of : List StoreBlock → List ℕ
 data_of bs = flat_map (λ b. b.bytes) bs
 
 -- the checkpoints of the blocks, if they stand one behind the other from this id and this byte on
-abbrev pub marks_from : ℕ → ℕ → List StoreBlock → List Checkpoint
-marks_from id byte [] = []
-marks_from id byte (b ∷ bs) = checkpoint id (id + b.count) byte (byte + length b.bytes) ∷ marks_from (id + b.count) (byte + length b.bytes) bs
+abbrev pub checkpoints_from : ℕ → ℕ → List StoreBlock → List Checkpoint
+checkpoints_from id byte [] = []
+checkpoints_from id byte (b ∷ bs) = checkpoint id (id + b.count) byte (byte + length b.bytes)
+    ∷ checkpoints_from (id + b.count) (byte + length b.bytes) bs
 
 -- the checkpoints of a store
-abbrev pub marks : List StoreBlock → List Checkpoint
-marks bs = marks_from 0 0 bs
+abbrev pub checkpoints_of : List StoreBlock → List Checkpoint
+checkpoints_of bs = checkpoints_from 0 0 bs
 
 -- the blocks that these checkpoints cut from the bytes
 unfoldable pub blocks_at : List Checkpoint → List ℕ → List StoreBlock
 blocks_at [] bytes = []
-blocks_at (c ∷ cs) bytes = record { count = doc_count c; bytes = take (byte_len c) bytes } ∷ blocks_at cs (drop (byte_len c) bytes)
+blocks_at (c ∷ cs) bytes = record { count = doc_count c; bytes = take (byte_len c) bytes }
+    ∷ blocks_at cs (drop (byte_len c) bytes)
 
 -- the data, the index and the footer
 abbrev pub file_with : ℕ → ℕ → List ℕ → List StoreBlock → List ℕ
-file_with period version reserved bs = data_of bs ++ index_part period (marks bs) ++ footer version (length (data_of bs)) 0 reserved
+file_with period version reserved bs = data_of bs ++ index_part period (checkpoints_of bs)
+    ++ footer version (length (data_of bs)) 0 reserved
 
 -- the reserved bytes that are written
 abbrev pub reserved_of : ℕ → ℕ → List ℕ
@@ -65,7 +69,8 @@ file period version bs = file_with period version (reserved_of period version) b
 abbrev pub HasForm : ℕ → ℕ → List ℕ → Type 0
 HasForm period version reserved =
     (((version ≡ 1) ⊎ (version ≡ 2)) × (period ≡ 8) × (length reserved ≡ 15))
-    ⊎ ((version ≡ 3) × (2 ≤ period) × (period ≤ 64) × ((others : List ℕ) × (reserved ≡ period ∷ others) × (length others ≡ 14)))
+    ⊎ ((version ≡ 3) × (2 ≤ period) × (period ≤ 64) × ((others : List ℕ) × (reserved ≡ period ∷ others)
+    × (length others ≡ 14)))
 
 -- These bytes are a file of this period and this version that has these blocks.
 pub record IsStore (period : ℕ) (bytes : List ℕ) (version : ℕ) (bs : List StoreBlock) : Type 0 where

@@ -13,7 +13,7 @@ use Rattle.layered_index.specs.Checkpoint.{docs_end}
 use Rattle.store_base.specs.declared.error.StoreError.{StoreError}
 use Rattle.store_base.specs.declared.error.StoreError.TheVariants.{Read, Memory, DamagedDocument}
 use Rattle.layered_index.specs.declared.index.Checkpoint.{Checkpoint}
-use Rattle.store_reader.specs.Answering.{AnswersFrom, AnswersTruly}
+use Rattle.store_reader.specs.GetAnswer.{AnswersFrom, AnswersTruly}
 use Rattle.store_format.specs.StoreFile.{blocks_at}
 use Rattle.store_format.specs.Block.{Slot, doc, damaged}
 use Rattle.store_reader.specs.declared.walk.Walk.{Walk}
@@ -247,8 +247,11 @@ module _ (first old new : Reading) (set : Option (ℕ → Bool)) (from to : Walk
     where
       by : (block : Result (List ℕ) StoreError) → to.block ≡ block → AnswersFrom gives.last (gives.last - to.first) block (Err e) → RefusesItem gives.last first new e
       by (Ok block) here answers = elim answers [
-        | inl x ↦ subst (RefusesItem gives.last first new) (sym x.0) (refl, λ honest. truly_damaged gives.last (slice_get (slots (store_of first)) gives.last)
-            (truly_as (Err (DamagedDocument gives.last)) (is ∙ ap (λ (y : StoreError). Err y) x.0) honest))
+        | inl x ↦ subst (RefusesItem gives.last first new) (sym x.0) (
+          refl,
+          λ honest. truly_damaged gives.last (slice_get (slots (store_of first)) gives.last)
+              (truly_as (Err (DamagedDocument gives.last)) (is ∙ ap (λ (y : StoreError). Err y) x.0) honest),
+        )
         | inr memory ↦ subst (RefusesItem gives.last first new) (sym memory) tt
       ]
       by (Err f) here answers =

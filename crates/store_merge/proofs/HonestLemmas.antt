@@ -50,7 +50,7 @@ all_alive set n [] is = refl
 all_alive set n (x ∷ xs) is =
     let h = both (is_in set n) (list_all (is_in set) (range_with_len (n + 1) (length xs))) is in
     ap (λ (b : Bool). map (λ (y : ℕ × Slot). y.1) (cond b ((n, x) ∷ filter (λ (y : ℕ × Slot). is_in set y.0) (enumerate_from (n + 1) xs))
-        (filter (λ (y : ℕ × Slot). is_in set y.0) (enumerate_from (n + 1) xs)))) h.0
+    (filter (λ (y : ℕ × Slot). is_in set y.0) (enumerate_from (n + 1) xs)))) h.0
     ∙ ap (λ (ys : List Slot). x ∷ ys) (all_alive set (n + 1) xs h.1)
 
 module _ (law : StackedSlotsAreCounted) where

@@ -117,7 +117,7 @@ merged_push xs x start old new h t =
       ];
       grown = t.grown ∙ ap (λ (ss : List Slot). ss ++ slots_of t.part) h.grown ∙ append_assoc (taken start) (flat_map slots_of h.parts) (slots_of t.part)
           ∙ ap (λ (ss : List Slot). taken start ++ ss) (ap (λ (ss : List Slot). flat_map slots_of h.parts ++ ss) (sym (append-nil (slots_of t.part)))
-              ∙ sym (flat_map-append slots_of h.parts (t.part ∷ [])));
+          ∙ sym (flat_map-append slots_of h.parts (t.part ∷ [])));
     }
 
 pub merged_more : {H : Type 0} (olds news : List (MergeInput H)) (i : ℕ) (d : MergeInput H) (start old new : Writing) → i < length olds → drop i news ≡ drop i olds

@@ -83,6 +83,9 @@ stopped_grown x set read old new e same s unchanged =
     record {
       more = map doc s.copied.docs;
       grown = ap taken stays ∙ s.copied.grown;
-      front = λ honest. (alive_behind (length (take s.id all)) (drop s.id all) set, split ∙ ap (λ (xs : List Slot). xs ++ alive_behind (length (take s.id all)) (drop s.id all) set)
-          (sym (s.copied.came.truly honest)));
+      front = λ honest. (
+        alive_behind (length (take s.id all)) (drop s.id all) set,
+        split ∙ ap (λ (xs : List Slot). xs ++ alive_behind (length (take s.id all)) (drop s.id all) set)
+            (sym (s.copied.came.truly honest)),
+      );
     }

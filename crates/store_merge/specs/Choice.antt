@@ -17,7 +17,8 @@ set_of (Some alive) = Some (is_alive_at alive)
 
 -- whether an input is stacked: it has at least six blocks, and each id below its count is alive
 abbrev pub is_stacked : {H : Type 0} → MergeInput H → Bool
-is_stacked x = nat_le 6 (length x.reader.checkpoints) && list_all (is_in (set_of x.alive)) (range_with_len 0 (num_docs x.reader))
+is_stacked x = nat_le 6 (length x.reader.checkpoints) && list_all (is_in (set_of x.alive))
+    (range_with_len 0 (num_docs x.reader))
 
 -- the slots of a store that are alive
 abbrev pub alive_of : Reading → Option (ℕ → Bool) → List Slot

@@ -1,8 +1,10 @@
 -- Why a merge ends early, and what that leaves.
-use Rattle.std.specs.Prelude.{◌≡◌, ◌⊎◌, ℕ, ◌-◌, ◌<◌, ◌≤◌, ◌^◌, Bool, true, false, IsTrue, List, ◌++◌, take, slice_get, Option, Some, None}
+use Rattle.std.specs.Prelude.{◌≡◌, ◌⊎◌, ℕ, ◌-◌, ◌<◌, ◌≤◌, ◌^◌, Bool, true, false, IsTrue, List, ◌++◌, take, slice_get}
+use Rattle.std.specs.Prelude.{Option, Some, None}
 use Rattle.store_base.specs.Counts.{HasRisen}
 use Rattle.store_base.specs.declared.error.StoreError.{StoreError}
-use Rattle.store_base.specs.declared.error.StoreError.TheVariants.{DamagedDocument, Read, Memory, BlockTooLarge, TooManyDocs, Failed}
+use Rattle.store_base.specs.declared.error.StoreError.TheVariants.{DamagedDocument, Read, Memory, BlockTooLarge}
+use Rattle.store_base.specs.declared.error.StoreError.TheVariants.{TooManyDocs, Failed}
 use Rattle.store_format.specs.Block.{Slot, doc, damaged}
 use Rattle.store_reader.specs.Iteration.{is_in, alive}
 use Rattle.docstore.specs.Laws.{taken}
@@ -24,7 +26,8 @@ RefusesBytes bytes old new _ = ⊥
 
 -- Why a document did not come of its file: it is damaged, a read failed, or memory ran out.
 abbrev pub RefusesItem : ℕ → Reading → Reading → StoreError → Type 0
-RefusesItem id old new (DamagedDocument k) = (k ≡ id) × (IsTrue old.file.honest → slice_get (slots (store_of old)) id ≡ Some damaged)
+RefusesItem id old new (DamagedDocument k) = (k ≡ id) × (IsTrue old.file.honest
+    → slice_get (slots (store_of old)) id ≡ Some damaged)
 RefusesItem id old new Read = HasRisen old.file.failures new.file.failures
 RefusesItem id old new Memory = Unit {0}
 RefusesItem id old new _ = ⊥
@@ -56,7 +59,8 @@ RefusesStore reader read old new _ = ⊥
 -- Why an input was refused, and what that leaves of the writer.
 abbrev pub RefusesInput : {H : Type 0} → MergeInput H → MergeInput H → Writing → Writing → StoreError → Type 0
 RefusesInput x left old new e =
-    ((is_stacked x ≡ true) × RefusesStore x.reader left.reader old new e) ⊎ ((is_stacked x ≡ false) × StopsAt (set_of x.alive) x.reader left.reader old new e)
+    ((is_stacked x ≡ true) × RefusesStore x.reader left.reader old new e)
+    ⊎ ((is_stacked x ≡ false) × StopsAt (set_of x.alive) x.reader left.reader old new e)
 
 -- A beginning of the alive slots of an input is behind what was taken before.
 pub record HasGrown {H : Type 0} (x : MergeInput H) (old new : Writing) : Type 0 where

@@ -11,8 +11,8 @@ use Rattle.store_base.specs.declared.error.StoreError.TheVariants.{BadVersion, B
 use Rattle.store_format.specs.declared.footer.DocStoreFooter.{DocStoreFooter}
 use Rattle.store_format.specs.declared.version.DocStoreVersion.{DocStoreVersion}
 use Rattle.store_format.specs.declared.version.DocStoreVersion.TheVariants.{V1, V2, V3}
-use Rattle.store_reader.specs.Answers.{exact_result}
-use Rattle.store_reader.specs.Answering.{AnswersTruly}
+use Rattle.store_reader.specs.CallAnswers.{exact_result}
+use Rattle.store_reader.specs.GetAnswer.{AnswersTruly}
 use Rattle.store_format.specs.Block.{Slot}
 use Rattle.store_reader.specs.Documents.{ReadsFrom, ReadsTruly}
 use Rattle.store_format.specs.Extraction.{Says, SaysFrom, ExtractsFooter}

@@ -20,5 +20,6 @@ pub stats_are_added : StatsAreAdded
 unfolding stats
 stats_are_added = record {
   commute = λ a b. same _ _ _ _ _ _ (raised_commute a.num_entries b.num_entries) (raised_commute a.cache_hits b.cache_hits) (raised_commute a.cache_misses b.cache_misses);
-  associate = λ a b c. same _ _ _ _ _ _ (raised_associate a.num_entries b.num_entries c.num_entries) (raised_associate a.cache_hits b.cache_hits c.cache_hits) (raised_associate a.cache_misses b.cache_misses c.cache_misses);
+  associate = λ a b c. same _ _ _ _ _ _ (raised_associate a.num_entries b.num_entries c.num_entries) (raised_associate a.cache_hits b.cache_hits c.cache_hits)
+      (raised_associate a.cache_misses b.cache_misses c.cache_misses);
 }

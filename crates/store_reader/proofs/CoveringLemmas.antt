@@ -58,7 +58,8 @@ pub covers_again : (cs : List Checkpoint) (bytes : ℕ) → Covers cs bytes → 
 covers_again cs bytes covers = covered_again 0 0 cs covers.in_line covers.filled ∙ ap (λ (n : ℕ). Some (docs_end 0 cs, n)) covers.end
 
 -- The index part of a list that does not pass is that of none that covers the bytes.
-pub not_covered : (period : ℕ) (bytes : List ℕ) (end : ℕ) (cs : List Checkpoint) → 2 ≤ period → IsIndexPart period bytes cs → ((docs : ℕ) → covered_to 0 0 cs ≡ Some (docs, end) → ⊥) → HasIndexOf period bytes end → ⊥
+pub not_covered : (period : ℕ) (bytes : List ℕ) (end : ℕ) (cs : List Checkpoint) → 2 ≤ period → IsIndexPart period bytes cs → ((docs : ℕ) → covered_to 0 0 cs ≡ Some (docs, end) → ⊥)
+    → HasIndexOf period bytes end → ⊥
 not_covered period bytes end cs two is fails has =
     let same : has.0 ≡ cs = index_parts_are_apart period has.0 cs two (in_line_from 0 0 has.0 has.1.covers.in_line) is.0 (sym has.1.spells ∙ is.1) in
     fails (docs_end 0 has.0) (sym (ap (covered_to 0 0) same) ∙ covers_again has.0 end has.1.covers)

@@ -9,10 +9,10 @@ use Rattle.store_reader.specs.declared.answers.Answer.{Answer}
 use Rattle.store_reader.specs.declared.answers.Answer.TheVariants.{Got, Listed}
 use Rattle.store_reader.specs.declared.answers.ReadCall.{ReadCall}
 use Rattle.store_reader.specs.declared.answers.ReadCall.TheVariants.{Bytes, Iter}
-use Rattle.store_reader.specs.Answering.{AnswersTruly}
-use Rattle.store_reader.specs.Answers.{IsAnswer, AnswersAreExact, results_of, exact_result, exact_results, set_here}
+use Rattle.store_reader.specs.GetAnswer.{AnswersTruly}
+use Rattle.store_reader.specs.CallAnswers.{IsAnswer, AnswersAreExact, results_of, exact_result, exact_results, set_here}
 use Rattle.store_format.specs.Block.{Slot}
-use Rattle.store_reader.specs.Listing.{AreItems, first_alive}
+use Rattle.store_reader.specs.CallList.{AreItems, first_alive}
 
 pub exact : (id : ℕ) (s : Option Slot) (r : Result (List ℕ) StoreError) → AnswersTruly id s r → ¬ (r ≡ Err Read) → ¬ (r ≡ Err Memory) → r ≡ exact_result id s
 exact id s (Ok bytes) truly no_read no_memory = sym (ap (exact_result id) truly)

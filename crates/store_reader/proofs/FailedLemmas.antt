@@ -11,13 +11,13 @@ use Rattle.store_base.specs.declared.error.StoreError.TheVariants.{Read, Memory}
 use Rattle.layered_index.specs.declared.index.Checkpoint.{Checkpoint}
 use Rattle.store_reader.specs.declared.answers.Answer.{Answer}
 use Rattle.store_reader.specs.declared.walk.Walk.{Walk}
-use Rattle.store_reader.specs.Answering.{IsLookedUp, AnswersFrom}
-use Rattle.store_reader.specs.Answers.{HasRefusal, results_of}
+use Rattle.store_reader.specs.GetAnswer.{IsLookedUp, AnswersFrom}
+use Rattle.store_reader.specs.CallAnswers.{HasRefusal, results_of}
 use Rattle.store_reader.specs.LookingUp.{Takes}
 use Rattle.store_reader.specs.Reading.{Reading, IsSameStore}
 use Rattle.store_reader.specs.Walking.{IsTaken, LooksAlong, GivesNext}
-use Rattle.store_reader.proofs.AnsweringLemmas.{has_failed}
-use Rattle.store_reader.proofs.ListedLemmas.{IsListedTo}
+use Rattle.store_reader.proofs.GetAnswerLemmas.{has_failed}
+use Rattle.store_reader.proofs.IterationLookUpLemmas.{IsListedTo}
 use Rattle.store_reader.proofs.RecentLemmas.{same_store, same_along}
 
 -- a count that has risen since later has since before

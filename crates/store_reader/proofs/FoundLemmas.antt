@@ -21,7 +21,7 @@ use Rattle.store_format.specs.StoreFile.{IsStore}
 use Rattle.store_reader.specs.Viewing.{IsView, FindsFooter, FindsIndex, FindsFrom, Finds, data_in}
 use Rattle.store_reader.proofs.OpenedLemmas.{tail_of, IsMiddle, middle_of, whole_file}
 use Rattle.store_reader.proofs.RefusedLemmas.{refused_is_none}
-use Rattle.store_reader.proofs.SeenLemmas.{length-slice}
+use Rattle.store_reader.proofs.ReaderStoreLemmas.{length-slice}
 
 -- ---- opening
 

@@ -6,7 +6,7 @@ use Rattle.std.specs.List.{filter, enumerate_from}
 use Rattle.std.specs.Prelude.{Result, slice_get}
 use Rattle.store_base.specs.AliveBitSet.{is_alive_at}
 use Rattle.store_base.specs.declared.error.StoreError.{StoreError}
-use Rattle.store_reader.specs.Answers.{exact_result}
+use Rattle.store_reader.specs.CallAnswers.{exact_result}
 use Rattle.store_format.specs.Block.{Slot}
 use Rattle.store_format.specs.Slots.{slots}
 use Rattle.store_reader.specs.Viewing.{Viewing, slot_of, count_in, given}

@@ -1,5 +1,6 @@
 -- What look-ups do to the blocks that are kept.
-use Rattle.std.proofs.Common.{◌≡◌, ℕ, zero, suc, ◌-◌, ◌≤◌, Bool, true, false, not, List, [], ◌∷◌, length, take, Option, Some, None, IsNone, IsSome, is_some, nat_eq, nat_lt, refl, sym, ap, ◌∙◌, subst, arith, sub-one}
+use Rattle.std.proofs.Common.{◌≡◌, ℕ, zero, suc, ◌-◌, ◌≤◌, Bool, true, false, not, List, [], ◌∷◌, length, take, Option, Some, None, IsNone, IsSome, is_some, nat_eq, nat_lt, refl, sym, ap, ◌∙◌, subst}
+use Rattle.std.proofs.Common.{arith, sub-one}
 use Rattle.std.specs.Prelude.{◌==◌, if◌then◌else◌, slice_get}
 use Rattle.std.proofs.lemmas.Bool.{eqb-true, eqb-false, eq-eqb, ne_eqb, lt-ltb}
 use Rattle.std.specs.List.{AllByRecursion, IsDistinct, filter, list_any}
@@ -92,7 +93,8 @@ module _ {X : Type 0} where
   ]) refl
 
   -- a key that is looked for is found, by its entry
-  with_entry : (k : ℕ) (es : List (ℕ × X)) (P : List (ℕ × X) → Type 0) → IsSome (lookup (nat_eq k) es) → ((e : ℕ × X) → lookup_entry (nat_eq k) es ≡ Some e → P (e ∷ remove_entry (nat_eq k) es)) → P (promoted (nat_eq k) es)
+  with_entry : (k : ℕ) (es : List (ℕ × X)) (P : List (ℕ × X) → Type 0) → IsSome (lookup (nat_eq k) es) → ((e : ℕ × X) → lookup_entry (nat_eq k) es ≡ Some e → P (e ∷ remove_entry (nat_eq k) es))
+      → P (promoted (nat_eq k) es)
   with_entry k es P some at = (elim (lookup_entry (nat_eq k) es) as (λ o. lookup_entry (nat_eq k) es ≡ o → P (option_map_or (λ e. e ∷ remove_entry (nat_eq k) es) o es)) [
     | Some e ↦ λ h. at e h
     | None ↦ λ h. let none : IsSome {T = X} None = subst IsSome (lookup-entry (nat_eq k) es ∙ ap (λ o. option_map_or (λ e. Some e.1) o None) h) some in cc
@@ -193,10 +195,14 @@ zero-lt n = lt-ltb 0 (suc n) (omega arith)
 room_for : (n k : ℕ) (block : List ℕ) (es : List (ℕ × List ℕ)) → List (ℕ × List ℕ)
 room_for n k block es = if nat_lt 0 n then (k, block) ∷ take (n - 1) es else es
 
-distinct_in : (n k : ℕ) (block : List ℕ) (es : List (ℕ × List ℕ)) → AllByRecursion (λ y. nat_eq k y ≡ false) (keys_of es) → IsDistinct nat_eq (keys_of es) → IsDistinct nat_eq (keys_of (room_for n k block es))
+distinct_in : (n k : ℕ) (block : List ℕ) (es : List (ℕ × List ℕ)) → AllByRecursion (λ y. nat_eq k y ≡ false) (keys_of es) → IsDistinct nat_eq (keys_of es)
+    → IsDistinct nat_eq (keys_of (room_for n k block es))
 unfolding IsDistinct room_for
 distinct_in zero k block es apart d = d
-distinct_in (suc n) k block es apart d = rw (zero-lt, sub-one) (subst (λ ks. IsDistinct nat_eq (k ∷ ks)) (sym (take_keys n es)) (All-take (λ y. nat_eq k y ≡ false) n (keys_of es) apart, IsDistinct-take n (keys_of es) d))
+distinct_in (suc n) k block es apart d = rw (zero-lt, sub-one) (subst (λ ks. IsDistinct nat_eq (k ∷ ks)) (sym (take_keys n es)) (
+  All-take (λ y. nat_eq k y ≡ false) n (keys_of es) apart,
+  IsDistinct-take n (keys_of es) d,
+))
 
 few_in : (n k : ℕ) (block : List ℕ) (es : List (ℕ × List ℕ)) → length es ≤ n → length (room_for n k block es) ≤ n
 unfolding room_for
@@ -208,26 +214,30 @@ unfolding room_for
 keys_in zero k block es = refl
 keys_in (suc n) k block es = rw (zero-lt, sub-one) (ap (λ ks. k ∷ ks) (take_keys n es))
 
-pub AreKept-with_pair : (capacity k : ℕ) (block : List ℕ) (is_kept : Bool) (es : List (ℕ × List ℕ)) → lookup (nat_eq k) es ≡ None → AreKept capacity es → AreKept capacity (with_pair capacity k block is_kept es)
+pub AreKept-with_pair : (capacity k : ℕ) (block : List ℕ) (is_kept : Bool) (es : List (ℕ × List ℕ)) → lookup (nat_eq k) es ≡ None → AreKept capacity es
+    → AreKept capacity (with_pair capacity k block is_kept es)
 unfolding room_for
 AreKept-with_pair capacity k block true es none a = record { distinct = distinct_in capacity k block es (apart_from_none k es (ap is_some none)).0 a.distinct; few = few_in capacity k block es a.few }
 AreKept-with_pair capacity k block false es none a = a
 
 -- a look-up that finds its key is the definition's, whatever it says of keeping
-pub state-after_hit : (k : ℕ) (is_kept : Bool) (b : Blocks) → IsSome (block_at k b) → AreKept b.capacity b.kept → state_of (after_hit k b) ≡ look_up b.capacity (state_of b) (record { key = k; kept = is_kept })
+pub state-after_hit : (k : ℕ) (is_kept : Bool) (b : Blocks) → IsSome (block_at k b) → AreKept b.capacity b.kept
+    → state_of (after_hit k b) ≡ look_up b.capacity (state_of b) (record { key = k; kept = is_kept })
 state-after_hit k is_kept b some a = rw (any_from_some k b.kept some, keys-promoted k b.kept a.distinct some) refl
 
 state : ℕ → ℕ → List ℕ → CacheState
 state hits misses ks = record { keys = ks; hits = hits; misses = misses }
 
 -- and so is one that does not find it, with the block kept or not
-pub state-after_miss : (k : ℕ) (block : List ℕ) (is_kept : Bool) (b : Blocks) → block_at k b ≡ None → state_of (with_block k block is_kept (after_miss b)) ≡ look_up b.capacity (state_of b) (record { key = k; kept = is_kept })
+pub state-after_miss : (k : ℕ) (block : List ℕ) (is_kept : Bool) (b : Blocks) → block_at k b ≡ None
+    → state_of (with_block k block is_kept (after_miss b)) ≡ look_up b.capacity (state_of b) (record { key = k; kept = is_kept })
 unfolding state room_for
 state-after_miss k block false b none = rw ((apart_from_none k b.kept (ap is_some none)).1) refl
 state-after_miss k block true b none = rw ((apart_from_none k b.kept (ap is_some none)).1) (ap (state b.hits (one_more b.misses)) (keys_in b.capacity k block b.kept))
 
 -- what `put` leaves where the key is not there
-pub entries-put : {E : Type 0} (k : ℕ) (block : List ℕ) (old new : LruCache ℕ (List ℕ)) (r : Result (Option (List ℕ)) E) → lookup (nat_eq k) old.entries ≡ None → OnOk r (new ≡ lru_cache (put_entries nat_eq old k block) old.cap) → OnErr r (new ≡ old) → new.entries ≡ if is_ok r then (k, block) ∷ take (old.cap - 1) old.entries else old.entries
+pub entries-put : {E : Type 0} (k : ℕ) (block : List ℕ) (old new : LruCache ℕ (List ℕ)) (r : Result (Option (List ℕ)) E) → lookup (nat_eq k) old.entries ≡ None
+    → OnOk r (new ≡ lru_cache (put_entries nat_eq old k block) old.cap) → OnErr r (new ≡ old) → new.entries ≡ if is_ok r then (k, block) ∷ take (old.cap - 1) old.entries else old.entries
 entries-put k block old new (Ok v) none ok err = ap (λ c. c.entries) ok ∙ put_none (lookup_entry (nat_eq k) old.entries) refl
   where
     put_none : (o : Option (ℕ × List ℕ)) → lookup_entry (nat_eq k) old.entries ≡ o → put_entries nat_eq old k block ≡ (k, block) ∷ take (old.cap - 1) old.entries

@@ -48,10 +48,12 @@ pub record StaysHonest (file : Part) (cs : List Checkpoint) (c : Checkpoint) (ca
   pub kept : IsTrue file.honest → AllByRecursion (HasPart file.content cs) cache'.kept
 
 -- the part of the checkpoint that was found is a part by its key
-own_part : (content : List ℕ) (cs : List Checkpoint) (target : ℕ) (c : Checkpoint) → Covers cs (length content) → first_past cs target ≡ Some c → HasPart content cs (c.byte_range.start, part_of content c)
+own_part : (content : List ℕ) (cs : List Checkpoint) (target : ℕ) (c : Checkpoint) → Covers cs (length content) → first_past cs target ≡ Some c
+    → HasPart content cs (c.byte_range.start, part_of content c)
 own_part content cs target c covers seeks = each cs (one_start 0 0 cs target c covers.in_line covers.filled seeks)
   where
-    each : (xs : List Checkpoint) → AllByRecursion (λ x. x.byte_range.start ≡ c.byte_range.start → c ≡ x) xs → AllByRecursion (λ x. x.byte_range.start ≡ c.byte_range.start → part_of content c ≡ part_of content x) xs
+    each : (xs : List Checkpoint) → AllByRecursion (λ x. x.byte_range.start ≡ c.byte_range.start → c ≡ x) xs
+        → AllByRecursion (λ x. x.byte_range.start ≡ c.byte_range.start → part_of content c ≡ part_of content x) xs
     each [] a = tt
     each (x ∷ xs) a = (λ same. ap (part_of content) (a.0 same), each xs a.1)
 
@@ -69,17 +71,21 @@ stays_honest file file' cs period target c cache cache' came reader seeks looks 
   }
 ]
   where
-    kept_so : (is_kept : Bool) (n : ℕ) (block : List ℕ) → HasPart file.content cs (c.byte_range.start, block) → (es : List (ℕ × List ℕ)) → AllByRecursion (HasPart file.content cs) es → AllByRecursion (HasPart file.content cs) (with_pair n c.byte_range.start block is_kept es)
+    kept_so : (is_kept : Bool) (n : ℕ) (block : List ℕ) → HasPart file.content cs (c.byte_range.start, block) → (es : List (ℕ × List ℕ)) → AllByRecursion (HasPart file.content cs) es
+        → AllByRecursion (HasPart file.content cs) (with_pair n c.byte_range.start block is_kept es)
     kept_so false n block here es a = a
     kept_so true zero block here es a = a
     kept_so true (suc n) block here es a = rw (lt-ltb 0 (suc n) (omega arith)) (here, All-taken (HasPart file.content cs) (suc n - 1) es a)
 
-    missed : (came : Result (List ℕ) StoreError) (is_kept : Bool) → AllByRecursion (HasPart file.content cs) cache.kept → IfOk came (λ block. block ≡ part_of file.content c) → AllByRecursion (HasPart file.content cs) (cache_missed c.byte_range.start came is_kept cache).kept
-    missed (Ok block) is_kept a part = kept_so is_kept cache.capacity block (subst (λ b. HasPart file.content cs (c.byte_range.start, b)) (sym part) (own_part file.content cs target c reader.covers seeks)) cache.kept a
+    missed : (came : Result (List ℕ) StoreError) (is_kept : Bool) → AllByRecursion (HasPart file.content cs) cache.kept → IfOk came (λ block. block ≡ part_of file.content c)
+        → AllByRecursion (HasPart file.content cs) (cache_missed c.byte_range.start came is_kept cache).kept
+    missed (Ok block) is_kept a part = kept_so is_kept cache.capacity block (subst (λ b. HasPart file.content cs (c.byte_range.start, b)) (sym part)
+        (own_part file.content cs target c reader.covers seeks)) cache.kept a
     missed (Err e) is_kept a part = a
 
 -- a look-up changes neither the bytes of the data nor whether reads give them
-pub same_file : (c : Checkpoint) (file file' : Part) (cache cache' : Blocks) (came : Result (List ℕ) StoreError) → LooksUp c file cache came file' cache' → (file'.content ≡ file.content) × (file'.honest ≡ file.honest)
+pub same_file : (c : Checkpoint) (file file' : Part) (cache cache' : Blocks) (came : Result (List ℕ) StoreError) → LooksUp c file cache came file' cache'
+    → (file'.content ≡ file.content) × (file'.honest ≡ file.honest)
 same_file c file file' cache cache' came looks = elim looks.cause [
   | inl hit ↦ (ap (λ (f : Part). f.content) hit.file_stays, ap (λ (f : Part). f.honest) hit.file_stays)
   | inr miss ↦ (miss.read.once.content, miss.read.once.honest)
@@ -94,5 +100,6 @@ reader_after file file' cs period target c cache cache' came reader seeks looks 
       covers = subst (λ (bytes : List ℕ). Covers cs (length bytes)) (sym same.0) reader.covers;
       two = reader.two;
       few = reader.few;
-      holds = λ honest. subst (λ (bytes : List ℕ). AllByRecursion (HasPart bytes cs) cache'.kept) (sym same.0) ((stays_honest file file' cs period target c cache cache' came reader seeks looks).kept (subst IsTrue same.1 honest));
+      holds = λ honest. subst (λ (bytes : List ℕ). AllByRecursion (HasPart bytes cs) cache'.kept) (sym same.0)
+          ((stays_honest file file' cs period target c cache cache' came reader seeks looks).kept (subst IsTrue same.1 honest));
     }

@@ -9,7 +9,7 @@ use Rattle.store_base.specs.Counts.{raised}
 use Rattle.store_base.specs.Files.{Part}
 use Rattle.store_base.specs.declared.error.StoreError.{StoreError}
 use Rattle.layered_index.specs.declared.index.Checkpoint.{Checkpoint}
-use Rattle.store_reader.specs.Answering.{IsLookedUp}
+use Rattle.store_reader.specs.GetAnswer.{IsLookedUp}
 use Rattle.store_reader.specs.Cache.{CacheState, LookUp, look_up, recent, misses_along}
 use Rattle.store_reader.specs.Kept.{Blocks, state_of}
 use Rattle.store_reader.specs.LookingUp.{LooksUp, cache_missed}
@@ -32,7 +32,8 @@ record Leaves (c : Checkpoint) (file : Part) (cache : Blocks) (file' : Part) (ca
   capacity : cache'.capacity ≡ cache.capacity
   reads : file.reads < 2 ^ 64 → file'.reads ≡ raised file.reads (if list_any (λ k. k == c.byte_range.start) (keys_of cache.kept) then 0 else 1)
 
-leaves : (c : Checkpoint) (file : Part) (cache : Blocks) (came : Result (List ℕ) StoreError) (file' : Part) (cache' : Blocks) → LooksUp c file cache came file' cache' → Leaves c file cache file' cache'
+leaves : (c : Checkpoint) (file : Part) (cache : Blocks) (came : Result (List ℕ) StoreError) (file' : Part) (cache' : Blocks) → LooksUp c file cache came file' cache'
+    → Leaves c file cache file' cache'
 leaves c file cache came file' cache' l = elim l.cause [
   | inl hit ↦
       let same = hit.file_stays in
@@ -108,7 +109,8 @@ pub no_looks : (r : Reading) → AreLookUps [] r r
 no_looks r = record { looks = []; order = refl; state = refl; capacity = refl; reads = λ few. omega arith }
 
 -- one look-up
-pub look_once : (c : Checkpoint) (old : Reading) (came : Result (List ℕ) StoreError) (new : Reading) → LooksUp c old.file old.cache came new.file new.cache → AreLookUps (c.byte_range.start ∷ []) old new
+pub look_once : (c : Checkpoint) (old : Reading) (came : Result (List ℕ) StoreError) (new : Reading) → LooksUp c old.file old.cache came new.file new.cache
+    → AreLookUps (c.byte_range.start ∷ []) old new
 look_once c old came new one =
     let left = leaves c old.file old.cache came new.file new.cache one in
     record {
@@ -146,10 +148,11 @@ looks_are_recent (c ∷ cs) old block new block' l =
     looks_then (c.byte_range.start ∷ []) (keys_along cs) old l.0 new (look_once c old l.2.came l.0 l.2.looked.looks_up) (looks_are_recent cs l.0 l.1 new block' l.3)
 
 counted_one : (capacity : ℕ) (s : CacheState) (l : LookUp) → s.hits + s.misses + 1 < 2 ^ 64 → (look_up capacity s l).hits + (look_up capacity s l).misses ≡ s.hits + s.misses + 1
-counted_one capacity s l few = (elim (list_any (λ k. k == l.key) s.keys) as (λ y. list_any (λ k. k == l.key) s.keys ≡ y → (look_up capacity s l).hits + (look_up capacity s l).misses ≡ s.hits + s.misses + 1) [
-  | true ↦ λ t. rw t (omega arith)
-  | false ↦ λ t. rw t (omega arith)
-]) refl
+counted_one capacity s l few = (elim (list_any (λ k. k == l.key) s.keys) as (λ y. list_any (λ k. k == l.key) s.keys ≡ y
+    → (look_up capacity s l).hits + (look_up capacity s l).misses ≡ s.hits + s.misses + 1) [
+      | true ↦ λ t. rw t (omega arith)
+      | false ↦ λ t. rw t (omega arith)
+    ]) refl
 
 pub look_ups_are_counted : LookUpsAreCounted
 look_ups_are_counted capacity s [] few = omega arith

@@ -15,25 +15,25 @@ use Rattle.store_format.specs.FileReading.{Comes}
 use Rattle.store_format.specs.Footer.{footer, version_number}
 use Rattle.layered_index.specs.Layers.{index_part}
 use Rattle.store_reader.specs.Opening.{IndexFrom, ReadsIndex, Opens, OpensFrom, IsSomeStore, RefusesNoStore}
-use Rattle.store_format.specs.StoreFile.{data_of, marks, HasForm}
+use Rattle.store_format.specs.StoreFile.{data_of, checkpoints_of, HasForm}
 use Rattle.store_format.proofs.ExtractionLemmas.{length-reserved, length-footer}
 use Rattle.store_reader.proofs.OpenedLemmas.{IsTail, tail_of}
 use Rattle.store_format.proofs.StoreLemmas.{data_fits}
 use Rattle.store_format.proofs.FileLemmas.{slice_between, beginnings_apart, known_version, heads, tails, one_period}
-use Rattle.store_format.proofs.StoreLemmas.{marks_cover}
+use Rattle.store_format.proofs.StoreLemmas.{checkpoints_cover}
 
 -- ---- the parts of a file
 
 -- where the parts of a store's file stand
 record HasParts (content : List ℕ) (s : IsSomeStore content) : Type 0 where
-  size : length content ≡ length (data_of s.blocks) + length (index_part s.period (marks s.blocks)) + 28
-  index : slice_range content (length (data_of s.blocks)) (length content - 28) ≡ index_part s.period (marks s.blocks)
+  size : length content ≡ length (data_of s.blocks) + length (index_part s.period (checkpoints_of s.blocks)) + 28
+  index : slice_range content (length (data_of s.blocks)) (length content - 28) ≡ index_part s.period (checkpoints_of s.blocks)
   tail : slice_range content (length content - 28) (length content) ≡ footer s.version (length (data_of s.blocks)) 0 s.store.reserved
 
 parts_of : (content : List ℕ) (s : IsSomeStore content) → HasParts content s
 parts_of content s =
     let data_bytes = data_of s.blocks in
-    let index = index_part s.period (marks s.blocks) in
+    let index = index_part s.period (checkpoints_of s.blocks) in
     let foot = footer s.version (length data_bytes) 0 s.store.reserved in
     let foot_len : length foot ≡ 28 = length-footer s.version (length data_bytes) 0 s.store.reserved (length-reserved s.period s.version s.store.reserved s.store.form) in
     let whole : length content ≡ length data_bytes + length index + 28 = omega (arith, ap length s.store.parts, length-append (data_bytes ++ index) foot, length-append data_bytes index) in
@@ -87,7 +87,8 @@ footer_of content s f tail =
     let v = version_number f.doc_store_version in
     let here = known_version f.period v tail.reserved tail.form in
     let there = known_version s.period s.version s.store.reserved s.store.form in
-    let same = beginnings_apart v s.version f.offset (length (data_of s.blocks)) (0 ∷ tail.reserved) (0 ∷ s.store.reserved) (omega (arith, here.1)) (omega (arith, there.1)) tail.few (data_fits s.blocks s.store.blocks) (sym tail.tail ∙ parts.tail) in
+    let same = beginnings_apart v s.version f.offset (length (data_of s.blocks)) (0 ∷ tail.reserved) (0 ∷ s.store.reserved) (omega (arith, here.1)) (omega (arith, there.1)) tail.few
+    (data_fits s.blocks s.store.blocks) (sym tail.tail ∙ parts.tail) in
     record {
       offset = same.1;
       period = one_period f.period s.period v s.version tail.reserved s.store.reserved tail.form s.store.form same.0 (tails 0 0 tail.reserved s.store.reserved same.2);
@@ -124,16 +125,18 @@ index_refused mid new f e honest tail r = (elim (nat_lt (length mid.content - 28
           let parts = parts_of mid.content s in
           let foot = footer_of mid.content s f tail in
           bad.1 (
-            marks s.blocks,
+            checkpoints_of s.blocks,
             record {
-              covers = subst (λ (n : ℕ). Covers (marks s.blocks) n) (sym foot.offset) (marks_cover s.blocks s.store.blocks);
-              spells = comes.bytes honest ∙ ap (λ (n : ℕ). slice_range mid.content n (length mid.content - 28)) foot.offset ∙ parts.index ∙ ap (λ (p : ℕ). index_part p (marks s.blocks)) (sym foot.period);
+              covers = subst (λ (n : ℕ). Covers (checkpoints_of s.blocks) n) (sym foot.offset) (checkpoints_cover s.blocks s.store.blocks);
+              spells = comes.bytes honest ∙ ap (λ (n : ℕ). slice_range mid.content n (length mid.content - 28)) foot.offset ∙ parts.index
+                  ∙ ap (λ (p : ℕ). index_part p (checkpoints_of s.blocks)) (sym foot.period);
             },
           )))
       | inr memory ↦ inr (inl memory)
     ]
 
-refused_from : (old mid new : Part) (said : Result DocStoreFooter StoreError) (e : StoreError) → IsTrue old.honest → ExtractsFooter old said mid → OpensFrom mid said (Err e) new → RefusesNoStore old.content e
+refused_from : (old mid new : Part) (said : Result DocStoreFooter StoreError) (e : StoreError) → IsTrue old.honest → ExtractsFooter old said mid → OpensFrom mid said (Err e) new
+    → RefusesNoStore old.content e
 refused_from old mid new (Err d) e honest reads on =
     let same : ◌≡◌ {A = StoreError} d e = let is = on.0 in cc in
     subst (RefusesNoStore old.content) same (footer_refused old mid d honest reads)

@@ -57,16 +57,23 @@ starts_from doc byte (c ∷ cs) r = (omega (arith, r.1), lower c.byte_range.end 
     lower m n (c ∷ cs) le a = (omega (arith, a.0), lower m n cs le a.1)
 
 -- no two checkpoints begin at one byte, where none is empty
-pub one_start : (doc byte : ℕ) (cs : List Checkpoint) (target : ℕ) (c : Checkpoint) → IsInLineFrom doc byte cs → AllByRecursion IsFilled cs → first_past cs target ≡ Some c → AllByRecursion (λ x. x.byte_range.start ≡ c.byte_range.start → c ≡ x) cs
+pub one_start : (doc byte : ℕ) (cs : List Checkpoint) (target : ℕ) (c : Checkpoint) → IsInLineFrom doc byte cs → AllByRecursion IsFilled cs → first_past cs target ≡ Some c
+    → AllByRecursion (λ x. x.byte_range.start ≡ c.byte_range.start → c ≡ x) cs
 one_start doc byte [] target c r f e = tt
-one_start doc byte (x ∷ cs) target c r f e = (elim (nat_lt target x.doc_range.end) as (λ y. nat_lt target x.doc_range.end ≡ y → AllByRecursion (λ x. x.byte_range.start ≡ c.byte_range.start → c ≡ x) (x ∷ cs)) [
-  | true ↦ λ t. let e' = rw t at e in let same : x ≡ c = cc in (λ _. sym same, apart cs (starts_from x.doc_range.end x.byte_range.end cs r.3) (subst (λ (y : Checkpoint). y.byte_range.start < x.byte_range.end) same (omega (arith, f.0.1))))
-  | false ↦ λ t. let found = rw t at e in
-      let past = All-found (λ y. x.byte_range.end ≤ y.byte_range.start) cs target c found (starts_from x.doc_range.end x.byte_range.end cs r.3) in
-      (λ same. absurd (omega (arith, past, f.0.1)), one_start x.doc_range.end x.byte_range.end cs target c r.3 f.1 found)
-]) refl
+one_start doc byte (x ∷ cs) target c r f e = (elim (nat_lt target x.doc_range.end) as (λ y. nat_lt target x.doc_range.end ≡ y
+    → AllByRecursion (λ x. x.byte_range.start ≡ c.byte_range.start → c ≡ x) (x ∷ cs)) [
+      | true ↦ λ t. let e' = rw t at e in let same : x ≡ c = cc in (
+        λ _. sym same,
+        apart cs (starts_from x.doc_range.end x.byte_range.end cs r.3)
+            (subst (λ (y : Checkpoint). y.byte_range.start < x.byte_range.end) same (omega (arith, f.0.1))),
+      )
+      | false ↦ λ t. let found = rw t at e in
+          let past = All-found (λ y. x.byte_range.end ≤ y.byte_range.start) cs target c found (starts_from x.doc_range.end x.byte_range.end cs r.3) in
+          (λ same. absurd (omega (arith, past, f.0.1)), one_start x.doc_range.end x.byte_range.end cs target c r.3 f.1 found)
+    ]) refl
   where
-    apart : (ys : List Checkpoint) → AllByRecursion (λ y. x.byte_range.end ≤ y.byte_range.start) ys → c.byte_range.start < x.byte_range.end → AllByRecursion (λ y. y.byte_range.start ≡ c.byte_range.start → c ≡ y) ys
+    apart : (ys : List Checkpoint) → AllByRecursion (λ y. x.byte_range.end ≤ y.byte_range.start) ys → c.byte_range.start < x.byte_range.end
+        → AllByRecursion (λ y. y.byte_range.start ≡ c.byte_range.start → c ≡ y) ys
     apart [] a lt = tt
     apart (y ∷ ys) a lt = (λ same. absurd (omega (arith, a.0)), apart ys a.1 lt)
 

@@ -8,7 +8,7 @@ use Rattle.layered_index.specs.Checkpoint.{IsInLineFrom, docs_end, doc_count, fi
 use Rattle.store_format.specs.Block.{Slot, slot}
 use Rattle.store_format.specs.Slots.{slots}
 use Rattle.store_reader.specs.Reading.{part_of}
-use Rattle.store_reader.proofs.SeenLemmas.{blocks_of}
+use Rattle.store_reader.proofs.ReaderStoreLemmas.{blocks_of}
 
 -- the slots of one block
 slots_in : List ℕ → Checkpoint → List Slot
@@ -53,7 +53,8 @@ slot_sought content doc byte [] id c r le e = absurd cc
 slot_sought content doc byte (x ∷ cs) id c r le e =
     let order = r.2.doc_order in let start = r.0 in
     let size = length-slots_in content x in
-    (elim (nat_lt id x.doc_range.end) as (λ y. nat_lt id x.doc_range.end ≡ y → slice_get (slots_in content x ++ slots (blocks_of content cs)) (id - doc) ≡ Some (slot (part_of content c) (id - c.doc_range.start))) [
+    (elim (nat_lt id x.doc_range.end) as (λ y. nat_lt id x.doc_range.end ≡ y → slice_get (slots_in content x ++ slots (blocks_of content cs)) (id - doc)
+    ≡ Some (slot (part_of content c) (id - c.doc_range.start))) [
       | true ↦ λ t.
           let e' = rw t at e in let same : x ≡ c = cc in
           let below = ltb-true _ _ t in

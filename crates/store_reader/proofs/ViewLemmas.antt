@@ -11,10 +11,10 @@ use Rattle.store_format.specs.Block.{slot, start_of, end_of}
 use Rattle.store_format.specs.Footer.{footer, version_number}
 use Rattle.store_reader.specs.Reading.{part_of}
 use Rattle.store_format.specs.Slots.{slots}
-use Rattle.store_format.specs.StoreFile.{StoreBlock, blocks_at, data_of, marks}
+use Rattle.store_format.specs.StoreFile.{StoreBlock, blocks_at, data_of, checkpoints_of}
 use Rattle.store_reader.specs.Viewing.{Viewing, IsView, IsBlockOf, StandsAt, count_in, data_in}
 use Rattle.store_format.proofs.ExtractionLemmas.{length-reserved, length-footer}
-use Rattle.store_reader.proofs.SeenLemmas.{blocks_of, store_is, store_seen}
+use Rattle.store_reader.proofs.ReaderStoreLemmas.{blocks_of, store_is, store_seen}
 use Rattle.store_reader.proofs.SeekLemmas.{within, none_past}
 use Rattle.store_reader.proofs.StoreSlotLemmas.{slot_sought, slot_past, length-slots_of}
 
@@ -132,8 +132,8 @@ block_none v cs id is view e =
 -- ---- the checkpoints
 
 -- the checkpoints are those of the store
-pub marks_are : (file : List ℕ) (cs : List Checkpoint) (period : ℕ) (version : DocStoreVersion) → IsView file cs period version → marks (blocks_at cs (data_in file cs)) ≡ cs
-marks_are file cs period version v = (store_seen (data_in file cs) cs v.covers).marks_are
+pub checkpoints_are : (file : List ℕ) (cs : List Checkpoint) (period : ℕ) (version : DocStoreVersion) → IsView file cs period version → checkpoints_of (blocks_at cs (data_in file cs)) ≡ cs
+checkpoints_are file cs period version v = (store_seen (data_in file cs) cs v.covers).checkpoints_are
 
 -- a document stands where its block's table says
 pub stands_at : (v : Viewing) (cs : List Checkpoint) (id : ℕ) (c : Checkpoint) (from to : ℕ) → v.store ≡ blocks_at cs (data_in v.file cs)
@@ -142,7 +142,7 @@ pub stands_at : (v : Viewing) (cs : List Checkpoint) (id : ℕ) (c : Checkpoint)
     → StandsAt v id (c.byte_range.start + from) (c.byte_range.start + to)
 stands_at v cs id c from to is view e first last = record {
   checkpoint = c;
-  seeks = ap (λ (xs : List Checkpoint). first_past xs id) (ap marks is ∙ marks_are v.file cs v.period v.version view) ∙ e;
+  seeks = ap (λ (xs : List Checkpoint). first_past xs id) (ap checkpoints_of is ∙ checkpoints_are v.file cs v.period v.version view) ∙ e;
   first = ap (λ (n : ℕ). c.byte_range.start + n) first;
   last = ap (λ (n : ℕ). c.byte_range.start + n) last;
 }
@@ -153,11 +153,11 @@ pub sizes_are : (file : List ℕ) (cs : List Checkpoint) (period : ℕ) (version
 sizes_are file cs period version v =
     let bs = blocks_at cs (data_in file cs) in
     let text = data_of bs in
-    let index = index_part period (marks bs) in
+    let index = index_part period (checkpoints_of bs) in
     let n = version_number version in
     let foot = footer n (length text) 0 v.store.reserved in
     let size = length-footer n (length text) 0 v.store.reserved (length-reserved period n v.store.reserved v.store.form) in
-    let same = ap (λ (xs : List Checkpoint). length (index_part period xs)) (marks_are file cs period version v) in
+    let same = ap (λ (xs : List Checkpoint). length (index_part period xs)) (checkpoints_are file cs period version v) in
     omega (arith, ap length v.store.parts, length-append (text ++ index) foot, length-append text index, size, same)
 
 -- the data stands before the index
@@ -171,7 +171,7 @@ data_stands file cs period version end v is =
 -- how many bytes its data and its index have
 pub usage_is : (file : List ℕ) (cs : List Checkpoint) (period : ℕ) (version : DocStoreVersion) (text index : ℕ) → IsView file cs period version
     → index ≡ length (index_part period cs) → text ≡ length (data_of (blocks_at cs (data_in file cs)))
-    → ◌≡◌ {A = ℕ × ℕ} (text, index) (length (data_of (blocks_at cs (data_in file cs))), length (index_part period (marks (blocks_at cs (data_in file cs)))))
+    → ◌≡◌ {A = ℕ × ℕ} (text, index) (length (data_of (blocks_at cs (data_in file cs))), length (index_part period (checkpoints_of (blocks_at cs (data_in file cs)))))
 usage_is file cs period version text index v index_is text_is =
-    let second = index_is ∙ ap (λ (xs : List Checkpoint). length (index_part period xs)) (sym (marks_are file cs period version v)) in
+    let second = index_is ∙ ap (λ (xs : List Checkpoint). length (index_part period xs)) (sym (checkpoints_are file cs period version v)) in
     λ i. (text_is i, second i)

@@ -8,7 +8,7 @@ use Rattle.layered_index.specs.declared.index.Checkpoint.{Checkpoint}
 use Rattle.store_base.specs.declared.error.StoreError.{StoreError}
 use Rattle.store_reader.specs.declared.walk.Walk.{Walk}
 use Rattle.store_base.specs.declared.error.StoreError.TheVariants.{Read, Memory}
-use Rattle.store_reader.specs.Answering.{IsLookedUp, AnswersFrom, AnswersTruly}
+use Rattle.store_reader.specs.GetAnswer.{IsLookedUp, AnswersFrom, AnswersTruly}
 use Rattle.store_format.specs.Block.{Slot, slot}
 use Rattle.layered_index.specs.Checkpoint.{IsInLineFrom, Covers, docs_end, first_past}
 use Rattle.store_reader.specs.Documents.{ReadsFrom, ReadsTruly}
@@ -17,7 +17,7 @@ use Rattle.store_reader.specs.LookingUp.{Takes}
 use Rattle.store_reader.specs.Reading.{Reading, part_of, num_docs, store_of}
 use Rattle.store_format.specs.Slots.{slots}
 use Rattle.store_reader.specs.Walking.{IsTaken, HoldsPart, StandsIn, IsWalk, LooksAlong, WalksTo}
-use Rattle.store_reader.proofs.AnsweringLemmas.{why_none, slot_at}
+use Rattle.store_reader.proofs.GetAnswerLemmas.{why_none, slot_at}
 use Rattle.store_reader.proofs.LookUpLemmas.{same_file}
 use Rattle.store_reader.proofs.SeekLemmas.{within, next_block, docs_end-take_more, not_all, docs_go_on}
 
@@ -34,7 +34,8 @@ start_at doc byte [] n c r e = absurd cc
 start_at doc byte (x ∷ cs) zero c r e = let same : x ≡ c = cc in ap (λ (y : Checkpoint). y.doc_range.start) (sym same) ∙ r.0
 start_at doc byte (x ∷ cs) (suc n) c r e = start_at x.doc_range.end x.byte_range.end cs n c r.3 e
 
-pub next_is : (cs : List Checkpoint) (bytes n target : ℕ) (c : Checkpoint) → Covers cs bytes → target ≡ docs_end 0 (take n cs) → target < docs_end 0 cs → first_past cs target ≡ Some c → IsNextBlock cs n target c
+pub next_is : (cs : List Checkpoint) (bytes n target : ℕ) (c : Checkpoint) → Covers cs bytes → target ≡ docs_end 0 (take n cs) → target < docs_end 0 cs → first_past cs target ≡ Some c
+    → IsNextBlock cs n target c
 next_is cs bytes n target c covers here lt seeks =
     let more = not_all 0 cs n (omega arith) in
     let at : slice_get cs n ≡ Some c = sym (next_block 0 0 cs n covers.in_line covers.filled more) ∙ ap (first_past cs) (sym here) ∙ seeks in
@@ -42,12 +43,14 @@ next_is cs bytes n target c covers here lt seeks =
     record { at = at; more = more; start = start_at 0 0 cs n c covers.in_line at ∙ sym here; inside = w.to; end = docs_end-take_more 0 cs n c at }
 
 -- the checkpoints stay
-pub checkpoints_along : (cs : List Checkpoint) (r : Reading) (b : Result (List ℕ) StoreError) (r' : Reading) (b' : Result (List ℕ) StoreError) → LooksAlong cs r b r' b' → r'.checkpoints ≡ r.checkpoints
+pub checkpoints_along : (cs : List Checkpoint) (r : Reading) (b : Result (List ℕ) StoreError) (r' : Reading) (b' : Result (List ℕ) StoreError) → LooksAlong cs r b r' b'
+    → r'.checkpoints ≡ r.checkpoints
 checkpoints_along [] r b r' b' l = ap (λ (x : Reading). x.checkpoints) l.0
 checkpoints_along (c ∷ cs) r b r' b' l = checkpoints_along cs l.0 l.1 r' b' l.3 ∙ ap (λ (x : Reading). x.checkpoints) l.2.looked.stays
 
 -- one block more
-pub looks_more : (cs : List Checkpoint) (r : Reading) (b : Result (List ℕ) StoreError) (mid : Reading) (b1 : Result (List ℕ) StoreError) (c : Checkpoint) (r' : Reading) (b' : Result (List ℕ) StoreError)
+pub looks_more : (cs : List Checkpoint) (r : Reading) (b : Result (List ℕ) StoreError) (mid : Reading) (b1 : Result (List ℕ) StoreError) (c : Checkpoint) (r' : Reading)
+    (b' : Result (List ℕ) StoreError)
     → LooksAlong cs r b mid b1 → IsTaken mid c.doc_range.start c b' r' → LooksAlong (cs ++ c ∷ []) r b r' b'
 looks_more [] r b mid b1 c r' b' l t = (r', b', subst (λ (x : Reading). IsTaken x c.doc_range.start c b' r') l.0 t, (refl, refl))
 looks_more (d ∷ cs) r b mid b1 c r' b' l t = (l.0, l.1, l.2, looks_more cs l.0 l.1 mid b1 c r' b' l.3 t)
@@ -69,7 +72,8 @@ range_more cs p q c le e =
     ap (λ k. take k (drop p cs)) n ∙ take_one_more (drop p cs) (q - p) c (get_behind cs p (q - p) ∙ ap (slice_get cs) place ∙ e)
 
 -- past a document that is not alive
-pub walks_past : (set : Option (ℕ → Bool)) (old : Reading) (from : Walk) (id : ℕ) (new : Reading) (to to' : Walk) → WalksTo set old from id new to → is_in set id ≡ false → to'.place ≡ to.place → to'.block ≡ to.block → WalksTo set old from (id + 1) new to'
+pub walks_past : (set : Option (ℕ → Bool)) (old : Reading) (from : Walk) (id : ℕ) (new : Reading) (to to' : Walk) → WalksTo set old from id new to → is_in set id ≡ false → to'.place ≡ to.place
+    → to'.block ≡ to.block → WalksTo set old from (id + 1) new to'
 walks_past set old from id new to to' w dead place block = record {
   on = omega (arith, w.on);
   dead = λ k lo hi. dead_at k lo hi;
@@ -104,7 +108,8 @@ walks_along set old from id mid to new to' w later looks =
       on = w.on;
       dead = w.dead;
       later = omega (arith, w.later);
-      looks = rw (range_joined old.checkpoints from.place to.place to'.place w.later later) (looks_on _ _ old from.block mid to.block new to'.block w.looks (subst (λ (cs : List Checkpoint). LooksAlong (slice_range cs to.place to'.place) mid to.block new to'.block) same looks));
+      looks = rw (range_joined old.checkpoints from.place to.place to'.place w.later later)
+          (looks_on _ _ old from.block mid to.block new to'.block w.looks (subst (λ (cs : List Checkpoint). LooksAlong (slice_range cs to.place to'.place) mid to.block new to'.block) same looks));
     }
 
 -- a walk that has not begun
@@ -128,7 +133,8 @@ no_block [] bytes covers le = refl
 no_block (c ∷ cs) bytes covers le = absurd (let on = docs_go_on c.doc_range.end c.byte_range.end cs covers.in_line.3 in let f = covers.filled.0.0 in omega arith)
 
 -- the same, if only the next document is another
-pub walks_same : (set : Option (ℕ → Bool)) (old : Reading) (from : Walk) (id : ℕ) (new : Reading) (to to' : Walk) → WalksTo set old from id new to → to'.place ≡ to.place → to'.block ≡ to.block → WalksTo set old from id new to'
+pub walks_same : (set : Option (ℕ → Bool)) (old : Reading) (from : Walk) (id : ℕ) (new : Reading) (to to' : Walk) → WalksTo set old from id new to → to'.place ≡ to.place → to'.block ≡ to.block
+    → WalksTo set old from id new to'
 walks_same set old from id new to to' w place block = record { on = w.on; dead = w.dead; later = omega (arith, w.later); looks = rw (place, block) w.looks }
 
 -- one block
@@ -136,7 +142,8 @@ pub looks_one : (r : Reading) (b : Result (List ℕ) StoreError) (r' : Reading) 
     → slice_get r.checkpoints p ≡ Some c → c.doc_range.start ≡ next → IsTaken r next c b' r' → q ≡ p + 1 → LooksAlong (slice_range r.checkpoints p q) r b r' b'
 looks_one r b r' b' p q next c at start taken place =
     let none : p - p ≡ 0 = omega arith in
-    let range : slice_range r.checkpoints p q ≡ c ∷ [] = ap (slice_range r.checkpoints p) place ∙ range_more r.checkpoints p p c (omega arith) at ∙ ap (λ n. take n (drop p r.checkpoints) ++ c ∷ []) none in
+    let range : slice_range r.checkpoints p q ≡ c ∷ [] = ap (slice_range r.checkpoints p) place ∙ range_more r.checkpoints p p c (omega arith) at
+    ∙ ap (λ n. take n (drop p r.checkpoints) ++ c ∷ []) none in
     rw range (r', b', subst (λ n. IsTaken r n c b' r') (sym start) taken, (refl, refl))
 
 -- as many documents after as before
@@ -144,7 +151,8 @@ pub docs_stay : (set : Option (ℕ → Bool)) (old : Reading) (from : Walk) (id 
 docs_stay set old from id new to w = ap (docs_end 0) (checkpoints_along _ _ _ _ _ w.looks)
 
 -- a seek inside a block finds it
-pub seek_inside : (doc byte : ℕ) (cs : List Checkpoint) (n id : ℕ) (c : Checkpoint) → IsInLineFrom doc byte cs → slice_get cs n ≡ Some c → c.doc_range.start ≤ id → id < c.doc_range.end → first_past cs id ≡ Some c
+pub seek_inside : (doc byte : ℕ) (cs : List Checkpoint) (n id : ℕ) (c : Checkpoint) → IsInLineFrom doc byte cs → slice_get cs n ≡ Some c → c.doc_range.start ≤ id → id < c.doc_range.end
+    → first_past cs id ≡ Some c
 seek_inside doc byte [] n id c r e lo hi = absurd cc
 seek_inside doc byte (x ∷ cs) zero id c r e lo hi = let same : x ≡ c = cc in rw (lt-ltb id x.doc_range.end (subst (λ (y : Checkpoint). id < y.doc_range.end) (sym same) hi)) (ap Some same)
 seek_inside doc byte (x ∷ cs) (suc n) id c r e lo hi =
@@ -169,7 +177,8 @@ pub record IsIn (cs : List Checkpoint) (place first id : ℕ) (c : Checkpoint) :
   pub seeks : first_past cs id ≡ Some c
   pub start : c.doc_range.start ≡ first
 
-pub is_in_block : (cs : List Checkpoint) (bytes place first id : ℕ) → Covers cs bytes → place ≤ length cs → first ≡ docs_end 0 (take (place - 1) cs) → first ≤ id → id < docs_end 0 (take place cs) → (c : Checkpoint) × IsIn cs place first id c
+pub is_in_block : (cs : List Checkpoint) (bytes place first id : ℕ) → Covers cs bytes → place ≤ length cs → first ≡ docs_end 0 (take (place - 1) cs) → first ≤ id → id < docs_end 0 (take place cs)
+    → (c : Checkpoint) × IsIn cs place first id c
 is_in_block cs bytes zero first id covers few start lo hi = absurd (omega arith)
 is_in_block cs bytes (suc n) first id covers few start lo hi =
     let before : suc n - 1 ≡ n = omega arith in
@@ -187,10 +196,12 @@ is_in_block cs bytes (suc n) first id covers few start lo hi =
     )
 
 -- a look-up changes neither the bytes of the data nor whether reads give them
-file_after : (old new : Reading) (id : ℕ) (c : Checkpoint) (block : Result (List ℕ) StoreError) → IsTaken old id c block new → (new.file.content ≡ old.file.content) × (new.file.honest ≡ old.file.honest)
+file_after : (old new : Reading) (id : ℕ) (c : Checkpoint) (block : Result (List ℕ) StoreError) → IsTaken old id c block new
+    → (new.file.content ≡ old.file.content) × (new.file.honest ≡ old.file.honest)
 file_after old new id c block t = same_file c old.file new.file old.cache new.cache t.came t.looked.looks_up
 
-pub file_along : (cs : List Checkpoint) (r : Reading) (b : Result (List ℕ) StoreError) (r' : Reading) (b' : Result (List ℕ) StoreError) → LooksAlong cs r b r' b' → (r'.file.content ≡ r.file.content) × (r'.file.honest ≡ r.file.honest)
+pub file_along : (cs : List Checkpoint) (r : Reading) (b : Result (List ℕ) StoreError) (r' : Reading) (b' : Result (List ℕ) StoreError) → LooksAlong cs r b r' b'
+    → (r'.file.content ≡ r.file.content) × (r'.file.honest ≡ r.file.honest)
 file_along [] r b r' b' l = (ap (λ (x : Reading). x.file.content) l.0, ap (λ (x : Reading). x.file.honest) l.0)
 file_along (c ∷ cs) r b r' b' l =
     let one = file_after r l.0 c.doc_range.start c l.1 l.2 in
@@ -203,7 +214,8 @@ taken_part old c (Ok bytes) (Ok b) t part = let same : bytes ≡ b = cc in sym s
 taken_part old c (Err e) (Ok b) t part = absurd cc
 taken_part old c came (Err e) t part = tt
 
-pub holds_next : (old new : Reading) (id n k : ℕ) (c : Checkpoint) (block : Result (List ℕ) StoreError) → IsTaken old id c block new → slice_get old.checkpoints n ≡ Some c → k ≡ n → IsTrue new.file.honest → IfSome (slice_get old.checkpoints k) (HoldsPart new.file.content block)
+pub holds_next : (old new : Reading) (id n k : ℕ) (c : Checkpoint) (block : Result (List ℕ) StoreError) → IsTaken old id c block new → slice_get old.checkpoints n ≡ Some c → k ≡ n
+    → IsTrue new.file.honest → IfSome (slice_get old.checkpoints k) (HoldsPart new.file.content block)
 holds_next old new id n k c block t at same honest =
     let file = file_after old new id c block t in
     let part = taken_part old c t.came block t.taken (t.looked.honest (subst IsTrue file.1 honest)) in
@@ -214,7 +226,8 @@ only_next old new id c (Ok b) t = tt
 only_next old new id c (Err e) t = elim t.taken [ inl same ↦ why_none old new id c e (subst (λ r. IsLookedUp old id c r new) same t.looked) | inr memory ↦ inr memory ]
 
 -- where a document of the walk stands
-pub stands_in : (set : Option (ℕ → Bool)) (old : Reading) (from : Walk) (id : ℕ) (new : Reading) (w : Walk) → WalksTo set old from id new w → Covers old.checkpoints (length old.file.content) → IsWalk new w → w.next ≡ id → id < w.end → StandsIn old id w.first w.block
+pub stands_in : (set : Option (ℕ → Bool)) (old : Reading) (from : Walk) (id : ℕ) (new : Reading) (w : Walk) → WalksTo set old from id new w → Covers old.checkpoints (length old.file.content)
+    → IsWalk new w → w.next ≡ id → id < w.end → StandsIn old id w.first w.block
 stands_in set old from id new w walks covers is here inside =
     let range = slice_range old.checkpoints from.place w.place in
     let same = checkpoints_along range old from.block new w.block walks.looks in
@@ -227,25 +240,33 @@ stands_in set old from id new w walks covers is here inside =
     let c = found.0 in
     let holds : IsTrue old.file.honest → HoldsPart old.file.content w.block c = λ honest.
     let part : IfSome (slice_get new.checkpoints (w.place - 1)) (HoldsPart new.file.content w.block) = is.holds (subst IsTrue (sym file.1) honest) found.1.some in
-    let part' : IfSome (slice_get old.checkpoints (w.place - 1)) (HoldsPart new.file.content w.block) = subst (λ (cs : List Checkpoint). IfSome (slice_get cs (w.place - 1)) (HoldsPart new.file.content w.block)) same part in
+    let part' : IfSome (slice_get old.checkpoints (w.place - 1)) (HoldsPart new.file.content w.block) =
+    subst (λ (cs : List Checkpoint). IfSome (slice_get cs (w.place - 1)) (HoldsPart new.file.content w.block)) same part in
     let part'' : HoldsPart new.file.content w.block c = subst (λ (o : Option Checkpoint). IfSome o (HoldsPart new.file.content w.block)) found.1.at part' in
     subst (λ (bytes : List ℕ). HoldsPart bytes w.block c) file.0 part'' in
     record { checkpoint = c; seeks = found.1.seeks; start = found.1.start; above = omega arith; slot_is = slot_at old id c covers found.1.seeks; holds = holds; only = is.only }
 
 -- what it answers, by the bytes of the data
-answers_by : (content : List ℕ) (c : Checkpoint) (id : ℕ) (block result : Result (List ℕ) StoreError) → HoldsPart content block c → IfErr block (λ e. (e ≡ Read) ⊎ (e ≡ Memory)) → AnswersFrom id (id - c.doc_range.start) block result → AnswersTruly id (Some (slot (part_of content c) (id - c.doc_range.start))) result
+answers_by : (content : List ℕ) (c : Checkpoint) (id : ℕ) (block result : Result (List ℕ) StoreError) → HoldsPart content block c → IfErr block (λ e. (e ≡ Read) ⊎ (e ≡ Memory))
+    → AnswersFrom id (id - c.doc_range.start) block result → AnswersTruly id (Some (slot (part_of content c) (id - c.doc_range.start))) result
 answers_by content c id (Ok b) (Ok bytes) part only answer = ap (λ (x : List ℕ). Some (slot x (id - c.doc_range.start))) (sym part) ∙ ap Some answer
-answers_by content c id (Ok b) (Err f) part only answer = elim answer [ inl d ↦ inr (inl (d.0, ap (λ (x : List ℕ). Some (slot x (id - c.doc_range.start))) (sym part) ∙ ap Some d.1)) | inr m ↦ inr (inr (inr m)) ]
+answers_by content c id (Ok b) (Err f) part only answer = elim answer [
+  | inl d ↦ inr (inl (d.0, ap (λ (x : List ℕ). Some (slot x (id - c.doc_range.start))) (sym part) ∙ ap Some d.1))
+  | inr m ↦ inr
+      (inr (inr m))
+]
 answers_by content c id (Err e) (Ok bytes) part only answer = absurd cc
 answers_by content c id (Err e) (Err f) part only answer = let is : f ≡ e = cc in inr (inr (elim only [ inl r ↦ inl (is ∙ r) | inr m ↦ inr (is ∙ m) ]))
 
-pub item_is_true : (r : Reading) (id first : ℕ) (block result : Result (List ℕ) StoreError) → StandsIn r id first block → AnswersFrom id (id - first) block result → IsTrue r.file.honest → AnswersTruly id (slice_get (slots (store_of r)) id) result
+pub item_is_true : (r : Reading) (id first : ℕ) (block result : Result (List ℕ) StoreError) → StandsIn r id first block → AnswersFrom id (id - first) block result → IsTrue r.file.honest
+    → AnswersTruly id (slice_get (slots (store_of r)) id) result
 item_is_true r id first block result s answer honest =
     subst (λ (o : Option Slot). AnswersTruly id o result) (sym s.slot_is)
     (answers_by r.file.content s.checkpoint id block result (s.holds honest) s.only (subst (λ n. AnswersFrom id (id - n) block result) (sym s.start) answer))
 
 -- what is read of an answer, by what it says of the slot
-pub read_truly : {D : Type 0} (reading : List ℕ → Option D) (id : ℕ) (s : Option Slot) (answer : Result (List ℕ) StoreError) (result : Result D StoreError) → AnswersTruly id s answer → ReadsFrom reading answer result → ReadsTruly reading id s result
+pub read_truly : {D : Type 0} (reading : List ℕ → Option D) (id : ℕ) (s : Option Slot) (answer : Result (List ℕ) StoreError) (result : Result D StoreError) → AnswersTruly id s answer
+    → ReadsFrom reading answer result → ReadsTruly reading id s result
 read_truly reading id s (Ok bytes) (Ok d) truly reads = record { bytes = bytes; stored = truly; reads = reads }
 read_truly reading id s (Ok bytes) (Err e) truly reads = elim reads [
   | inl bad ↦ inr (inr (inl (bad.0, record { bytes = bytes; stored = truly; reads = bad.1 })))

@@ -10,7 +10,12 @@ no_stats = record { num_entries = 0; cache_hits = 0; cache_misses = 0 }
 
 -- field by field, each up to the greatest number
 abbrev pub stats_added : CacheStats → CacheStats → CacheStats
-stats_added a b = record { num_entries = raised a.num_entries b.num_entries; cache_hits = raised a.cache_hits b.cache_hits; cache_misses = raised a.cache_misses b.cache_misses }
+stats_added a b = record {
+  num_entries = raised a.num_entries b.num_entries;
+  cache_hits =
+      raised a.cache_hits b.cache_hits;
+  cache_misses = raised a.cache_misses b.cache_misses;
+}
 
 -- one after the other
 abbrev pub stats_sum : List CacheStats → CacheStats

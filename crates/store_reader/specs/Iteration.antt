@@ -4,7 +4,7 @@ use Rattle.std.specs.List.{filter, count_by, enumerate_from, range_with_len}
 use Rattle.layered_index.specs.declared.index.Checkpoint.{Checkpoint}
 use Rattle.layered_index.specs.Checkpoint.{doc_count}
 use Rattle.store_format.specs.Block.{Slot}
-use Rattle.store_format.specs.StoreFile.{StoreBlock, marks}
+use Rattle.store_format.specs.StoreFile.{StoreBlock, checkpoints_of}
 
 -- whether an id is in the set; without a set each is
 abbrev pub is_in : Option (ℕ → Bool) → ℕ → Bool
@@ -22,11 +22,12 @@ alive_count set c = count_by (is_in set) (range_with_len c.doc_range.start (doc_
 -- The first byte of each block up to the one that has the last of so many ids of the set.
 abbrev pub looked_along : List Checkpoint → Option (ℕ → Bool) → ℕ → List ℕ
 looked_along [] set count = []
-looked_along (c ∷ cs) set count = c.byte_range.start ∷ (if nat_le count (alive_count set c) then [] else looked_along cs set (count - alive_count set c))
+looked_along (c ∷ cs) set count = c.byte_range.start ∷
+    (if nat_le count (alive_count set c) then [] else looked_along cs set (count - alive_count set c))
 
 -- the keys that an iterator looks up that is dropped after so many items
 abbrev pub looked : List StoreBlock → Option (ℕ → Bool) → ℕ → List ℕ
-looked bs set count = looked_along (marks bs) set count
+looked bs set count = looked_along (checkpoints_of bs) set count
 
 -- how many ids below this one are in the set
 abbrev pub alive_below : Option (ℕ → Bool) → ℕ → ℕ

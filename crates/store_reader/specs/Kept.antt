@@ -1,11 +1,13 @@
 -- The blocks that a cache keeps, and what its calls leave.
-use Rattle.std.specs.Prelude.{ℕ, ◌≤◌, ◌-◌, Bool, ◌&&◌, nat_eq, nat_lt, if◌then◌else◌, List, [], ◌∷◌, length, take, slice_get, Option, Some, None}
+use Rattle.std.specs.Prelude.{ℕ, ◌≤◌, ◌-◌, Bool, ◌&&◌, nat_eq, nat_lt, if◌then◌else◌, List, [], ◌∷◌, length, take}
+use Rattle.std.specs.Prelude.{slice_get, Option, Some, None}
 use Rattle.std.specs.List.{IsDistinct}
 use Rattle.std.specs.Map.{keys_of, lookup}
 use Rattle.lru.specs.LruCache.{LruCache, promoted}
 use Rattle.store_reader.specs.Cache.{CacheState, one_more}
 
--- how many blocks it may keep; the blocks by their keys, the one that was used last first; how many look-ups found their key and how many did not
+-- how many blocks it may keep; the blocks by their keys, the one that was used last first; how many look-ups found
+-- their key and how many did not
 pub record Blocks : Type 0 where
   pub capacity : ℕ
   pub kept : List (ℕ × List ℕ)
@@ -31,17 +33,30 @@ last_key b = slice_get (keys_of b.kept) (length b.kept - 1)
 
 -- after a look-up that found its key, and after one that did not
 abbrev pub after_hit : ℕ → Blocks → Blocks
-after_hit key b = record { capacity = b.capacity; kept = promoted (nat_eq key) b.kept; hits = one_more b.hits; misses = b.misses }
+after_hit key b = record {
+  capacity = b.capacity;
+  kept = promoted (nat_eq key) b.kept;
+  hits = one_more b.hits;
+  misses =
+      b.misses;
+}
 
 abbrev pub after_miss : Blocks → Blocks
 after_miss b = record { capacity = b.capacity; kept = b.kept; hits = b.hits; misses = one_more b.misses }
 
 -- with this block in front, if memory for it was not refused and the capacity is not 0
 abbrev pub with_pair : ℕ → ℕ → List ℕ → Bool → List (ℕ × List ℕ) → List (ℕ × List ℕ)
-with_pair capacity key block is_kept kept = if is_kept && nat_lt 0 capacity then (key, block) ∷ take (capacity - 1) kept else kept
+with_pair capacity key block is_kept kept = if is_kept && nat_lt 0 capacity then (key, block)
+    ∷ take (capacity - 1) kept else kept
 
 abbrev pub with_block : ℕ → List ℕ → Bool → Blocks → Blocks
-with_block key block is_kept b = record { capacity = b.capacity; kept = with_pair b.capacity key block is_kept b.kept; hits = b.hits; misses = b.misses }
+with_block key block is_kept b = record {
+  capacity = b.capacity;
+  kept =
+      with_pair b.capacity key block is_kept b.kept;
+  hits = b.hits;
+  misses = b.misses;
+}
 
 -- the state as the definition of a look-up has it
 abbrev pub state_of : Blocks → CacheState

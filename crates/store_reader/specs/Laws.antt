@@ -12,5 +12,7 @@ IsOrFails document (Err e) = (e ≡ Read) ⊎ (e ≡ Memory)
 
 -- Where the slot of an id has the bytes of a document, its stored form is got.
 abbrev pub StoredDocumentsAreGot : {D : Type 0} → (D → ℕ → Option (List ℕ)) → (List ℕ → Option D) → (D → D) → Type 0
-StoredDocumentsAreGot {D} doc_bytes reading stored = (document : D) (schema : ℕ) (bytes : List ℕ) (id : ℕ) (all : List Slot) (result : Result D StoreError) →
-    doc_bytes document schema ≡ Some bytes → slice_get all id ≡ Some (doc bytes) → ReadsTruly reading id (slice_get all id) result → IsOrFails (stored document) result
+StoredDocumentsAreGot {D} doc_bytes reading stored = (document : D) (schema : ℕ) (bytes : List ℕ) (id : ℕ)
+    (all : List Slot) (result : Result D StoreError) →
+    doc_bytes document schema ≡ Some bytes → slice_get all id ≡ Some (doc bytes)
+    → ReadsTruly reading id (slice_get all id) result → IsOrFails (stored document) result

@@ -5,7 +5,7 @@ pub mod CacheSums
 pub mod LookingUp
 pub mod Covering
 pub mod Reading
-pub mod Answering
+pub mod GetAnswer
 pub mod Sharing
 pub mod Documents
 pub mod Iteration
@@ -14,5 +14,5 @@ pub mod LookLaws
 pub mod Opening
 pub mod Viewing
 pub mod ViewLaws
-pub mod Listing
-pub mod Answers
+pub mod CallList
+pub mod CallAnswers

@@ -11,29 +11,37 @@ use Rattle.store_reader.specs.Kept.{state_of}
 use Rattle.store_reader.specs.Reading.{Reading, num_docs}
 use Rattle.store_reader.specs.Walking.{IsWalk, LooksAlong}
 
--- Look-ups of these keys in order, with what became of each. The file was read once for each that didn't find its key; its count is
+-- Look-ups of these keys in order, with what became of each. The file was read once for each that didn't find its key;
+-- its count is
 -- one of 64 bits.
 pub record AreLookUps (keys : List ℕ) (old new : Reading) : Type 0 where
   pub looks : List LookUp
   pub order : map (λ l. l.key) looks ≡ keys
   pub state : state_of new.cache ≡ recent old.cache.capacity (state_of old.cache) looks
   pub capacity : new.cache.capacity ≡ old.cache.capacity
-  pub reads : old.file.reads < 2 ^ 64 → new.file.reads ≡ raised old.file.reads (misses_along old.cache.capacity (state_of old.cache) looks)
+  pub reads : old.file.reads < 2 ^ 64 → new.file.reads
+      ≡ raised old.file.reads (misses_along old.cache.capacity (state_of old.cache) looks)
 
 -- Blocks that are looked up one after the other are look-ups of their first bytes.
 abbrev pub LooksAreRecent : Type 0
-LooksAreRecent = (cs : List Checkpoint) (old : Reading) (block : Result (List ℕ) StoreError) (new : Reading) (block' : Result (List ℕ) StoreError)
+LooksAreRecent = (cs : List Checkpoint) (old : Reading) (block : Result (List ℕ) StoreError) (new : Reading)
+    (block' : Result (List ℕ) StoreError)
     → LooksAlong cs old block new block' → AreLookUps (keys_along cs) old new
 
--- Where an iteration stands behind an item, it has looked up what the definition says for so many items; and where it has come to the
+-- Where an iteration stands behind an item, it has looked up what the definition says for so many items; and where it
+-- has come to the
 -- end, for any greater number.
 pub record IsLooked (r : Reading) (w : Walk) (set : Option (ℕ → Bool)) : Type 0 where
-  pub none : w.place ≡ length (take 1 r.checkpoints) → keys_along (take w.place r.checkpoints) ≡ looked_along r.checkpoints set 0
-  pub item : (id : ℕ) → w.next ≡ id + 1 → w.first ≤ id → is_in set id ≡ true → keys_along (take w.place r.checkpoints) ≡ looked_along r.checkpoints set (alive_below set w.next)
-  pub all : (count : ℕ) → w.next ≡ num_docs r → alive_below set (num_docs r) < count → keys_along (take w.place r.checkpoints) ≡ looked_along r.checkpoints set count
+  pub none : w.place ≡ length (take 1 r.checkpoints) → keys_along (take w.place r.checkpoints)
+      ≡ looked_along r.checkpoints set 0
+  pub item : (id : ℕ) → w.next ≡ id + 1 → w.first ≤ id → is_in set id ≡ true
+      → keys_along (take w.place r.checkpoints) ≡ looked_along r.checkpoints set (alive_below set w.next)
+  pub all : (count : ℕ) → w.next ≡ num_docs r → alive_below set (num_docs r) < count
+      → keys_along (take w.place r.checkpoints) ≡ looked_along r.checkpoints set count
 
 abbrev pub WalksLookUp : Type 0
-WalksLookUp = (r : Reading) (w : Walk) (set : Option (ℕ → Bool)) → Covers r.checkpoints (length r.file.content) → IsWalk r w → IsLooked r w set
+WalksLookUp = (r : Reading) (w : Walk) (set : Option (ℕ → Bool)) → Covers r.checkpoints (length r.file.content)
+    → IsWalk r w → IsLooked r w set
 
 -- Each look-up is a hit or a miss, and counted as one, while the counts are below their greatest value.
 abbrev pub LookUpsAreCounted : Type 0

@@ -9,7 +9,8 @@ use Rattle.store_format.specs.FileReading.{Comes}
 use Rattle.store_reader.specs.Kept.{Blocks, block_at, after_hit, after_miss, with_block, state_of}
 
 -- The block is kept: it comes with no read, and goes to the front.
-pub record IsHit (c : Checkpoint) (file : Part) (cache : Blocks) (came : Result (List ℕ) StoreError) (file' : Part) (cache' : Blocks) : Type 0 where
+pub record IsHit (c : Checkpoint) (file : Part) (cache : Blocks) (came : Result (List ℕ) StoreError) (file' : Part)
+    (cache' : Blocks) : Type 0 where
   pub block : List ℕ
   pub kept : block_at c.byte_range.start cache ≡ Some block
   pub given : came ≡ Ok block
@@ -22,17 +23,21 @@ cache_missed key (Ok block) is_kept cache = with_block key block is_kept (after_
 cache_missed key (Err e) is_kept cache = after_miss cache
 
 -- It is not: one read. What came is kept, unless memory for that was refused.
-pub record IsMiss (c : Checkpoint) (file : Part) (cache : Blocks) (came : Result (List ℕ) StoreError) (file' : Part) (cache' : Blocks) : Type 0 where
+pub record IsMiss (c : Checkpoint) (file : Part) (cache : Blocks) (came : Result (List ℕ) StoreError) (file' : Part)
+    (cache' : Blocks) : Type 0 where
   pub absent : block_at c.byte_range.start cache ≡ None
   pub read : Comes file c.byte_range.start c.byte_range.end came file'
   pub is_kept : Bool
   pub after : cache' ≡ cache_missed c.byte_range.start came is_kept cache
 
--- A look-up of a checkpoint's block by its first byte: the bytes that came, or why none did. The cache takes the definition's step.
-pub record LooksUp (c : Checkpoint) (file : Part) (cache : Blocks) (came : Result (List ℕ) StoreError) (file' : Part) (cache' : Blocks) : Type 0 where
+-- A look-up of a checkpoint's block by its first byte: the bytes that came, or why none did. The cache takes the
+-- definition's step.
+pub record LooksUp (c : Checkpoint) (file : Part) (cache : Blocks) (came : Result (List ℕ) StoreError) (file' : Part)
+    (cache' : Blocks) : Type 0 where
   pub cause : IsHit c file cache came file' cache' ⊎ IsMiss c file cache came file' cache'
   pub is_kept : Bool
-  pub step : state_of cache' ≡ look_up cache.capacity (state_of cache) (record { key = c.byte_range.start; kept = is_kept })
+  pub step : state_of cache' ≡ look_up cache.capacity (state_of cache)
+      (record { key = c.byte_range.start; kept = is_kept })
 
 -- what came, or no memory for a share of it
 abbrev pub Takes : Result (List ℕ) StoreError → Result (List ℕ) StoreError → Type 0

@@ -15,7 +15,8 @@ use Rattle.store_format.specs.StoreFile.{StoreBlock, IsStore}
 
 -- The index of checkpoints that cover what stands before it; or these bytes are none, or memory ran out.
 abbrev pub IndexBy : DocStoreFooter → List ℕ → Result Index StoreError → Type 0
-IndexBy footer bytes (Ok index) = (index.period ≡ footer.period) × IsIndexOf footer.period bytes footer.offset index.checkpoints
+IndexBy footer bytes (Ok index) = (index.period ≡ footer.period)
+    × IsIndexOf footer.period bytes footer.offset index.checkpoints
 IndexBy footer bytes (Err e) = RefusesOnlyUnless (HasIndexOf footer.period bytes footer.offset) e
 
 -- the same of what came of a read
@@ -24,12 +25,15 @@ IndexFrom footer (Ok bytes) result = IndexBy footer bytes result
 IndexFrom footer (Err e) result = result ≡ Err e
 
 -- One read of what stands between the offset and the footer, if the offset is not past that.
-pub record ReadsIndex (old : Part) (footer : DocStoreFooter) (result : Result Index StoreError) (new : Part) : Type 0 where
+pub record ReadsIndex (old : Part) (footer : DocStoreFooter) (result : Result Index StoreError)
+    (new : Part) : Type 0 where
   pub past : length old.content - 28 < footer.offset → (result ≡ Err BadOffset) × (new ≡ old)
   pub within : footer.offset ≤ length old.content - 28
-      → (came : Result (List ℕ) StoreError) × Comes old footer.offset (length old.content - 28) came new × IndexFrom footer came result
+      → (came : Result (List ℕ) StoreError) × Comes old footer.offset (length old.content - 28) came new
+      × IndexFrom footer came result
 
-abbrev pub OpensFrom : Part → Result DocStoreFooter StoreError → Result (DocStoreFooter × Index) StoreError → Part → Type 0
+abbrev pub OpensFrom : Part → Result DocStoreFooter StoreError → Result (DocStoreFooter × Index) StoreError → Part
+    → Type 0
 OpensFrom mid (Err e) result new = (result ≡ Err e) × (new ≡ mid)
 OpensFrom mid (Ok footer) (Ok found) new = (found.0 ≡ footer) × ReadsIndex mid footer (Ok found.1) new
 OpensFrom mid (Ok footer) (Err e) new = ReadsIndex mid footer (Err e) new

@@ -7,9 +7,10 @@ use Rattle.store_format.specs.declared.version.DocStoreVersion.{DocStoreVersion}
 use Rattle.layered_index.specs.declared.index.Checkpoint.{Checkpoint}
 use Rattle.layered_index.specs.Checkpoint.{docs_end, Covers}
 use Rattle.store_reader.specs.Kept.{Blocks}
-use Rattle.store_format.specs.StoreFile.{StoreBlock, AreBlocks, data_of, marks, blocks_at}
+use Rattle.store_format.specs.StoreFile.{StoreBlock, AreBlocks, data_of, checkpoints_of, blocks_at}
 
--- the data, the checkpoints of its blocks and the period of their index, how documents are spelled, how blocks are unpacked, and
+-- the data, the checkpoints of its blocks and the period of their index, how documents are spelled, how blocks are
+-- unpacked, and
 -- the blocks that are kept
 pub record Reading : Type 0 where
   pub file : Part
@@ -25,7 +26,15 @@ num_docs r = docs_end 0 r.checkpoints
 
 -- the same reader after its data was read and its cache was used
 abbrev pub with_parts : Reading → Part → Blocks → Reading
-with_parts r file cache = record { file = file; checkpoints = r.checkpoints; period = r.period; version = r.version; decompressor = r.decompressor; cache = cache }
+with_parts r file cache = record {
+  file = file;
+  checkpoints = r.checkpoints;
+  period = r.period;
+  version =
+      r.version;
+  decompressor = r.decompressor;
+  cache = cache;
+}
 
 -- the same reader after its data was read
 abbrev pub with_file : Reading → Part → Reading
@@ -62,7 +71,7 @@ pub record IsReader (file : Part) (cs : List Checkpoint) (period : ℕ) (cache :
 -- the store of a reader is one: its checkpoints are the reader's, and its data is the data
 pub record IsSeen (r : Reading) : Type 0 where
   pub blocks : AreBlocks (store_of r)
-  pub marks_are : marks (store_of r) ≡ r.checkpoints
+  pub checkpoints_are : checkpoints_of (store_of r) ≡ r.checkpoints
   pub data_is : data_of (store_of r) ≡ r.file.content
 
 -- The same store, in the same form and under the same capacity. What was read and what is kept may differ.

@@ -3,7 +3,7 @@ use Rattle.std.specs.Prelude.{ℕ, List, Result}
 use Rattle.store_base.specs.declared.error.StoreError.{StoreError}
 use Rattle.store_reader.specs.declared.share.Share.{Share}
 use Rattle.store_reader.specs.declared.share.Share.TheVariants.{Document, Block}
-use Rattle.store_reader.specs.Answering.{AnswersFrom}
+use Rattle.store_reader.specs.GetAnswer.{AnswersFrom}
 use Rattle.store_reader.specs.LookingUp.{Takes}
 
 -- what is asked, of a block that came or of the reason why none did

@@ -1,13 +1,14 @@
 -- A view of bytes beside a reader of a file that holds them.
-use Rattle.std.specs.Prelude.{◌≡◌, ◌⊎◌, ℕ, ◌+◌, Bool, IsTrue, List, [], ◌∷◌, map, slice_get, Option, Some, None, Result, Ok, Err}
+use Rattle.std.specs.Prelude.{◌≡◌, ◌⊎◌, ℕ, ◌+◌, Bool, IsTrue, List, [], ◌∷◌, map, slice_get, Option, Some, None, Result}
+use Rattle.std.specs.Prelude.{Ok, Err}
 use Rattle.std.specs.Borrow.{Bor}
 use Rattle.std.specs.List.{filter, enumerate_from}
 use Rattle.store_base.specs.AliveBitSet.{is_alive_at}
 use Rattle.store_base.specs.Files.{Part}
 use Rattle.store_base.specs.declared.error.StoreError.{StoreError}
 use Rattle.store_base.specs.declared.error.StoreError.TheVariants.{Read, Memory}
-use Rattle.store_reader.specs.Answering.{AnswersTruly}
-use Rattle.store_reader.specs.Answers.{exact_result}
+use Rattle.store_reader.specs.GetAnswer.{AnswersTruly}
+use Rattle.store_reader.specs.CallAnswers.{exact_result}
 use Rattle.store_format.specs.Block.{Slot}
 use Rattle.store_reader.specs.Documents.{ReadsFrom, ReadsTruly}
 use Rattle.store_reader.specs.Opening.{IsOpened, IsRefused}
@@ -40,17 +41,21 @@ OpenAlike (Err e) (Err d) = (d ≡ e) ⊎ (e ≡ Read) ⊎ (e ≡ Memory) ⊎ (d
 
 -- A view opens what a reader opens of an honest file of the same bytes.
 abbrev pub ViewsOpenAsReaders : Type 0
-ViewsOpenAsReaders = (file : Part) (capacity : ℕ) (opened : Result Reading StoreError) (viewed : Result Viewing StoreError) → IsTrue file.honest
+ViewsOpenAsReaders = (file : Part) (capacity : ℕ) (opened : Result Reading StoreError)
+    (viewed : Result Viewing StoreError) → IsTrue file.honest
     → ReaderOpens file capacity opened → ViewOpens file.content viewed → OpenAlike opened viewed
 
 -- A view of a reader's store answers a get as the reader does.
 abbrev pub ViewsAnswerAsReaders : Type 0
-ViewsAnswerAsReaders = (r : Reading) (v : Viewing) (id : ℕ) (got viewed : Result (List ℕ) StoreError) → store_of r ≡ v.store
-    → AnswersTruly id (slice_get (slots (store_of r)) id) got → viewed ≡ document_of v id → (viewed ≡ got) ⊎ (got ≡ Err Read) ⊎ (got ≡ Err Memory)
+ViewsAnswerAsReaders = (r : Reading) (v : Viewing) (id : ℕ) (got viewed : Result (List ℕ) StoreError)
+    → store_of r ≡ v.store
+    → AnswersTruly id (slice_get (slots (store_of r)) id) got → viewed ≡ document_of v id
+    → (viewed ≡ got) ⊎ (got ≡ Err Read) ⊎ (got ≡ Err Memory)
 
 -- the same of documents that are read from the bytes
 abbrev pub ViewsReadAsReaders : {D : Type 0} → (List ℕ → Option D) → Type 0
-ViewsReadAsReaders {D} reading = (r : Reading) (v : Viewing) (id : ℕ) (got viewed : Result D StoreError) → store_of r ≡ v.store
+ViewsReadAsReaders {D} reading = (r : Reading) (v : Viewing) (id : ℕ) (got viewed : Result D StoreError)
+    → store_of r ≡ v.store
     → ReadsTruly reading id (slice_get (slots (store_of r)) id) got → ReadsFrom reading (document_of v id) viewed
     → (viewed ≡ got) ⊎ (got ≡ Err Read) ⊎ (got ≡ Err Memory) ⊎ (viewed ≡ Err Memory)
 
@@ -67,7 +72,8 @@ ViewsGiveEachSlot = (v : Viewing) (items : List (Result (Bor (List ℕ)) StoreEr
 -- the same of the documents that are alive, each with its id
 abbrev pub AreGivenAlive : List Bool → Viewing → ℕ → List (ℕ × Result (Bor (List ℕ)) StoreError) → Type 0
 AreGivenAlive set v next [] = GivesAlive set v next None (count_in v)
-AreGivenAlive set v next (item ∷ items) = GivesAlive set v next (Some item) (item.0 + 1) × AreGivenAlive set v (item.0 + 1) items
+AreGivenAlive set v next (item ∷ items) = GivesAlive set v next (Some item) (item.0 + 1)
+    × AreGivenAlive set v (item.0 + 1) items
 
 -- an id with what was given for it, and with what its slot answers
 abbrev pub given_with_id : ℕ × Result (Bor (List ℕ)) StoreError → ℕ × Result (List ℕ) StoreError
@@ -78,5 +84,6 @@ exact_with_id x = (x.0, exact_result x.0 (Some x.1))
 
 -- An iteration over those that are alive gives what each of their slots answers, in order.
 abbrev pub ViewsGiveEachAlive : Type 0
-ViewsGiveEachAlive = (set : List Bool) (v : Viewing) (items : List (ℕ × Result (Bor (List ℕ)) StoreError)) → AreGivenAlive set v 0 items
+ViewsGiveEachAlive = (set : List Bool) (v : Viewing) (items : List (ℕ × Result (Bor (List ℕ)) StoreError))
+    → AreGivenAlive set v 0 items
     → map given_with_id items ≡ map exact_with_id (filter (λ x. is_alive_at set x.0) (enumerate_from 0 (slots v.store)))

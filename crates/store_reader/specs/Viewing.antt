@@ -1,5 +1,6 @@
 -- What a store over bytes that another holds is seen as.
-use Rattle.std.specs.Prelude.{◌≡◌, ℕ, ◌+◌, ◌-◌, ◌<◌, ◌≤◌, Bool, true, false, List, length, slice_get, slice_range, Option, Some, None, Result, Ok, Err}
+use Rattle.std.specs.Prelude.{◌≡◌, ℕ, ◌+◌, ◌-◌, ◌<◌, ◌≤◌, Bool, true, false, List, length, slice_get, slice_range}
+use Rattle.std.specs.Prelude.{Option, Some, None, Result, Ok, Err}
 use Rattle.std.specs.Borrow.{Bor}
 use Rattle.std.specs.declared.ops.Range.{Range}
 use Rattle.store_base.specs.AliveBitSet.{is_alive_at}
@@ -10,14 +11,14 @@ use Rattle.layered_index.specs.Checkpoint.{Covers, bytes_end, first_past}
 use Rattle.layered_index.specs.Layers.{Index}
 use Rattle.store_format.specs.declared.footer.DocStoreFooter.{DocStoreFooter}
 use Rattle.store_format.specs.declared.version.DocStoreVersion.{DocStoreVersion}
-use Rattle.store_reader.specs.Answers.{exact_result}
+use Rattle.store_reader.specs.CallAnswers.{exact_result}
 use Rattle.store_format.specs.Block.{Slot, slot, start_of, end_of}
 use Rattle.store_format.specs.Extraction.{Says}
 use Rattle.store_format.specs.Footer.{version_number}
 use Rattle.store_reader.specs.Opening.{IndexBy}
 use Rattle.store_reader.specs.Reading.{part_of}
 use Rattle.store_format.specs.Slots.{slots}
-use Rattle.store_format.specs.StoreFile.{StoreBlock, IsStore, blocks_at, marks}
+use Rattle.store_format.specs.StoreFile.{StoreBlock, IsStore, blocks_at, checkpoints_of}
 
 -- the bytes of a file, and the store whose file they are
 pub record Viewing : Type 0 where
@@ -42,10 +43,12 @@ pub record FindsFooter (bytes : List ℕ) (result : Result DocStoreFooter StoreE
   pub short : length bytes < 28 → result ≡ Err (ShortFile (length bytes))
   pub long : 28 ≤ length bytes → Says (slice_range bytes (length bytes - 28) (length bytes)) result
 
--- What stands between the offset and the footer, if the offset is not past that, decides on the index. Memory may run out.
+-- What stands between the offset and the footer, if the offset is not past that, decides on the index. Memory may run
+-- out.
 pub record FindsIndex (bytes : List ℕ) (footer : DocStoreFooter) (result : Result Index StoreError) : Type 0 where
   pub past : length bytes - 28 < footer.offset → result ≡ Err BadOffset
-  pub within : footer.offset ≤ length bytes - 28 → IndexBy footer (slice_range bytes footer.offset (length bytes - 28)) result
+  pub within : footer.offset ≤ length bytes - 28 → IndexBy footer
+      (slice_range bytes footer.offset (length bytes - 28)) result
 
 abbrev pub FindsFrom : List ℕ → Result DocStoreFooter StoreError → Result (DocStoreFooter × Index) StoreError → Type 0
 FindsFrom bytes (Err e) result = result ≡ Err e
@@ -90,8 +93,9 @@ placed_in file (Err e) = Err e
 -- The document of this number stands here in the file: in the block that a seek finds, where the block's table says.
 pub record StandsAt (v : Viewing) (id start end : ℕ) : Type 0 where
   pub checkpoint : Checkpoint
-  pub seeks : first_past (marks v.store) id ≡ Some checkpoint
-  pub first : start ≡ checkpoint.byte_range.start + start_of (part_of v.file checkpoint) (id - checkpoint.doc_range.start)
+  pub seeks : first_past (checkpoints_of v.store) id ≡ Some checkpoint
+  pub first : start ≡ checkpoint.byte_range.start + start_of (part_of v.file checkpoint)
+      (id - checkpoint.doc_range.start)
   pub last : end ≡ checkpoint.byte_range.start + end_of (part_of v.file checkpoint) (id - checkpoint.doc_range.start)
 
 -- ---- iterations
@@ -127,4 +131,5 @@ AreDead set from to = (id : ℕ) → from ≤ id → id < to → is_alive_at set
 abbrev pub GivesAlive : List Bool → Viewing → ℕ → Option (ℕ × Result (Bor (List ℕ)) StoreError) → ℕ → Type 0
 GivesAlive set v next None next' = AreDead set next (count_in v) × (next' ≡ count_in v)
 GivesAlive set v next (Some item) next' =
-    AreDead set next item.0 × (next ≤ item.0) × (item.0 < count_in v) × (is_alive_at set item.0 ≡ true) × (given item.1 ≡ document_of v item.0) × (next' ≡ item.0 + 1)
+    AreDead set next item.0 × (next ≤ item.0) × (item.0 < count_in v) × (is_alive_at set item.0 ≡ true)
+    × (given item.1 ≡ document_of v item.0) × (next' ≡ item.0 + 1)

@@ -1,5 +1,7 @@
 -- How an iteration goes over the documents of a store.
-use Rattle.std.specs.Prelude.{◌≡◌, ◌⊎◌, ℕ, ◌+◌, ◌-◌, ◌≤◌, ◌<◌, Bool, true, false, List, [], ◌∷◌, length, take, slice_range, slice_get, IsTrue, IfErr, IfOk, IfSome, Option, Some, None, Result, MatchOption}
+use Rattle.std.specs.Prelude.{◌≡◌, ◌⊎◌, ℕ, ◌+◌, ◌-◌, ◌≤◌, ◌<◌, Bool, true, false, List, [], ◌∷◌, length, take}
+use Rattle.std.specs.Prelude.{slice_range, slice_get, IsTrue, IfErr, IfOk, IfSome, Option, Some, None, Result}
+use Rattle.std.specs.Prelude.{MatchOption}
 use Rattle.std.specs.Borrow.{Bor}
 use Rattle.store_base.specs.AliveBitSet.{is_alive_at}
 use Rattle.store_base.specs.declared.error.StoreError.{StoreError}
@@ -7,7 +9,7 @@ use Rattle.store_base.specs.declared.error.StoreError.TheVariants.{Read, Memory}
 use Rattle.layered_index.specs.declared.index.Checkpoint.{Checkpoint}
 use Rattle.store_reader.specs.declared.look_up.Entered.{Entered}
 use Rattle.store_reader.specs.declared.walk.Walk.{Walk}
-use Rattle.store_reader.specs.Answering.{AnswersFrom, AnswersTruly, IsLookedUp}
+use Rattle.store_reader.specs.GetAnswer.{AnswersFrom, AnswersTruly, IsLookedUp}
 use Rattle.store_format.specs.Block.{slot}
 use Rattle.layered_index.specs.Checkpoint.{docs_end, first_past}
 use Rattle.store_reader.specs.Documents.{ReadsFrom, ReadsTruly}
@@ -27,7 +29,8 @@ set_in [] = None
 set_in (alive ∷ others) = Some (is_alive_at alive)
 
 -- One look-up of the block that has this document: what is taken of it for all of its documents.
-pub record IsTaken (old : Reading) (id : ℕ) (checkpoint : Checkpoint) (block : Result (List ℕ) StoreError) (new : Reading) : Type 0 where
+pub record IsTaken (old : Reading) (id : ℕ) (checkpoint : Checkpoint) (block : Result (List ℕ) StoreError)
+    (new : Reading) : Type 0 where
   pub came : Result (List ℕ) StoreError
   pub looked : IsLookedUp old id checkpoint came new
   pub taken : Takes came block
@@ -49,27 +52,33 @@ pub record StandsIn (r : Reading) (id first : ℕ) (block : Result (List ℕ) St
   pub seeks : first_past r.checkpoints id ≡ Some checkpoint
   pub start : checkpoint.doc_range.start ≡ first
   pub above : first ≤ id
-  pub slot_is : slice_get (slots (store_of r)) id ≡ Some (slot (part_of r.file.content checkpoint) (id - checkpoint.doc_range.start))
+  pub slot_is : slice_get (slots (store_of r)) id ≡ Some
+      (slot (part_of r.file.content checkpoint) (id - checkpoint.doc_range.start))
   pub holds : IsTrue r.file.honest → HoldsPart r.file.content block checkpoint
   pub only : IfErr block (λ e. (e ≡ Read) ⊎ (e ≡ Memory))
 
--- So many blocks were looked up. The next id is in the last of them or just behind it. Where reads give what is there, so does its block.
+-- So many blocks were looked up. The next id is in the last of them or just behind it. Where reads give what is there,
+-- so does its block.
 pub record IsWalk (r : Reading) (w : Walk) : Type 0 where
   pub few : w.place ≤ length r.checkpoints
   pub first : w.first ≡ docs_end 0 (take (w.place - 1) r.checkpoints)
   pub end : w.end ≡ docs_end 0 (take w.place r.checkpoints)
   pub above : w.first ≤ w.next
   pub below : w.next ≤ w.end
-  pub holds : IsTrue r.file.honest → 0 < w.place → IfSome (slice_get r.checkpoints (w.place - 1)) (HoldsPart r.file.content w.block)
+  pub holds : IsTrue r.file.honest → 0 < w.place → IfSome (slice_get r.checkpoints (w.place - 1))
+      (HoldsPart r.file.content w.block)
   pub only : IfErr w.block (λ e. (e ≡ Read) ⊎ (e ≡ Memory))
 
 -- These blocks are looked up, in order, each at its first document; what is taken of the last one.
-abbrev pub LooksAlong : List Checkpoint → Reading → Result (List ℕ) StoreError → Reading → Result (List ℕ) StoreError → Type 0
+abbrev pub LooksAlong : List Checkpoint → Reading → Result (List ℕ) StoreError → Reading → Result (List ℕ) StoreError
+    → Type 0
 LooksAlong [] r block r' block' = (r' ≡ r) × (block' ≡ block)
-LooksAlong (c ∷ cs) r block r' block' = (mid : Reading) × (taken : Result (List ℕ) StoreError) × IsTaken r c.doc_range.start c taken mid × LooksAlong cs mid taken r' block'
+LooksAlong (c ∷ cs) r block r' block' = (mid : Reading) × (taken : Result (List ℕ) StoreError)
+    × IsTaken r c.doc_range.start c taken mid × LooksAlong cs mid taken r' block'
 
 -- The walk goes on to an id, past none that is alive, and looks up the blocks on the way.
-pub record WalksTo (set : Option (ℕ → Bool)) (old : Reading) (from : Walk) (id : ℕ) (new : Reading) (to : Walk) : Type 0 where
+pub record WalksTo (set : Option (ℕ → Bool)) (old : Reading) (from : Walk) (id : ℕ) (new : Reading)
+    (to : Walk) : Type 0 where
   pub on : from.next ≤ id
   pub dead : (k : ℕ) → from.next ≤ k → k < id → is_in set k ≡ false
   pub later : from.place ≤ to.place
@@ -80,7 +89,8 @@ abbrev pub AnswersOf : ℕ → Walk → Result (List ℕ) StoreError → Type 0
 AnswersOf id w result = AnswersFrom id (id - w.first) w.block result
 
 -- The item of an id: it is alive, and its slot answers; failed reads and want of memory aside.
-pub record IsItem (set : Option (ℕ → Bool)) (old : Reading) (id : ℕ) (to : Walk) (answer : Result (List ℕ) StoreError) : Type 0 where
+pub record IsItem (set : Option (ℕ → Bool)) (old : Reading) (id : ℕ) (to : Walk)
+    (answer : Result (List ℕ) StoreError) : Type 0 where
   pub below : id < num_docs old
   pub is_alive : is_in set id ≡ true
   pub next : to.next ≡ id + 1
@@ -89,7 +99,8 @@ pub record IsItem (set : Option (ℕ → Bool)) (old : Reading) (id : ℕ) (to :
   pub honest : IsTrue old.file.honest → AnswersTruly id (slice_get (slots (store_of old)) id) answer
 
 -- One item, of the next id that is alive; or none, where no further one below the count is.
-pub record GivesNext (set : Option (ℕ → Bool)) (old : Reading) (from : Walk) (item : Option (Result (List ℕ) StoreError)) (new : Reading) (to : Walk) : Type 0 where
+pub record GivesNext (set : Option (ℕ → Bool)) (old : Reading) (from : Walk)
+    (item : Option (Result (List ℕ) StoreError)) (new : Reading) (to : Walk) : Type 0 where
   pub last : ℕ
   pub walks : WalksTo set old from last new to
   pub walk : IsWalk new to
@@ -97,15 +108,19 @@ pub record GivesNext (set : Option (ℕ → Bool)) (old : Reading) (from : Walk)
   pub gives : MatchOption item ((last ≡ num_docs old) × (to.next ≡ last)) (λ answer. IsItem set old last to answer)
 
 -- what is read of an item, if there is one
-abbrev pub ReadsItem : {D : Type 0} → (List ℕ → Option D) → Option (Result (List ℕ) StoreError) → Option (Result D StoreError) → Type 0
+abbrev pub ReadsItem : {D : Type 0} → (List ℕ → Option D) → Option (Result (List ℕ) StoreError)
+    → Option (Result D StoreError) → Type 0
 ReadsItem reading None None = Unit {0}
 ReadsItem reading None (Some result) = ⊥
 ReadsItem reading (Some answer) None = ⊥
 ReadsItem reading (Some answer) (Some result) = ReadsFrom reading answer result
 
 -- The same of documents: what is read of the item's bytes, by those of the slot in an honest file.
-pub record GivesDocument {D : Type 0} (reading : List ℕ → Option D) (set : Option (ℕ → Bool)) (old : Reading) (from : Walk) (item : Option (Result D StoreError)) (new : Reading) (to : Walk) : Type 0 where
+pub record GivesDocument {D : Type 0} (reading : List ℕ
+    → Option D) (set : Option (ℕ → Bool)) (old : Reading) (from : Walk) (item : Option (Result D StoreError))
+    (new : Reading) (to : Walk) : Type 0 where
   pub bytes : Option (Result (List ℕ) StoreError)
   pub gives : GivesNext set old from bytes new to
   pub reads : ReadsItem reading bytes item
-  pub honest : IsTrue old.file.honest → IfSome item (ReadsTruly reading gives.last (slice_get (slots (store_of old)) gives.last))
+  pub honest : IsTrue old.file.honest → IfSome item (ReadsTruly reading gives.last
+      (slice_get (slots (store_of old)) gives.last))

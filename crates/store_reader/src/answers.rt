@@ -2,10 +2,10 @@
 ghost use Rattle.std.specs.Prelude.{◌≤◌, ◌↔◌, Contains, IsTrue, IfOk, IfSome, IsErrOf, IsOkUnless, length};
 ghost use Rattle.std.specs.List.{AllByRecursion, AllZip};
 ghost use Rattle.store_base.specs.Counts.{HasRisen};
-ghost use Rattle.store_reader.specs.Answers.{CanAnswer, IsAnswer, AreAnswers, HasRefusal, IsNotPast, RefusesPast};
-ghost use Rattle.store_reader.specs.Answers.{keys_of_call, keys_of_calls, results_of};
+ghost use Rattle.store_reader.specs.CallAnswers.{CanAnswer, IsAnswer, AreAnswers, HasRefusal, IsNotPast, RefusesPast};
+ghost use Rattle.store_reader.specs.CallAnswers.{keys_of_call, keys_of_calls, results_of};
 ghost use Rattle.store_reader.specs.Iteration.{looked_along};
-ghost use Rattle.store_reader.specs.Listing.{AreItems, first_alive};
+ghost use Rattle.store_reader.specs.CallList.{AreItems, first_alive};
 ghost use Rattle.store_reader.specs.LookLaws.{AreLookUps};
 ghost use Rattle.store_reader.specs.Reading.{IsSameStore, num_docs, store_of};
 ghost use Rattle.store_format.specs.Slots.{slots};

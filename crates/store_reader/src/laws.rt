@@ -2,7 +2,7 @@
 ghost use Rattle.std.specs.Prelude.{ℕ};
 ghost use Rattle.store_reader.specs.CacheSums.{StatsAreAdded};
 ghost use Rattle.store_reader.specs.LookLaws.{LooksAreRecent, LookUpsAreCounted, WalksLookUp};
-ghost use Rattle.store_reader.specs.Answers.{AnswersAreExact, SlotsDecideAnswers};
+ghost use Rattle.store_reader.specs.CallAnswers.{AnswersAreExact, SlotsDecideAnswers};
 ghost use Rattle.store_reader.specs.Laws.{StoredDocumentsAreGot};
 ghost use Rattle.store_reader.specs.ViewLaws.{ViewsOpenAsReaders, ViewsAnswerAsReaders, ViewsReadAsReaders};
 ghost use Rattle.store_reader.specs.ViewLaws.{ViewsGiveEachSlot, ViewsGiveEachAlive};

@@ -2,7 +2,7 @@
 ghost use Rattle.std.specs.Prelude.{◌≡◌, ◌<◌, ◌≤◌, Err, IsTrue, IfOk, IfErr, IfSome, IsErrOf, MatchResult, ◌⊎◌, ◌↔◌};
 ghost use Rattle.std.specs.Prelude.{length, slice_get, take};
 ghost use Rattle.store_base.specs.Counts.{HasRisen};
-ghost use Rattle.store_reader.specs.Answering.{IsAnswered, AnswersTruly};
+ghost use Rattle.store_reader.specs.GetAnswer.{IsAnswered, AnswersTruly};
 ghost use Rattle.layered_index.specs.Checkpoint.{Covers};
 ghost use Rattle.store_reader.specs.Documents.{document_version, IsGot, ReadsTruly};
 ghost use Rattle.store_format.specs.Footer.{version_number};

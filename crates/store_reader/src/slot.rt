@@ -1,6 +1,6 @@
 //! A document of a block.
 
-ghost use Rattle.store_reader.specs.Answering.{Answers};
+ghost use Rattle.store_reader.specs.GetAnswer.{Answers};
 ghost use Rattle.store_format.specs.Block.{slot};
 
 use store_base::{DocId, OwnedBytes, StoreError};

@@ -6,7 +6,7 @@ ghost use Rattle.store_format.specs.Block.{damaged};
 ghost use Rattle.store_reader.specs.Documents.{document_version, ReadsFrom, ReadsTruly};
 ghost use Rattle.store_format.specs.Footer.{version_number};
 ghost use Rattle.store_reader.specs.Opening.{IsSomeStore};
-ghost use Rattle.store_format.specs.StoreFile.{AreBlocks, IsStore, data_of, marks};
+ghost use Rattle.store_format.specs.StoreFile.{AreBlocks, IsStore, data_of, checkpoints_of};
 ghost use Rattle.store_reader.specs.Viewing.{Finds, IsViewOf, IsAt, IsBlockOf, StandsAt};
 ghost use Rattle.store_reader.specs.Viewing.{slot_of, count_in, document_of, given, placed_in};
 
@@ -207,7 +207,7 @@ impl<'a> StoreView<'a> {
     pub fn space_usage(&self) -> StoreSpaceUsage
         ensures { result ≡ (
           length (data_of self.now.store),
-          length (index_part self.now.period (marks self.now.store)),
+          length (index_part self.now.period (checkpoints_of self.now.store)),
         ) }
     {
         StoreSpaceUsage::new(self.block_data().len() as u64, self.index.len())
@@ -215,7 +215,7 @@ impl<'a> StoreView<'a> {
 
     /// Where the blocks lie, in order.
     pub fn block_checkpoints(&self) -> LayerCursor<'_>
-        ensures { result ≡ marks self.now.store }
+        ensures { result ≡ checkpoints_of self.now.store }
     {
         self.index.checkpoints()
     }

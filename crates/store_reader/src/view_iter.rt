@@ -1,7 +1,7 @@
 //! Going over the documents of a store whose bytes another holds.
 ghost use Rattle.std.specs.Prelude.{◌≡◌, ◌≤◌, ◌<◌, Some, true};
 ghost use Rattle.store_base.specs.AliveBitSet.{is_alive_at};
-ghost use Rattle.store_reader.specs.Answers.{exact_result};
+ghost use Rattle.store_reader.specs.CallAnswers.{exact_result};
 ghost use Rattle.store_format.specs.Block.{slot};
 ghost use Rattle.store_reader.specs.Viewing.{AreDead, IsAt, given};
 

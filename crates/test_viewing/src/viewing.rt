@@ -1,8 +1,6 @@
 //! Stores over bytes at hand, beside readers of files that hold the same bytes.
 
-use docstore::{
-    Checkpoint, Compressor, DocStoreVersion, StoreError, StoreView, StoreWriter,
-};
+use docstore::{Checkpoint, Compressor, DocStoreVersion, StoreError, StoreView, StoreWriter};
 use std::alloc::Global;
 use std::test::Fail;
 use store_base::{AliveBitSet, MemSink, RecordDocument};

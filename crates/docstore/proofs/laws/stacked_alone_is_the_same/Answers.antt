@@ -1,4 +1,4 @@
-use Rattle.docstore.proofs.StackedLemmas.{stacked_alone_is_the_same}
+use Rattle.docstore.proofs.StackLawLemmas.{stacked_alone_is_the_same}
 use Rattle.docstore.proofs.laws.stacked_alone_is_the_same.Goals as goal
 
 pub returns : goal.returns

@@ -1,4 +1,4 @@
-use Rattle.docstore.proofs.StackedLemmas.{stacked_files_are_joined}
+use Rattle.docstore.proofs.StackLawLemmas.{stacked_files_are_joined}
 use Rattle.docstore.proofs.laws.stacked_files_are_joined.Goals as goal
 
 pub returns : goal.returns

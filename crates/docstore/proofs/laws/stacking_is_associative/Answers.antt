@@ -1,4 +1,4 @@
-use Rattle.docstore.proofs.StackedLemmas.{stacking_is_associative}
+use Rattle.docstore.proofs.StackLawLemmas.{stacking_is_associative}
 use Rattle.docstore.proofs.laws.stacking_is_associative.Goals as goal
 
 pub returns : goal.returns

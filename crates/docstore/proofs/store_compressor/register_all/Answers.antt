@@ -4,7 +4,7 @@ use Rattle.layered_index.specs.declared.index.Checkpoint.{Checkpoint}
 use Rattle.layered_index.specs.Checkpoint.{doc_count}
 use Rattle.layered_index.specs.Layers.{Index}
 use Rattle.docstore.specs.Stacking.{shifted}
-use Rattle.docstore.proofs.StackingLemmas.{next_left}
+use Rattle.docstore.proofs.ShiftedCheckpointLemmas.{next_left}
 use Rattle.docstore.proofs.store_compressor.register_all.Goals as goal
 
 pub overflow_add-end : goal.overflow_add-end

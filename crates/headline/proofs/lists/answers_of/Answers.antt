@@ -2,7 +2,7 @@ use Rattle.std.proofs.Common.{◌≡◌, ℕ, List, map, sym, ap, ◌∙◌, sub
 use Rattle.std.specs.List.{AllByRecursion}
 use Rattle.store_base.specs.Files.{Part}
 use Rattle.store_base.specs.declared.error.StoreError.TheVariants.{Read, Memory}
-use Rattle.store_reader.specs.Answers.{CanAnswer, HasRefusal, exact_results, results_of}
+use Rattle.store_reader.specs.CallAnswers.{CanAnswer, HasRefusal, exact_results, results_of}
 use Rattle.store_format.specs.Footer.{version_number}
 use Rattle.store_reader.specs.Reading.{Reading, store_of}
 use Rattle.store_format.specs.Slots.{slots}

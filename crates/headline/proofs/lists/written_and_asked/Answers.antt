@@ -1,6 +1,6 @@
 use Rattle.std.proofs.Common.{◌≡◌, ◌++◌, ℕ, List, map, sym, ap, ◌∙◌, subst}
 use Rattle.std.proofs.lemmas.Result.{err_from_is_err_and}
-use Rattle.store_reader.specs.Answers.{exact_results}
+use Rattle.store_reader.specs.CallAnswers.{exact_results}
 use Rattle.store_format.specs.Block.{Slot}
 use Rattle.store_format.specs.StoreFile.{file, IsStore}
 use Rattle.headline.proofs.ListLemmas.{written_reach, only_want}
@@ -11,7 +11,7 @@ answers_of-requires g c = record {
   sets = λ p v bs store.
       let w = c.in-Ok.ensures.written in
       let text : c.deref.result.now ≡ file c.args.period 3 w.blocks = c.deref.ensures.value ∙ c.into_bytes-bytes.ensures ∙ w.output
-          ∙ ap (λ (xs : List ℕ). xs ++ file c.args.period 3 w.blocks) c.new-output.ensures.content in
+      ∙ ap (λ (xs : List ℕ). xs ++ file c.args.period 3 w.blocks) c.new-output.ensures.content in
       written_reach _ c.args.period _ c.args.commands.now _ _ _ _ w c.args.calls.now p v bs c.stores_are_apart.ensures (subst (λ (b : List ℕ). IsStore p b v bs) text store) c.requires.sets;
 }
 
@@ -20,7 +20,7 @@ answers_of-requires-2 g c = record {
   sets = λ p v bs store.
       let w = c.in-Ok.ensures.written in
       let text : c.deref-2.result.now ≡ file c.args.period 3 w.blocks = c.deref-2.ensures.value ∙ c.into_bytes-bytes.ensures ∙ w.output
-          ∙ ap (λ (xs : List ℕ). xs ++ file c.args.period 3 w.blocks) c.new-output.ensures.content in
+      ∙ ap (λ (xs : List ℕ). xs ++ file c.args.period 3 w.blocks) c.new-output.ensures.content in
       written_reach _ c.args.period _ c.args.commands.now _ _ _ _ w c.args.calls.now p v bs c.stores_are_apart.ensures (subst (λ (b : List ℕ). IsStore p b v bs) text store) c.requires.sets;
 }
 
@@ -28,7 +28,7 @@ pub returns-in_err-first-clause-refused : goal.returns-in_err-first-clause-refus
 returns-in_err-first-clause-refused g c =
     let w = c.in-Ok.ensures.written in
     let text : c.deref.result.now ≡ file c.args.period 3 w.blocks = c.deref.ensures.value ∙ c.into_bytes-bytes.ensures ∙ w.output
-        ∙ ap (λ (xs : List ℕ). xs ++ file c.args.period 3 w.blocks) c.new-output.ensures.content in
+    ∙ ap (λ (xs : List ℕ). xs ++ file c.args.period 3 w.blocks) c.new-output.ensures.content in
     let given = err_from_is_err_and c.from_residual.result c.from_residual.ensures.1 in
     rw (given.1, given.2) (only_want c.deref.result.now c.args.period w.blocks _ (subst (λ (b : List ℕ). IsStore c.args.period b 3 w.blocks) (sym text) w.store) c.in_err-first.ensures.refused)
 
@@ -36,7 +36,7 @@ pub returns-in_err-second-clause-refused : goal.returns-in_err-second-clause-ref
 returns-in_err-second-clause-refused g c =
     let w = c.in-Ok.ensures.written in
     let text : c.deref-2.result.now ≡ file c.args.period 3 w.blocks = c.deref-2.ensures.value ∙ c.into_bytes-bytes.ensures ∙ w.output
-        ∙ ap (λ (xs : List ℕ). xs ++ file c.args.period 3 w.blocks) c.new-output.ensures.content in
+    ∙ ap (λ (xs : List ℕ). xs ++ file c.args.period 3 w.blocks) c.new-output.ensures.content in
     let given = err_from_is_err_and c.from_residual-in_err-second.result c.from_residual-in_err-second.ensures.1 in
     rw (given.1, given.2) (only_want c.deref-2.result.now c.args.period w.blocks _ (subst (λ (b : List ℕ). IsStore c.args.period b 3 w.blocks) (sym text) w.store) c.in_err-second.ensures.refused)
 
@@ -44,7 +44,7 @@ pub returns-clause-answers : goal.returns-clause-answers
 returns-clause-answers g c =
     let w = c.in-Ok.ensures.written in
     let written : c.into_bytes-bytes.result.items ≡ file c.args.period 3 w.blocks = c.into_bytes-bytes.ensures ∙ w.output
-        ∙ ap (λ (xs : List ℕ). xs ++ file c.args.period 3 w.blocks) c.new-output.ensures.content in
+    ∙ ap (λ (xs : List ℕ). xs ++ file c.args.period 3 w.blocks) c.new-output.ensures.content in
     let first = subst (λ (b : List ℕ). IsStore c.args.period b 3 w.blocks) (sym (c.deref.ensures.value ∙ written)) w.store in
     let second = subst (λ (b : List ℕ). IsStore c.args.period b 3 w.blocks) (sym (c.deref-2.ensures.value ∙ written)) w.store in
     let meant = ap (λ (all : List Slot). map (exact_results all) c.args.calls.now) w.slots_are in

@@ -13,7 +13,7 @@ loop-document-init g c =
     let items = c.iter_raw-document-items in
     let here = c.into_iter-document-iterator.ensures.into_iter_gives in
     let start : IsBegun first (set_of c.args.alive) c.args.writer.now items.result.reader.now items.result.walk =
-        begins first items.result.reader.now (set_of c.args.alive) items.result.walk c.args.writer.now items.ensures.next items.ensures.first_block in
+    begins first items.result.reader.now (set_of c.args.alive) items.result.walk c.args.writer.now items.ensures.next items.ensures.first_block in
     let walk_is : c.into_iter-document-iterator.result.walk ≡ items.result.walk = ap (λ x. x.walk) here in
     let reader_is : c.into_iter-document-iterator.result.reader.now ≡ items.result.reader.now = ap (λ x. x.reader.now) here in
     let begun : IsBegun first (set_of c.args.alive) c.args.writer.now c.into_iter-document-iterator.result.reader.now c.into_iter-document-iterator.result.walk =
@@ -62,7 +62,7 @@ returns-clause-copied g c =
     let gives : GivesNext set old.reader.now old.walk None new.reader.now new.walk =
     subst (λ (x : Option (ℕ → Bool)). GivesNext x old.reader.now old.walk None new.reader.now new.walk) c.loop-document.invariant.set (c.in-None.ensures.steps.0) in
     copied_all first old.reader.now new.reader.now set old.walk new.walk c.args.writer.now c.loop-document.writer c.requires.docs c.loop-document.invariant.same gives c.loop-document.invariant.below
-        c.loop-document.invariant.copied
+    c.loop-document.invariant.copied
 
 pub returns-in_err-take_document-clause-stopped : goal.returns-in_err-take_document-clause-stopped
 returns-in_err-take_document-clause-stopped g c =
@@ -79,8 +79,8 @@ returns-in_err-take_document-clause-stopped g c =
     let failed = failed_next first old.reader.now new.reader.now set old.walk new.walk c.in-Some.document c.requires.docs inv.same gives inv.same.failures inv.failed in
     let stopped : StopsAt set first new.reader.now c.args.writer.now after e =
     stops first old.reader.now new.reader.now set old.walk new.walk c.in-Some.document c.requires.docs inv.same gives c.args.writer.now c.loop-document.writer inv.copied e after inv.count
-        c.in-Some.ensures.goes.keeps failed c.in_err-take_document.ensures.err in
+    c.in-Some.ensures.goes.keeps failed c.in_err-take_document.ensures.err in
     let given = err_from_is_err_and c.from_residual.result c.from_residual.ensures.1 in
     let told : IfErr c.from_residual.result (StopsAt set first new.reader.now c.args.writer.now after) =
-        subst (λ r. IfErr r (StopsAt set first new.reader.now c.args.writer.now after)) (sym (given.1 ∙ ap Err given.2)) stopped in
+    subst (λ r. IfErr r (StopsAt set first new.reader.now c.args.writer.now after)) (sym (given.1 ∙ ap Err given.2)) stopped in
     search rules

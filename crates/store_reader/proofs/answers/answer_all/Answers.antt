@@ -3,10 +3,10 @@ use Rattle.std.specs.List.{AllZip}
 use Rattle.store_base.specs.Counts.{HasRisen}
 use Rattle.store_base.specs.declared.error.StoreError.TheVariants.{Read}
 use Rattle.store_reader.specs.declared.answers.Answer.{Answer}
-use Rattle.store_reader.specs.Answers.{AreAnswers, HasRefusal, RefusesPast}
+use Rattle.store_reader.specs.CallAnswers.{AreAnswers, HasRefusal, RefusesPast}
 use Rattle.store_reader.specs.Reading.{num_docs, store_of}
 use Rattle.store_format.specs.Slots.{slots}
-use Rattle.store_reader.proofs.AnswersLemmas.{answers_more, looks_more, past_more}
+use Rattle.store_reader.proofs.CallAnswersLemmas.{answers_more, looks_more, past_more}
 use Rattle.store_reader.proofs.FailedLemmas.{answer_failed}
 use Rattle.store_reader.proofs.RecentLemmas.{same_on}
 use Rattle.store_reader.proofs.answers.answer_all.Goals as goal
@@ -22,7 +22,8 @@ loop-call-preserved g c =
       same = same_on first old c.answer_one.new.reader c.loop-call.invariant.same c.answer_one.ensures.same_store;
       looks = looks_more first old c.answer_one.new.reader calls i c.call-item.result (omega arith) c.call-item.is c.loop-call.invariant.same c.loop-call.invariant.looks c.in_ok-answer.ensures.looks;
       so_far = λ honest. subst (AreAnswers (slots (store_of first)) (take (i + 1) calls)) (sym c.in_ok-push.ensures.items)
-          (answers_more first old calls i c.call-item.result answers c.in_ok-answer.answer (omega arith) c.call-item.is c.loop-call.invariant.same c.loop-call.invariant.so_far c.in_ok-answer.ensures.answer honest);
+          (answers_more first old calls i c.call-item.result answers c.in_ok-answer.answer
+          (omega arith) c.call-item.is c.loop-call.invariant.same c.loop-call.invariant.so_far c.in_ok-answer.ensures.answer honest);
       past = subst (AllZip (RefusesPast (num_docs first)) (take (i + 1) calls)) (sym c.in_ok-push.ensures.items)
           (past_more first old calls i c.call-item.result answers c.in_ok-answer.answer (omega arith) c.call-item.is c.loop-call.invariant.same c.loop-call.invariant.past c.in_ok-answer.ensures.past);
       failed = subst (λ (xs : List Answer). HasRefusal xs Read → HasRisen first.file.failures c.answer_one.new.reader.file.failures) (sym c.in_ok-push.ensures.items)

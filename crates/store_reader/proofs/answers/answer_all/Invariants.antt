@@ -3,7 +3,7 @@ use Rattle.std.specs.List.{AllZip}
 use Rattle.std.specs.Prelude.{IsTrue}
 use Rattle.store_base.specs.Counts.{HasRisen}
 use Rattle.store_base.specs.declared.error.StoreError.TheVariants.{Read}
-use Rattle.store_reader.specs.Answers.{AreAnswers, HasRefusal, RefusesPast, keys_of_calls}
+use Rattle.store_reader.specs.CallAnswers.{AreAnswers, HasRefusal, RefusesPast, keys_of_calls}
 use Rattle.store_reader.specs.LookLaws.{AreLookUps}
 use Rattle.store_reader.specs.Reading.{IsSameStore, num_docs, store_of}
 use Rattle.store_format.specs.Slots.{slots}

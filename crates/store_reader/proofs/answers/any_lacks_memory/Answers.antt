@@ -7,7 +7,7 @@ use Rattle.std.specs.Prelude.{Err}
 use Rattle.store_base.specs.declared.error.StoreError.TheVariants.{Memory}
 use Rattle.store_reader.specs.declared.answers.Answer.{Answer}
 use Rattle.store_reader.specs.declared.answers.Answer.TheVariants.{Got}
-use Rattle.store_reader.specs.Answers.{HasRefusal, results_of}
+use Rattle.store_reader.specs.CallAnswers.{HasRefusal, results_of}
 use Rattle.store_reader.proofs.answers.any_lacks_memory.Goals as goal
 
 abbrev Lacks : Answer → Type 0

@@ -4,15 +4,15 @@ use Rattle.std.specs.Prelude.{Result, Err}
 use Rattle.store_base.specs.Counts.{HasRisen}
 use Rattle.store_base.specs.declared.error.StoreError.{StoreError}
 use Rattle.store_base.specs.declared.error.StoreError.TheVariants.{Read}
-use Rattle.store_reader.specs.Answers.{IsNotPast}
-use Rattle.store_reader.specs.Listing.{AreItems}
+use Rattle.store_reader.specs.CallAnswers.{IsNotPast}
+use Rattle.store_reader.specs.CallList.{AreItems}
 use Rattle.store_reader.specs.Reading.{num_docs, store_of}
 use Rattle.store_format.specs.Slots.{slots}
 use Rattle.store_reader.specs.Walking.{set_of, set_in, GivesNext}
-use Rattle.store_reader.proofs.AnswersLemmas.{item_not_past, items_not_past}
+use Rattle.store_reader.proofs.CallAnswersLemmas.{item_not_past, items_not_past}
 use Rattle.store_reader.proofs.FailedLemmas.{item_failed}
-use Rattle.store_reader.proofs.ListedLemmas.{IsListedTo, listed_on, looked_enough, looked_all}
-use Rattle.store_reader.proofs.ListingLemmas.{alive_so_far, listed_more, below_more, listed_end, listed_enough}
+use Rattle.store_reader.proofs.IterationLookUpLemmas.{IsListedTo, listed_on, looked_enough, looked_all}
+use Rattle.store_reader.proofs.ItemsSoFarLemmas.{alive_so_far, listed_more, below_more, listed_end, listed_enough}
 use Rattle.store_reader.proofs.RecentLemmas.{same_on}
 use Rattle.store_reader.proofs.answers.list_items.Goals as goal
 
@@ -64,7 +64,8 @@ returns-in_default-clause-items g c = λ honest.
     let most : c.min-most.result ≡ min c.args.count (length all) = omega (arith, c.min-most.ensures, c.num_docs.ensures.slots) in
     let gives : GivesNext set old.reader.now old.walk None new.reader.now new.walk =
     subst (λ (x : Option (ℕ → Bool)). GivesNext x old.reader.now old.walk None new.reader.now new.walk) c.loop-iter.invariant.set (c.in_default.ensures.steps.0) in
-    listed_end first old.reader.now new.reader.now set old.walk new.walk c.args.count c.loop-iter.items.items docs c.loop-iter.invariant.same gives c.loop-iter.invariant.below (omega (arith, most, c.loop-iter.invariant.few)) (c.loop-iter.invariant.listed honest)
+    listed_end first old.reader.now new.reader.now set old.walk new.walk c.args.count c.loop-iter.items.items docs c.loop-iter.invariant.same gives c.loop-iter.invariant.below
+    (omega (arith, most, c.loop-iter.invariant.few)) (c.loop-iter.invariant.listed honest)
 
 pub returns-clause-looks : goal.returns-clause-looks
 returns-clause-looks g c =
@@ -72,7 +73,8 @@ returns-clause-looks g c =
     let most : c.min-most.result ≡ min c.args.count (num_docs first) = omega (arith, c.min-most.ensures, c.num_docs.ensures.count) in
     let items = c.loop-iter.items.items in
     let invariant = c.loop-iter.invariant in
-    let looks = looked_enough first (set_of c.args.alive) (length items) c.args.count c.loop-iter.iter.reader.now c.loop-iter.iter.walk invariant.same c.num_docs.ensures.covers invariant.walk invariant.looks
+    let looks = looked_enough first (set_of c.args.alive) (length items) c.args.count c.loop-iter.iter.reader.now c.loop-iter.iter.walk invariant.same c.num_docs.ensures.covers invariant.walk
+    invariant.looks
     (omega (arith, most, invariant.few)) (omega (arith, invariant.below, c.num_docs.ensures.count, c.num_docs.ensures.slots)) in
     search (rules, looks)
 

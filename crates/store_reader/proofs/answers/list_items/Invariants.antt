@@ -3,13 +3,13 @@ use Rattle.std.specs.List.{AllByRecursion, Contains}
 use Rattle.std.specs.Prelude.{IsTrue, Err}
 use Rattle.store_base.specs.Counts.{HasRisen}
 use Rattle.store_base.specs.declared.error.StoreError.TheVariants.{Read}
-use Rattle.store_reader.specs.Answers.{IsNotPast}
-use Rattle.store_reader.specs.Listing.{AreItems}
+use Rattle.store_reader.specs.CallAnswers.{IsNotPast}
+use Rattle.store_reader.specs.CallList.{AreItems}
 use Rattle.store_reader.specs.Reading.{IsSameStore, store_of}
 use Rattle.store_format.specs.Slots.{slots}
 use Rattle.store_reader.specs.Walking.{set_of, set_in, IsWalk}
-use Rattle.store_reader.proofs.ListedLemmas.{IsListedTo}
-use Rattle.store_reader.proofs.ListingLemmas.{alive_so_far}
+use Rattle.store_reader.proofs.IterationLookUpLemmas.{IsListedTo}
+use Rattle.store_reader.proofs.ItemsSoFarLemmas.{alive_so_far}
 use Rattle.store_reader.proofs.answers.list_items.Given as goal
 
 abbrev pub invariant-loop-iter : goal.invariant-loop-iter

@@ -1,4 +1,4 @@
-use Rattle.store_reader.proofs.SameAnswerLemmas.{slots_decide_answers}
+use Rattle.store_reader.proofs.DecidedAnswerLemmas.{slots_decide_answers}
 use Rattle.store_reader.proofs.laws.slots_decide_answers.Goals as goal
 
 pub returns : goal.returns

@@ -1,4 +1,4 @@
-use Rattle.store_reader.proofs.LookedLemmas.{walks_look_up}
+use Rattle.store_reader.proofs.BlocksAlongLemmas.{walks_look_up}
 use Rattle.store_reader.proofs.laws.walks_look_up.Goals as goal
 
 pub returns : goal.returns

@@ -28,7 +28,8 @@ returns-clause-walk g c =
       end = e.end ∙ sym n.end;
       above = omega arith;
       below = omega arith;
-      holds = λ honest some. holds_next c.args.reader.now c.enter-entered.new.self c.args.walk.now.next c.args.walk.now.place ((c.args.walk.now.place + 1) - 1) e.checkpoint c.enter-entered.result.block e.looked n.at place honest;
+      holds = λ honest some. holds_next c.args.reader.now c.enter-entered.new.self c.args.walk.now.next c.args.walk.now.place
+          ((c.args.walk.now.place + 1) - 1) e.checkpoint c.enter-entered.result.block e.looked n.at place honest;
       only = only_next c.args.reader.now c.enter-entered.new.self c.args.walk.now.next e.checkpoint c.enter-entered.result.block e.looked;
     })
 

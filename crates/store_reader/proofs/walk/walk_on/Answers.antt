@@ -15,8 +15,13 @@ pub returns-then-is_alive-clause-found : goal.returns-then-is_alive-clause-found
 returns-then-is_alive-clause-found g c =
     let on = walks_along _ _ _ _ _ _ c.step_in.new.reader c.step_in.new.walk c.loop-doc_id.invariant.on c.step_in.ensures.later c.step_in.ensures.looks in
     let count = c.num_docs-doc_id-end.ensures.count in
-    let above = c.step_in.ensures.walk.above in let next = c.step_in.ensures.next in let here = c.loop-doc_id.invariant.here in
-    (walks_same _ _ _ _ _ _ _ on refl refl, omega arith, sym c.is_alive.ensures ∙ c.if-is_alive.true, refl, stands_in _ _ _ _ _ _ on c.num_docs-doc_id-end.ensures.covers c.step_in.ensures.walk (next ∙ here) (let inside = c.step_in.ensures.inside in omega arith))
+    let above = c.step_in.ensures.walk.above in let next = c.step_in.ensures.next in let here = c.loop-doc_id.invariant.here in (
+      walks_same _ _ _ _ _ _ _ on refl refl,
+      omega arith,
+      sym c.is_alive.ensures ∙ c.if-is_alive.true,
+      refl,
+      stands_in _ _ _ _ _ _ on c.num_docs-doc_id-end.ensures.covers c.step_in.ensures.walk (next ∙ here) (let inside = c.step_in.ensures.inside in omega arith),
+    )
 
 pub loop-doc_id-preserved : goal.loop-doc_id-preserved
 loop-doc_id-preserved g c =

@@ -1,10 +1,10 @@
 use Rattle.std.proofs.Common.{◌≡◌, ℕ, List, length, sym, ◌∙◌, ap, subst}
 use Rattle.layered_index.specs.declared.index.Checkpoint.{Checkpoint}
 use Rattle.layered_index.specs.Checkpoint.{Covers}
-use Rattle.store_format.specs.StoreFile.{StoreBlock, marks, blocks_at}
+use Rattle.store_format.specs.StoreFile.{StoreBlock, checkpoints_of, blocks_at}
 use Rattle.store_reader.specs.Reading.{Reading}
 use Rattle.docstore.specs.Stacking.{AreRead}
-use Rattle.store_reader.proofs.SeenLemmas.{store_seen}
+use Rattle.store_reader.proofs.ReaderStoreLemmas.{store_seen}
 use Rattle.docstore.proofs.store_compressor.BlockCompressor.stack_reader.Goals as goal
 
 pub returns-clause-stacked : goal.returns-clause-stacked
@@ -17,7 +17,7 @@ returns-clause-stacked g c =
     let seen = store_seen bytes cs covers in
     let cut : blocks_at c.block_checkpoints.result bytes ≡ blocks_at cs bytes = ap (λ (xs : List Checkpoint). blocks_at xs bytes) same in
     let read : AreRead c.args.reader.now (blocks_at c.block_checkpoints.result bytes) = record {
-      places = ap (λ (bs : List StoreBlock). marks bs) cut ∙ seen.marks_are;
+      places = ap (λ (bs : List StoreBlock). checkpoints_of bs) cut ∙ seen.checkpoints_are;
       honest = λ honest. cut ∙ ap (blocks_at cs) (bytes_are ∙ c.in_ok-data.ensures.bytes honest);
     } in
     (blocks_at c.block_checkpoints.result bytes, read, c.in_ok-write_blocks.ensures.written)

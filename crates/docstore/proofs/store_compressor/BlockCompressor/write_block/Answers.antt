@@ -5,7 +5,7 @@ use Rattle.store_base.specs.Counts.{raised}
 use Rattle.store_base.specs.declared.error.Cause.{Cause}
 use Rattle.layered_index.specs.Checkpoint.{checkpoint}
 use Rattle.layered_index.specs.Layers.{Index}
-use Rattle.store_format.specs.StoreFile.{StoreBlock, marks_from}
+use Rattle.store_format.specs.StoreFile.{StoreBlock, checkpoints_from}
 use Rattle.docstore.specs.BlockOutput.{BlockOutput, IsCompressing, compressing}
 use Rattle.docstore.proofs.OutputLemmas.{sound, failed, block_added, seen_added}
 use Rattle.docstore.proofs.store_compressor.BlockCompressor.write_block.Given.{Over}
@@ -60,11 +60,12 @@ is_compressing g c =
       checkpoints = cs ++ checkpoint first (first + count) c.written_bytes-start.result (c.written_bytes-start.result + length bytes)
           ∷ [];
     } = grind (arith, common_steps) in
-    let cs_is : c.insert.new.self.checkpoints ≡ cs ++ marks_from first written bs =
+    let cs_is : c.insert.new.self.checkpoints ≡ cs ++ checkpoints_from first written bs =
     ap (λ (index : Index). index.checkpoints) index_is ∙ ap (λ (n : ℕ). cs ++ checkpoint first (first + count) n (n + length bytes) ∷ []) c.written_bytes-start.ensures in
     let period_is : c.insert.new.self.period ≡ period = ap (λ (index : Index). index.period) index_is in
     let none : None ≡ c.self.inside.failure = sym (ap (λ (out : BlockOutput). out.failure) c.self.view_is ∙ c.requires.works) in
-    rw (period_is, cs_is, content_is, written_is) (subst (λ (f : Option Cause). IsCompressing period (first + count) (cs ++ marks_from first written bs) (content ++ bytes) (written + length bytes) f)
+    rw (period_is, cs_is, content_is, written_is) (subst (λ (f : Option Cause). IsCompressing period (first + count) (cs ++ checkpoints_from first written bs) (content ++ bytes)
+    (written + length bytes) f)
     none a.compressing)
 
 pub invariant_of-self-2 : goal.invariant_of-self-2
@@ -90,7 +91,7 @@ returns-clause-written g c =
       checkpoints = cs ++ checkpoint first (first + count) c.written_bytes-start.result (c.written_bytes-start.result + length bytes)
           ∷ [];
     } = grind (arith, common_steps) in
-    let cs_is : c.insert.new.self.checkpoints ≡ cs ++ marks_from first written bs =
+    let cs_is : c.insert.new.self.checkpoints ≡ cs ++ checkpoints_from first written bs =
     ap (λ (index : Index). index.checkpoints) index_is ∙ ap (λ (n : ℕ). cs ++ checkpoint first (first + count) n (n + length bytes) ∷ []) c.written_bytes-start.ensures in
     let period_is : c.insert.new.self.period ≡ period = ap (λ (index : Index). index.period) index_is in
     let risen = g.W.TerminatingWrite.failures c.write_all.new.self.output in

@@ -6,11 +6,11 @@ use Rattle.store_base.specs.declared.error.Cause.{Cause}
 use Rattle.layered_index.specs.declared.index.Checkpoint.{Checkpoint}
 use Rattle.layered_index.specs.Checkpoint.{doc_count}
 use Rattle.layered_index.specs.Layers.{Index}
-use Rattle.store_format.specs.StoreFile.{docs_in, marks_from, blocks_at}
+use Rattle.store_format.specs.StoreFile.{docs_in, checkpoints_from, blocks_at}
 use Rattle.docstore.specs.BlockOutput.{BlockOutput, IsCompressing, compressing}
 use Rattle.docstore.specs.Stacking.{shifted}
 use Rattle.docstore.proofs.OutputLemmas.{sound, failed, seen_added}
-use Rattle.docstore.proofs.StackingLemmas.{are_cut}
+use Rattle.docstore.proofs.ShiftedCheckpointLemmas.{are_cut}
 use Rattle.docstore.proofs.store_compressor.BlockCompressor.write_blocks.Goals as goal
 
 pub returns-then-is_err-clause-sound : goal.returns-then-is_err-clause-sound
@@ -64,14 +64,14 @@ invariant_of-self-else-is_err-2 g c =
     let written_is = raised_is ∙ sum_is in
     let index_is : c.register_all-registered.new.index ≡ record { period = period; checkpoints = cs ++ map (shifted first c.written_bytes-start.result) c.args.checkpoints } =
     grind (arith, common_steps) in
-    let cs_is : c.register_all-registered.new.index.checkpoints ≡ cs ++ marks_from first written bs =
+    let cs_is : c.register_all-registered.new.index.checkpoints ≡ cs ++ checkpoints_from first written bs =
     ap (λ (index : Index). index.checkpoints) index_is ∙ ap (λ (n : ℕ). cs ++ map (shifted first n) c.args.checkpoints) c.written_bytes-start.ensures
     ∙ ap (λ (xs : List Checkpoint). cs ++ xs) a.places in
     let period_is : c.register_all-registered.new.index.period ≡ period = c.register_all-registered.ensures.period in
     let next : c.register_all-registered.new.next_id ≡ first + docs_in bs = c.register_all-registered.ensures.ids ∙ ap (λ (xs : List Checkpoint). sum_by doc_count xs) cs_is
     ∙ sym a.added.compressing.ids in
     let none : None ≡ c.self.inside.failure = sym (ap (λ (out : BlockOutput). out.failure) c.self.view_is ∙ c.requires.works) in
-    rw (period_is, next, cs_is, content_is, written_is) (subst (λ (f : Option Cause). IsCompressing period (first + docs_in bs) (cs ++ marks_from first written bs) (content ++ bytes)
+    rw (period_is, next, cs_is, content_is, written_is) (subst (λ (f : Option Cause). IsCompressing period (first + docs_in bs) (cs ++ checkpoints_from first written bs) (content ++ bytes)
     (written + length bytes) f) none a.added.compressing)
 
 pub returns-clause-written : goal.returns-clause-written
@@ -90,7 +90,7 @@ returns-clause-written g c =
     let written_is = raised_is ∙ sum_is in
     let index_is : c.register_all-registered.new.index ≡ record { period = period; checkpoints = cs ++ map (shifted first c.written_bytes-start.result) c.args.checkpoints } =
     grind (arith, common_steps) in
-    let cs_is : c.register_all-registered.new.index.checkpoints ≡ cs ++ marks_from first written bs =
+    let cs_is : c.register_all-registered.new.index.checkpoints ≡ cs ++ checkpoints_from first written bs =
     ap (λ (index : Index). index.checkpoints) index_is ∙ ap (λ (n : ℕ). cs ++ map (shifted first n) c.args.checkpoints) c.written_bytes-start.ensures
     ∙ ap (λ (xs : List Checkpoint). cs ++ xs) a.places in
     let period_is : c.register_all-registered.new.index.period ≡ period = c.register_all-registered.ensures.period in

@@ -10,7 +10,8 @@ use Rattle.layered_index.proofs.index.layers.keep_steps.Goals as goal
 pub returns-in_default-clause-read : goal.returns-in_default-clause-read
 returns-in_default-clause-read c =
     let h = c.args.heading in
-    ends h.count c.loop.counter c.loop.doc_end c.loop.byte_end c.loop.rest.now (ends_of h.doc h.byte (steps_at h.count h.doc h.byte c.args.bytes.now)) c.loop-test.true (sym c.in_default.ensures) c.loop.invariant.read
+    ends h.count c.loop.counter c.loop.doc_end c.loop.byte_end c.loop.rest.now (ends_of h.doc h.byte (steps_at h.count h.doc h.byte c.args.bytes.now)) c.loop-test.true
+    (sym c.in_default.ensures) c.loop.invariant.read
 
 pub loop-preserved : goal.loop-preserved
 loop-preserved c =
@@ -20,8 +21,10 @@ loop-preserved c =
     let after = c.in-Some.after.now in
     let left = items (h.count - (l.counter + 1)) one.doc_range.end one.byte_range.end after in
     record {
-      read = goes_on h.count l.counter l.doc_end l.byte_end l.rest.now one after (ends_of h.doc h.byte (steps_at h.count h.doc h.byte c.args.bytes.now)) c.loop-test.true (sym c.in-Some.ensures) l.invariant.read;
-      kept = ap (λ (e : EndLists). with_ends e left) c.in_ok-push.ensures ∙ one_more_kept l.ends one left ∙ ap (with_ends l.ends) (sym (items_left h.count l.counter l.doc_end l.byte_end l.rest.now one after c.loop-test.true (sym c.in-Some.ensures))) ∙ l.invariant.kept;
+      read = goes_on h.count l.counter l.doc_end l.byte_end l.rest.now one after (ends_of h.doc h.byte (steps_at h.count h.doc h.byte c.args.bytes.now)) c.loop-test.true
+          (sym c.in-Some.ensures) l.invariant.read;
+      kept = ap (λ (e : EndLists). with_ends e left) c.in_ok-push.ensures ∙ one_more_kept l.ends one left
+          ∙ ap (with_ends l.ends) (sym (items_left h.count l.counter l.doc_end l.byte_end l.rest.now one after c.loop-test.true (sym c.in-Some.ensures))) ∙ l.invariant.kept;
     }
 
 pub returns-clause-read : goal.returns-clause-read

@@ -14,7 +14,8 @@ returns-in_err-run c =
     let l = c.loop-rest in
     let h = c.args.heading in
     let p = err_from_is_err_and c.from_residual.result c.from_residual.ensures.1 in
-    rw (p.1, p.2) (walk_ends c.args.period l.doc_end l.byte_end l.rest.now (len_from c.args.period h.doc h.byte c.args.text.now) (ArePointers c.args.above (pointers_at 0 c.args.text.now)) c.in_err-run.field-0.0
+    rw (p.1, p.2) (walk_ends c.args.period l.doc_end l.byte_end l.rest.now (len_from c.args.period h.doc h.byte c.args.text.now)
+    (ArePointers c.args.above (pointers_at 0 c.args.text.now)) c.in_err-run.field-0.0
     (positive (length l.rest.now) (eqb-false (length l.rest.now) 0 (sym c.loop-rest-test.ensures))) c.in_err-run.ensures.read l.invariant.counted)
 
 pub overflow_sub-end : goal.overflow_sub-end
@@ -29,7 +30,8 @@ returns-then-not-may_stand c =
     let read = c.in_ok-run.ensures.read in
     λ good.
     elim c.then-not-may_stand.branch [
-      | then-not-may_stand-via-then-not-may_stand w ↦ walk_refused c.args.period l.doc_end l.byte_end l.rest.now r after (len_from c.args.period h.doc h.byte c.args.text.now) read (sym c.may_stand.ensures ∙ w.if-not-may_stand.true) l.invariant.counted good.0
+      | then-not-may_stand-via-then-not-may_stand w ↦ walk_refused c.args.period l.doc_end l.byte_end l.rest.now r after (len_from c.args.period h.doc h.byte c.args.text.now) read
+          (sym c.may_stand.ensures ∙ w.if-not-may_stand.true) l.invariant.counted good.0
       | then-not-may_stand-via-else-not-may_stand+then-not-next_points w ↦
           let place = l.place + (length l.rest.now - length after) in
           let pointed = subst (ArePointers l.above) (pointers_go_on l.place l.rest.now r after read) (l.invariant.pointed.1 good.1) in

@@ -29,7 +29,8 @@ returns-in_err-walk_down c =
 kept : (start ends : EndLists) (us ts : List (List ℕ)) → start ≡ no_ends → us ≡ ts → ends ≡ last_ends start us → ends ≡ with_ends no_ends (last_items [] ts)
 kept start ends us ts none same e = e ∙ (λ i. last_ends (none i) (same i)) ∙ last_kept [] ts
 
-counted : (period len count : ℕ) (ends : EndLists) (ts : List (List ℕ)) → ends ≡ with_ends no_ends (last_items [] ts) → len ≡ length ends.docs → count ≡ digit_count period len → digit_count period (length (last_items [] ts)) ≡ count
+counted : (period len count : ℕ) (ends : EndLists) (ts : List (List ℕ)) → ends ≡ with_ends no_ends (last_items [] ts) → len ≡ length ends.docs → count ≡ digit_count period len
+    → digit_count period (length (last_items [] ts)) ≡ count
 counted period len count ends ts e lens digits =
     let docs : length ends.docs ≡ length (last_items [] ts) = ap (λ (x : EndLists). length x.docs) e ∙ length-map (last_items [] ts) doc_end in
     sym (ap (digit_count period) (lens ∙ docs)) ∙ sym digits

@@ -27,14 +27,21 @@ pub insert_at-above-requires : goal.insert_at-above-requires
 insert_at-above-requires t c =
     let here : IsAt c.args.layers.now.items c.args.at c.index_mut-layer.result.now = record { within = omega arith; is = c.index_mut-layer.ensures.value } in
     let took = subst (TookOne c.args.period c.index_mut-layer.result.now c.args.checkpoint c.insert.new.self) c.in-Some.is c.in_ok-pointer.ensures.ok in
-    let len = length-set c.args.layers.now.items c.args.at c.insert.new.self in
-    (search (rules, arith, len), (omega (arith, len, here.within), takes_above c.args.period c.args.layers.now.items c.args.at c.index_mut-layer.result.now c.insert.new.self c.args.checkpoint c.in-Some.pointer here c.requires.takes took.0 took.3 took.2))
+    let len = length-set c.args.layers.now.items c.args.at c.insert.new.self in (
+      search (rules, arith, len),
+      (
+        omega (arith, len, here.within),
+        takes_above c.args.period c.args.layers.now.items c.args.at c.index_mut-layer.result.now c.insert.new.self c.args.checkpoint
+            c.in-Some.pointer here c.requires.takes took.0 took.3 took.2,
+      ),
+    )
 
 pub returns-in-Ok-clause-ok : goal.returns-in-Ok-clause-ok
 returns-in-Ok-clause-ok t c =
     let here : IsAt c.args.layers.now.items c.args.at c.index_mut-layer.result.now = record { within = omega arith; is = c.index_mut-layer.ensures.value } in
     let took = subst (TookOne c.args.period c.index_mut-layer.result.now c.args.checkpoint c.insert.new.self) c.in-Some.is c.in_ok-pointer.ensures.ok in
-    let done = flushes_at c.args.period c.args.layers.now.items c.args.at c.index_mut-layer.result.now c.insert.new.self c.index_mut-layer-2.result.now c.clear_block.new.self c.args.checkpoint c.in-Some.pointer c.insert_at-above.new.layers.items
+    let done = flushes_at c.args.period c.args.layers.now.items c.args.at c.index_mut-layer.result.now c.insert.new.self c.index_mut-layer-2.result.now c.clear_block.new.self c.args.checkpoint
+    c.in-Some.pointer c.insert_at-above.new.layers.items
     here took.0 took.1 took.2 c.in-Ok.ensures.ok c.index_mut-layer-2.ensures.value c.clear_block.ensures in
     rw c.in-Ok.is done
 
@@ -42,6 +49,7 @@ pub returns-in-Err-clause-err : goal.returns-in-Err-clause-err
 returns-in-Err-clause-err t c =
     let here : IsAt c.args.layers.now.items c.args.at c.index_mut-layer.result.now = record { within = omega arith; is = c.index_mut-layer.ensures.value } in
     let took = subst (TookOne c.args.period c.index_mut-layer.result.now c.args.checkpoint c.insert.new.self) c.in-Some.is c.in_ok-pointer.ensures.ok in
-    let done = back_at c.args.layers.now.items c.args.at c.len-start.result c.index_mut-layer.result.now c.insert.new.self c.index_mut-layer-2.result.now c.take_back.new.self c.args.checkpoint c.insert_at-above.new.layers.items
+    let done = back_at c.args.layers.now.items c.args.at c.len-start.result c.index_mut-layer.result.now c.insert.new.self c.index_mut-layer-2.result.now c.take_back.new.self c.args.checkpoint
+    c.insert_at-above.new.layers.items
     here c.len-start.ensures took.1 c.in-Err.ensures.err c.index_mut-layer-2.ensures.value c.take_back.ensures in
     rw c.in-Err.is done

@@ -20,7 +20,8 @@ pub look_up-block-requires-clause-within : goal.look_up-block-requires-clause-wi
 look_up-block-requires-clause-within g c = let end = (place g c).end in omega (arith, c.self.invariant.covers.end)
 
 pub invariant_of-self : goal.invariant_of-self
-invariant_of-self g c = reader_after c.self.inside.file c.look_up-block.new.file c.self.inside.index.checkpoints c.self.inside.index.period c.args.doc_id c.unwrap-checkpoint.result c.self.inside.cache c.look_up-block.new.cache c.look_up-block.ensures.0 c.self.invariant (sym c.seek.ensures ∙ c.unwrap-checkpoint.ensures) c.look_up-block.ensures.1
+invariant_of-self g c = reader_after c.self.inside.file c.look_up-block.new.file c.self.inside.index.checkpoints c.self.inside.index.period c.args.doc_id c.unwrap-checkpoint.result c.self.inside.cache
+    c.look_up-block.new.cache c.look_up-block.ensures.0 c.self.invariant (sym c.seek.ensures ∙ c.unwrap-checkpoint.ensures) c.look_up-block.ensures.1
 
 pub returns-clause-entered : goal.returns-clause-entered
 returns-clause-entered g c = rw (← c.self.view_is) (record {
@@ -31,7 +32,8 @@ returns-clause-entered g c = rw (← c.self.view_is) (record {
       seeks = sym c.seek.ensures ∙ c.unwrap-checkpoint.ensures;
       looks_up = c.look_up-block.ensures.1;
       stays = refl;
-      honest = (stays_honest c.self.inside.file c.look_up-block.new.file c.self.inside.index.checkpoints c.self.inside.index.period c.args.doc_id c.unwrap-checkpoint.result c.self.inside.cache c.look_up-block.new.cache c.look_up-block.ensures.0 c.self.invariant (sym c.seek.ensures ∙ c.unwrap-checkpoint.ensures) c.look_up-block.ensures.1).given;
+      honest = (stays_honest c.self.inside.file c.look_up-block.new.file c.self.inside.index.checkpoints c.self.inside.index.period c.args.doc_id c.unwrap-checkpoint.result c.self.inside.cache
+          c.look_up-block.new.cache c.look_up-block.ensures.0 c.self.invariant (sym c.seek.ensures ∙ c.unwrap-checkpoint.ensures) c.look_up-block.ensures.1).given;
     };
     taken = c.look_up-block.ensures.2;
   };

@@ -1,12 +1,12 @@
 use Rattle.std.proofs.Common.{◌≤◌, ◌<◌, refl, sym, arith}
 use Rattle.store_reader.specs.Reading.{num_docs}
-use Rattle.store_reader.specs.Answering.{IsAnswered}
+use Rattle.store_reader.specs.GetAnswer.{IsAnswered}
 use Rattle.store_reader.specs.contracts.reader.StoreReader.{the_view}
 use denote.Param.{param}
 use Rattle.store_reader.proofs.SeekLemmas.{IsWithin, within, none_past}
 use Rattle.store_reader.proofs.LookUpLemmas.{stays_honest, reader_after}
 use Rattle.store_reader.proofs.RecentLemmas.{same_store, same_as_it_is}
-use Rattle.store_reader.proofs.AnsweringLemmas.{not_none_such, read_failed, answers_truly, none_truly}
+use Rattle.store_reader.proofs.GetAnswerLemmas.{not_none_such, read_failed, answers_truly, none_truly}
 use Rattle.store_reader.proofs.reader.StoreReader.get_document_bytes.Goals as goal
 
 -- where the document of a seek that found one lies
@@ -39,9 +39,18 @@ below g c =
     rw (← c.self.view_is) (let to = w.to in let last = w.last in omega arith)
 
 pub invariant_of-self : goal.invariant_of-self
-invariant_of-self g c = reader_after c.self.inside.file c.look_up.new.file c.self.inside.index.checkpoints c.self.inside.index.period c.args.doc_id c.in-Some.checkpoint c.self.inside.cache c.look_up.new.cache c.look_up.ensures.0 c.self.invariant (sym c.in-Some.ensures) c.look_up.ensures.1
+invariant_of-self g c = reader_after c.self.inside.file c.look_up.new.file c.self.inside.index.checkpoints c.self.inside.index.period c.args.doc_id c.in-Some.checkpoint c.self.inside.cache
+    c.look_up.new.cache c.look_up.ensures.0 c.self.invariant (sym c.in-Some.ensures) c.look_up.ensures.1
 
-answered : (g : _) (c : goal.After-look_up g) → IsAnswered c.args.self.now c.args.doc_id c.look_up.result (the_view (param 0 g.row.H) g.H.FileHandle (record { file = c.look_up.new.file; index = c.self.inside.index; version = c.self.inside.version; decompressor = c.self.inside.decompressor; cache = c.look_up.new.cache }))
+answered : (g : _) (c : goal.After-look_up g) → IsAnswered c.args.self.now c.args.doc_id c.look_up.result
+    (the_view (param 0 g.row.H) g.H.FileHandle (record {
+      file = c.look_up.new.file;
+      index = c.self.inside.index;
+      version = c.self.inside.version;
+      decompressor = c.self.inside.decompressor;
+      cache =
+          c.look_up.new.cache;
+    }))
 answered g c = rw (← c.self.view_is) (record {
   checkpoint = c.in-Some.checkpoint;
   came = c.look_up.ensures.0;
@@ -49,7 +58,8 @@ answered g c = rw (← c.self.view_is) (record {
     seeks = sym c.in-Some.ensures;
     looks_up = c.look_up.ensures.1;
     stays = refl;
-    honest = (stays_honest c.self.inside.file c.look_up.new.file c.self.inside.index.checkpoints c.self.inside.index.period c.args.doc_id c.in-Some.checkpoint c.self.inside.cache c.look_up.new.cache c.look_up.ensures.0 c.self.invariant (sym c.in-Some.ensures) c.look_up.ensures.1).given;
+    honest = (stays_honest c.self.inside.file c.look_up.new.file c.self.inside.index.checkpoints c.self.inside.index.period c.args.doc_id c.in-Some.checkpoint c.self.inside.cache c.look_up.new.cache
+        c.look_up.ensures.0 c.self.invariant (sym c.in-Some.ensures) c.look_up.ensures.1).given;
   };
   answer = c.look_up.ensures.2;
 })

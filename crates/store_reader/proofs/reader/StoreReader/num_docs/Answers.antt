@@ -1,7 +1,7 @@
 use Rattle.std.proofs.Common.{List, length, ap, arith}
 use Rattle.store_format.specs.Slots.{slots}
 use Rattle.store_format.specs.StoreFile.{StoreBlock}
-use Rattle.store_reader.proofs.SeenLemmas.{store_is}
+use Rattle.store_reader.proofs.ReaderStoreLemmas.{store_is}
 use Rattle.store_reader.proofs.StoreSlotLemmas.{length-slots_of}
 use Rattle.store_reader.proofs.reader.StoreReader.num_docs.Goals as goal
 

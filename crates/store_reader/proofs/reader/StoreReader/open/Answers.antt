@@ -2,14 +2,15 @@ use Rattle.std.proofs.Common.{refl, inl}
 use Rattle.store_reader.specs.Opening.{IsOpened}
 use Rattle.store_reader.specs.contracts.reader.StoreReader.{the_view}
 use denote.Param.{param}
-use Rattle.store_reader.proofs.OpenedCovers.{opened_covers}
-use Rattle.store_reader.proofs.SeenLemmas.{store_seen}
+use Rattle.store_reader.proofs.OpenedCoverLemmas.{opened_covers}
+use Rattle.store_reader.proofs.ReaderStoreLemmas.{store_seen}
 use Rattle.store_reader.proofs.OpenedLemmas.{opened_is_store}
 use Rattle.store_reader.proofs.RefusedLemmas.{refused_is_none}
 use Rattle.store_reader.proofs.HandedLemmas.{handed_back, accepted_handed, opening_failed}
 use Rattle.store_reader.proofs.reader.StoreReader.open.Goals as goal
 
-opened : (g : _) (c : goal.After-narrow g) → IsOpened c.args.file c.args.cache_num_blocks (the_view (param 0 g.row.H) g.H.FileHandle (record { file = c.narrow.result; index = c.in-Ok.found.1; version = c.in-Ok.found.0.doc_store_version; decompressor = c.in-Ok.found.0.decompressor; cache = c.in-Ok-new.cache }))
+opened : (g : _) (c : goal.After-narrow g) → IsOpened c.args.file c.args.cache_num_blocks (the_view (param 0 g.row.H) g.H.FileHandle
+    (record { file = c.narrow.result; index = c.in-Ok.found.1; version = c.in-Ok.found.0.doc_store_version; decompressor = c.in-Ok.found.0.decompressor; cache = c.in-Ok-new.cache }))
 opened g c = record {
   footer = c.in-Ok.found.0;
   after = c.read_store.new.file;
@@ -45,4 +46,4 @@ pub returns-clause-seen : goal.returns-clause-seen
 returns-clause-seen g c =
     let covers = opened_covers _ _ _ (opened g c) in
     let seen = store_seen _ _ covers in
-    record { blocks = seen.blocks; marks_are = seen.marks_are; data_is = seen.data_is }
+    record { blocks = seen.blocks; checkpoints_are = seen.checkpoints_are; data_is = seen.data_is }

@@ -1,5 +1,5 @@
 use Rattle.std.proofs.Common.{arith, ℕ, List, Some, refl, sym, ap, ◌∙◌}
-use Rattle.store_reader.specs.Answers.{exact_result}
+use Rattle.store_reader.specs.CallAnswers.{exact_result}
 use Rattle.store_format.specs.Block.{doc}
 use Rattle.store_reader.proofs.ViewLemmas.{placed, slot_placed, slot_none, doc_placed, stands_at}
 use Rattle.store_reader.proofs.view.StoreView.locate.Goals as goal

@@ -15,18 +15,18 @@ pub push-requires : goal.push-requires
 push-requires c =
     let inside = c.self.inside in
     in_line_from inside.first_doc inside.first_byte _ (one_more inside.first_doc inside.first_byte inside.doc inside.byte c.in-Some.doc_end c.in-Some-checked_add.byte_end c.args.docs c.args.bytes
-        inside.block c.self.invariant.0 c.self.invariant.1 c.self.invariant.2
+    inside.block c.self.invariant.0 c.self.invariant.1 c.self.invariant.2
     (omega (arith, c.in-Some.ensures)) (omega (arith, c.in-Some-checked_add.ensures)) (omega (arith, c.ranges.bytes.fits)) (omega (arith, c.in-Some.ensures))
-        (omega (arith, c.in-Some-checked_add.ensures)))
+    (omega (arith, c.in-Some-checked_add.ensures)))
 
 pub invariant_of-self-2 : goal.invariant_of-self-2
 invariant_of-self-2 c =
     let inside = c.self.inside in
     let more = checkpoint inside.doc c.in-Some.doc_end inside.byte c.in-Some-checked_add.byte_end in
     let line = one_more inside.first_doc inside.first_byte inside.doc inside.byte c.in-Some.doc_end c.in-Some-checked_add.byte_end c.args.docs c.args.bytes inside.block c.self.invariant.0
-        c.self.invariant.1 c.self.invariant.2
+    c.self.invariant.1 c.self.invariant.2
     (omega (arith, c.in-Some.ensures)) (omega (arith, c.in-Some-checked_add.ensures)) (omega (arith, c.ranges.bytes.fits)) (omega (arith, c.in-Some.ensures))
-        (omega (arith, c.in-Some-checked_add.ensures)) in
+    (omega (arith, c.in-Some-checked_add.ensures)) in
     subst (λ (cs : List Checkpoint). IsInLineFrom inside.first_doc inside.first_byte cs × (docs_end inside.first_doc cs ≡ c.in-Some.doc_end)
-        × (bytes_end inside.first_byte cs ≡ c.in-Some-checked_add.byte_end))
+    × (bytes_end inside.first_byte cs ≡ c.in-Some-checked_add.byte_end))
     (sym c.in_ok-push.ensures.ok) (line, docs_end-put inside.first_doc inside.block more, bytes_end-put inside.first_byte inside.block more)

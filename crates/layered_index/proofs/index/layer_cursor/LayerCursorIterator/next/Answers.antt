@@ -19,5 +19,6 @@ pub returns-clause-goes : goal.returns-clause-goes
 returns-clause-goes c =
     let s = c.self.inside in
     let n = c.in_ok-checkpoint in
-    let e : c.args.self.now ≡ n.checkpoint ∷ items n.left n.checkpoint.doc_range.end n.checkpoint.byte_range.end n.rest.now = sym c.self.view_is ∙ items_next s.left s.doc s.byte s.rest.now ∙ ap items_behind (sym n.ensures) in
+    let e : c.args.self.now ≡ n.checkpoint ∷ items n.left n.checkpoint.doc_range.end n.checkpoint.byte_range.end n.rest.now = sym c.self.view_is ∙ items_next s.left s.doc s.byte s.rest.now
+    ∙ ap items_behind (sym n.ensures) in
     rw e (search rules)

@@ -29,6 +29,7 @@ returns-clause-ok c =
     let in_line : IsInLine (list_of c.self.inside.layers.items ++ c.args.checkpoint ∷ []) = subst (λ (cs : List Checkpoint). IsInLine (cs ++ c.args.checkpoint ∷ [])) (sym list) c.requires in
     on_ok_weaker c.insert_at.result
     (λ e.
-    let same = ap list_of e ∙ list_of-inserted c.self.inside.period c.self.inside.layers.items c.args.checkpoint c.self.invariant in_line ∙ ap (λ (cs : List Checkpoint). cs ++ c.args.checkpoint ∷ []) list in
+    let same = ap list_of e ∙ list_of-inserted c.self.inside.period c.self.inside.layers.items c.args.checkpoint c.self.invariant in_line
+    ∙ ap (λ (cs : List Checkpoint). cs ++ c.args.checkpoint ∷ []) list in
     λ i. record { period = period i; checkpoints = same i })
     c.insert_at.ensures.ok

@@ -15,15 +15,18 @@ returns-clause-ok g c =
     let layers = c.self.inside.layers.items in
     let after = c.close_layers.new.layers in
     let len : length after ≡ length layers = c.close_layers.auto.layers ∙ ap length c.deref_mut.ensures.value in
-    let whole : c.as_slice-closed.result.now ≡ after = c.as_slice-closed.ensures.value ∙ whole_slice c.self.inside.layers.len after layers len (omega (arith, c.deref_mut.ensures.len, ap length c.deref_mut.ensures.value)) in
+    let whole : c.as_slice-closed.result.now ≡ after = c.as_slice-closed.ensures.value ∙ whole_slice c.self.inside.layers.len after layers len
+    (omega (arith, c.deref_mut.ensures.len, ap length c.deref_mut.ensures.value)) in
     let texts : texts_of c.as_slice-closed.result.now ≡ closed layers None =
     ap texts_of whole ∙ c.in_ok-close_layers.ensures.ok ∙ ap (λ (ls : List Layer). closed ls None) c.deref_mut.ensures.value in
     let count : length c.as_slice-closed.result.now ≡ length layers = ap length whole ∙ len in
     let head : c.deref.result.now ≡ number (length layers) ++ flat_map number (ends_from 0 (reverse (closed layers None))) =
     c.deref.ensures.value ∙ c.in_ok-head.ensures.ok ∙ (λ i. number (count i) ++ flat_map number (ends_from 0 (reverse (texts i)))) in
-    let written : g.W.TerminatingWrite.content c.write_layers.new.output ≡ g.W.TerminatingWrite.content c.args.output.now ++ c.deref.result.now ++ concat (reverse (texts_of c.as_slice-closed.result.now)) =
+    let written : g.W.TerminatingWrite.content c.write_layers.new.output ≡ g.W.TerminatingWrite.content c.args.output.now ++ c.deref.result.now
+    ++ concat (reverse (texts_of c.as_slice-closed.result.now)) =
     c.in_ok-write_layers.ensures.ok ∙ ap (λ (bytes : List ℕ). bytes ++ concat (reverse (texts_of c.as_slice-closed.result.now))) c.in_ok-write_all.ensures.ok in
     written
     ∙ (λ i. g.W.TerminatingWrite.content c.args.output.now ++ head i ++ concat (reverse (texts i)))
     ∙ append_assoc (g.W.TerminatingWrite.content c.args.output.now) (number (length layers) ++ flat_map number (ends_from 0 (reverse (closed layers None)))) (concat (reverse (closed layers None)))
-    ∙ ap (λ (bytes : List ℕ). g.W.TerminatingWrite.content c.args.output.now ++ bytes) (sym (index_part_is c.self.inside.period layers c.self.invariant) ∙ ap (λ (v : Index). index_part v.period v.checkpoints) c.self.view_is)
+    ∙ ap (λ (bytes : List ℕ). g.W.TerminatingWrite.content c.args.output.now ++ bytes) (sym (index_part_is c.self.inside.period layers c.self.invariant)
+    ∙ ap (λ (v : Index). index_part v.period v.checkpoints) c.self.view_is)

@@ -28,6 +28,8 @@ returns c =
     let s = c.self.inside in
     let ends = c.get-doc_end.result in
     elim c.if-i-eq0.branch [
-      | then-i-eq0 w ↦ first_between s.doc s.byte s.ends.docs s.ends.bytes c.args.self.now c.if-i-eq0.doc c.args.i ends.0 ends.1 c.self.view_is w.if-i-eq0.true w.doc-is c.get-doc_end.ensures.docs c.get-doc_end.ensures.bytes
-      | else-i-eq0 w ↦ later_between s.doc s.byte s.ends.docs s.ends.bytes c.args.self.now c.if-i-eq0.doc w.get.result c.args.i ends.0 ends.1 c.self.view_is w.if-i-eq0.false w.doc-is w.get.ensures.docs w.get.ensures.bytes c.get-doc_end.ensures.docs c.get-doc_end.ensures.bytes
+      | then-i-eq0 w ↦ first_between s.doc s.byte s.ends.docs s.ends.bytes c.args.self.now c.if-i-eq0.doc c.args.i ends.0 ends.1 c.self.view_is w.if-i-eq0.true w.doc-is c.get-doc_end.ensures.docs
+          c.get-doc_end.ensures.bytes
+      | else-i-eq0 w ↦ later_between s.doc s.byte s.ends.docs s.ends.bytes c.args.self.now c.if-i-eq0.doc w.get.result c.args.i ends.0 ends.1 c.self.view_is w.if-i-eq0.false w.doc-is
+          w.get.ensures.docs w.get.ensures.bytes c.get-doc_end.ensures.docs c.get-doc_end.ensures.bytes
     ]

@@ -10,7 +10,7 @@ use Rattle.store_format.specs.declared.footer.DocStoreFooter.{DocStoreFooter}
 use Rattle.store_format.specs.FileReading.{Comes}
 use Rattle.store_reader.specs.Opening.{IndexFrom, ReadsIndex, OpensFrom, IsOpened, index_of}
 use Rattle.store_reader.specs.Reading.{Reading}
-use Rattle.store_reader.proofs.SeenLemmas.{length-slice}
+use Rattle.store_reader.proofs.ReaderStoreLemmas.{length-slice}
 
 record IsCovered (new : Part) (f : DocStoreFooter) (index : Index) : Type 0 where
   within : f.offset ≤ length new.content - 28

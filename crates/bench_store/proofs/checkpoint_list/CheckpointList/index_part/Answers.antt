@@ -5,7 +5,7 @@ use Rattle.layered_index.specs.declared.index.Checkpoint.{Checkpoint}
 use Rattle.layered_index.specs.Checkpoint.{IsInLine}
 use Rattle.layered_index.specs.Layers.{Index}
 use Rattle.layered_index.specs.LineLemmas.{ends_in_line, in_line_take}
-use Rattle.bench_store.proofs.marks.Marks.index_part.Goals as goal
+use Rattle.bench_store.proofs.checkpoint_list.CheckpointList.index_part.Goals as goal
 
 -- the front that is one longer
 one_longer : (cs taken : List Checkpoint) (i : ℕ) (c : Checkpoint) → taken ≡ take i cs → slice_get cs i ≡ Some c → taken ++ c ∷ [] ≡ take (i + 1) cs

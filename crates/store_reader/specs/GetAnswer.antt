@@ -19,7 +19,8 @@ AnswersFrom id place (Ok block) result = Answers id (slot block place) result
 AnswersFrom id place (Err e) result = result ≡ Err e
 
 -- One look-up of the block that has this document: its checkpoint, and the bytes that came, or why none did.
-pub record IsLookedUp (old : Reading) (id : ℕ) (checkpoint : Checkpoint) (came : Result (List ℕ) StoreError) (new : Reading) : Type 0 where
+pub record IsLookedUp (old : Reading) (id : ℕ) (checkpoint : Checkpoint) (came : Result (List ℕ) StoreError)
+    (new : Reading) : Type 0 where
   pub seeks : first_past old.checkpoints id ≡ Some checkpoint
   pub looks_up : LooksUp checkpoint old.file old.cache came new.file new.cache
   pub stays : new ≡ with_parts old new.file new.cache
@@ -32,7 +33,9 @@ pub record IsAnswered (old : Reading) (id : ℕ) (result : Result (List ℕ) Sto
   pub looked : IsLookedUp old id checkpoint came new
   pub answer : AnswersFrom id (id - checkpoint.doc_range.start) came result
 
--- The bytes of the document's slot; or the refusal where there is none, or it is damaged; or a read failed or memory ran out.
+-- The bytes of the document's slot; or the refusal where there is none, or it is damaged; or a read failed or memory
+-- ran out.
 abbrev pub AnswersTruly : ℕ → Option Slot → Result (List ℕ) StoreError → Type 0
 AnswersTruly id s (Ok bytes) = s ≡ Some (doc bytes)
-AnswersTruly id s (Err e) = ((e ≡ InvalidArgument id) × (s ≡ None)) ⊎ ((e ≡ DamagedDocument id) × (s ≡ Some damaged)) ⊎ (e ≡ Read) ⊎ (e ≡ Memory)
+AnswersTruly id s (Err e) = ((e ≡ InvalidArgument id) × (s ≡ None)) ⊎ ((e ≡ DamagedDocument id) × (s ≡ Some damaged))
+    ⊎ (e ≡ Read) ⊎ (e ≡ Memory)

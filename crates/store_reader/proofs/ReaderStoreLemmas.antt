@@ -6,7 +6,7 @@ use Rattle.std.proofs.lemmas.List.{take_all, length-take-le, length-drop, drop-d
 use Rattle.std.proofs.Math.Seq.{take-add}
 use Rattle.layered_index.specs.declared.index.Checkpoint.{Checkpoint}
 use Rattle.layered_index.specs.Checkpoint.{IsInLineFrom, docs_end, bytes_end, doc_count, IsFilled, Covers}
-use Rattle.store_format.specs.StoreFile.{StoreBlock, IsStoreBlock, AreBlocks, docs_in, data_of, marks_from, marks, blocks_at}
+use Rattle.store_format.specs.StoreFile.{StoreBlock, IsStoreBlock, AreBlocks, docs_in, data_of, checkpoints_from, checkpoints_of, blocks_at}
 use Rattle.store_reader.specs.Reading.{part_of}
 use Rattle.store_reader.proofs.SeekLemmas.{bytes_go_on}
 use Rattle.store_format.proofs.StoreLemmas.{docs_in-cons, blocks_from}
@@ -36,18 +36,19 @@ parts_joined content doc byte (c ∷ cs) r =
     ∙ sym (slices_joined content c.byte_range.start c.byte_range.end (bytes_end c.byte_range.end cs) order more)
     ∙ ap (λ (k : ℕ). slice_range content k (bytes_end c.byte_range.end cs)) start
 
--- the marks are the checkpoints
-marks_again : (content : List ℕ) (doc byte : ℕ) (cs : List Checkpoint) → IsInLineFrom doc byte cs → bytes_end byte cs ≤ length content → marks_from doc byte (blocks_of content cs) ≡ cs
-marks_again content doc byte [] r le = refl
-marks_again content doc byte (c ∷ cs) r le =
+-- the checkpoints_of are the checkpoints
+checkpoints_again : (content : List ℕ) (doc byte : ℕ) (cs : List Checkpoint) → IsInLineFrom doc byte cs → bytes_end byte cs ≤ length content → checkpoints_from doc byte (blocks_of content cs) ≡ cs
+checkpoints_again content doc byte [] r le = refl
+checkpoints_again content doc byte (c ∷ cs) r le =
     let docs = r.2.doc_order in let bytes = r.2.byte_order in let d = r.0 in let b = r.1 in
     let more = bytes_go_on c.doc_range.end c.byte_range.end cs r.3 in
     let size : length (part_of content c) ≡ c.byte_range.end - c.byte_range.start = length-slice content c.byte_range.start c.byte_range.end (omega arith) in
     let doc_end : doc + doc_count c ≡ c.doc_range.end = omega arith in
     let byte_end : byte + length (part_of content c) ≡ c.byte_range.end = omega arith in
-    rw (doc_end, byte_end, ← d, ← b) (ap (λ (ys : List Checkpoint). c ∷ ys) (marks_again content c.doc_range.end c.byte_range.end cs r.3 le))
+    rw (doc_end, byte_end, ← d, ← b) (ap (λ (ys : List Checkpoint). c ∷ ys) (checkpoints_again content c.doc_range.end c.byte_range.end cs r.3 le))
 
-each_block : (content : List ℕ) (doc byte : ℕ) (cs : List Checkpoint) → IsInLineFrom doc byte cs → AllByRecursion IsFilled cs → bytes_end byte cs ≤ length content → AllByRecursion IsStoreBlock (blocks_of content cs)
+each_block : (content : List ℕ) (doc byte : ℕ) (cs : List Checkpoint) → IsInLineFrom doc byte cs → AllByRecursion IsFilled cs → bytes_end byte cs ≤ length content
+    → AllByRecursion IsStoreBlock (blocks_of content cs)
 each_block content doc byte [] r f le = tt
 each_block content doc byte (c ∷ cs) r f le =
     let more = bytes_go_on c.doc_range.end c.byte_range.end cs r.3 in
@@ -70,20 +71,20 @@ docs_fit doc byte (c ∷ cs) lt r = docs_fit c.doc_range.end c.byte_range.end cs
 pub all_of : (xs : List ℕ) (n : ℕ) → n ≡ length xs → slice_range xs 0 n ≡ xs
 all_of xs n e = take_all (n - 0) xs (omega arith)
 
-seen_marks : (content : List ℕ) (cs : List Checkpoint) → Covers cs (length content) → marks (blocks_of content cs) ≡ cs
-seen_marks content cs covers = let end = covers.end in marks_again content 0 0 cs covers.in_line (omega arith)
+seen_checkpoints : (content : List ℕ) (cs : List Checkpoint) → Covers cs (length content) → checkpoints_of (blocks_of content cs) ≡ cs
+seen_checkpoints content cs covers = let end = covers.end in checkpoints_again content 0 0 cs covers.in_line (omega arith)
 
 seen_data : (content : List ℕ) (cs : List Checkpoint) → Covers cs (length content) → data_of (blocks_of content cs) ≡ content
 seen_data content cs covers = parts_joined content 0 0 cs covers.in_line ∙ all_of content (bytes_end 0 cs) covers.end
 
 -- cutting data by checkpoints gives the blocks by their ranges
 pub store_is : (content : List ℕ) (cs : List Checkpoint) → Covers cs (length content) → blocks_at cs content ≡ blocks_of content cs
-store_is content cs covers = blocks_from cs content (blocks_of content cs) (sym (seen_marks content cs covers)) (sym (seen_data content cs covers))
+store_is content cs covers = blocks_from cs content (blocks_of content cs) (sym (seen_checkpoints content cs covers)) (sym (seen_data content cs covers))
 
 -- what the blocks of checkpoints that cover are
 pub record IsStoreOf (content : List ℕ) (cs : List Checkpoint) : Type 0 where
   pub blocks : AreBlocks (blocks_at cs content)
-  pub marks_are : marks (blocks_at cs content) ≡ cs
+  pub checkpoints_are : checkpoints_of (blocks_at cs content) ≡ cs
   pub data_is : data_of (blocks_at cs content) ≡ content
 
 pub store_seen : (content : List ℕ) (cs : List Checkpoint) → Covers cs (length content) → IsStoreOf content cs
@@ -94,6 +95,6 @@ store_seen content cs covers =
     let fit = docs_fit 0 0 cs (omega arith) covers.in_line in
     record {
       blocks = subst AreBlocks (sym same) (record { each = each_block content 0 0 cs covers.in_line covers.filled (omega arith); few_docs = omega arith });
-      marks_are = ap marks same ∙ seen_marks content cs covers;
+      checkpoints_are = ap checkpoints_of same ∙ seen_checkpoints content cs covers;
       data_is = ap data_of same ∙ seen_data content cs covers;
     }

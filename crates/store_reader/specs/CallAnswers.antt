@@ -1,5 +1,6 @@
 -- What a list of reading calls answers.
-use Rattle.std.specs.Prelude.{◌≡◌, ◌↔◌, ℕ, ◌≤◌, Bool, nat_lt, if◌then◌else◌, List, [], ◌∷◌, length, map, slice_get, Contains, Option, Some, None, IfSome, Result, Ok, Err, IsErrOf}
+use Rattle.std.specs.Prelude.{◌≡◌, ◌↔◌, ℕ, ◌≤◌, Bool, nat_lt, if◌then◌else◌, List, [], ◌∷◌, length, map, slice_get}
+use Rattle.std.specs.Prelude.{Contains, Option, Some, None, IfSome, Result, Ok, Err, IsErrOf}
 use Rattle.std.specs.List.{AllByRecursion, flat_map}
 use Rattle.store_base.specs.AliveBitSet.{is_alive_at}
 use Rattle.store_reader.specs.declared.answers.Answer.{Answer}
@@ -10,10 +11,10 @@ use Rattle.store_base.specs.declared.error.StoreError.{StoreError}
 use Rattle.store_base.specs.declared.error.StoreError.TheVariants.{InvalidArgument, DamagedDocument, Read, Memory}
 use Rattle.layered_index.specs.declared.index.Checkpoint.{Checkpoint}
 use Rattle.layered_index.specs.Checkpoint.{docs_end, first_past}
-use Rattle.store_reader.specs.Answering.{AnswersTruly}
+use Rattle.store_reader.specs.GetAnswer.{AnswersTruly}
 use Rattle.store_format.specs.Block.{Slot, doc, damaged}
 use Rattle.store_reader.specs.Iteration.{looked_along}
-use Rattle.store_reader.specs.Listing.{first_alive, AreItems}
+use Rattle.store_reader.specs.CallList.{first_alive, AreItems}
 
 -- the set of a call, or none
 abbrev pub set_here : Option (List Bool) → Option (ℕ → Bool)
@@ -25,7 +26,8 @@ abbrev pub CanAnswer : ℕ → ReadCall → Type 0
 CanAnswer count (Bytes id) = Unit {0}
 CanAnswer count (Iter alive take) = IfSome alive (λ set. count ≤ length set)
 
--- A document's slot answers a get; the first slots whose ids are alive answer an iteration, one by one; failed reads and want of memory aside.
+-- A document's slot answers a get; the first slots whose ids are alive answer an iteration, one by one; failed reads
+-- and want of memory aside.
 abbrev pub IsAnswer : List Slot → ReadCall → Answer → Type 0
 IsAnswer all (Bytes id) (Got result) = AnswersTruly id (slice_get all id) result
 IsAnswer all (Iter alive take) (Listed v) = AreItems (first_alive take all (set_here alive)) v.items
@@ -40,9 +42,11 @@ AreAnswers all _ _ = ⊥
 abbrev pub IsNotPast : Result (List ℕ) StoreError → Type 0
 IsNotPast result = (id : ℕ) → ¬ IsErrOf result (InvalidArgument id)
 
--- A get is refused as one of this id, and of no other, exactly where the id is at or past the count; no item of an iteration is.
+-- A get is refused as one of this id, and of no other, exactly where the id is at or past the count; no item of an
+-- iteration is.
 abbrev pub RefusesPast : ℕ → ReadCall → Answer → Type 0
-RefusesPast count (Bytes id) (Got result) = (other : ℕ) → IsErrOf result (InvalidArgument other) ↔ ((other ≡ id) × (count ≤ id))
+RefusesPast count (Bytes id) (Got result) = (other : ℕ)
+    → IsErrOf result (InvalidArgument other) ↔ ((other ≡ id) × (count ≤ id))
 RefusesPast count (Iter alive take) (Listed v) = AllByRecursion IsNotPast v.items
 RefusesPast count _ _ = ⊥
 
@@ -60,7 +64,8 @@ abbrev pub key_of : Option Checkpoint → List ℕ
 key_of None = []
 key_of (Some c) = c.byte_range.start ∷ []
 
--- The keys that a call looks up: that of the document's block, none for an id at or past the count; or those of an iteration that is
+-- The keys that a call looks up: that of the document's block, none for an id at or past the count; or those of an
+-- iteration that is
 -- dropped after so many items.
 abbrev pub keys_of_call : List Checkpoint → ReadCall → List ℕ
 keys_of_call cs (Bytes id) = if nat_lt id (docs_end 0 cs) then key_of (first_past cs id) else []
@@ -92,7 +97,8 @@ AreSameAnswers _ _ = ⊥
 
 -- The slots decide the answers where no read failed and memory was found: not the cache, nor what was called before.
 abbrev pub SlotsDecideAnswers : Type 0
-SlotsDecideAnswers = (all : List Slot) (calls : List ReadCall) (answers others : List Answer) → AreAnswers all calls answers → AreAnswers all calls others
+SlotsDecideAnswers = (all : List Slot) (calls : List ReadCall) (answers others : List Answer)
+    → AreAnswers all calls answers → AreAnswers all calls others
     → AllByRecursion AllCame answers → AllByRecursion AllCame others → AreSameAnswers answers others
 
 -- what a slot answers: its bytes, or the refusal of this id where there is no slot or it is damaged
@@ -108,5 +114,6 @@ exact_results all (Iter alive take) = map (λ x. exact_result x.0 (Some x.1)) (f
 
 -- Where no read failed and memory was found, the slots and the calls say exactly what is answered.
 abbrev pub AnswersAreExact : Type 0
-AnswersAreExact = (all : List Slot) (calls : List ReadCall) (answers : List Answer) → AreAnswers all calls answers → ¬ HasRefusal answers Read → ¬ HasRefusal answers Memory
+AnswersAreExact = (all : List Slot) (calls : List ReadCall) (answers : List Answer) → AreAnswers all calls answers
+    → ¬ HasRefusal answers Read → ¬ HasRefusal answers Memory
     → map results_of answers ≡ map (exact_results all) calls

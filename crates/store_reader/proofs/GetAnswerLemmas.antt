@@ -10,8 +10,8 @@ use Rattle.layered_index.specs.Checkpoint.{Covers, first_past}
 use Rattle.store_format.specs.Slots.{slots}
 use Rattle.store_format.specs.StoreFile.{StoreBlock}
 use Rattle.store_reader.specs.Reading.{Reading, num_docs, part_of, store_of}
-use Rattle.store_reader.specs.Answering.{IsLookedUp, IsAnswered, AnswersFrom, AnswersTruly}
-use Rattle.store_reader.proofs.SeenLemmas.{blocks_of, store_is}
+use Rattle.store_reader.specs.GetAnswer.{IsLookedUp, IsAnswered, AnswersFrom, AnswersTruly}
+use Rattle.store_reader.proofs.ReaderStoreLemmas.{blocks_of, store_is}
 use Rattle.store_reader.proofs.StoreSlotLemmas.{slot_sought, slot_past}
 
 -- no block came: a read failed, or memory ran out
@@ -29,7 +29,8 @@ has_failed old new id c looked = elim looked.looks_up.cause [
 ]
 
 -- the slot of a document is that of its place in the block that a seek finds
-pub slot_at : (r : Reading) (id : ℕ) (c : Checkpoint) → Covers r.checkpoints (length r.file.content) → first_past r.checkpoints id ≡ Some c → slice_get (slots (store_of r)) id ≡ Some (slot (part_of r.file.content c) (id - c.doc_range.start))
+pub slot_at : (r : Reading) (id : ℕ) (c : Checkpoint) → Covers r.checkpoints (length r.file.content) → first_past r.checkpoints id ≡ Some c
+    → slice_get (slots (store_of r)) id ≡ Some (slot (part_of r.file.content c) (id - c.doc_range.start))
 slot_at r id c covers seeks =
     let whole : id - 0 ≡ id = omega arith in
     let same : store_of r ≡ blocks_of r.file.content r.checkpoints = store_is r.file.content r.checkpoints covers in
@@ -47,16 +48,19 @@ module _ (old new : Reading) (id : ℕ) where
   pub not_none_such : (result : Result (List ℕ) StoreError) → IsAnswered old id result new → result ≡ Err (InvalidArgument id) → ⊥
   not_none_such result a e = none_such a.checkpoint a.came result a.looked a.answer e
 
-  failed : (c : Checkpoint) (came result : Result (List ℕ) StoreError) → IsLookedUp old id c came new → AnswersFrom id (id - c.doc_range.start) came result → result ≡ Err Read → HasRisen old.file.failures new.file.failures
+  failed : (c : Checkpoint) (came result : Result (List ℕ) StoreError) → IsLookedUp old id c came new → AnswersFrom id (id - c.doc_range.start) came result → result ≡ Err Read
+      → HasRisen old.file.failures new.file.failures
   failed c (Ok block) (Ok bytes) looked answer e = absurd cc
   failed c (Ok block) (Err f) looked answer e = absurd (elim answer [ inl d ↦ let is = d.0 in cc | inr m ↦ cc ])
-  failed c (Err f) result looked answer e = let is : ◌≡◌ {A = Result (List ℕ) StoreError} (Err f) (Err Read) = sym answer ∙ e in has_failed old new id c (subst (λ (f : StoreError). IsLookedUp old id c (Err f) new) (let same : f ≡ Read = cc in same) looked)
+  failed c (Err f) result looked answer e = let is : ◌≡◌ {A = Result (List ℕ) StoreError} (Err f) (Err Read) = sym answer ∙ e in
+      has_failed old new id c (subst (λ (f : StoreError). IsLookedUp old id c (Err f) new) (let same : f ≡ Read = cc in same) looked)
 
   -- a read fails only where the file's count of failures rises
   pub read_failed : (result : Result (List ℕ) StoreError) → IsAnswered old id result new → result ≡ Err Read → HasRisen old.file.failures new.file.failures
   read_failed result a e = failed a.checkpoint a.came result a.looked a.answer e
 
-  truly : (c : Checkpoint) (came result : Result (List ℕ) StoreError) → IsLookedUp old id c came new → IfOk came (λ block. block ≡ part_of old.file.content c) → AnswersFrom id (id - c.doc_range.start) came result
+  truly : (c : Checkpoint) (came result : Result (List ℕ) StoreError) → IsLookedUp old id c came new → IfOk came (λ block. block ≡ part_of old.file.content c)
+      → AnswersFrom id (id - c.doc_range.start) came result
       → AnswersTruly id (Some (slot (part_of old.file.content c) (id - c.doc_range.start))) result
   truly c (Ok block) (Ok bytes) looked part answer = ap (λ (b : List ℕ). Some (slot b (id - c.doc_range.start))) (sym part) ∙ ap Some answer
   truly c (Ok block) (Err f) looked part answer = elim answer [
@@ -67,10 +71,15 @@ module _ (old new : Reading) (id : ℕ) where
   truly c (Err f) (Err h) looked part answer = let is : h ≡ f = cc in elim (why_none old new id c f looked) [ inl r ↦ inr (inr (inl (is ∙ r))) | inr m ↦ inr (inr (inr (is ∙ m))) ]
 
   -- in an honest file the slot answers
-  pub answers_truly : (result : Result (List ℕ) StoreError) → Covers old.checkpoints (length old.file.content) → IsAnswered old id result new → IsTrue old.file.honest → AnswersTruly id (slice_get (slots (store_of old)) id) result
+  pub answers_truly : (result : Result (List ℕ) StoreError) → Covers old.checkpoints (length old.file.content) → IsAnswered old id result new → IsTrue old.file.honest
+      → AnswersTruly id (slice_get (slots (store_of old)) id) result
   answers_truly result covers a honest =
       subst (λ (o : Option Slot). AnswersTruly id o result) (sym (slot_at old id a.checkpoint covers a.looked.seeks)) (truly a.checkpoint a.came result a.looked (a.looked.honest honest) a.answer)
 
   -- where there is no document
   pub none_truly : Covers old.checkpoints (length old.file.content) → num_docs old ≤ id → AnswersTruly id (slice_get (slots (store_of old)) id) (Err (InvalidArgument id))
-  none_truly covers le = inl (refl, ap (λ (bs : List StoreBlock). slice_get (slots bs) id) (store_is old.file.content old.checkpoints covers) ∙ slot_past old.file.content 0 old.checkpoints id covers.in_line le)
+  none_truly covers le = inl (
+    refl,
+    ap (λ (bs : List StoreBlock). slice_get (slots bs) id) (store_is old.file.content old.checkpoints covers)
+        ∙ slot_past old.file.content 0 old.checkpoints id covers.in_line le,
+  )

@@ -2,7 +2,7 @@ use Rattle.std.proofs.Common.{◌≡◌, ℕ, ◌+◌, ◌^◌, ◌<◌, List, [
 use Rattle.layered_index.specs.declared.index.Checkpoint.{Checkpoint}
 use Rattle.layered_index.specs.Checkpoint.{checkpoint, EndsAt}
 use Rattle.layered_index.specs.LineLemmas.{ends_in_line, ends_put}
-use Rattle.bench_store.proofs.marks.Marks.add.Goals as goal
+use Rattle.bench_store.proofs.checkpoint_list.CheckpointList.add.Goals as goal
 
 -- what begins at the ends is put behind
 one_more : (doc docs doc_end byte bytes byte_end : ℕ) (cs : List Checkpoint) → EndsAt doc byte cs → doc_end ≡ doc + docs → doc_end < 2 ^ 32 → byte_end ≡ byte + bytes → bytes < 2 ^ 32

@@ -8,32 +8,32 @@ use Rattle.store_base.specs.declared.error.Cause.{Cause}
 use Rattle.layered_index.specs.declared.index.Checkpoint.{Checkpoint}
 use Rattle.layered_index.specs.Checkpoint.{checkpoint, doc_count, IsWithinLimits, IsInLineFrom, IsInLine, docs_end, Covers}
 use Rattle.layered_index.specs.LineLemmas.{in_line-split, in_line-join, in_line_from}
-use Rattle.store_format.specs.StoreFile.{StoreBlock, IsStoreBlock, docs_in, data_of, marks_from, marks, blocks_at}
+use Rattle.store_format.specs.StoreFile.{StoreBlock, IsStoreBlock, docs_in, data_of, checkpoints_from, checkpoints_of, blocks_at}
 use Rattle.docstore.specs.BlockOutput.{BlockOutput, IsCompressing, compressing}
 use Rattle.docstore.specs.Stacking.{shifted}
 use Rattle.store_format.proofs.StoreLemmas.{length-data_of-cons, docs_in-blocks_at}
 use Rattle.docstore.proofs.OutputLemmas.{AreAdded, are_added, docs_seen}
-use Rattle.store_reader.proofs.SeenLemmas.{store_seen}
+use Rattle.store_reader.proofs.ReaderStoreLemmas.{store_seen}
 
 -- ---- shifted checkpoints
 
-shifted-marks : (docs bytes id byte : ℕ) (bs : List StoreBlock) → map (shifted docs bytes) (marks_from id byte bs) ≡ marks_from (id + docs) (byte + bytes) bs
-shifted-marks docs bytes id byte [] = refl
-shifted-marks docs bytes id byte (b ∷ bs) =
+shifted-checkpoints : (docs bytes id byte : ℕ) (bs : List StoreBlock) → map (shifted docs bytes) (checkpoints_from id byte bs) ≡ checkpoints_from (id + docs) (byte + bytes) bs
+shifted-checkpoints docs bytes id byte [] = refl
+shifted-checkpoints docs bytes id byte (b ∷ bs) =
     let ids : (id + b.count) + docs ≡ (id + docs) + b.count = omega arith in
     let places : (byte + length b.bytes) + bytes ≡ (byte + bytes) + length b.bytes = omega arith in
-    let others = shifted-marks docs bytes (id + b.count) (byte + length b.bytes) bs in
-    let moved : marks_from ((id + b.count) + docs) ((byte + length b.bytes) + bytes) bs ≡ marks_from ((id + docs) + b.count) ((byte + bytes) + length b.bytes) bs =
-    λ i. marks_from (ids i) (places i) bs in
+    let others = shifted-checkpoints docs bytes (id + b.count) (byte + length b.bytes) bs in
+    let moved : checkpoints_from ((id + b.count) + docs) ((byte + length b.bytes) + bytes) bs ≡ checkpoints_from ((id + docs) + b.count) ((byte + bytes) + length b.bytes) bs =
+    λ i. checkpoints_from (ids i) (places i) bs in
     let rest = others ∙ moved in
     λ i. checkpoint (id + docs) (ids i) (byte + bytes) (places i) ∷ rest i
 
 -- the checkpoints of a store behind other blocks
-shifted_behind : (docs bytes : ℕ) (cs : List Checkpoint) (bs : List StoreBlock) → cs ≡ marks bs → map (shifted docs bytes) cs ≡ marks_from docs bytes bs
+shifted_behind : (docs bytes : ℕ) (cs : List Checkpoint) (bs : List StoreBlock) → cs ≡ checkpoints_of bs → map (shifted docs bytes) cs ≡ checkpoints_from docs bytes bs
 shifted_behind docs bytes cs bs is =
     let id : 0 + docs ≡ docs = omega arith in
     let place : 0 + bytes ≡ bytes = omega arith in
-    ap (map (shifted docs bytes)) is ∙ shifted-marks docs bytes 0 0 bs ∙ (λ i. marks_from (id i) (place i) bs)
+    ap (map (shifted docs bytes)) is ∙ shifted-checkpoints docs bytes 0 0 bs ∙ (λ i. checkpoints_from (id i) (place i) bs)
 
 -- ---- the next of a list in line
 
@@ -76,14 +76,14 @@ pub docs_cut : (cs : List Checkpoint) (bytes : List ℕ) → Covers cs (length b
 docs_cut cs bytes covers = omega (arith, docs_in-blocks_at cs bytes, docs_up 0 0 cs covers.in_line)
 
 -- blocks have bytes
-some_data : (cs : List Checkpoint) (bs : List StoreBlock) → cs ≡ marks bs → AllByRecursion IsStoreBlock bs → 0 < length cs → 0 < length (data_of bs)
+some_data : (cs : List Checkpoint) (bs : List StoreBlock) → cs ≡ checkpoints_of bs → AllByRecursion IsStoreBlock bs → 0 < length cs → 0 < length (data_of bs)
 some_data cs [] is each some = absurd (omega (arith, ap length is, some))
 some_data cs (b ∷ bs) is each some = omega (arith, length-data_of-cons b bs, each.0.some_bytes)
 
 -- what is known once the blocks that checkpoints cut from bytes are written behind the others
 pub record AreCut (period next_id : ℕ) (cs : List Checkpoint) (content : List ℕ) (written : ℕ) (more : List Checkpoint) (bytes : List ℕ) : Type 0 where
   pub added : AreAdded period next_id cs content written (blocks_at more bytes) bytes (docs_in (blocks_at more bytes))
-  pub places : map (shifted next_id written) more ≡ marks_from next_id written (blocks_at more bytes)
+  pub places : map (shifted next_id written) more ≡ checkpoints_from next_id written (blocks_at more bytes)
   pub joined : bytes ≡ data_of (blocks_at more bytes)
   pub some : 0 < length more → 0 < length bytes
 
@@ -101,7 +101,7 @@ are_cut compressor period next_id cs content written termination failures failur
     let all = are_added period next_id cs content written bs inv seen.blocks.each (omega (arith, docs, few, docs_cut more bytes covers)) in
     record {
       added = subst (λ (x : List ℕ). AreAdded period next_id cs content written bs x (docs_in bs)) (sym joined) all;
-      places = shifted_behind next_id written more bs (sym seen.marks_are);
+      places = shifted_behind next_id written more bs (sym seen.checkpoints_are);
       joined = joined;
-      some = λ some. omega (arith, ap length joined, some_data more bs (sym seen.marks_are) seen.blocks.each some);
+      some = λ some. omega (arith, ap length joined, some_data more bs (sym seen.checkpoints_are) seen.blocks.each some);
     }

@@ -1,7 +1,7 @@
 //! Checkpoints in line, for indexes without a store.
 ghost use Rattle.std.specs.Prelude.{◌≡◌, ◌≤◌, take, length, IfOk};
 
-use crate::generator::{Generator, MARKS_SEED, TARGETS_SEED};
+use crate::generator::{CHECKPOINTS_SEED, Generator, TARGETS_SEED};
 use docstore::{Checkpoint, CheckpointBlock, SkipIndexBuilder, StoreError};
 use std::alloc::{AllocError, Global};
 use std::marker::Model;
@@ -9,13 +9,13 @@ use store_base::{DocId, MemSink};
 
 /// Checkpoints of up to 200 documents and some 16400 bytes, from the first id and the first byte on.
 #[derive(Drop)]
-pub struct Marks {
+pub struct CheckpointList {
     doc: u32,
     byte: usize,
     block: CheckpointBlock,
 }
 
-impl Model for Marks {
+impl Model for CheckpointList {
     ghost use Rattle.std.specs.Prelude.{List};
     ghost use Rattle.layered_index.specs.declared.index.Checkpoint.{Checkpoint};
     ghost use Rattle.layered_index.specs.Checkpoint.{EndsAt};
@@ -27,7 +27,7 @@ impl Model for Marks {
     ghost invariant = { λ m. EndsAt m.doc m.byte m.block };
 }
 
-impl Marks {
+impl CheckpointList {
     // One more. What can't be numbered is refused.
     fn add(&mut self, docs: u32, bytes: u32) -> Result<(), StoreError> {
         let Some(doc_end) = self.doc.checked_add(docs) else {
@@ -46,9 +46,9 @@ impl Marks {
     }
 
     /// So many.
-    pub fn of_count(alloc: Global, count: u64) -> Result<Marks, StoreError> {
-        let mut generator = Generator::new(MARKS_SEED);
-        let mut marks = Marks {
+    pub fn of_count(alloc: Global, count: u64) -> Result<CheckpointList, StoreError> {
+        let mut generator = Generator::new(CHECKPOINTS_SEED);
+        let mut list = CheckpointList {
             doc: 0,
             byte: 0,
             block: CheckpointBlock::new(alloc)?,
@@ -56,9 +56,9 @@ impl Marks {
         for _ in 0..count {
             let docs = 1 + (generator.next() % 200) as u32;
             let bytes = 16000 + (generator.next() % 800) as u32;
-            marks.add(docs, bytes)?;
+            list.add(docs, bytes)?;
         }
-        Ok(marks)
+        Ok(list)
     }
 
     /// Where their documents end.

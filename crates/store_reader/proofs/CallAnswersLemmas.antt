@@ -11,23 +11,25 @@ use Rattle.layered_index.specs.declared.index.Checkpoint.{Checkpoint}
 use Rattle.store_reader.specs.declared.answers.Answer.{Answer}
 use Rattle.store_reader.specs.declared.answers.ReadCall.{ReadCall}
 use Rattle.store_reader.specs.declared.answers.ReadCall.TheVariants.{Bytes}
-use Rattle.store_reader.specs.Answering.{IsAnswered, AnswersFrom}
+use Rattle.store_reader.specs.GetAnswer.{IsAnswered, AnswersFrom}
 use Rattle.store_format.specs.Block.{Slot}
 use Rattle.store_reader.specs.LookLaws.{AreLookUps}
 use Rattle.store_reader.specs.Reading.{Reading, IsSameStore, num_docs, store_of}
 use Rattle.store_format.specs.Slots.{slots}
-use Rattle.store_reader.specs.Answers.{IsAnswer, AreAnswers, IsNotPast, RefusesPast, keys_of_call, keys_of_calls}
-use Rattle.store_reader.proofs.ListingLemmas.{same_slots, same_count}
+use Rattle.store_reader.specs.CallAnswers.{IsAnswer, AreAnswers, IsNotPast, RefusesPast, keys_of_call, keys_of_calls}
+use Rattle.store_reader.proofs.ItemsSoFarLemmas.{same_slots, same_count}
 use Rattle.store_reader.proofs.RecentLemmas.{no_looks, look_once, looks_then}
 
-answers_push : (all : List Slot) (calls : List ReadCall) (answers : List Answer) (call : ReadCall) (answer : Answer) → AreAnswers all calls answers → IsAnswer all call answer → AreAnswers all (calls ++ call ∷ []) (answers ++ answer ∷ [])
+answers_push : (all : List Slot) (calls : List ReadCall) (answers : List Answer) (call : ReadCall) (answer : Answer) → AreAnswers all calls answers → IsAnswer all call answer
+    → AreAnswers all (calls ++ call ∷ []) (answers ++ answer ∷ [])
 answers_push all [] [] call answer h is = (is, tt)
 answers_push all (c ∷ calls) (a ∷ answers) call answer h is = (h.0, answers_push all calls answers call answer h.1 is)
 answers_push all [] (a ∷ answers) call answer h is = absurd h
 answers_push all (c ∷ calls) [] call answer h is = absurd h
 
 -- one more call
-pub answers_more : (first old : Reading) (calls : List ReadCall) (i : ℕ) (call : ReadCall) (answers : List Answer) (answer : Answer) → i < length calls → call ≡ get_or calls i call → IsSameStore first old
+pub answers_more : (first old : Reading) (calls : List ReadCall) (i : ℕ) (call : ReadCall) (answers : List Answer) (answer : Answer) → i < length calls → call ≡ get_or calls i call
+    → IsSameStore first old
     → (IsTrue first.file.honest → AreAnswers (slots (store_of first)) (take i calls) answers) → (IsTrue old.file.honest → IsAnswer (slots (store_of old)) call answer)
     → IsTrue first.file.honest → AreAnswers (slots (store_of first)) (take (i + 1) calls) (answers ++ answer ∷ [])
 answers_more first old calls i call answers answer lt at same so_far is honest =
@@ -38,7 +40,8 @@ answers_more first old calls i call answers answer lt at same so_far is honest =
     (answers_push all (take i calls) answers call answer (so_far honest) here)
 
 -- a get looks one block up, or none
-pub looks_of_get : (id : ℕ) (call : ReadCall) (result : Result (List ℕ) StoreError) (old new : Reading) → call ≡ Bytes id → (num_docs old ≤ id → new ≡ old) → (id < num_docs old → IsAnswered old id result new)
+pub looks_of_get : (id : ℕ) (call : ReadCall) (result : Result (List ℕ) StoreError) (old new : Reading) → call ≡ Bytes id → (num_docs old ≤ id → new ≡ old)
+    → (id < num_docs old → IsAnswered old id result new)
     → AreLookUps (keys_of_call old.checkpoints call) old new
 looks_of_get id call result old new is none some =
     subst (λ (c : ReadCall). AreLookUps (keys_of_call old.checkpoints c) old new) (sym is)
@@ -49,7 +52,8 @@ looks_of_get id call result old new is none some =
 
 -- one more call's look-ups
 pub looks_more : (first old new : Reading) (calls : List ReadCall) (i : ℕ) (call : ReadCall) → i < length calls → call ≡ get_or calls i call → IsSameStore first old
-    → AreLookUps (keys_of_calls first.checkpoints (take i calls)) first old → AreLookUps (keys_of_call old.checkpoints call) old new → AreLookUps (keys_of_calls first.checkpoints (take (i + 1) calls)) first new
+    → AreLookUps (keys_of_calls first.checkpoints (take i calls)) first old → AreLookUps (keys_of_call old.checkpoints call) old new
+    → AreLookUps (keys_of_calls first.checkpoints (take (i + 1) calls)) first new
 looks_more first old new calls i call lt at same so_far is =
     let keys = keys_of_call first.checkpoints in
     let next : take (i + 1) calls ≡ take i calls ++ call ∷ [] = take_more calls i call lt ∙ ap (λ (c : ReadCall). take i calls ++ c ∷ []) (sym at) in

@@ -6,7 +6,7 @@ use Rattle.layered_index.specs.declared.index.Checkpoint.{Checkpoint}
 use Rattle.layered_index.specs.Checkpoint.{docs_end}
 use Rattle.store_format.specs.Block.{Slot}
 use Rattle.store_format.specs.Slots.{slots}
-use Rattle.store_format.specs.StoreFile.{StoreBlock, docs_in, marks_from, file, file_with}
+use Rattle.store_format.specs.StoreFile.{StoreBlock, docs_in, checkpoints_from, file, file_with}
 use Rattle.docstore.specs.Writer.{Writing, blocks_of, flushed}
 use Rattle.docstore.specs.Stacking.{with_store}
 use Rattle.docstore.specs.Laws.{stacked, FlushesKeepSlots, StoresAreStackedInOrder, StackedSlotsAreCounted, StackedFilesAreJoined, StackingIsAssociative, StackedAloneIsTheSame}
@@ -25,14 +25,14 @@ stores_are_stacked_in_order w bs blocks =
     append-nil (slots (front ++ bs)) ∙ slots-append front bs
     ∙ ap (λ (x : List Slot). x ++ slots bs) (slots_flushed w.output.finished w.pending (last_fits w.output.finished w.pending (all-front front bs blocks.each)))
 
--- the marks end where the documents do
-pub marks_end : (id byte : ℕ) (bs : List StoreBlock) → docs_end id (marks_from id byte bs) ≡ id + docs_in bs
-marks_end id byte [] = omega arith
-marks_end id byte (b ∷ bs) = omega (arith, docs_in-cons b bs, marks_end (id + b.count) (byte + length b.bytes) bs)
+-- the checkpoints_of end where the documents do
+pub checkpoints_end : (id byte : ℕ) (bs : List StoreBlock) → docs_end id (checkpoints_from id byte bs) ≡ id + docs_in bs
+checkpoints_end id byte [] = omega arith
+checkpoints_end id byte (b ∷ bs) = omega (arith, docs_in-cons b bs, checkpoints_end (id + b.count) (byte + length b.bytes) bs)
 
 pub stacked_slots_are_counted : StackedSlotsAreCounted
 stacked_slots_are_counted reader bs read =
-    omega (arith, length-slots bs, marks_end 0 0 bs, ap (λ (cs : List Checkpoint). docs_end 0 cs) read.places)
+    omega (arith, length-slots bs, checkpoints_end 0 0 bs, ap (λ (cs : List Checkpoint). docs_end 0 cs) read.places)
 
 -- ---- files
 

@@ -2,7 +2,7 @@
 use Rattle.std.specs.Prelude.{ℕ, Bool, List, [], ◌∷◌, take, Option, Some, Result}
 use Rattle.std.specs.List.{filter, enumerate_from}
 use Rattle.store_base.specs.declared.error.StoreError.{StoreError}
-use Rattle.store_reader.specs.Answering.{AnswersTruly}
+use Rattle.store_reader.specs.GetAnswer.{AnswersTruly}
 use Rattle.store_format.specs.Block.{Slot}
 use Rattle.store_reader.specs.Iteration.{is_in}
 

@@ -8,10 +8,10 @@ use Rattle.store_reader.specs.declared.answers.Answer.{Answer}
 use Rattle.store_reader.specs.declared.answers.Answer.TheVariants.{Got, Listed}
 use Rattle.store_reader.specs.declared.answers.ReadCall.{ReadCall}
 use Rattle.store_reader.specs.declared.answers.ReadCall.TheVariants.{Bytes, Iter}
-use Rattle.store_reader.specs.Answering.{AnswersTruly}
-use Rattle.store_reader.specs.Answers.{IsAnswer, HasCome, AllCame, IsSameAnswer, SlotsDecideAnswers, set_here}
+use Rattle.store_reader.specs.GetAnswer.{AnswersTruly}
+use Rattle.store_reader.specs.CallAnswers.{IsAnswer, HasCome, AllCame, IsSameAnswer, SlotsDecideAnswers, set_here}
 use Rattle.store_format.specs.Block.{Slot, doc, damaged}
-use Rattle.store_reader.specs.Listing.{AreItems, first_alive}
+use Rattle.store_reader.specs.CallList.{AreItems, first_alive}
 
 -- a refusal that came is that of the slot
 why : (id : ℕ) (s : Option Slot) (e : StoreError) → AnswersTruly id s (Err e) → HasCome (Err e) → ((e ≡ InvalidArgument id) × (s ≡ None)) ⊎ ((e ≡ DamagedDocument id) × (s ≡ Some damaged))
@@ -27,7 +27,8 @@ no_bytes s bytes is (inr bad) = let e : ◌≡◌ {A = Option Slot} (Some (doc b
 refused : (id : ℕ) (s : Option Slot) (e : StoreError) → AnswersTruly id s (Err e) → HasCome (Err e) → (s ≡ None) ⊎ (s ≡ Some damaged)
 refused id s e truly come = elim (why id s e truly come) [ inl none ↦ inl none.1 | inr bad ↦ inr bad.1 ]
 
-same_refusal : (id : ℕ) (s : Option Slot) (e f : StoreError) → ((e ≡ InvalidArgument id) × (s ≡ None)) ⊎ ((e ≡ DamagedDocument id) × (s ≡ Some damaged)) → ((f ≡ InvalidArgument id) × (s ≡ None)) ⊎ ((f ≡ DamagedDocument id) × (s ≡ Some damaged)) → e ≡ f
+same_refusal : (id : ℕ) (s : Option Slot) (e f : StoreError) → ((e ≡ InvalidArgument id) × (s ≡ None)) ⊎ ((e ≡ DamagedDocument id) × (s ≡ Some damaged))
+    → ((f ≡ InvalidArgument id) × (s ≡ None)) ⊎ ((f ≡ DamagedDocument id) × (s ≡ Some damaged)) → e ≡ f
 same_refusal id s e f (inl a) (inl b) = a.0 ∙ sym b.0
 same_refusal id s e f (inr a) (inr b) = a.0 ∙ sym b.0
 same_refusal id s e f (inl a) (inr b) = absurd (let is : ◌≡◌ {A = Option Slot} None (Some damaged) = sym a.1 ∙ b.1 in cc)

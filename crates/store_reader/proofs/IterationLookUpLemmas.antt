@@ -13,8 +13,8 @@ use Rattle.store_reader.specs.Iteration.{is_in, looked_along, alive_below, keys_
 use Rattle.store_reader.specs.LookLaws.{AreLookUps}
 use Rattle.store_reader.specs.Reading.{Reading, IsSameStore, num_docs}
 use Rattle.store_reader.specs.Walking.{IsWalk, LooksAlong, WalksTo, GivesNext}
-use Rattle.store_reader.proofs.ListingLemmas.{same_count}
-use Rattle.store_reader.proofs.LookedLemmas.{alive_in, alive-split, take_length_one, walks_look_up}
+use Rattle.store_reader.proofs.ItemsSoFarLemmas.{same_count}
+use Rattle.store_reader.proofs.BlocksAlongLemmas.{alive_in, alive-split, take_length_one, walks_look_up}
 use Rattle.store_reader.proofs.RecentLemmas.{looks_are_recent}
 use Rattle.store_reader.proofs.WalkingLemmas.{looks_on, range_joined}
 
@@ -71,7 +71,8 @@ pub record IsListedTo (first : Reading) (set : Option (ℕ → Bool)) (count : �
   pub stands : ((count ≡ 0) × (w.place ≡ length (take 1 first.checkpoints))) ⊎ IsBehind set w
 
 -- before the first item
-pub listed_first : (first : Reading) (set : Option (ℕ → Bool)) (now : Reading) (w : Walk) → w.next ≡ 0 → w.place ≡ length (take 1 first.checkpoints) → LooksAlong (take 1 first.checkpoints) first (Err Memory) now w.block → IsListedTo first set 0 now w
+pub listed_first : (first : Reading) (set : Option (ℕ → Bool)) (now : Reading) (w : Walk) → w.next ≡ 0 → w.place ≡ length (take 1 first.checkpoints)
+    → LooksAlong (take 1 first.checkpoints) first (Err Memory) now w.block → IsListedTo first set 0 now w
 listed_first first set now w next place looks =
     let taken : take w.place first.checkpoints ≡ take 1 first.checkpoints = ap (λ (n : ℕ). take n first.checkpoints) place ∙ take_length_one first.checkpoints in
     record {
@@ -81,7 +82,8 @@ listed_first first set now w next place looks =
     }
 
 -- the blocks on the way to an id
-looks_to : (first : Reading) (set : Option (ℕ → Bool)) (count : ℕ) (old : Reading) (from : Walk) (id : ℕ) (new : Reading) (to : Walk) → old.checkpoints ≡ first.checkpoints → IsListedTo first set count old from → WalksTo set old from id new to
+looks_to : (first : Reading) (set : Option (ℕ → Bool)) (count : ℕ) (old : Reading) (from : Walk) (id : ℕ) (new : Reading) (to : Walk) → old.checkpoints ≡ first.checkpoints
+    → IsListedTo first set count old from → WalksTo set old from id new to
     → LooksAlong (take to.place first.checkpoints) first (Err Memory) new to.block
 looks_to first set count old from id new to same listed walks =
     let cs = first.checkpoints in
@@ -94,7 +96,8 @@ looks_to first set count old from id new to same listed walks =
     (subst (λ (xs : List Checkpoint). LooksAlong (slice_range xs from.place to.place) old from.block new to.block) same walks.looks))
 
 -- one more item
-pub listed_on : (first : Reading) (set : Option (ℕ → Bool)) (count : ℕ) (old : Reading) (from : Walk) (item : Result (List ℕ) StoreError) (new : Reading) (to : Walk) → old.checkpoints ≡ first.checkpoints → IsListedTo first set count old from → GivesNext set old from (Some item) new to
+pub listed_on : (first : Reading) (set : Option (ℕ → Bool)) (count : ℕ) (old : Reading) (from : Walk) (item : Result (List ℕ) StoreError) (new : Reading) (to : Walk)
+    → old.checkpoints ≡ first.checkpoints → IsListedTo first set count old from → GivesNext set old from (Some item) new to
     → IsListedTo first set (count + 1) new to
 listed_on first set count old from item new to same listed gives =
     let last = gives.last in
@@ -105,14 +108,17 @@ listed_on first set count old from item new to same listed gives =
     }
 
 -- the keys of the blocks that were looked up, by a walk that the definition knows
-looked_by : (first now : Reading) (w : Walk) (keys : List ℕ) → LooksAlong (take w.place first.checkpoints) first (Err Memory) now w.block → keys_along (take w.place first.checkpoints) ≡ keys → AreLookUps keys first now
+looked_by : (first now : Reading) (w : Walk) (keys : List ℕ) → LooksAlong (take w.place first.checkpoints) first (Err Memory) now w.block → keys_along (take w.place first.checkpoints) ≡ keys
+    → AreLookUps keys first now
 looked_by first now w keys looks is = subst (λ (ks : List ℕ). AreLookUps ks first now) is (looks_are_recent (take w.place first.checkpoints) first (Err Memory) now w.block looks)
 
 covered : (first now : Reading) → IsSameStore first now → Covers first.checkpoints (length first.file.content) → Covers now.checkpoints (length now.file.content)
-covered first now same covers = subst (λ (n : ℕ). Covers now.checkpoints n) (sym (ap length same.content)) (subst (λ (cs : List Checkpoint). Covers cs (length first.file.content)) (sym same.checkpoints) covers)
+covered first now same covers = subst (λ (n : ℕ). Covers now.checkpoints n) (sym (ap length same.content))
+    (subst (λ (cs : List Checkpoint). Covers cs (length first.file.content)) (sym same.checkpoints) covers)
 
 -- so many items as were asked for
-listed_enough : (first : Reading) (set : Option (ℕ → Bool)) (count : ℕ) (now : Reading) (w : Walk) → IsSameStore first now → Covers first.checkpoints (length first.file.content) → IsWalk now w → IsListedTo first set count now w → AreLookUps (looked_along first.checkpoints set count) first now
+listed_enough : (first : Reading) (set : Option (ℕ → Bool)) (count : ℕ) (now : Reading) (w : Walk) → IsSameStore first now → Covers first.checkpoints (length first.file.content) → IsWalk now w
+    → IsListedTo first set count now w → AreLookUps (looked_along first.checkpoints set count) first now
 listed_enough first set count now w same covers walk listed =
     let law = walks_look_up now w set (covered first now same covers) walk in
     let cs = now.checkpoints in
@@ -126,7 +132,8 @@ listed_enough first set count now w same covers walk listed =
 
 -- all that there are, where more were asked for
 listed_all : (first : Reading) (set : Option (ℕ → Bool)) (items count : ℕ) (now : Reading) (w : Walk) → IsSameStore first now → Covers first.checkpoints (length first.file.content) → IsWalk now w
-    → LooksAlong (take w.place first.checkpoints) first (Err Memory) now w.block → alive_below set w.next ≡ items → w.next ≡ num_docs first → items < count → AreLookUps (looked_along first.checkpoints set count) first now
+    → LooksAlong (take w.place first.checkpoints) first (Err Memory) now w.block → alive_below set w.next ≡ items → w.next ≡ num_docs first → items < count
+    → AreLookUps (looked_along first.checkpoints set count) first now
 listed_all first set items count now w same covers walk looks counted next less =
     let law = walks_look_up now w set (covered first now same covers) walk in
     let cs = now.checkpoints in
@@ -135,7 +142,8 @@ listed_all first set items count now w same covers walk looks counted next less 
     looked_by first now w (looked_along first.checkpoints set count) looks (subst (λ (xs : List Checkpoint). keys_along (take w.place xs) ≡ looked_along xs set count) same.checkpoints all)
 
 -- no further item was asked for: as many as wanted, or as there are documents
-pub looked_enough : (first : Reading) (set : Option (ℕ → Bool)) (items count : ℕ) (now : Reading) (w : Walk) → IsSameStore first now → Covers first.checkpoints (length first.file.content) → IsWalk now w → IsListedTo first set items now w
+pub looked_enough : (first : Reading) (set : Option (ℕ → Bool)) (items count : ℕ) (now : Reading) (w : Walk) → IsSameStore first now → Covers first.checkpoints (length first.file.content)
+    → IsWalk now w → IsListedTo first set items now w
     → items ≡ min count (num_docs first) → w.next ≤ num_docs first → AreLookUps (looked_along first.checkpoints set count) first now
 looked_enough first set items count now w same covers walk listed most below = elim (cases_lt items count) [
   | inl lt ↦
@@ -148,7 +156,8 @@ looked_enough first set items count now w same covers walk listed most below = e
 ]
 
 -- no further item is there
-pub looked_all : (first : Reading) (set : Option (ℕ → Bool)) (items count : ℕ) (old : Reading) (from : Walk) (new : Reading) (to : Walk) → IsSameStore first old → Covers first.checkpoints (length first.file.content) → IsListedTo first set items old from
+pub looked_all : (first : Reading) (set : Option (ℕ → Bool)) (items count : ℕ) (old : Reading) (from : Walk) (new : Reading) (to : Walk) → IsSameStore first old
+    → Covers first.checkpoints (length first.file.content) → IsListedTo first set items old from
     → GivesNext set old from None new to → IsSameStore first new → items < count → AreLookUps (looked_along first.checkpoints set count) first new
 looked_all first set items count old from new to before covers listed gives same less =
     let last = gives.last in

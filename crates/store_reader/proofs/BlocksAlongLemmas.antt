@@ -43,7 +43,8 @@ module _ (set : Option (ℕ → Bool)) where
       omega (arith, split, one, counted)
 
   -- behind an item
-  looked_at : (doc byte : ℕ) (cs : List Checkpoint) (p id : ℕ) → IsInLineFrom doc byte cs → p < length cs → doc ≤ id → docs_end doc (take p cs) ≤ id → id < docs_end doc (take (suc p) cs) → is_in set id ≡ true
+  looked_at : (doc byte : ℕ) (cs : List Checkpoint) (p id : ℕ) → IsInLineFrom doc byte cs → p < length cs → doc ≤ id → docs_end doc (take p cs) ≤ id → id < docs_end doc (take (suc p) cs)
+      → is_in set id ≡ true
       → keys_along (take (suc p) cs) ≡ looked_along cs set (alive_in doc (id + 1 - doc))
   looked_at doc byte [] p id r few from lo hi is = absurd (omega arith)
   looked_at doc byte (c ∷ cs) zero id r few from lo hi is =
@@ -103,7 +104,8 @@ take_length_one [] = refl
 take_length_one (c ∷ cs) = refl
 
 -- behind an item, by the place
-behind : (r : Reading) (w : Walk) (set : Option (ℕ → Bool)) (place : ℕ) → w.place ≡ place → Covers r.checkpoints (length r.file.content) → IsWalk r w → (id : ℕ) → w.next ≡ id + 1 → w.first ≤ id → is_in set id ≡ true
+behind : (r : Reading) (w : Walk) (set : Option (ℕ → Bool)) (place : ℕ) → w.place ≡ place → Covers r.checkpoints (length r.file.content) → IsWalk r w → (id : ℕ) → w.next ≡ id + 1 → w.first ≤ id
+    → is_in set id ≡ true
     → keys_along (take place r.checkpoints) ≡ looked_along r.checkpoints set (alive_below set (id + 1))
 behind r w set zero here covers is id next above alive =
     absurd (let end : w.end ≡ docs_end 0 (take 0 r.checkpoints) = is.end ∙ ap (λ (k : ℕ). docs_end 0 (take k r.checkpoints)) here in let below = is.below in omega arith)

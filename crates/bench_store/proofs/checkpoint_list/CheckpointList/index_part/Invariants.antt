@@ -1,5 +1,5 @@
 use Rattle.std.proofs.Common.{◌≡◌, take}
-use Rattle.bench_store.proofs.marks.Marks.index_part.Given as goal
+use Rattle.bench_store.proofs.checkpoint_list.CheckpointList.index_part.Given as goal
 
 -- the first so many are inserted
 abbrev pub invariant-loop-i : goal.invariant-loop-i
