@@ -16,8 +16,5 @@ pub fn read_part<H: FileHandle>(
     requires within { range.end ≤ length file.old.content }
     ensures { Comes file.old range.start range.end result file.new }
 {
-    match file.read_range(alloc, range) {
-        Ok(bytes) => Ok(bytes),
-        Err(fault) => Err(StoreError::from(fault)),
-    }
+    Ok(file.read_range(alloc, range)?)
 }

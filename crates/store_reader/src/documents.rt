@@ -39,8 +39,6 @@ pub(crate) fn read_document<D: DocumentDeserialize>(
 ) -> Result<D, StoreError>
     ensures { ReadsFrom (D.reading (document_version version)) bytes result }
 {
-    match bytes {
-        Ok(bytes) => read_bytes(alloc, version, bytes.as_slice()),
-        Err(error) => Err(error),
-    }
+    let bytes = bytes?;
+    read_bytes(alloc, version, bytes.as_slice())
 }

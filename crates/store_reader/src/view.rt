@@ -60,14 +60,12 @@ impl<'a> StoreView<'a> {
         ensures refused { IfErr result (λ e. (e ≡ StoreError.Memory) ⊎ (IsSomeStore file.entry.now → ⊥)) }
         ensures causes { IfErr result (λ e. e ≢ StoreError.Read) }
     {
-        match view_store(alloc, file) {
-            Ok((footer, index)) => Ok(StoreView {
-                file,
-                index,
-                version: footer.doc_store_version,
-            }),
-            Err(error) => Err(error),
-        }
+        let (footer, index) = view_store(alloc, file)?;
+        Ok(StoreView {
+            file,
+            index,
+            version: footer.doc_store_version,
+        })
     }
 
     /// Where a document lies in the file. It takes no memory, and is refused by `InvalidArgument` exactly at
@@ -102,10 +100,8 @@ impl<'a> StoreView<'a> {
         ensures damaged { IsErrOf result (StoreError.DamagedDocument doc_id)
             ↔ (slot_of self.now doc_id ≡ Some damaged) }
     {
-        match self.locate(doc_id) {
-            Ok(range) => Ok(part(self.file, range.start, range.end)),
-            Err(error) => Err(error),
-        }
+        let range = self.locate(doc_id)?;
+        Ok(part(self.file, range.start, range.end))
     }
 
     /// A document, read from its bytes. Those of version 3 are read as version 2. It is refused as `get` is, by
@@ -123,10 +119,8 @@ impl<'a> StoreView<'a> {
         ensures causes { IfErr result (λ e. e ≢ StoreError.Read) }
         ensures no_document { IsErrOf result (StoreError.InvalidArgument doc_id) ↔ (count_in self.now ≤ doc_id) }
     {
-        match self.get(doc_id) {
-            Ok(bytes) => read_bytes(alloc, self.version, bytes),
-            Err(error) => Err(error),
-        }
+        let bytes = self.get(doc_id)?;
+        read_bytes(alloc, self.version, bytes)
     }
 
     // The block that has a document.

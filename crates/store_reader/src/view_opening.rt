@@ -50,12 +50,7 @@ pub(crate) fn view_store(
 ) -> Result<(DocStoreFooter, StoreIndex), StoreError>
     ensures { Finds file.now result }
 {
-    let footer = match footer_of(alloc, file) {
-        Ok(footer) => footer,
-        Err(error) => return Err(error),
-    };
-    match index_of(alloc, file, &footer) {
-        Ok(index) => Ok((footer, index)),
-        Err(error) => Err(error),
-    }
+    let footer = footer_of(alloc, file)?;
+    let index = index_of(alloc, file, &footer)?;
+    Ok((footer, index))
 }
