@@ -1,0 +1,17 @@
+//! Files on disk: one that is read in parts, one that is loaded whole, and an output that takes its name only once it
+//! is whole.
+#![tactic(auto)]
+
+pub mod create_error;
+pub mod disk_file;
+pub mod disk_sink;
+pub mod output_file;
+pub mod read_at;
+pub mod whole;
+
+pub use create_error::CreateError;
+pub use disk_file::DiskFile;
+pub use disk_sink::DiskSink;
+pub use output_file::LockFile;
+pub use read_at::{OsFile, ReadAt};
+pub use whole::load;

@@ -1,0 +1,104 @@
+//! The file beside, to which an output goes until it is whole.
+
+use crate::create_error::CreateError;
+use std::alloc::Global;
+use std::fs::{File, Files, Metadata, OpenFile, OpenOptions, Permissions, TryLockError};
+use std::io;
+use std::os::unix::fs::{MetadataExt, PermissionsExt};
+
+/// An open file that can be locked.
+pub trait LockFile: OpenFile {
+    /// Locks the file until it is closed, unless another open of it holds a lock.
+    fn try_lock_file(&self) -> Result<(), TryLockError>;
+}
+
+impl LockFile for File {
+    fn try_lock_file(&self) -> Result<(), TryLockError> {
+        self.try_lock()
+    }
+}
+
+// What the file of this name is, if there is one.
+fn found_at<R: Files>(rt: &R, path: &str) -> io::Result<Option<Metadata>> {
+    match rt.symlink_metadata(path) {
+        Ok(found) => Ok(Some(found)),
+        Err(error) if error.kind() == io::ErrorKind::NotFound => Ok(None),
+        Err(error) => Err(error),
+    }
+}
+
+/// The name of the file that is to be replaced, where links lead, and what it is, if it is there. Only a plain file is
+/// replaced.
+pub(crate) fn replaced_file<R: Files>(
+    rt: &R,
+    alloc: Global,
+    path: &str,
+) -> Result<(String, Option<Metadata>), CreateError> {
+    let name = match found_at(rt, path)? {
+        Some(found) if found.file_type().is_symlink() => {
+            String::from_str(alloc, rt.canonicalize(alloc, path)?.as_str())
+        }
+        _ => String::from_str(alloc, path),
+    };
+    let name = name.map_err(io::Error::from)?;
+    match found_at(rt, name.as_str())? {
+        Some(found) if !found.is_file() => Err(CreateError::NotPlainFile),
+        found => Ok((name, found)),
+    }
+}
+
+// Whether the open file is still the one of this name.
+fn has_name<R: Files>(rt: &R, file: &R::File, path: &str) -> io::Result<bool> {
+    let opened = file.metadata()?;
+    Ok(match found_at(rt, path)? {
+        Some(named) => named.dev() == opened.dev() && named.ino() == opened.ino(),
+        None => false,
+    })
+}
+
+// Locks the file of this name. One that another holds, or that took its name in the meantime, is busy.
+fn lock<R: Files>(rt: &R, file: &R::File, path: &str, alloc: Global) -> Result<(), CreateError>
+where
+    R::File: LockFile,
+{
+    let is_locked = match file.try_lock_file() {
+        Ok(()) => has_name(rt, file, path)?,
+        Err(TryLockError::WouldBlock) => false,
+        Err(TryLockError::Error(error)) => return Err(CreateError::System(error)),
+    };
+    if is_locked {
+        return Ok(());
+    }
+    let name = String::from_str(alloc, path).map_err(io::Error::from)?;
+    Err(CreateError::Busy(name))
+}
+
+// Gives the file beside the mode of the one that it will replace, and its group and owner where the system lets us.
+fn copy_access<R: Files>(rt: &R, beside: &str, replaced: &Metadata) -> io::Result<()> {
+    let _ = rt.chown(beside, None, Some(replaced.gid()));
+    let _ = rt.chown(beside, Some(replaced.uid()), None);
+    rt.set_permissions(beside, Permissions::from_mode(replaced.mode() & 0o777))
+}
+
+/// Begins the file beside: locked, empty, and with the access that the replaced file has. What a crash left is taken
+/// over.
+pub(crate) fn begin<R: Files>(
+    rt: &R,
+    alloc: Global,
+    beside: &str,
+    replaced: &Option<Metadata>,
+) -> Result<R::File, CreateError>
+where
+    R::File: LockFile,
+{
+    let file = OpenOptions::new()
+        .write(true)
+        .create(true)
+        .open(rt, beside)?;
+    lock(rt, &file, beside, alloc)?;
+    file.set_len(0)?;
+    if let Some(replaced) = replaced {
+        copy_access(rt, beside, replaced)?;
+    }
+    Ok(file)
+}
