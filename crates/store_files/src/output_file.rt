@@ -80,8 +80,27 @@ fn copy_access<R: Files>(rt: &R, beside: &str, replaced: &Metadata) -> io::Resul
     rt.set_permissions(beside, Permissions::from_mode(replaced.mode() & 0o777))
 }
 
+// Locks and empties the file beside, and gives it the access that the replaced file has.
+fn claim<R: Files>(
+    rt: &R,
+    alloc: Global,
+    file: &R::File,
+    beside: &str,
+    replaced: &Option<Metadata>,
+) -> Result<(), CreateError>
+where
+    R::File: LockFile,
+{
+    lock(rt, file, beside, alloc)?;
+    file.set_len(0)?;
+    if let Some(replaced) = replaced {
+        copy_access(rt, beside, replaced)?;
+    }
+    Ok(())
+}
+
 /// Begins the file beside: locked, empty, and with the access that the replaced file has. What a crash left is taken
-/// over.
+/// over. Where the system refuses a call nothing is left beside.
 pub(crate) fn begin<R: Files>(
     rt: &R,
     alloc: Global,
@@ -95,10 +114,12 @@ where
         .write(true)
         .create(true)
         .open(rt, beside)?;
-    lock(rt, &file, beside, alloc)?;
-    file.set_len(0)?;
-    if let Some(replaced) = replaced {
-        copy_access(rt, beside, replaced)?;
+    match claim(rt, alloc, &file, beside, replaced) {
+        Ok(()) => Ok(file),
+        Err(CreateError::System(error)) => {
+            let _ = rt.remove_file(beside);
+            Err(CreateError::System(error))
+        }
+        Err(error) => Err(error),
     }
-    Ok(file)
 }
