@@ -1,16 +1,16 @@
 //! A view of bytes beside a reader of a file that holds them.
 
-use crate::making::opened_bytes;
+use crate::making::opened;
 use docstore::{StoreError, StoreReader, StoreView};
 use std::alloc::Global;
-use store_base::MemFile;
+use store_base::{FileHandle, MemFile};
 
 // Whether a view's get and its place in the bytes are the reader's answer.
-fn is_same_answer(
+fn is_same_answer<H: FileHandle>(
     alloc: Global,
     bytes: &[u8],
     view: &StoreView<'_>,
-    reader: &mut StoreReader<MemFile>,
+    reader: &mut StoreReader<H>,
     doc_id: u32,
 ) -> bool {
     match (
@@ -42,11 +42,11 @@ fn are_gotten(view: &StoreView<'_>) -> bool {
 
 // Whether a view and a reader answer the same: of the first documents, of those behind the last, and of each item
 // of an iteration.
-fn answer_alike(
+fn answer_alike<H: FileHandle>(
     alloc: Global,
     bytes: &[u8],
     view: &StoreView<'_>,
-    reader: &mut StoreReader<MemFile>,
+    reader: &mut StoreReader<H>,
 ) -> bool {
     let count = view.num_docs();
     for doc_id in 0..count.min(20) {
@@ -60,13 +60,17 @@ fn answer_alike(
         && are_gotten(view)
 }
 
+/// Whether a view of these bytes and a reader of this file open the same, and answer the same.
+pub fn agree_with<H: FileHandle>(alloc: Global, bytes: &[u8], file: H) -> bool {
+    match (StoreView::open(alloc, bytes), opened(alloc, file)) {
+        (Ok(view), Ok(mut reader)) => answer_alike(alloc, bytes, &view, &mut reader),
+        (Err(viewed), Err(read)) => viewed == read,
+        _ => false,
+    }
+}
+
 /// Whether a view and a reader open the same of these bytes, and answer the same.
 pub fn agree(alloc: Global, bytes: &[u8]) -> Result<bool, StoreError> {
-    let view = StoreView::open(alloc, bytes);
-    let reader = opened_bytes(alloc, Vec::from_slice(alloc, bytes)?);
-    match (view, reader) {
-        (Ok(view), Ok(mut reader)) => Ok(answer_alike(alloc, bytes, &view, &mut reader)),
-        (Err(viewed), Err(read)) => Ok(viewed == read),
-        _ => Ok(false),
-    }
+    let file = MemFile::new(alloc, Vec::from_slice(alloc, bytes)?)?;
+    Ok(agree_with(alloc, bytes, file))
 }

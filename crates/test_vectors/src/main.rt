@@ -1,13 +1,14 @@
 //! Answers each script that `names` lists, and tells whether the answers are those that are expected, byte for byte.
-//! Then it reads each file that a script or its answers have by both readers, and tells how many it were.
+//! Then it reads each file that a script or its answers have at hand, from memory and from disk, and tells how many it
+//! were.
 #![tactic(auto)]
 
-use docstore::StoreError;
 use std::alloc::{Alloc, Global};
+use std::fs;
 use std::rt::Files;
-use std::{fs, io};
+use store_files::{DiskFile, OsFile};
 use store_script::ToolFault;
-use test_devices::agreeing::agree;
+use test_devices::agreeing::{agree, agree_with};
 
 // Whether a script is answered as expected.
 fn is_as_expected(
@@ -21,7 +22,7 @@ fn is_as_expected(
     Ok(answers.as_slice() == expected)
 }
 
-// The words of a text that a view and a reader were made of.
+// The words of a text that a view and the readers were made of.
 #[derive(Clone, Copy)]
 struct Comparison {
     alike: u64,
@@ -33,17 +34,24 @@ fn may_be_file(bytes: &[u8]) -> bool {
     bytes.len() >= 28
 }
 
-// Opens each word of a text that may be a file by both readers.
-fn compared(alloc: Global, text: &str) -> Result<Comparison, StoreError> {
+// Whether a view of bytes, a reader of a file in memory and one of a file on disk answer the same.
+fn are_read_alike(rt: &HostRuntime, bytes: &[u8]) -> anyhow::Result<bool> {
+    fs::write(rt, "file.store", bytes)?;
+    let file = DiskFile::new(OsFile::open(rt, "file.store")?)?;
+    Ok(agree(rt.alloc(), bytes)? && agree_with(rt.alloc(), bytes, file))
+}
+
+// Opens each word of a text that may be a file, from memory and from disk.
+fn compared(rt: &HostRuntime, text: &str) -> anyhow::Result<Comparison> {
     let mut comparison = Comparison { alike: 0, apart: 0 };
     for word in text.split_whitespace() {
-        let Ok(bytes) = hex::decode(alloc, word.as_bytes()) else {
+        let Ok(bytes) = hex::decode(rt.alloc(), word.as_bytes()) else {
             continue;
         };
         if !may_be_file(&bytes) {
             continue;
         }
-        if agree(alloc, &bytes)? {
+        if are_read_alike(rt, &bytes)? {
             comparison.alike = comparison.alike.saturating_add(1);
         } else {
             comparison.apart = comparison.apart.saturating_add(1);
@@ -52,21 +60,21 @@ fn compared(alloc: Global, text: &str) -> Result<Comparison, StoreError> {
     Ok(comparison)
 }
 
-// Tells how many files of a text both readers read alike.
-fn compare(rt: &HostRuntime, name: &str, text: &[u8]) -> io::Result<()> {
+// Tells how many files of a text are read alike.
+fn compare(rt: &HostRuntime, name: &str, text: &[u8]) -> anyhow::Result<()> {
     let Ok(text) = str::from_utf8(text) else {
-        return println!(rt; "{name} is no text");
+        println!(rt; "{name} is no text")?;
+        return Ok(());
     };
-    match compared(rt.alloc(), text) {
-        Ok(files) => println!(rt;
-            "{name}: {} files read alike, {} apart",
-            files.alike, files.apart
-        ),
-        Err(error) => println!(rt; "{name}: {error}"),
-    }
+    let files = compared(rt, text)?;
+    println!(rt;
+        "{name}: {} files read alike, {} apart",
+        files.alike, files.apart
+    )?;
+    Ok(())
 }
 
-fn try_vector(rt: &HostRuntime, name: &str) -> io::Result<()> {
+fn try_vector(rt: &HostRuntime, name: &str) -> anyhow::Result<()> {
     let alloc = rt.alloc();
     let script = fs::read(rt, format!(in alloc; "{name}.script")?.as_str())?;
     let expected = fs::read(rt, format!(in alloc; "{name}.expected")?.as_str())?;
@@ -80,7 +88,7 @@ fn try_vector(rt: &HostRuntime, name: &str) -> io::Result<()> {
     compare(rt, "in its answers", &expected)
 }
 
-fn main(rt: HostRuntime) -> io::Result<()> {
+fn main(rt: HostRuntime) -> anyhow::Result<()> {
     let names = fs::read_to_string(&rt, "names")?;
     for name in names.lines() {
         try_vector(&rt, name)?;
