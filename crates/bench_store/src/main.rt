@@ -7,6 +7,7 @@
 mod arguments;
 mod checkpoint_list;
 mod checks;
+mod disk_work;
 mod documents;
 mod generator;
 mod ids;

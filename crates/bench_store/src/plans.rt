@@ -20,6 +20,12 @@ view_hot n=5000 q=2000 hot=500
 view_zipf n=5000 q=2000
 view_seq n=5000
 view_iter n=5000
+disk_write n=2000 l=100
+disk_uniform n=5000 q=2000
+disk_hot n=5000 q=2000 hot=500
+disk_zipf n=5000 q=2000
+disk_seq n=5000
+disk_iter n=5000
 stack k=10 n=500
 stack k=100 n=3
 seek n=10 q=1000
@@ -52,6 +58,12 @@ view_hot
 view_zipf
 view_seq
 view_iter
+disk_write
+disk_uniform
+disk_hot
+disk_zipf
+disk_seq
+disk_iter
 stack
 stack k=1000 n=10
 seek n=1000

@@ -9,7 +9,7 @@ use docstore::{Compressor, StoreError, StoreReader, StoreWriter};
 use std::alloc::Global;
 use std::rt::Clock;
 use std::time::Instant;
-use store_base::{AliveBitSet, DocId, MemSink, OwnedBytes};
+use store_base::{AliveBitSet, DocId, FileHandle, MemSink, OwnedBytes};
 
 /// Writes a store: a new output and writer, each document, and the end.
 #[derive(Drop)]
@@ -23,7 +23,14 @@ pub struct Write {
 impl Workload for Write {
     fn run<C: Clock>(&mut self, clock: &C) -> Result<Run> {
         let start = Instant::now(clock)?;
-        let output = written(self.alloc, &self.documents, self.count, self.block_size)?;
+        let output = MemSink::new(self.alloc);
+        let output = written(
+            self.alloc,
+            output,
+            &self.documents,
+            self.count,
+            self.block_size,
+        )?;
         let time = start.elapsed(clock)?;
         let count = self.count as u64;
         Ok(Run {
@@ -88,25 +95,25 @@ pub struct Get {
     pub ids: Vec<DocId>,
 }
 
-fn get_all(
+/// Gets the documents of these ids, and times it.
+pub fn get_all<H: FileHandle, C: Clock>(
+    clock: &C,
     alloc: Global,
-    reader: &mut StoreReader<SharedFile>,
+    reader: &mut StoreReader<H>,
     ids: &[DocId],
-) -> Result<Slots, StoreError> {
+) -> Result<Run> {
     let mut slots = Slots::new();
+    let start = Instant::now(clock)?;
     for id in ids {
         slots.add(reader.get_document_bytes(alloc, *id)?.as_slice());
     }
-    Ok(slots)
+    Ok(slots.run(start.elapsed(clock)?))
 }
 
 impl Workload for Get {
     fn run<C: Clock>(&mut self, clock: &C) -> Result<Run> {
         let mut reader = self.source.open()?;
-        let start = Instant::now(clock)?;
-        let slots = get_all(self.source.alloc, &mut reader, &self.ids)?;
-        let time = start.elapsed(clock)?;
-        Ok(slots.run(time))
+        get_all(clock, self.source.alloc, &mut reader, &self.ids)
     }
 }
 
@@ -117,27 +124,31 @@ pub struct Iterate {
     pub deleted: Vec<DocId>,
 }
 
+/// Goes over the documents but for the deleted ones, and times it.
+pub fn iterate_all<H: FileHandle, C: Clock>(
+    clock: &C,
+    alloc: Global,
+    reader: &mut StoreReader<H>,
+    deleted: &[DocId],
+) -> Result<Run> {
+    let alive = AliveBitSet::from_deleted_docs(alloc, deleted, reader.num_docs())?;
+    let set = if deleted.is_empty() {
+        None
+    } else {
+        Some(&alive)
+    };
+    let mut slots = Slots::new();
+    let start = Instant::now(clock)?;
+    for document in reader.iter_raw(alloc, set) {
+        slots.add(document?.as_slice());
+    }
+    Ok(slots.run(start.elapsed(clock)?))
+}
+
 impl Workload for Iterate {
     fn run<C: Clock>(&mut self, clock: &C) -> Result<Run> {
-        let alloc = self.source.alloc;
         let mut reader = self.source.open()?;
-        let alive = AliveBitSet::for_test_from_deleted_docs(
-            alloc,
-            &self.deleted,
-            reader.num_docs(),
-        )?;
-        let set = if self.deleted.is_empty() {
-            None
-        } else {
-            Some(&alive)
-        };
-        let mut slots = Slots::new();
-        let start = Instant::now(clock)?;
-        for document in reader.iter_raw(alloc, set) {
-            slots.add(document?.as_slice());
-        }
-        let time = start.elapsed(clock)?;
-        Ok(slots.run(time))
+        iterate_all(clock, self.source.alloc, &mut reader, &self.deleted)
     }
 }
 

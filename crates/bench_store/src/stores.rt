@@ -3,24 +3,25 @@ use crate::documents::Documents;
 use crate::shared_file::SharedFile;
 use docstore::{Compressor, StoreError, StoreReader, StoreWriter};
 use std::alloc::Global;
-use store_base::{FileSlice, MemSink, OwnedBytes};
+use store_base::{FileSlice, OwnedBytes, TerminatingWrite};
 
 /// Closes a writer.
-pub fn closed(writer: StoreWriter<MemSink>) -> Result<MemSink, StoreError> {
+pub fn closed<W: TerminatingWrite>(writer: StoreWriter<W>) -> Result<W, StoreError> {
     match writer.close() {
         Ok(output) => Ok(output),
         Err(refusal) => Err(refusal.error),
     }
 }
 
-/// The store of the first so many documents.
-pub fn written(
+/// The store of the first so many documents, in this output.
+pub fn written<W: TerminatingWrite>(
     alloc: Global,
+    output: W,
     documents: &Documents,
     count: usize,
     block_size: usize,
-) -> Result<MemSink, StoreError> {
-    let mut writer = StoreWriter::new(alloc, MemSink::new(alloc), Compressor::None, block_size);
+) -> Result<W, StoreError> {
+    let mut writer = StoreWriter::new(alloc, output, Compressor::None, block_size);
     for i in 0..count {
         writer.store_bytes(documents.get(i))?;
     }

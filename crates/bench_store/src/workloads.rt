@@ -3,6 +3,7 @@ ghost use Rattle.std.specs.Prelude.{◌<◌, IfSome};
 
 use crate::arguments::Numbers;
 use crate::checkpoint_list::{CheckpointList, targets};
+use crate::disk_work::{GetDisk, IterateDisk, PATH, WriteDisk, write_disk};
 use crate::documents::Documents;
 use crate::ids::{Order, deleted, ids};
 use crate::index_work::{Build, OpenIndex, Seek, Walk};
@@ -13,13 +14,13 @@ use crate::view_work::{GetView, IterateView, OpenView};
 use anyhow::{Result, bail};
 use docstore::SkipIndex;
 use std::alloc::Global;
-use std::rt::Clock;
-use store_base::OwnedBytes;
+use std::fs;
+use store_base::{MemSink, OwnedBytes};
 
 /// Where workloads are printed, and how they are told.
 #[derive(Drop)]
-pub struct Bench<'a, R> {
-    pub rt: &'a R,
+pub struct Bench<'a> {
+    pub rt: &'a HostRuntime,
     pub alloc: Global,
     pub telling: Telling,
 }
@@ -50,7 +51,7 @@ fn some_documents(count: u64) -> Option<u32>
     }
 }
 
-impl<'a, R: Print + Eprint + Clock> Bench<'a, R> {
+impl<'a> Bench<'a> {
     /// Makes the workload of this name, does it and tells of it.
     pub fn run(&self, name: &str, numbers: &Numbers) -> Result<()> {
         match name {
@@ -66,6 +67,12 @@ impl<'a, R: Print + Eprint + Clock> Bench<'a, R> {
             "view_zipf" => self.get_view(name, Order::Zipf, numbers),
             "view_seq" => self.get_view(name, Order::Sequential, numbers),
             "view_iter" => self.iterate_view(numbers),
+            "disk_write" => self.write_disk(numbers),
+            "disk_uniform" => self.get_disk(name, Order::Uniform, numbers),
+            "disk_hot" => self.get_disk(name, Order::Hot(numbers.hot()), numbers),
+            "disk_zipf" => self.get_disk(name, Order::Zipf, numbers),
+            "disk_seq" => self.get_disk(name, Order::Sequential, numbers),
+            "disk_iter" => self.iterate_disk(numbers),
             "iter_raw" => self.iterate(name, false, numbers),
             "iter_raw_deleted" => self.iterate(name, true, numbers),
             "stack" => self.stack(numbers),
@@ -90,7 +97,8 @@ impl<'a, R: Print + Eprint + Clock> Bench<'a, R> {
         let alloc = self.alloc;
         let pool = documents_of(alloc, numbers.length())?;
         let block_size = numbers.block_size() as usize;
-        let output = written(alloc, &pool, documents as usize, block_size)?;
+        let output = MemSink::new(alloc);
+        let output = written(alloc, output, &pool, documents as usize, block_size)?;
         Ok(Source {
             alloc,
             file: OwnedBytes::new(alloc, output.into_bytes())?,
@@ -184,6 +192,63 @@ impl<'a, R: Print + Eprint + Clock> Bench<'a, R> {
         let alloc = self.alloc;
         let mut work = IterateView { alloc, file };
         self.measure(name.as_str(), numbers, &mut work)
+    }
+
+    // Writes the file of so many documents, which is read from disk.
+    fn make_file(&self, documents: u64, numbers: &Numbers) -> Result<()> {
+        let pool = documents_of(self.alloc, numbers.length())?;
+        let block_size = numbers.block_size() as usize;
+        write_disk(self.rt, &pool, documents as usize, block_size)
+    }
+
+    // The same for one that works on the file, which is removed behind it.
+    fn measure_disk<W: Workload>(&self, name: &str, numbers: &Numbers, work: &mut W) -> Result<()> {
+        self.measure(name, numbers, work)?;
+        fs::remove_file(self.rt, PATH)?;
+        Ok(())
+    }
+
+    fn write_disk(&self, numbers: &Numbers) -> Result<()> {
+        let count = numbers.documents(200_000);
+        let length = numbers.length();
+        let block_size = numbers.block_size();
+        let name = format!(in self.alloc; "disk_write/n={count}/l={length}/bs={block_size}")?;
+        let mut work = WriteDisk {
+            rt: self.rt,
+            documents: documents_of(self.alloc, length)?,
+            count: count as usize,
+            block_size: block_size as usize,
+        };
+        self.measure_disk(name.as_str(), numbers, &mut work)
+    }
+
+    fn get_disk(&self, kind: &str, order: Order, numbers: &Numbers) -> Result<()> {
+        let count = numbers.documents(1_000_000);
+        let questions = numbers.questions(usual_questions(order, count));
+        let shape = self.shape_of_reader(count, numbers)?;
+        let name = format!(in self.alloc; "{kind}/{shape}/q={questions}")?;
+        let Some(num_docs) = some_documents(count) else {
+            bail!("n is not from 1 to 4294967295: {count}");
+        };
+        self.make_file(count, numbers)?;
+        let mut work = GetDisk {
+            rt: self.rt,
+            capacity: numbers.capacity() as usize,
+            ids: ids(self.alloc, order, questions, num_docs)?,
+        };
+        self.measure_disk(name.as_str(), numbers, &mut work)
+    }
+
+    fn iterate_disk(&self, numbers: &Numbers) -> Result<()> {
+        let count = numbers.documents(1_000_000);
+        let shape = self.shape_of_reader(count, numbers)?;
+        let name = format!(in self.alloc; "disk_iter/{shape}")?;
+        self.make_file(count, numbers)?;
+        let mut work = IterateDisk {
+            rt: self.rt,
+            capacity: numbers.capacity() as usize,
+        };
+        self.measure_disk(name.as_str(), numbers, &mut work)
     }
 
     fn iterate(&self, kind: &str, with_deleted: bool, numbers: &Numbers) -> Result<()> {

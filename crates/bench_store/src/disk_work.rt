@@ -1,0 +1,86 @@
+//! Workloads over a store in a file of the current folder.
+use crate::checks::hash_as_version_2;
+use crate::documents::Documents;
+use crate::measure::{Run, Workload};
+use crate::store_work::{get_all, iterate_all};
+use crate::stores::written;
+use anyhow::Result;
+use docstore::{DocId, FileSlice, StoreReader};
+use std::rt::Clock;
+use std::time::Instant;
+use store_files::{DiskFile, DiskSink, OsFile, load};
+
+/// The file that is written and read.
+pub const PATH: &str = "bench.store";
+
+// Opens the file, with a cache of so many blocks.
+fn opened(rt: &HostRuntime, capacity: usize) -> Result<StoreReader<DiskFile<OsFile>>> {
+    let file = FileSlice::new(DiskFile::new(OsFile::open(rt, PATH)?)?);
+    let opened = StoreReader::open(rt.alloc(), file, capacity);
+    Ok(opened.map_err(|refusal| refusal.error)?)
+}
+
+/// Gets documents of the file by their ids.
+#[derive(Drop)]
+pub struct GetDisk<'a> {
+    pub rt: &'a HostRuntime,
+    pub capacity: usize,
+    pub ids: Vec<DocId>,
+}
+
+impl<'a> Workload for GetDisk<'a> {
+    fn run<C: Clock>(&mut self, clock: &C) -> Result<Run> {
+        let mut reader = opened(self.rt, self.capacity)?;
+        get_all(clock, self.rt.alloc(), &mut reader, &self.ids)
+    }
+}
+
+/// Goes over the documents of the file.
+#[derive(Drop)]
+pub struct IterateDisk<'a> {
+    pub rt: &'a HostRuntime,
+    pub capacity: usize,
+}
+
+impl<'a> Workload for IterateDisk<'a> {
+    fn run<C: Clock>(&mut self, clock: &C) -> Result<Run> {
+        let mut reader = opened(self.rt, self.capacity)?;
+        iterate_all(clock, self.rt.alloc(), &mut reader, &[])
+    }
+}
+
+/// Writes a store to the file: a new output and writer, each document, the end, and the syncs.
+#[derive(Drop)]
+pub struct WriteDisk<'a> {
+    pub rt: &'a HostRuntime,
+    pub documents: Documents,
+    pub count: usize,
+    pub block_size: usize,
+}
+
+/// Writes the file, of so many documents.
+pub fn write_disk(
+    rt: &HostRuntime,
+    documents: &Documents,
+    count: usize,
+    block_size: usize,
+) -> Result<()> {
+    let output = DiskSink::create(rt.alloc(), rt.clone()?, PATH)?;
+    written(rt.alloc(), output, documents, count, block_size)?;
+    Ok(())
+}
+
+impl<'a> Workload for WriteDisk<'a> {
+    fn run<C: Clock>(&mut self, clock: &C) -> Result<Run> {
+        let start = Instant::now(clock)?;
+        write_disk(self.rt, &self.documents, self.count, self.block_size)?;
+        let time = start.elapsed(clock)?;
+        let count = self.count as u64;
+        Ok(Run {
+            time,
+            count,
+            bytes: count.wrapping_mul(self.documents.len() as u64),
+            check: hash_as_version_2(&load(self.rt, PATH)?),
+        })
+    }
+}
