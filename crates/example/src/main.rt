@@ -1,5 +1,7 @@
-//! Writes a store into memory, stacks it behind another document, and reads what came.
+//! Writes a store into memory, stacks it behind another document, and reads what came. Then it writes one to a file.
 #![tactic(auto)]
+
+mod on_disk;
 
 use docstore::{
     AliveBitSet, Compressor, FileSlice, MemFile, MemSink, StoreError, StoreReader, StoreWriter,
@@ -45,5 +47,6 @@ fn main(rt: HostRuntime) -> anyhow::Result<()> {
     let mut store = opened(alloc, all)?;
     let banana = store.get_document_bytes(alloc, 2)?;
     println!(rt; "document 2: {}", str::from_utf8(banana.as_slice())?)?;
-    print_live(&rt, alloc, &mut store)
+    print_live(&rt, alloc, &mut store)?;
+    on_disk::write_and_read(&rt)
 }

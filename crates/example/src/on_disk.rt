@@ -1,0 +1,35 @@
+//! Writes a store to a file, and gets a document of it.
+
+use docstore::{Compressor, FileSlice, StoreReader, StoreWriter};
+use std::fs;
+use store_files::{DiskFile, DiskSink, OsFile};
+
+type Reader = StoreReader<DiskFile<OsFile>>;
+
+// The file has its name only once it is whole, and the system was asked to keep it.
+fn write(rt: &HostRuntime, path: &str, documents: &[&str]) -> anyhow::Result<()> {
+    let output = DiskSink::create(rt.alloc(), rt.clone()?, path)?;
+    let mut writer = StoreWriter::new(rt.alloc(), output, Compressor::None, 16384);
+    for document in documents {
+        writer.store_bytes(document.as_bytes())?;
+    }
+    writer.close().map_err(|refusal| refusal.error)?;
+    Ok(())
+}
+
+// This reads the footer and the index. A get reads one block.
+fn open(rt: &HostRuntime, path: &str) -> anyhow::Result<Reader> {
+    let file = FileSlice::new(DiskFile::new(OsFile::open(rt, path)?)?);
+    let opened = StoreReader::open(rt.alloc(), file, 100);
+    Ok(opened.map_err(|refusal| refusal.error)?)
+}
+
+/// Writes a store to a file of the current folder, prints a document of it, and removes it.
+pub fn write_and_read(rt: &HostRuntime) -> anyhow::Result<()> {
+    let path = "fruits.store";
+    write(rt, path, &["apple", "banana", "cherry"])?;
+    let cherry = open(rt, path)?.get_document_bytes(rt.alloc(), 2)?;
+    println!(rt; "on disk: {}", str::from_utf8(cherry.as_slice())?)?;
+    fs::remove_file(rt, path)?;
+    Ok(())
+}

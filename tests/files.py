@@ -1,0 +1,314 @@
+#!/usr/bin/env python3
+"""Files on disk, as a machine in trouble treats them: killed, full, cut, raced, and larger than memory.
+
+usage: files.py PROGRAM
+
+PROGRAM is the built `zevkhadun`. Each test has a folder of its own, which is removed behind it.
+"""
+
+import os
+import resource
+import shutil
+import signal
+import subprocess
+import sys
+import tempfile
+import time
+import unittest
+
+PROGRAM = os.path.abspath(sys.argv.pop(1)) if len(sys.argv) > 1 else ""
+NOBODY = 65534
+MIB = 1 << 20
+
+
+def ran(*words, stdin=b"", **how):
+    """Runs the program to its end."""
+    return subprocess.run([PROGRAM, *words], input=stdin, capture_output=True, timeout=120, **how)
+
+
+def lines(count, word=b"line"):
+    """A text of numbered lines."""
+    return b"".join(b"%s %d\n" % (word, i) for i in range(count))
+
+
+class InFolder(unittest.TestCase):
+    """A test in a folder of its own, with a store of an old text in it."""
+
+    OLD = b"an old line\nand one more\n"
+
+    def setUp(self):
+        self.folder = tempfile.mkdtemp(prefix="zevkhadun-")
+        self.addCleanup(shutil.rmtree, self.folder, ignore_errors=True)
+        self.path = self.path_of("a.store")
+        self.pack_old()
+
+    def path_of(self, name):
+        return os.path.join(self.folder, name)
+
+    def pack_old(self):
+        self.assertEqual(ran("pack", self.path, stdin=self.OLD).returncode, 0)
+
+    def text(self):
+        """What the store holds."""
+        done = ran("cat", self.path)
+        self.assertEqual(done.returncode, 0, done.stderr)
+        return done.stdout
+
+    def assert_refused(self, done, file, reason):
+        """It failed with one line, which names the file and the reason; the old store is whole and alone."""
+        said = done.stderr.decode(errors="replace")
+        self.assertEqual(done.returncode, 1, said)
+        self.assertEqual(said.count("\n"), 1, said)
+        self.assertIn(file, said)
+        self.assertIn(reason, said)
+        self.assertEqual(self.text(), self.OLD)
+        self.assertNotIn("a.store.part", os.listdir(self.folder))
+
+
+class Killed(InFolder):
+    """A process that is ended at any moment of a write leaves the old store or the whole new one."""
+
+    NEW = lines(300_000, b"a new line")
+    MOMENTS = 80
+
+    def setUp(self):
+        super().setUp()
+        self.input = self.path_of("input")
+        with open(self.input, "wb") as file:
+            file.write(self.NEW)
+
+    def write_whole(self):
+        start = time.monotonic()
+        self.assertEqual(ran("pack", self.path, self.input).returncode, 0)
+        return time.monotonic() - start
+
+    def write_until(self, seconds):
+        """Ends a write after so many seconds, and tells whether it left a file beside."""
+        writing = subprocess.Popen([PROGRAM, "pack", self.path, self.input])
+        time.sleep(seconds)
+        writing.kill()
+        writing.wait()
+        return os.path.exists(self.path + ".part")
+
+    def test_old_or_whole(self):
+        whole = max(self.write_whole() for _ in range(3))
+        left = {self.OLD: 0, self.NEW: 0}
+        beside = 0
+        for moment in range(self.MOMENTS):
+            self.pack_old()
+            beside += self.write_until(whole * 1.3 * moment / self.MOMENTS)
+            text = self.text()
+            self.assertIn(text, left, f"neither the old text nor the new one, at moment {moment}")
+            left[text] += 1
+        self.assertTrue(left[self.OLD] and left[self.NEW] and beside, "every kill came at the same moment")
+        # What was left beside is taken over.
+        self.write_until(whole / 2)
+        self.write_whole()
+        self.assertEqual(self.text(), self.NEW)
+        self.assertEqual(sorted(os.listdir(self.folder)), ["a.store", "input"])
+
+
+class NoRoom(InFolder):
+    """Where a device is full, or a file may not grow, the old store stays."""
+
+    NEW = lines(200_000)
+
+    def limited(self, action):
+        def limit():
+            resource.setrlimit(resource.RLIMIT_FSIZE, (MIB, MIB))
+            signal.signal(signal.SIGXFSZ, action)
+
+        return ran("pack", self.path, stdin=self.NEW, preexec_fn=limit, restore_signals=False)
+
+    def test_limit_on_size(self):
+        self.assert_refused(self.limited(signal.SIG_IGN), "a.store", "File too large")
+
+    def test_limit_on_size_by_signal(self):
+        self.assertNotEqual(self.limited(signal.SIG_DFL).returncode, 0)
+        self.assertEqual(self.text(), self.OLD)
+
+    def test_full_device(self):
+        script = (
+            'mount -t tmpfs -o size=1m none "$1" || exit 77; cp "$3" "$1/a.store"; '
+            '"$2" pack "$1/a.store"; echo $?; ls "$1"; "$2" cat "$1/a.store"'
+        )
+        device = self.path_of("device")
+        os.mkdir(device)
+        space = ["unshare", "-m" if os.geteuid() == 0 else "-rm", "sh", "-c", script]
+        done = subprocess.run([*space, "", device, PROGRAM, self.path], input=self.NEW, capture_output=True, timeout=60)
+        if done.returncode == 77 or b"unshare:" in done.stderr:
+            self.skipTest("no device can be mounted here")
+        self.assertIn(b"No space left on device", done.stderr)
+        self.assertEqual(done.stdout, b"1\na.store\n" + self.OLD)
+
+
+class Refused(InFolder):
+    """What an output may not take the place of."""
+
+    def test_missing_folder(self):
+        self.assert_refused(ran("pack", self.path_of("none/b.store")), "b.store", "No such file or directory")
+
+    def test_folder(self):
+        self.assert_refused(ran("pack", self.folder), self.folder, "not a plain file")
+
+    def test_device(self):
+        self.assert_refused(ran("pack", "/dev/full", stdin=b"x"), "/dev/full", "not a plain file")
+
+    def test_dangling_link(self):
+        link = self.path_of("link.store")
+        os.symlink("none.store", link)
+        self.assert_refused(ran("pack", link, stdin=b"x"), "link.store", "No such file or directory")
+
+    def test_no_rights(self):
+        os.chmod(self.folder, 0o555)
+        how = {"user": NOBODY, "group": NOBODY, "extra_groups": []} if os.geteuid() == 0 else {}
+        done = ran("pack", self.path, stdin=b"x", **how)
+        os.chmod(self.folder, 0o755)
+        self.assert_refused(done, "a.store", "Permission denied")
+
+    def test_link_mode_and_owner_are_kept(self):
+        link = self.path_of("link.store")
+        os.symlink("a.store", link)
+        os.chmod(self.path, 0o640)
+        if os.geteuid() == 0:
+            os.chown(self.path, NOBODY, NOBODY)
+        before = os.stat(self.path)
+        self.assertEqual(ran("pack", link, stdin=b"new\n").returncode, 0)
+        self.assertEqual(self.text(), b"new\n")
+        self.assertTrue(os.path.islink(link))
+        after = os.stat(self.path)
+        self.assertEqual((after.st_mode, after.st_uid, after.st_gid), (before.st_mode, before.st_uid, before.st_gid))
+
+
+class Raced(InFolder):
+    """Two writers of one name, and a file that changes while it is read."""
+
+    def begun(self):
+        """A writer that has begun, and waits for its input."""
+        writing = subprocess.Popen([PROGRAM, "pack", self.path], stdin=subprocess.PIPE, stderr=subprocess.PIPE)
+        for _ in range(1000):
+            if os.path.exists(self.path + ".part"):
+                return writing
+            time.sleep(0.01)
+        writing.kill()
+        self.fail("the writer has not begun")
+
+    def test_second_writer(self):
+        first = self.begun()
+        second = ran("pack", self.path, stdin=b"second\n")
+        self.assertEqual(second.returncode, 1)
+        self.assertIn(b"a.store.part is being written by another", second.stderr)
+        self.assertEqual(self.text(), self.OLD)
+        first.communicate(b"first\n", timeout=60)
+        self.assertEqual(first.returncode, 0)
+        self.assertEqual(self.text(), b"first\n")
+        self.assertEqual(os.listdir(self.folder), ["a.store"])
+
+    def test_interrupted_writer(self):
+        for end in (signal.SIGINT, signal.SIGTERM, signal.SIGHUP):
+            writing = self.begun()
+            writing.send_signal(end)
+            writing.communicate(timeout=60)
+            self.assertNotEqual(writing.returncode, 0)
+            self.assertEqual(self.text(), self.OLD)
+
+    def reading(self, text, change):
+        """What a reader gives of a file that is changed once some of it came, and how it ends."""
+        self.assertEqual(ran("pack", self.path, stdin=text).returncode, 0)
+        reader = subprocess.Popen([PROGRAM, "cat", self.path], stdout=subprocess.PIPE, stderr=subprocess.PIPE)
+        first = reader.stdout.read(1000)
+        change()
+        rest, said = reader.communicate(timeout=60)
+        return first + rest, reader.returncode, said
+
+    def test_cut_while_it_is_read(self):
+        text = lines(2_000_000)
+        given, status, said = self.reading(text, lambda: os.truncate(self.path, os.path.getsize(self.path) // 2))
+        self.assertTrue(text.startswith(given))
+        self.assertEqual(given == text, status == 0, said)
+        self.assertIn(status, (0, 1), said)
+
+    def test_grown_while_it_is_read(self):
+        def grow():
+            with open(self.path, "ab") as file:
+                file.write(b"x" * MIB)
+
+        text = lines(2_000_000)
+        self.assertEqual(self.reading(text, grow), (text, 0, b""))
+
+
+class Named(InFolder):
+    """Names that are no plain words."""
+
+    def test_names(self):
+        for name in ("two words.store", "ein Wörterbuch 書.store", "a\nb.store", "-x.store", "'\"$(true).store"):
+            path = self.path_of(name)
+            self.assertEqual(ran("pack", path, stdin=b"x\n").returncode, 0)
+            self.assertEqual(ran("get", path, "0").stdout, b"x\n")
+
+    def test_bytes_that_are_no_text(self):
+        done = subprocess.run([PROGRAM, "cat", os.fsencode(self.folder) + b"/\xff.store"], capture_output=True, timeout=60)
+        self.assertIn(done.returncode, (1, 2))
+        self.assertTrue(done.stderr)
+
+
+class Large(InFolder):
+    """A store of more than 4 GiB, in less than 200 MB of memory."""
+
+    COUNT = 70_000
+    LENGTH = 65_536
+
+    def line(self, i):
+        return b"%010d" % i + self.rest
+
+    def setUp(self):
+        super().setUp()
+        self.rest = b"x" * (self.LENGTH - 11) + b"\n"
+        if shutil.disk_usage(self.folder).free < 12 << 30:
+            self.skipTest("fewer than 12 GiB are free")
+
+    def end(self, process):
+        """Waits for a process, which has to end well in less than 200 MB of memory."""
+        _, status, usage = os.wait4(process.pid, 0)
+        process.returncode = os.waitstatus_to_exitcode(status)
+        self.assertEqual(process.returncode, 0)
+        self.assertLess(usage.ru_maxrss * 1024, 200_000_000)
+
+    def pack(self, path):
+        packing = subprocess.Popen([PROGRAM, "pack", path], stdin=subprocess.PIPE)
+        for i in range(self.COUNT):
+            packing.stdin.write(self.line(i))
+        packing.stdin.close()
+        self.end(packing)
+
+    def assert_line(self, path, number, i):
+        getting = subprocess.Popen([PROGRAM, "get", path, str(number)], stdout=subprocess.PIPE)
+        self.assertEqual(getting.stdout.read(), self.line(i))
+        getting.stdout.close()
+        self.end(getting)
+
+    def assert_lines(self, path):
+        reading = subprocess.Popen([PROGRAM, "cat", path], stdout=subprocess.PIPE)
+        for i in range(self.COUNT):
+            self.assertEqual(reading.stdout.read(self.LENGTH), self.line(i))
+        self.assertEqual(reading.stdout.read(), self.OLD)
+        reading.stdout.close()
+        self.end(reading)
+
+    def test_packed_got_and_merged(self):
+        large, merged = self.path_of("large.store"), self.path_of("merged.store")
+        self.pack(large)
+        self.assertGreater(os.path.getsize(large), 4 << 30)
+        for number in (0, self.COUNT // 2, self.COUNT - 1):
+            self.assert_line(large, number, number)
+        self.end(subprocess.Popen([PROGRAM, "merge", merged, large, self.path]))
+        os.remove(large)
+        self.assert_line(merged, self.COUNT - 1, self.COUNT - 1)
+        self.assert_lines(merged)
+        self.end(subprocess.Popen([PROGRAM, "verify", merged], stdout=subprocess.DEVNULL))
+
+
+if __name__ == "__main__":
+    if not PROGRAM:
+        sys.exit(__doc__)
+    unittest.main()
