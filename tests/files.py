@@ -215,7 +215,8 @@ class Raced(InFolder):
     def reading(self, text, change):
         """What a reader gives of a file that is changed once some of it came, and how it ends."""
         self.assertEqual(ran("pack", self.path, stdin=text).returncode, 0)
-        reader = subprocess.Popen([PROGRAM, "cat", self.path], stdout=subprocess.PIPE, stderr=subprocess.PIPE)
+        how = {"stdout": subprocess.PIPE, "stderr": subprocess.PIPE, "bufsize": 0}
+        reader = subprocess.Popen([PROGRAM, "cat", self.path], **how)
         first = reader.stdout.read(1000)
         change()
         rest, said = reader.communicate(timeout=60)
@@ -224,7 +225,7 @@ class Raced(InFolder):
     def test_cut_while_it_is_read(self):
         text = lines(2_000_000)
         given, status, said = self.reading(text, lambda: os.truncate(self.path, os.path.getsize(self.path) // 2))
-        self.assertTrue(text.startswith(given))
+        self.assertTrue(text.startswith(given), "what came is no beginning")
         self.assertEqual(given == text, status == 0, said)
         self.assertIn(status, (0, 1), said)
 
@@ -234,7 +235,9 @@ class Raced(InFolder):
                 file.write(b"x" * MIB)
 
         text = lines(2_000_000)
-        self.assertEqual(self.reading(text, grow), (text, 0, b""))
+        given, status, said = self.reading(text, grow)
+        self.assertEqual((status, said), (0, b""))
+        self.assertTrue(given == text)
 
 
 class Named(InFolder):
