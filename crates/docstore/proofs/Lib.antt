@@ -1,6 +1,9 @@
 pub mod PendingLemmas
 pub mod OutputLemmas
 pub mod WriterLemmas
+pub mod PartLemmas
+pub mod PutLemmas
+pub mod ReadInPartsLemmas
 pub mod TakenLemmas
 pub mod ShiftedCheckpointLemmas
 pub mod StackLawLemmas

@@ -4,6 +4,7 @@ pub mod BlockOutput
 pub mod Writer
 pub mod Laws
 pub mod Stacking
+pub mod StackingInParts
 pub mod Causes
 pub mod Run
 pub mod EndToEnd

@@ -4,7 +4,9 @@
 
 pub mod close_error;
 mod current_block;
+mod flushing;
 pub mod laws;
+mod parts;
 pub mod run;
 pub mod store_compressor;
 pub mod writer;

@@ -12,9 +12,11 @@ ghost use Rattle.docstore.specs.BlockOutput.{new_output, with_blocks, with_risen
 ghost use Rattle.docstore.specs.BlockOutput.{AfterClose, IsEndRefusal};
 ghost use Rattle.store_reader.specs.Reading.{num_docs as docs_of, IsReadOnce};
 ghost use Rattle.docstore.specs.Stacking.{AreRead, shifted, AfterStacking};
+ghost use Rattle.docstore.specs.StackingInParts.{number_of_parts, IsReadTimes, IsReadAtMost, AfterStackingInParts};
 ghost use Rattle.store_reader.specs.Viewing.{count_in};
 
 use crate::close_error::CloseError;
+use crate::parts::stack_parts;
 use layered_index::{CHECKPOINT_PERIOD, Checkpoint, LayerCursor, SkipIndexBuilder};
 use std::alloc::Global;
 use std::marker::Model;
@@ -195,6 +197,38 @@ impl<W: TerminatingWrite> BlockCompressor<W> {
         let data = reader.block_data(self.alloc)?;
         self.write_blocks(data.as_slice(), reader.block_checkpoints())?;
         Ok(())
+    }
+
+    /// The same, a part of its data at a time: as many whole blocks as so many bytes hold, at least one.
+    ///
+    /// `Read` and `Memory` leave the blocks of the parts before, so the writer works on.
+    pub fn stack_reader_in_parts<H: FileHandle>(
+        &mut self,
+        reader: &mut StoreReader<H>,
+        part_bytes: usize,
+    ) -> Result<(), StoreError>
+        requires version { reader.old.version ≢ DocStoreVersion.V1 }
+        requires few_docs { docs_in self.old.finished + docs_of reader.old < 2 ^ 32 }
+        ensures stacked { OnOk result ((bs : List StoreBlock) × AreRead reader.old bs
+            × (self.new ≡ with_risen self.new.failures (with_blocks self.old bs))) }
+        ensures works { OnOk result (self.old.failure ≡ None) }
+
+        // A failed writer answers its cause again and stays as it was, and the reader too.
+        ensures failed { IfSome self.old.failure (λ cause. IsErrOf result (StoreError.Failed cause)
+            × (self.new ≡ self.old) × (reader.new ≡ reader.old)) }
+        ensures err { IfErr result (AfterStackingInParts reader.old reader.new self.old self.new) }
+
+        ensures read { OnOk result
+            (IsReadTimes (number_of_parts part_bytes reader.old.checkpoints) reader.old reader.new) }
+        ensures kept { IsReadAtMost (number_of_parts part_bytes reader.old.checkpoints) reader.old reader.new }
+        ensures termination { self.new.termination ≡ self.old.termination }
+        ensures count { self.old.failures ≤ self.new.failures }
+        ensures sound { IsSound self.new }
+    {
+        match self.failure {
+            Some(cause) => Err(StoreError::from(cause)),
+            None => stack_parts(self.alloc, self, reader, part_bytes),
+        }
     }
 
     /// Puts the blocks of a store whose bytes are at hand behind the others.

@@ -3,25 +3,26 @@
 ghost use Rattle.std.specs.Prelude.{◌≡◌, ◌+◌, ◌-◌, ◌*◌, ◌<◌, ◌≤◌, ◌↔◌, ◌^◌, ◌⊎◌, List, [], ◌++◌, length, true, None};
 ghost use Rattle.std.specs.Prelude.{is_some, OnOk, IfOk, IfErr, IfSome, IsErrOf, MatchResult};
 ghost use Rattle.std.specs.List.{concat};
-ghost use Rattle.store_format.specs.StoreFile.{StoreBlock, docs_in, file, IsStore};
-ghost use Rattle.docstore.specs.Trace.{weight};
+ghost use Rattle.store_format.specs.StoreFile.{StoreBlock, file, IsStore};
 ghost use Rattle.store_base.specs.Outputs.{terminated_once};
-ghost use Rattle.docstore.specs.BlockOutput.{new_output, with_blocks, with_risen, IsSound, FailsFor, AfterClose};
-ghost use Rattle.docstore.specs.Writer.{new_writing, num_docs, blocks_of, flushed, flushed_if_full, with_document};
+ghost use Rattle.docstore.specs.BlockOutput.{new_output, AfterClose};
+ghost use Rattle.docstore.specs.Writer.{new_writing, num_docs, flushed, with_document};
 ghost use Rattle.docstore.specs.Writer.{with_failures, HasIdLeft, HasNoIdLeft, IsTooLarge, HasTooMuch, IsStoreWriter};
 ghost use Rattle.docstore.specs.Writer.{Takes, AfterRefusal, AfterDocument};
 ghost use Rattle.store_reader.specs.Reading.{IsReadOnce, IsReadAtMostOnce};
 ghost use Rattle.docstore.specs.Stacking.{AreRead, with_store, IsOld, HasTooMany, AfterStack};
 ghost use Rattle.docstore.specs.Stacking.{HasRoomFor, HasNoIdsFor, HasNoRoomFor, AfterStackedView};
+ghost use Rattle.docstore.specs.StackingInParts.{number_of_parts, IsReadTimes, IsReadAtMost, AfterStackInParts};
 ghost use Rattle.store_reader.specs.Viewing.{count_in};
 
 use crate::close_error::CloseError;
 use crate::current_block::CurrentBlock;
+use crate::flushing::{flush, flush_if_full};
 use crate::store_compressor::BlockCompressor;
 use layered_index::CHECKPOINT_PERIOD;
 use std::alloc::Global;
 use std::marker::Model;
-use store_base::{Cause, Document, FileHandle, Schema, StoreError, TerminatingWrite};
+use store_base::{Document, FileHandle, Schema, StoreError, TerminatingWrite};
 use store_format::{Compressor, DocStoreVersion};
 use store_reader::{StoreReader, StoreView};
 
@@ -263,6 +264,46 @@ impl<W: TerminatingWrite> StoreWriter<W> {
         Ok(())
     }
 
+    /// Puts the documents of a store behind those that were taken, as `stack` does, but a part of its data at a time.
+    ///
+    /// A part is as many whole blocks as so many bytes hold, at least one. It is read by one read, and written
+    /// before the next is read, so memory has one part and the index. `Read` and `Memory` leave the pending
+    /// documents as a finished block, and those of the store's blocks behind it that came before.
+    pub fn stack_in_parts<H: FileHandle>(
+        &mut self,
+        reader: &mut StoreReader<H>,
+        part_bytes: usize,
+    ) -> Result<(), StoreError>
+        ensures stacked { OnOk result ((bs : List StoreBlock) × AreRead reader.old bs
+            × (self.new ≡ with_failures self.new.output.failures (with_store self.old bs))) }
+        ensures works { OnOk result (self.old.output.failure ≡ None) }
+
+        // Each cause, where none above it holds.
+        ensures failed { IfSome self.old.output.failure (λ cause. IsErrOf result (StoreError.Failed cause)
+            × (reader.new ≡ reader.old)) }
+        ensures old_version { IsErrOf result StoreError.OldVersion ↔ IsOld self.old reader.old }
+        ensures too_many { IsErrOf result StoreError.TooManyDocs ↔ HasTooMany self.old reader.old }
+
+        // After an error: as it was, with a beginning of the store's blocks, or failed for good.
+        ensures err { IfErr result (AfterStackInParts reader.old reader.new self.old self.new) }
+
+        // The reader keeps its store.
+        ensures read { OnOk result
+            (IsReadTimes (number_of_parts part_bytes reader.old.checkpoints) reader.old reader.new) }
+        ensures kept { IsReadAtMost (number_of_parts part_bytes reader.old.checkpoints) reader.old reader.new }
+
+        ensures termination { self.new.output.termination ≡ self.old.output.termination }
+        ensures count { self.old.output.failures ≤ self.new.output.failures }
+        ensures sound { IsStoreWriter self.new }
+    {
+        let num_docs = reader.num_docs();
+        self.check_room_for(reader.version(), num_docs)?;
+        flush(&mut self.current_block, &mut self.block_compressor)?;
+        self.block_compressor
+            .stack_reader_in_parts(reader, part_bytes)?;
+        Ok(())
+    }
+
     /// Puts the documents of a store whose bytes are at hand behind those that were taken, as `stack` does.
     ///
     /// Nothing is read and nothing copied but into the output. After `Failed` the writer answers only
@@ -323,52 +364,4 @@ impl<W: TerminatingWrite> StoreWriter<W> {
             Err(refusal) => Err(refusal.behind_bytes()),
         }
     }
-}
-
-// Writes the documents as a block if they weigh more than the block size.
-fn flush_if_full<W: TerminatingWrite>(
-    documents: &mut CurrentBlock,
-    output: &mut BlockCompressor<W>,
-    block_size: usize,
-) -> Result<(), Cause>
-    requires works { output.old.failure ≡ None }
-    requires few { docs_in output.old.finished + length documents.old < 2 ^ 32 }
-    requires sound { IsSound output.old }
-    ensures flushed { OnOk result (record { block_size = block_size; pending = documents.new; output = output.new }
-        ≡ with_failures output.new.failures
-        (flushed_if_full (record { block_size = block_size; pending = documents.old; output = output.old }))) }
-    ensures err { IfErr result (λ cause. FailsFor cause output.old output.new) }
-    ensures light { weight documents.new ≤ block_size }
-    ensures few { docs_in output.new.finished + length documents.new < 2 ^ 32 }
-    ensures termination { output.new.termination ≡ output.old.termination }
-    ensures count { output.old.failures ≤ output.new.failures }
-    ensures sound { IsSound output.new }
-{
-    if documents.weight() > block_size {
-        documents.flush_to(output)
-    } else {
-        Ok(())
-    }
-}
-
-// Writes the documents as a block if there are any. Afterwards none waits, whatever the result.
-fn flush<W: TerminatingWrite>(
-    documents: &mut CurrentBlock,
-    output: &mut BlockCompressor<W>,
-) -> Result<(), Cause>
-    requires works { output.old.failure ≡ None }
-    requires few { docs_in output.old.finished + length documents.old < 2 ^ 32 }
-    requires sound { IsSound output.old }
-    ensures emptied { documents.new ≡ [] }
-    ensures written { OnOk result (output.new
-        ≡ with_risen output.new.failures (with_blocks output.old (blocks_of documents.old))) }
-    ensures err { IfErr result (λ cause. FailsFor cause output.old output.new) }
-    ensures termination { output.new.termination ≡ output.old.termination }
-    ensures count { output.old.failures ≤ output.new.failures }
-    ensures sound { IsSound output.new }
-{
-    if documents.len() == 0 {
-        return Ok(());
-    }
-    documents.flush_to(output)
 }

@@ -13,6 +13,9 @@ use Rattle.store_reader.specs.Reading.{Reading}
 use Rattle.docstore.specs.Writer.{Writing}
 use Rattle.store_merge.specs.declared.input.MergeInput.{MergeInput}
 use Rattle.store_merge.specs.declared.merge_error.MergeError.{MergeError}
+use Rattle.store_merge.specs.declared.stacking.Stacking.{Stacking}
+use Rattle.store_merge.specs.declared.stacking.Stacking.TheVariants.{Whole, InParts}
+use Rattle.store_merge.specs.Stacking.{Leaves}
 use Rattle.store_merge.specs.Choice.{set_of, alive_slots}
 use Rattle.store_merge.specs.Refusals.{RefusesBytes, RefusesStore, RefusesInput, StopsAt}
 use Rattle.store_merge.specs.Merge.{IsHonest, IsEnded, IsFailed, HasBegun}
@@ -46,23 +49,27 @@ unfailed_bytes bytes old new Unserializable h = absurd h
 unfailed_bytes bytes old new (BadPeriod k) h = absurd h
 unfailed_bytes bytes old new Read h = absurd h
 
-unfailed_store : (reader read : Reading) (old new : Writing) (e : StoreError) → RefusesStore reader read old new e → IsUnfailed e old new
-unfailed_store reader read old new TooManyDocs h = inr (failure_of old new h.1)
-unfailed_store reader read old new Memory h = inr (ap (λ (w : Writing). w.output.failure) h.1)
-unfailed_store reader read old new Read h = inr (ap (λ (w : Writing). w.output.failure) h.0.1)
-unfailed_store reader read old new (Failed cause) h = inl (cause, refl)
-unfailed_store reader read old new (ShortFile k) h = absurd h
-unfailed_store reader read old new (BadVersion k) h = absurd h
-unfailed_store reader read old new (BadBlockKind k) h = absurd h
-unfailed_store reader read old new BadOffset h = absurd h
-unfailed_store reader read old new BadIndex h = absurd h
-unfailed_store reader read old new (InvalidArgument k) h = absurd h
-unfailed_store reader read old new (DamagedDocument k) h = absurd h
-unfailed_store reader read old new BadDocument h = absurd h
-unfailed_store reader read old new OldVersion h = absurd h
-unfailed_store reader read old new Unserializable h = absurd h
-unfailed_store reader read old new (BadPeriod k) h = absurd h
-unfailed_store reader read old new BlockTooLarge h = absurd h
+unfailed_left : (stacking : Stacking) (reader : Reading) (old new : Writing) → Leaves stacking reader old new → new.output.failure ≡ old.output.failure
+unfailed_left Whole reader old new h = ap (λ (w : Writing). w.output.failure) h.1
+unfailed_left (InParts size) reader old new h = ap (λ (w : Writing). w.output.failure) h.after
+
+unfailed_store : (stacking : Stacking) (reader read : Reading) (old new : Writing) (e : StoreError) → RefusesStore (Leaves stacking) reader read old new e → IsUnfailed e old new
+unfailed_store stacking reader read old new TooManyDocs h = inr (failure_of old new h.1)
+unfailed_store stacking reader read old new Memory h = inr (unfailed_left stacking reader old new h)
+unfailed_store stacking reader read old new Read h = inr (unfailed_left stacking reader old new h.0)
+unfailed_store stacking reader read old new (Failed cause) h = inl (cause, refl)
+unfailed_store stacking reader read old new (ShortFile k) h = absurd h
+unfailed_store stacking reader read old new (BadVersion k) h = absurd h
+unfailed_store stacking reader read old new (BadBlockKind k) h = absurd h
+unfailed_store stacking reader read old new BadOffset h = absurd h
+unfailed_store stacking reader read old new BadIndex h = absurd h
+unfailed_store stacking reader read old new (InvalidArgument k) h = absurd h
+unfailed_store stacking reader read old new (DamagedDocument k) h = absurd h
+unfailed_store stacking reader read old new BadDocument h = absurd h
+unfailed_store stacking reader read old new OldVersion h = absurd h
+unfailed_store stacking reader read old new Unserializable h = absurd h
+unfailed_store stacking reader read old new (BadPeriod k) h = absurd h
+unfailed_store stacking reader read old new BlockTooLarge h = absurd h
 
 unfailed_stop : (set : Option (ℕ → Bool)) (reader read : Reading) (old new : Writing) (e : StoreError) → StopsAt set reader read old new e → IsUnfailed e old new
 unfailed_stop set reader read old new e s =
@@ -75,14 +82,14 @@ unfailed_stop set reader read old new e s =
       ]
     ]
 
-unfailed_input : {H : Type 0} (x left : MergeInput H) (old new : Writing) (e : StoreError) → RefusesInput x left old new e → IsUnfailed e old new
-unfailed_input x left old new e h = elim h [
-  | inl s ↦ unfailed_store x.reader left.reader old new e s.1
+unfailed_input : {H : Type 0} (stacking : Stacking) (x left : MergeInput H) (old new : Writing) (e : StoreError) → RefusesInput (Leaves stacking) x left old new e → IsUnfailed e old new
+unfailed_input stacking x left old new e h = elim h [
+  | inl s ↦ unfailed_store stacking x.reader left.reader old new e s.1
   | inr s ↦ unfailed_stop (set_of x.alive) x.reader left.reader old new e s.1
 ]
 
-pub unfailed_end : {H : Type 0} (inputs left : List (MergeInput H)) (old new : Writing) (e : MergeError) → IsEnded inputs left old new e → IsUnfailed e.error old new
-unfailed_end inputs left old new e h = elim (unfailed_input h.named h.rest h.before new e.error h.refused) [
+pub unfailed_end : {H : Type 0} (stacking : Stacking) (inputs left : List (MergeInput H)) (old new : Writing) (e : MergeError) → IsEnded (Leaves stacking) inputs left old new e → IsUnfailed e.error old new
+unfailed_end stacking inputs left old new e h = elim (unfailed_input stacking h.named h.rest h.before new e.error h.refused) [
   | inl failed ↦ inl failed
   | inr same ↦ inr (same ∙ merged_failure old h.before (take e.input inputs) h.taken_before)
 ]
@@ -100,9 +107,9 @@ all_get P xs i x is h = elim (cases_lt i (length xs)) [
   | inr le ↦ absurd (let none = slice_get_past xs i le in let p = sym none ∙ is in cc)
 ]
 
-pub begun : {H : Type 0} → StackedSlotsAreCounted → (inputs left : List (MergeInput H)) (old new : Writing) (e : MergeError) → AllByRecursion IsHonest inputs → IsEnded inputs left old new e
+pub begun : {H : Type 0} → StackedSlotsAreCounted → (stacking : Stacking) (inputs left : List (MergeInput H)) (old new : Writing) (e : MergeError) → AllByRecursion IsHonest inputs → IsEnded (Leaves stacking) inputs left old new e
     → IsFailed e.error ⊎ HasBegun inputs e.input old new
-begun law inputs left old new e honest h = elim (unfailed_input h.named h.rest h.before new e.error h.refused) [
+begun law stacking inputs left old new e honest h = elim (unfailed_input stacking h.named h.rest h.before new e.error h.refused) [
   | inl failed ↦ inl failed
   | inr same ↦
       let grown = h.more same in

@@ -39,13 +39,13 @@ can_be_taken {H} xs h none =
 
 -- ---- slots
 
-both : (a b : Bool) → (a && b) ≡ true → (a ≡ true) × (b ≡ true)
+pub both : (a b : Bool) → (a && b) ≡ true → (a ≡ true) × (b ≡ true)
 both true true is = (refl, refl)
 both true false is = absurd cc
 both false b is = absurd cc
 
 -- where each id is in the set, so is each slot
-all_alive : (set : Option (ℕ → Bool)) (n : ℕ) (xs : List Slot) → list_all (is_in set) (range_with_len n (length xs)) ≡ true → alive_behind n xs set ≡ xs
+pub all_alive : (set : Option (ℕ → Bool)) (n : ℕ) (xs : List Slot) → list_all (is_in set) (range_with_len n (length xs)) ≡ true → alive_behind n xs set ≡ xs
 all_alive set n [] is = refl
 all_alive set n (x ∷ xs) is =
     let h = both (is_in set n) (list_all (is_in set) (range_with_len (n + 1) (length xs))) is in

@@ -3,3 +3,4 @@ pub mod TakeLemmas
 pub mod MergeLemmas
 pub mod HonestLemmas
 pub mod EndLemmas
+pub mod StackedLemmas

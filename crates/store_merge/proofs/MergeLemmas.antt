@@ -12,7 +12,7 @@ use Rattle.docstore.specs.Stacking.{with_store}
 use Rattle.docstore.specs.Writer.{Writing, with_document, with_failures}
 use Rattle.store_merge.specs.declared.input.MergeInput.{MergeInput}
 use Rattle.store_merge.specs.Bringing.{Brought, stacked, copied, with_documents, with_brought, merged, slots_of, IsBrought, AreBrought}
-use Rattle.store_merge.specs.Inputs.{IsInputKept, AreInputsKept, IsInputTaken}
+use Rattle.store_merge.specs.Inputs.{AreEach, AreInputsKept, IsInputTaken}
 use Rattle.store_merge.specs.Merge.{IsMerged}
 use Rattle.store_merge.proofs.CopyLemmas.{counted_document, same_failure, same_as_it_is}
 
@@ -48,18 +48,25 @@ pub all_kept : {H : Type 0} (xs : List (MergeInput H)) → AreInputsKept xs xs
 all_kept [] = tt
 all_kept (x ∷ xs) = (record { store = same_as_it_is x.reader; set = refl }, all_kept xs)
 
-kept_push : {H : Type 0} (xs ys : List (MergeInput H)) (x y : MergeInput H) → AreInputsKept xs ys → IsInputKept x y → AreInputsKept (xs ++ x ∷ []) (ys ++ y ∷ [])
-kept_push [] [] x y h is = (is, tt)
-kept_push (a ∷ xs) (b ∷ ys) x y h is = (h.0, kept_push xs ys x y h.1 is)
-kept_push [] (b ∷ ys) x y h is = absurd h
-kept_push (a ∷ xs) [] x y h is = absurd h
+each_push : {H : Type 0} (Is : MergeInput H → MergeInput H → Type 0) (xs ys : List (MergeInput H)) (x y : MergeInput H) → AreEach Is xs ys → Is x y → AreEach Is (xs ++ x ∷ []) (ys ++ y ∷ [])
+each_push Is [] [] x y h is = (is, tt)
+each_push Is (a ∷ xs) (b ∷ ys) x y h is = (h.0, each_push Is xs ys x y h.1 is)
+each_push Is [] (b ∷ ys) x y h is = absurd h
+each_push Is (a ∷ xs) [] x y h is = absurd h
 
-pub kept_more : {H : Type 0} (olds news : List (MergeInput H)) (i : ℕ) (d y : MergeInput H) → length news ≡ length olds → i < length olds → drop i news ≡ drop i olds
-    → IsInputKept (get_or news i d) y → AreInputsKept (take i olds) (take i news) → AreInputsKept (take (i + 1) olds) (take (i + 1) (set news i y))
-kept_more olds news i d y len lt rest is h =
+pub each_more : {H : Type 0} (Is : MergeInput H → MergeInput H → Type 0) (olds news : List (MergeInput H)) (i : ℕ) (d y : MergeInput H) → length news ≡ length olds → i < length olds
+    → drop i news ≡ drop i olds → Is (get_or news i d) y → AreEach Is (take i olds) (take i news) → AreEach Is (take (i + 1) olds) (take (i + 1) (set news i y))
+each_more Is olds news i d y len lt rest is h =
     let x = get_or news i d in
-    subst (λ xs. AreInputsKept xs (take (i + 1) (set news i y))) (sym (front_more olds news i d rest lt))
-    (subst (AreInputsKept (take i olds ++ x ∷ [])) (sym (take_more_set news i y (omega (arith, len, lt)))) (kept_push (take i olds) (take i news) x y h is))
+    subst (λ xs. AreEach Is xs (take (i + 1) (set news i y))) (sym (front_more olds news i d rest lt))
+    (subst (AreEach Is (take i olds ++ x ∷ [])) (sym (take_more_set news i y (omega (arith, len, lt)))) (each_push Is (take i olds) (take i news) x y h is))
+
+pub each_all : {H : Type 0} (Is : MergeInput H → MergeInput H → Type 0) (i : ℕ) (olds news : List (MergeInput H)) → length news ≡ length olds → length olds ≤ i
+    → AreEach Is (take i olds) (take i news) → AreEach Is olds news
+each_all Is i olds news len le h =
+    let old = take_all i olds le in
+    let new = take_all i news (omega (arith, len, le)) in
+    subst (λ xs. AreEach Is xs news) old (subst (AreEach Is (take i olds)) new h)
 
 -- the others are as they were
 pub kept_all : {H : Type 0} (i : ℕ) (olds news : List (MergeInput H)) → AreInputsKept (take i olds) (take i news) → drop i news ≡ drop i olds → AreInputsKept olds news

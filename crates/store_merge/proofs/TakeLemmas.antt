@@ -46,7 +46,7 @@ copied_taken x set old new is same h =
 -- ---- a copying that stops
 
 -- a writer that did not fail for good is as it was
-unfailed : (first : Option Cause) (cause : Cause) (old new : Writing) → old.output.failure ≡ first → new.output.failure ≡ old.output.failure → AfterFailed first cause old new → new ≡ old
+pub unfailed : (first : Option Cause) (cause : Cause) (old new : Writing) → old.output.failure ≡ first → new.output.failure ≡ old.output.failure → AfterFailed first cause old new → new ≡ old
 unfailed None cause old new is same h = absurd (let f = h.failure in let p : ◌≡◌ {A = Option Cause} None (Some cause) = sym is ∙ sym same ∙ f in cc)
 unfailed (Some c) cause old new is same h = h.1
 

@@ -8,6 +8,7 @@ use Rattle.docstore.specs.Stacking.{AreRead, with_store}
 use Rattle.store_format.specs.StoreFile.{StoreBlock}
 use Rattle.docstore.specs.Writer.{Writing, with_failures}
 use Rattle.store_merge.specs.declared.input.MergeInput.{MergeInput}
+use Rattle.store_merge.specs.Stacking.{IsStackedBy}
 use Rattle.store_merge.specs.Bringing.{Brought, IsBrought, with_brought, slots_of, WorkedOrIdle}
 
 -- An input's set, if it has one, tells of each of its documents.
@@ -24,11 +25,21 @@ pub record IsInputKept {H : Type 0} (x left : MergeInput H) : Type 0 where
   pub store : IsSameStore x.reader left.reader
   pub set : left.alive ≡ x.alive
 
+-- the same said of each input and what is left of it
+abbrev pub AreEach : {H : Type 0} → (MergeInput H → MergeInput H → Type 0) → List (MergeInput H) → List (MergeInput H)
+    → Type 0
+AreEach Is [] [] = Unit {0}
+AreEach Is (x ∷ inputs) (y ∷ left) = Is x y × AreEach Is inputs left
+AreEach Is _ _ = ⊥
+
 -- each of some inputs
 abbrev pub AreInputsKept : {H : Type 0} → List (MergeInput H) → List (MergeInput H) → Type 0
-AreInputsKept [] [] = Unit {0}
-AreInputsKept (x ∷ inputs) (y ∷ left) = IsInputKept x y × AreInputsKept inputs left
-AreInputsKept _ _ = ⊥
+AreInputsKept inputs left = AreEach IsInputKept inputs left
+
+-- Each input that is stacked was read so.
+abbrev pub AreStackedBy : {H : Type 0} → (Reading → Reading → Type 0) → List (MergeInput H) → List (MergeInput H)
+    → Type 0
+AreStackedBy Reads inputs left = AreEach (IsStackedBy Reads) inputs left
 
 -- A store was stacked.
 pub record IsStacked (reader : Reading) (old new : Writing) : Type 0 where

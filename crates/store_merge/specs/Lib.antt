@@ -1,4 +1,5 @@
 pub mod Choice
+pub mod Stacking
 pub mod Bringing
 pub mod Refusals
 pub mod Copying

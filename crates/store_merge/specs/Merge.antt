@@ -6,6 +6,7 @@ use Rattle.store_base.specs.declared.error.StoreError.{StoreError}
 use Rattle.store_base.specs.declared.error.StoreError.TheVariants.{Failed}
 use Rattle.store_format.specs.Block.{Slot}
 use Rattle.docstore.specs.Laws.{taken}
+use Rattle.store_reader.specs.Reading.{Reading}
 use Rattle.docstore.specs.Writer.{Writing, with_failures}
 use Rattle.store_merge.specs.declared.input.MergeInput.{MergeInput}
 use Rattle.store_merge.specs.declared.merge_error.MergeError.{MergeError}
@@ -35,8 +36,10 @@ pub record HasBegun {H : Type 0} (inputs : List (MergeInput H)) (place : ℕ) (o
   pub grown : taken new ≡ taken old ++ flat_map alive_slots (take place inputs) ++ more
   pub front : IfSome (slice_get inputs place) (λ x. (rest : List Slot) × (alive_slots x ≡ more ++ rest))
 
--- The inputs before the one that is named were taken, and this one was refused.
-pub record IsEnded {H : Type 0} (inputs left : List (MergeInput H)) (old new : Writing) (e : MergeError) : Type 0 where
+-- The inputs before the one that is named were taken, and this one was refused, which leaves this where it is stacked
+-- and its data was refused.
+pub record IsEnded {H : Type 0} (Left : Reading → Writing → Writing → Type 0) (inputs left : List (MergeInput H))
+    (old new : Writing) (e : MergeError) : Type 0 where
   pub before : Writing
   pub taken_before : IsMerged (take e.input inputs) old before
   pub count : old.output.failures ≤ before.output.failures
@@ -44,5 +47,5 @@ pub record IsEnded {H : Type 0} (inputs left : List (MergeInput H)) (old new : W
   pub is_named : slice_get inputs e.input ≡ Some named
   pub rest : MergeInput H
   pub is_left : slice_get left e.input ≡ Some rest
-  pub refused : RefusesInput named rest before new e.error
+  pub refused : RefusesInput Left named rest before new e.error
   pub more : new.output.failure ≡ before.output.failure → HasGrown named before new

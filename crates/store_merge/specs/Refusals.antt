@@ -10,7 +10,7 @@ use Rattle.store_reader.specs.Iteration.{is_in, alive}
 use Rattle.docstore.specs.Laws.{taken}
 use Rattle.store_reader.specs.Reading.{Reading, num_docs as docs_of, store_of}
 use Rattle.store_format.specs.Slots.{slots}
-use Rattle.docstore.specs.Stacking.{HasTooMany, IsFlushed}
+use Rattle.docstore.specs.Stacking.{HasTooMany}
 use Rattle.docstore.specs.Writer.{Writing, num_docs, IsTooLarge, AfterFailed}
 use Rattle.store_merge.specs.declared.input.MergeInput.{MergeInput}
 use Rattle.store_merge.specs.Choice.{set_of, is_stacked, alive_slots}
@@ -48,18 +48,20 @@ pub record StopsAt (set : Option (ℕ → Bool)) (reader read : Reading) (old ne
   pub count : old.output.failures ≤ before.output.failures
   pub cause : (RefusesItem id reader read e × (new ≡ before)) ⊎ RefusesDocument id reader before new e
 
--- Why a store was not stacked, and what that leaves of the writer.
-abbrev pub RefusesStore : Reading → Reading → Writing → Writing → StoreError → Type 0
-RefusesStore reader read old new TooManyDocs = HasTooMany old reader × (new ≡ old)
-RefusesStore reader read old new Memory = IsFlushed old new
-RefusesStore reader read old new Read = IsFlushed old new × HasRisen reader.file.failures read.file.failures
-RefusesStore reader read old new (Failed cause) = AfterFailed old.output.failure cause old new
-RefusesStore reader read old new _ = ⊥
+-- Why a store was not stacked, and what that leaves of the writer: this where its data was refused.
+abbrev pub RefusesStore : (Reading → Writing → Writing → Type 0) → Reading → Reading → Writing → Writing → StoreError
+    → Type 0
+RefusesStore Left reader read old new TooManyDocs = HasTooMany old reader × (new ≡ old)
+RefusesStore Left reader read old new Memory = Left reader old new
+RefusesStore Left reader read old new Read = Left reader old new × HasRisen reader.file.failures read.file.failures
+RefusesStore Left reader read old new (Failed cause) = AfterFailed old.output.failure cause old new
+RefusesStore Left reader read old new _ = ⊥
 
 -- Why an input was refused, and what that leaves of the writer.
-abbrev pub RefusesInput : {H : Type 0} → MergeInput H → MergeInput H → Writing → Writing → StoreError → Type 0
-RefusesInput x left old new e =
-    ((is_stacked x ≡ true) × RefusesStore x.reader left.reader old new e)
+abbrev pub RefusesInput : {H : Type 0} → (Reading → Writing → Writing → Type 0) → MergeInput H → MergeInput H → Writing
+    → Writing → StoreError → Type 0
+RefusesInput Left x left old new e =
+    ((is_stacked x ≡ true) × RefusesStore Left x.reader left.reader old new e)
     ⊎ ((is_stacked x ≡ false) × StopsAt (set_of x.alive) x.reader left.reader old new e)
 
 -- A beginning of the alive slots of an input is behind what was taken before.

@@ -5,32 +5,39 @@ ghost use Rattle.store_reader.specs.Reading.{IsSameStore};
 ghost use Rattle.docstore.specs.Writer.{IsStoreWriter};
 ghost use Rattle.store_merge.specs.Inputs.{CanBeTaken, IsInputKept, IsInputTaken, IsStacked};
 ghost use Rattle.store_merge.specs.Refusals.{RefusesInput, RefusesStore, HasGrown};
+ghost use Rattle.store_merge.specs.Stacking.{Leaves, IsReadBy, IsStackedBy, BeginsSlots};
 
 use crate::choosing::is_stacked;
 use crate::copying::copy_documents;
 use crate::input::MergeInput;
+use crate::stacking::Stacking;
 use docstore::{DocStoreVersion, StoreError, StoreReader, StoreWriter, laws};
 use std::alloc::Global;
 use store_base::{FileHandle, TerminatingWrite};
 
-// Puts a whole store behind what the writer has taken.
+// Puts a store behind what the writer has taken.
 fn stack_store<W: TerminatingWrite, H: FileHandle>(
     writer: &mut StoreWriter<W>,
     reader: &mut StoreReader<H>,
+    stacking: Stacking,
 ) -> Result<(), StoreError>
     requires version { reader.old.version ≢ DocStoreVersion.V1 }
     requires sound { IsStoreWriter writer.old }
     ensures stacked { OnOk result (IsStacked reader.old writer.old writer.new) }
-    ensures refused { IfErr result (RefusesStore reader.old reader.new writer.old writer.new) }
+    ensures refused { IfErr result (RefusesStore (Leaves stacking) reader.old reader.new writer.old writer.new) }
     ensures grown { IfErr result (λ _. writer.new.output.failure ≡ writer.old.output.failure
-        → taken writer.new ≡ taken writer.old) }
+        → BeginsSlots reader.old writer.old writer.new) }
+    ensures read { OnOk result (IsReadBy stacking reader.old reader.new) }
     ensures same_store { IsSameStore reader.old reader.new }
     ensures count { writer.old.output.failures ≤ writer.new.output.failures }
     ensures sound { IsStoreWriter writer.new }
 {
     laws::stores_are_stacked_in_order();
     laws::flushes_keep_slots();
-    writer.stack(reader)
+    match stacking {
+        Stacking::Whole => writer.stack(reader),
+        Stacking::InParts(part_bytes) => writer.stack_in_parts(reader, part_bytes),
+    }
 }
 
 /// Takes one input: stacks it, or copies its documents that are alive.
@@ -38,13 +45,15 @@ pub fn take_input<W: TerminatingWrite, H: FileHandle>(
     alloc: Global,
     writer: &mut StoreWriter<W>,
     input: &mut MergeInput<H>,
+    stacking: Stacking,
 ) -> Result<(), StoreError>
     requires input { CanBeTaken input.old }
     requires sound { IsStoreWriter writer.old }
     ensures taken { OnOk result (IsInputTaken input.old writer.old writer.new) }
-    ensures refused { IfErr result (RefusesInput input.old input.new writer.old writer.new) }
+    ensures refused { IfErr result (RefusesInput (Leaves stacking) input.old input.new writer.old writer.new) }
     ensures grown { IfErr result (λ _. writer.new.output.failure ≡ writer.old.output.failure
         → HasGrown input.old writer.old writer.new) }
+    ensures read { OnOk result (IsStackedBy (IsReadBy stacking) input.old input.new) }
     ensures kept { IsInputKept input.old input.new }
     ensures count { writer.old.output.failures ≤ writer.new.output.failures }
     ensures sound { IsStoreWriter writer.new }
@@ -52,7 +61,7 @@ pub fn take_input<W: TerminatingWrite, H: FileHandle>(
     let is_stacked = is_stacked(input);
     let MergeInput { reader, alive } = input;
     if is_stacked {
-        stack_store(writer, reader)
+        stack_store(writer, reader, stacking)
     } else {
         copy_documents(alloc, writer, reader, alive.as_ref())
     }

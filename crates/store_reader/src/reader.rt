@@ -1,9 +1,9 @@
 //! The reader of a store.
 ghost use Rattle.std.specs.Prelude.{◌≡◌, ◌<◌, ◌≤◌, Err, IsTrue, IfOk, IfErr, IfSome, IsErrOf, MatchResult, ◌⊎◌, ◌↔◌};
-ghost use Rattle.std.specs.Prelude.{length, slice_get, take};
+ghost use Rattle.std.specs.Prelude.{◌-◌, length, slice_get, slice_range, take};
 ghost use Rattle.store_base.specs.Counts.{HasRisen};
 ghost use Rattle.store_reader.specs.GetAnswer.{IsAnswered, AnswersTruly};
-ghost use Rattle.layered_index.specs.Checkpoint.{Covers};
+ghost use Rattle.layered_index.specs.Checkpoint.{Covers, first_past};
 ghost use Rattle.store_reader.specs.Documents.{document_version, IsGot, ReadsTruly};
 ghost use Rattle.store_format.specs.Footer.{version_number};
 ghost use Rattle.store_reader.specs.Kept.{last_key};
@@ -23,9 +23,10 @@ use crate::opening::read_store;
 use crate::share::Share;
 use crate::store_index::StoreIndex;
 use crate::walk::{DocWalk, first_walk};
-use layered_index::LayerCursor;
+use layered_index::{Checkpoint, LayerCursor};
 use std::alloc::Global;
 use std::marker::{Model, PhantomData};
+use std::ops::Range;
 use store_base::{
     AliveBitSet, DocId, DocumentDeserialize, FileHandle, FileSlice, OwnedBytes, StoreError,
     StoreSpaceUsage,
@@ -311,5 +312,32 @@ impl<H: FileHandle> StoreReader<H> {
         ensures once { IsReadOnce self.old self.new }
     {
         Ok(self.file.read_bytes(alloc)?)
+    }
+
+    /// Where the block lies that has this document, if there is such a document.
+    pub fn block_of(&self, target: DocId) -> Option<Checkpoint>
+        ensures checkpoint { result ≡ first_past self.now.checkpoints target }
+        ensures covers { Covers self.now.checkpoints (length self.now.file.content) }
+    {
+        self.index.seek(target)
+    }
+
+    /// The bytes of a range of the data, by one read of the file. The cache is neither asked nor filled.
+    pub fn read_data(
+        &mut self,
+        alloc: Global,
+        range: Range<usize>,
+    ) -> Result<OwnedBytes, StoreError>
+        requires order { range.start ≤ range.end }
+        requires within { range.end ≤ length self.old.file.content }
+        ensures length { IfOk result (λ bytes. length bytes ≡ range.end - range.start) }
+        ensures bytes { IsTrue self.old.file.honest
+            → IfOk result (λ bytes. bytes ≡ slice_range self.old.file.content range.start range.end) }
+        ensures causes { IfErr result (λ e. (e ≡ StoreError.Read) ⊎ (e ≡ StoreError.Memory)) }
+        ensures failed { IsErrOf result StoreError.Read → HasRisen self.old.file.failures self.new.file.failures }
+        ensures once { IsReadOnce self.old self.new }
+    {
+        let range = range.start as u64..range.end as u64;
+        Ok(self.file.read_range(alloc, range)?)
     }
 }

@@ -6,4 +6,6 @@ mod merge_refusals;
 #[cfg(test)]
 mod merging;
 #[cfg(test)]
+mod parts;
+#[cfg(test)]
 mod stacking;

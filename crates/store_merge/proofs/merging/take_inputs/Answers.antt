@@ -1,11 +1,12 @@
 use Rattle.std.proofs.Common.{◌<◌, ◌+◌, List, length, get_or, set, refl, sym, subst, arith}
 use Rattle.store_merge.specs.declared.input.MergeInput.{MergeInput}
-use Rattle.store_merge.specs.Inputs.{CanBeTaken}
-use Rattle.store_merge.proofs.MergeLemmas.{all_at, next_same, rest_more, named_is, left_is, kept_more, kept_all, none_merged, merged_more, merged_all}
+use Rattle.store_merge.specs.Inputs.{CanBeTaken, IsInputKept}
+use Rattle.store_merge.specs.Stacking.{IsReadBy, IsStackedBy}
+use Rattle.store_merge.proofs.MergeLemmas.{all_at, next_same, rest_more, named_is, left_is, each_more, each_all, kept_all, none_merged, merged_more, merged_all}
 use Rattle.store_merge.proofs.merging.take_inputs.Goals as goal
 
 pub loop-place-init : goal.loop-place-init
-loop-place-init g c = record { merged = none_merged c.args.writer.now; kept = tt; rest = refl; count = omega arith; sound = c.requires.sound }
+loop-place-init g c = record { merged = none_merged c.args.writer.now; kept = tt; read = tt; rest = refl; count = omega arith; sound = c.requires.sound }
 
 pub take_input-requires-clause-input : goal.take_input-requires-clause-input
 take_input-requires-clause-input g c =
@@ -41,7 +42,7 @@ returns-in-Err-clause-kept g c =
     let i = c.loop-place.place in
     let y = c.take_input.new.input in
     kept_all (i + 1) olds (set news i y)
-    (kept_more olds news i c.index-inputs-place.result y c.loop-place.auto.inputs c.loop-place-test.true c.loop-place.invariant.rest c.take_input.ensures.kept c.loop-place.invariant.kept)
+    (each_more IsInputKept olds news i c.index-inputs-place.result y c.loop-place.auto.inputs c.loop-place-test.true c.loop-place.invariant.rest c.take_input.ensures.kept c.loop-place.invariant.kept)
     (rest_more olds news i y c.loop-place.invariant.rest)
 
 pub loop-place-preserved : goal.loop-place-preserved
@@ -54,7 +55,8 @@ loop-place-preserved g c =
     let inv = c.loop-place.invariant in
     record {
       merged = merged_more olds news i d c.args.writer.now c.loop-place.writer c.take_input.new.writer c.loop-place-test.true inv.rest inv.merged c.in_default.ensures.taken;
-      kept = kept_more olds news i d y c.loop-place.auto.inputs c.loop-place-test.true inv.rest c.take_input.ensures.kept inv.kept;
+      kept = each_more IsInputKept olds news i d y c.loop-place.auto.inputs c.loop-place-test.true inv.rest c.take_input.ensures.kept inv.kept;
+      read = each_more (IsStackedBy (IsReadBy c.args.stacking)) olds news i d y c.loop-place.auto.inputs c.loop-place-test.true inv.rest c.in_default.ensures.read inv.read;
       rest = rest_more olds news i y inv.rest;
       count = omega (arith, inv.count, c.take_input.ensures.count);
       sound = c.take_input.ensures.sound;
@@ -66,3 +68,6 @@ returns-clause-merged g c =
 
 pub returns-clause-kept : goal.returns-clause-kept
 returns-clause-kept g c = kept_all c.loop-place.place c.args.inputs.now c.loop-place.inputs c.loop-place.invariant.kept c.loop-place.invariant.rest
+
+pub returns-clause-read : goal.returns-clause-read
+returns-clause-read g c = each_all (IsStackedBy (IsReadBy c.args.stacking)) c.loop-place.place c.args.inputs.now c.loop-place.inputs c.loop-place.auto.inputs (omega arith) c.loop-place.invariant.read

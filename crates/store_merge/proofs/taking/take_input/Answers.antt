@@ -4,6 +4,8 @@ use Rattle.store_merge.specs.Bringing.{IsCopied}
 use Rattle.store_merge.specs.Choice.{alive_of}
 use Rattle.store_merge.specs.Inputs.{IsStacked, IsInputTaken}
 use Rattle.store_merge.specs.Refusals.{StopsAt, HasGrown}
+use Rattle.store_merge.specs.Stacking.{BeginsSlots}
+use Rattle.store_merge.proofs.StackedLemmas.{begun_grown}
 use Rattle.store_merge.proofs.TakeLemmas.{ok_then, err_then, lent, stacked_taken, copied_taken, stopped_grown}
 use Rattle.store_merge.proofs.taking.take_input.Goals as goal
 
@@ -31,3 +33,11 @@ returns-else-is_stacked-clause-grown g c =
     let set = set_of_lent c.as_ref.result in
     err_then (StopsAt set x.reader c.copy_documents.new.reader old new) (λ _. new.output.failure ≡ old.output.failure → HasGrown x old new) c.copy_documents.result
     (λ e. stopped_grown x set c.copy_documents.new.reader old new e (lent c.as_ref.result x.alive c.as_ref.ensures.value)) c.copy_documents.ensures.stopped
+
+pub returns-then-is_stacked-clause-grown : goal.returns-then-is_stacked-clause-grown
+returns-then-is_stacked-clause-grown g c =
+    let x = c.args.input.now in
+    let old = c.args.writer.now in
+    let new = c.stack_store.new.writer in
+    err_then (λ _. new.output.failure ≡ old.output.failure → BeginsSlots x.reader old new) (λ _. new.output.failure ≡ old.output.failure → HasGrown x old new) c.stack_store.result
+    (λ e grown same. begun_grown x old new (sym c.if-is_stacked.ensures.stacked) c.if-is_stacked.ensures.count (grown same)) c.stack_store.ensures.grown

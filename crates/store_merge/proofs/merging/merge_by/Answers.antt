@@ -4,12 +4,13 @@ use Rattle.store_format.specs.Block.{Slot}
 use Rattle.docstore.specs.Laws.{taken}
 use Rattle.store_merge.specs.declared.input.MergeInput.{MergeInput}
 use Rattle.store_merge.specs.Choice.{alive_slots}
+use Rattle.store_merge.specs.Stacking.{Leaves}
 use Rattle.store_merge.specs.Merge.{IsHonest, IsMerged, IsEnded, IsFailed, HasBegun}
 use Rattle.store_merge.proofs.HonestLemmas.{can_be_taken, all_slots}
 use Rattle.store_merge.proofs.MergeLemmas.{all_kept}
 use Rattle.store_merge.proofs.TakeLemmas.{ok_then, err_then}
 use Rattle.store_merge.proofs.EndLemmas.{IsUnfailed, unfailed_end, begun}
-use Rattle.store_merge.proofs.merging.merge.Goals as goal
+use Rattle.store_merge.proofs.merging.merge_by.Goals as goal
 
 pub returns-in-Some-clause-kept : goal.returns-in-Some-clause-kept
 returns-in-Some-clause-kept g c = all_kept c.args.inputs.now
@@ -31,8 +32,8 @@ returns-clause-begun g c = λ none honest.
     let left : List (MergeInput g.row.H.Denot) = c.take_inputs.new.inputs in
     let old = c.args.writer.now in
     let new = c.take_inputs.new.writer in
-    err_then (IsEnded inputs left old new) (λ e. IsFailed e.error ⊎ HasBegun inputs e.input old new) c.take_inputs.result
-    (λ e. begun c.stacked_slots_are_counted.ensures inputs left old new e honest) c.take_inputs.ensures.ended
+    err_then (IsEnded (Leaves c.args.stacking) inputs left old new) (λ e. IsFailed e.error ⊎ HasBegun inputs e.input old new) c.take_inputs.result
+    (λ e. begun c.stacked_slots_are_counted.ensures c.args.stacking inputs left old new e honest) c.take_inputs.ensures.ended
 
 pub returns-clause-works : goal.returns-clause-works
 returns-clause-works g c =
@@ -40,4 +41,4 @@ returns-clause-works g c =
     let left : List (MergeInput g.row.H.Denot) = c.take_inputs.new.inputs in
     let old = c.args.writer.now in
     let new = c.take_inputs.new.writer in
-    err_then (IsEnded inputs left old new) (λ e. IsUnfailed e.error old new) c.take_inputs.result (unfailed_end inputs left old new) c.take_inputs.ensures.ended
+    err_then (IsEnded (Leaves c.args.stacking) inputs left old new) (λ e. IsUnfailed e.error old new) c.take_inputs.result (unfailed_end c.args.stacking inputs left old new) c.take_inputs.ensures.ended

@@ -1,0 +1,140 @@
+-- Putting a store behind what a writer has, a part of its data at a time.
+use Rattle.std.specs.Prelude.{◌≡◌, ℕ, zero, suc, ◌+◌, ◌<◌, ◌≤◌, nat_lt, nat_le, if◌then◌else◌, Bool, IsTrue}
+use Rattle.std.specs.Prelude.{List, [], ◌∷◌, ◌++◌, length, take, None}
+use Rattle.store_base.specs.Counts.{HasRisen, raised}
+use Rattle.store_base.specs.declared.error.StoreError.{StoreError}
+use Rattle.store_base.specs.declared.error.StoreError.TheVariants.{Read, Memory, OldVersion, TooManyDocs, Failed}
+use Rattle.layered_index.specs.declared.index.Checkpoint.{Checkpoint}
+use Rattle.layered_index.specs.Checkpoint.{doc_count, byte_len, docs_end, bytes_end}
+use Rattle.store_format.specs.StoreFile.{StoreBlock, checkpoints_of, docs_in}
+use Rattle.store_reader.specs.Reading.{Reading, part_of, store_of, with_file}
+use Rattle.docstore.specs.BlockOutput.{BlockOutput, with_blocks, with_risen, AfterFailedBlock}
+use Rattle.docstore.specs.Stacking.{with_store}
+use Rattle.docstore.specs.Writer.{Writing, with_failures, AfterFailed}
+
+-- ---- parts
+
+-- how many parts begin at these blocks, where the part before holds those that end up to this byte: the first block
+-- past it begins a part, which holds those that end so many bytes behind its beginning
+abbrev pub parts_beyond : ℕ → ℕ → List Checkpoint → ℕ
+parts_beyond size limit [] = 0
+parts_beyond size limit (c ∷ cs) = if nat_le c.byte_range.end limit then parts_beyond size limit cs
+    else 1 + parts_beyond size (c.byte_range.start + size) cs
+
+-- how many parts of so many bytes these blocks are in; a longer block is a part of its own
+abbrev pub number_of_parts : ℕ → List Checkpoint → ℕ
+number_of_parts size cs = parts_beyond size 0 cs
+
+-- ---- the file
+
+-- what a count is after so many more; none leave it
+abbrev pub after_reads : ℕ → ℕ → ℕ
+after_reads count zero = count
+after_reads count (suc times) = raised count (suc times)
+
+-- What so many reads of its data leave of a reader: all but the counts of its file.
+pub record IsReadTimes (times : ℕ) (old new : Reading) : Type 0 where
+  pub content : new.file.content ≡ old.file.content
+  pub honest : new.file.honest ≡ old.file.honest
+  pub reads : new.file.reads ≡ after_reads old.file.reads times
+  pub failures : old.file.failures ≤ new.file.failures
+  pub others : new ≡ with_file old new.file
+
+-- its data was read at most so often
+abbrev pub IsReadAtMost : ℕ → Reading → Reading → Type 0
+IsReadAtMost most old new = (times : ℕ) × (times ≤ most) × IsReadTimes times old new
+
+-- ---- what a refused stacking leaves
+
+-- The first blocks that came of a reader's file, not all: at the places of its own, and its own if the file is honest.
+pub record AreFirstRead (reader : Reading) (bs : List StoreBlock) : Type 0 where
+  pub count : ℕ
+  pub some_left : count < length reader.checkpoints
+  pub places : checkpoints_of bs ≡ take count reader.checkpoints
+  pub honest : IsTrue reader.file.honest → bs ≡ take count (store_of reader)
+
+-- The first blocks of a store, not all, are behind the finished ones.
+pub record BeginsStacking (reader : Reading) (old new : BlockOutput) : Type 0 where
+  pub works : old.failure ≡ None
+  pub blocks : List StoreBlock
+  pub came : AreFirstRead reader blocks
+  pub after : new ≡ with_risen new.failures (with_blocks old blocks)
+
+-- What a refused stacking of blocks leaves.
+abbrev pub AfterStackingInParts : Reading → Reading → BlockOutput → BlockOutput → StoreError → Type 0
+AfterStackingInParts reader read old new Memory = BeginsStacking reader old new
+AfterStackingInParts reader read old new Read = BeginsStacking reader old new
+    × HasRisen reader.file.failures read.file.failures
+AfterStackingInParts reader read old new (Failed cause) = AfterFailedBlock old.failure cause old new
+AfterStackingInParts reader read old new _ = ⊥
+
+-- The pending documents are a finished block, if there were any, and the first blocks of a store, not all, are behind
+-- it.
+pub record BeginsStack (reader : Reading) (old new : Writing) : Type 0 where
+  pub works : old.output.failure ≡ None
+  pub blocks : List StoreBlock
+  pub came : AreFirstRead reader blocks
+  pub after : new ≡ with_failures new.output.failures (with_store old blocks)
+
+-- What a refused stacking leaves. Only where a part is refused is the writer changed without having failed.
+abbrev pub AfterStackInParts : Reading → Reading → Writing → Writing → StoreError → Type 0
+AfterStackInParts reader read old new OldVersion = (new ≡ old) × (read ≡ reader)
+AfterStackInParts reader read old new TooManyDocs = (new ≡ old) × (read ≡ reader)
+AfterStackInParts reader read old new Memory = BeginsStack reader old new
+AfterStackInParts reader read old new Read = BeginsStack reader old new
+    × HasRisen reader.file.failures read.file.failures
+AfterStackInParts reader read old new (Failed cause) = AfterFailed old.output.failure cause old new
+AfterStackInParts reader read old new _ = ⊥
+
+-- ---- how far a stacking has come
+
+-- the blocks up to the one that ends past an id, and those from it on
+abbrev pub front_up_to : ℕ → List Checkpoint → List Checkpoint
+front_up_to id [] = []
+front_up_to id (c ∷ cs) = if nat_lt id c.doc_range.end then [] else c ∷ front_up_to id cs
+
+abbrev pub rest_from : ℕ → List Checkpoint → List Checkpoint
+rest_from id [] = []
+rest_from id (c ∷ cs) = if nat_lt id c.doc_range.end then c ∷ cs else rest_from id cs
+
+-- A block ends before this document and this byte, or none does and they are the first.
+pub record IsBetween (cs : List Checkpoint) (id byte : ℕ) : Type 0 where
+  pub docs : docs_end 0 (front_up_to id cs) ≡ id
+  pub bytes : bytes_end 0 (front_up_to id cs) ≡ byte
+
+-- It is a block of these, and the others go on behind it.
+pub record IsBlockOf (cs : List Checkpoint) (c : Checkpoint) : Type 0 where
+  pub between : IsBetween cs c.doc_range.start c.byte_range.start
+  pub behind : IsBetween cs c.doc_range.end c.byte_range.end
+  pub rest : rest_from c.doc_range.start cs ≡ c ∷ rest_from c.doc_range.end cs
+  pub some_docs : c.doc_range.start < c.doc_range.end
+  pub some_bytes : c.byte_range.start < c.byte_range.end
+
+-- A block came of the place of a checkpoint.
+pub record CameOf (honest : Bool) (content : List ℕ) (c : Checkpoint) (b : StoreBlock) : Type 0 where
+  pub count : b.count ≡ doc_count c
+  pub len : length b.bytes ≡ byte_len c
+  pub bytes : IsTrue honest → b.bytes ≡ part_of content c
+
+-- each of the places of these
+abbrev pub AllCameOf : Bool → List ℕ → List Checkpoint → List StoreBlock → Type 0
+AllCameOf honest content [] [] = Unit {0}
+AllCameOf honest content (c ∷ cs) (b ∷ bs) = CameOf honest content c b × AllCameOf honest content cs bs
+AllCameOf honest content _ _ = ⊥
+
+-- The blocks of a reader from this id on and up to that one are behind the finished ones.
+pub record PutsBlocks (reader : Reading) (id next : ℕ) (old new : BlockOutput) : Type 0 where
+  pub some : List Checkpoint
+  pub front : front_up_to next reader.checkpoints ≡ front_up_to id reader.checkpoints ++ some
+  pub blocks : List StoreBlock
+  pub came : AllCameOf reader.file.honest reader.file.content some blocks
+  pub count : id + docs_in blocks ≡ next
+  pub after : new ≡ with_risen new.failures (with_blocks old blocks)
+
+-- A part that begins with this block was put behind, and the next one begins with the block of that document.
+pub record PutsPart (size : ℕ) (reader : Reading) (first : Checkpoint) (next : ℕ) (old new : BlockOutput) : Type 0 where
+  pub put : PutsBlocks reader first.doc_range.start next old new
+  pub more : first.doc_range.start < next
+  pub between : (byte : ℕ) × IsBetween reader.checkpoints next byte
+  pub parts : number_of_parts size (rest_from first.doc_range.start reader.checkpoints)
+      ≡ 1 + number_of_parts size (rest_from next reader.checkpoints)

@@ -1,0 +1,12 @@
+-- What is found in a block.
+use Rattle.std.specs.Prelude.{◌≢◌, ◌<◌, ◌-◌, ℕ, List}
+use Rattle.layered_index.specs.declared.index.Checkpoint.{Checkpoint}
+use Rattle.store_format.specs.Block.{slot, damaged}
+
+-- None of the first so many documents of a block is damaged.
+abbrev pub AreWhole : List ℕ → ℕ → Type 0
+AreWhole block end = (k : ℕ) → k < end → slot block k ≢ damaged
+
+-- how many documents a block has by its checkpoint
+abbrev pub documents_of : Checkpoint → ℕ
+documents_of checkpoint = checkpoint.doc_range.end - checkpoint.doc_range.start

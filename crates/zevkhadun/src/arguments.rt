@@ -1,0 +1,132 @@
+//! Arguments that several commands have.
+
+ghost use Rattle.std.specs.Prelude.{◌≤◌};
+
+use crate::byte_size::parse_size;
+use crate::failure::{Cause, Failure};
+use crate::framing::{FRAMING_HELP, FRAMINGS, Framing};
+use clap::{Arg, ArgAction, ArgMatches, value_parser};
+use std::alloc::{AllocError, Global};
+
+/// A file that has to be named.
+pub fn file<'a>(alloc: Global, id: &'a str, help: &'a str) -> Arg<'a> {
+    Arg::new(alloc, id)
+        .required(true)
+        .action(ArgAction::Set)
+        .help(help)
+}
+
+/// One or more words that have to be there.
+pub fn several<'a>(alloc: Global, id: &'a str, help: &'a str) -> Arg<'a> {
+    Arg::new(alloc, id)
+        .required(true)
+        .num_args(1..)
+        .action(ArgAction::Append)
+        .help(help)
+}
+
+/// A word that is there or not.
+pub fn flag<'a>(alloc: Global, id: &'a str, help: &'a str) -> Arg<'a> {
+    Arg::new(alloc, id)
+        .long(id)
+        .action(ArgAction::SetTrue)
+        .help(help)
+}
+
+/// That files are as tantivy's directory leaves them.
+pub fn tantivy<'a>(alloc: Global) -> Arg<'a> {
+    flag(
+        alloc,
+        "tantivy",
+        "Takes a segment's .store file as tantivy's directory leaves it",
+    )
+}
+
+/// That nothing but errors is told on the standard error.
+pub fn quiet<'a>(alloc: Global) -> Arg<'a> {
+    flag(
+        alloc,
+        "quiet",
+        "Shows no progress and no summary on a terminal",
+    )
+    .short('q')
+}
+
+/// How documents stand one behind the other.
+pub fn framing<'a>(alloc: Global) -> Arg<'a> {
+    Arg::new(alloc, "framing")
+        .long("framing")
+        .value_name("FRAMING")
+        .value_parser(FRAMINGS.as_slice())
+        .default_value("lines")
+        .help("How documents stand one behind the other")
+        .long_help(FRAMING_HELP)
+}
+
+/// How much a block takes.
+pub fn block_size<'a>(alloc: Global) -> Arg<'a> {
+    Arg::new(alloc, "block-size")
+        .long("block-size")
+        .value_name("BYTES")
+        .default_value("16K")
+        .help("A block goes out once its documents weigh more; K, M and G may stand behind")
+}
+
+/// How many checkpoints a full block of the index has.
+pub fn period<'a>(alloc: Global) -> Arg<'a> {
+    Arg::new(alloc, "period")
+        .long("period")
+        .value_name("COUNT")
+        .value_parser(value_parser!(u8).range(2..=64))
+        .default_value("8")
+        .help("How many entries each run of the index has, 2 to 64")
+}
+
+/// How a store is to be written.
+#[derive(Clone, Copy)]
+pub struct StoreShape {
+    pub block_size: usize,
+    pub period: u8,
+    pub ghost least: { 2 ≤ period },
+    pub ghost most: { period ≤ 64 },
+}
+
+// The shape, or `None` where a word names none.
+fn shape_in(matches: &ArgMatches<'_>) -> Option<StoreShape> {
+    let block_size = parse_size(matches.get_str("block-size").unwrap_or("16K"))?;
+    let period = matches.get_one::<u8>("period").unwrap_or(8);
+    if period < 2 || period > 64 {
+        return None;
+    }
+    Some(StoreShape { block_size, period })
+}
+
+/// How the store is to be written.
+pub fn shape_of(alloc: Global, matches: &ArgMatches<'_>) -> Result<StoreShape, Failure> {
+    match shape_in(matches) {
+        Some(shape) => Ok(shape),
+        None => Err(wrong_words(
+            alloc,
+            "no block size",
+            matches.get_str("block-size").unwrap_or(""),
+        )),
+    }
+}
+
+/// How documents stand one behind the other.
+pub fn framing_of(matches: &ArgMatches<'_>) -> Framing {
+    Framing::from_name(matches.get_str("framing").unwrap_or("lines"))
+}
+
+// That a word is wrong, and why.
+fn refusal(alloc: Global, why: &str, word: &str) -> Result<Cause, AllocError> {
+    Ok(Cause::Words(format!(in alloc; "{why}: '{word}'")?))
+}
+
+/// That a word is wrong, and why.
+pub fn wrong_words(alloc: Global, why: &str, word: &str) -> Failure {
+    Failure::from(match refusal(alloc, why, word) {
+        Ok(cause) => cause,
+        Err(error) => Cause::from(error),
+    })
+}

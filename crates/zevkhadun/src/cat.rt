@@ -1,0 +1,75 @@
+//! `cat`: prints all documents in order.
+
+use crate::arguments::{self, framing_of};
+use crate::block_walk::write_documents;
+use crate::document_output::standard_output;
+use crate::failure::{Cause, Failure, at, printed};
+use crate::framing::Framing;
+use crate::id_range::ids_of;
+use crate::store_file::{StorePath, store_path};
+use clap::{Arg, ArgAction, ArgMatches, Command};
+use std::alloc::{AllocError, Global};
+use std::io::Write;
+use store_base::{AliveBitSet, DocId};
+
+const EXAMPLE: &str = "\
+Example:
+  zevkhadun cat words.store --without 0,3..9     all but document 0 and those from 3 to 8";
+
+/// The words of `cat`.
+pub fn command<'a>(alloc: Global) -> Result<Command<'a>, AllocError> {
+    let without = Arg::new(alloc, "without")
+        .long("without")
+        .value_name("IDS")
+        .action(ArgAction::Set)
+        .help("Documents to leave out: numbers and ranges between commas, as 0,3..9");
+    Command::new(alloc, "cat")
+        .about("Prints all documents in order")
+        .after_help(EXAMPLE)
+        .arg(arguments::file(alloc, "FILE", "The store"))?
+        .arg(without)?
+        .arg(arguments::framing(alloc))?
+        .arg(arguments::tantivy(alloc))
+}
+
+// Which documents are to be printed, where words leave some out.
+fn kept_of(
+    alloc: Global,
+    num_docs: DocId,
+    without: Option<&str>,
+) -> Result<Option<AliveBitSet>, Cause> {
+    let Some(words) = without else {
+        return Ok(None);
+    };
+    let deleted = ids_of(alloc, words, num_docs)?;
+    Ok(Some(AliveBitSet::from_deleted_docs(alloc, &deleted, num_docs)?))
+}
+
+// Prints the documents.
+fn print(
+    rt: &HostRuntime,
+    store: StorePath<'_>,
+    framing: Framing,
+    without: Option<&str>,
+) -> Result<(), Cause> {
+    let reader = store.reader(rt)?;
+    let mut file = store.file(rt)?;
+    let kept = kept_of(rt.alloc(), reader.num_docs(), without)?;
+    let mut output = standard_output(rt)?;
+    write_documents(
+        rt.alloc(),
+        &reader,
+        &mut file,
+        &mut output,
+        framing,
+        kept.as_ref(),
+    )?;
+    printed(output.flush())
+}
+
+/// Prints the documents.
+pub fn run(rt: &HostRuntime, matches: &ArgMatches<'_>) -> Result<(), Failure> {
+    let store = store_path(matches);
+    let printed = print(rt, store, framing_of(matches), matches.get_str("without"));
+    at(rt.alloc(), store.path, printed)
+}

@@ -1,0 +1,209 @@
+//! Why a command failed, and what is told of it.
+
+use std::alloc::{AllocError, AllocFailed, Global};
+use std::process::ExitCode;
+use std::{fmt, io};
+use store_base::{DocId, NoMemory, ReadFault, StoreError};
+use store_files::CreateError;
+
+/// What went wrong.
+#[derive(Debug, Drop)]
+pub enum Cause {
+    /// The words of the command line are wrong.
+    Words(String),
+    /// The words are not UTF-8.
+    NoText,
+    /// The system refused a call.
+    System(io::Error),
+    /// The standard output refused a write.
+    Output(io::Error),
+    /// The output can't be begun.
+    Create(CreateError),
+    /// A call on a store was refused.
+    Store(StoreError),
+    /// The store has no document of this number, but so many others.
+    NoDocument { doc_id: DocId, num_docs: DocId },
+    /// The input of lengths and documents ends within one.
+    CutInput,
+    /// The bytes behind the store are not those that tantivy's directory leaves.
+    NoTantivyTail,
+    /// It was told already.
+    Told,
+}
+
+impl Cause {
+    // What to do, where there is something to do.
+    fn advice(&self) -> &'static str {
+        match self {
+            Cause::Words(_) => "; try '--help'",
+            Cause::Create(CreateError::Busy(_)) => "; wait for it, or end it",
+            Cause::CutInput => "; is it in another framing?",
+            Cause::NoTantivyTail => "; for a store that stands alone leave '--tantivy' out",
+            Cause::Store(error) => advice_for(error),
+            _ => "",
+        }
+    }
+}
+
+// What to do where a store refuses a call.
+fn advice_for(error: &StoreError) -> &'static str {
+    match error {
+        StoreError::ShortFile(_) | StoreError::BadOffset => "; it is no store, or it was cut",
+        StoreError::BadVersion(_) => "; it is no store, or it wants '--tantivy'",
+        StoreError::BadBlockKind(_) => "; write the store anew without compression",
+        StoreError::BadIndex | StoreError::DamagedDocument(_) => "; 'verify' tells where",
+        StoreError::OldVersion => "; pack what 'cat' gives of it",
+        StoreError::BlockTooLarge => "; give a smaller '--block-size', or split the document",
+        StoreError::TooManyDocs => "; write several stores",
+        _ => "",
+    }
+}
+
+impl fmt::Display for Cause {
+    fn fmt<W: fmt::Write>(&self, f: &mut fmt::Formatter<W>) -> fmt::Result {
+        match self {
+            Cause::Words(text) => f.write_str(text.as_str()),
+            Cause::NoText => f.write_str("file names and other words have to be UTF-8"),
+            Cause::System(error) => write!(f, "{error}"),
+            Cause::Output(error) => write!(f, "standard output: {error}"),
+            Cause::Create(error) => write!(f, "{error}"),
+            Cause::Store(StoreError::BadBlockKind(kind)) => {
+                write!(f, "blocks are packed by kind {kind}, not raw")
+            }
+            Cause::Store(error) => write!(f, "{error}"),
+            Cause::NoDocument { doc_id, num_docs } => {
+                write!(f, "no document {doc_id}; there are {num_docs}, from 0 on")
+            }
+            Cause::CutInput => f.write_str("the input ends within a document"),
+            Cause::NoTantivyTail => f.write_str("no footer of tantivy's directory at the end"),
+            Cause::Told => Ok(()),
+        }
+    }
+}
+
+impl From<io::Error> for Cause {
+    fn from(error: io::Error) -> Cause {
+        Cause::System(error)
+    }
+}
+
+impl From<CreateError> for Cause {
+    fn from(error: CreateError) -> Cause {
+        Cause::Create(error)
+    }
+}
+
+impl From<StoreError> for Cause {
+    fn from(error: StoreError) -> Cause {
+        Cause::Store(error)
+    }
+}
+
+impl From<ReadFault> for Cause {
+    fn from(fault: ReadFault) -> Cause {
+        Cause::Store(StoreError::from(fault))
+    }
+}
+
+impl From<NoMemory> for Cause {
+    fn from(_: NoMemory) -> Cause {
+        Cause::Store(StoreError::Memory)
+    }
+}
+
+impl From<AllocError> for Cause {
+    fn from(_: AllocError) -> Cause {
+        Cause::Store(StoreError::Memory)
+    }
+}
+
+impl<T: Drop> From<AllocFailed<T>> for Cause {
+    fn from(_: AllocFailed<T>) -> Cause {
+        Cause::Store(StoreError::Memory)
+    }
+}
+
+/// What went wrong, and at which file, if at one.
+#[derive(Debug, Drop)]
+pub struct Failure {
+    file: Option<String>,
+    cause: Cause,
+}
+
+/// At no file.
+impl From<Cause> for Failure {
+    fn from(cause: Cause) -> Failure {
+        Failure { file: None, cause }
+    }
+}
+
+impl Failure {
+    /// At this file. What is wrong with the words or the standard output is at none.
+    pub fn at_file(alloc: Global, path: &str, cause: Cause) -> Failure {
+        if let Cause::Words(_) | Cause::Output(_) = &cause {
+            return Failure::from(cause);
+        }
+        Failure {
+            file: String::from_str(alloc, path).ok(),
+            cause,
+        }
+    }
+
+    // Whether the reader of what is printed went away.
+    fn is_closed_pipe(&self) -> bool {
+        match &self.cause {
+            Cause::Output(error) => error.kind() == io::ErrorKind::BrokenPipe,
+            _ => false,
+        }
+    }
+
+    // Prints the line.
+    fn print<R: Eprint>(&self, rt: &R) {
+        let cause = &self.cause;
+        let advice = cause.advice();
+        let _ = match &self.file {
+            Some(file) => eprintln!(rt; "zevkhadun: {file}: {cause}{advice}"),
+            None => eprintln!(rt; "zevkhadun: {cause}{advice}"),
+        };
+    }
+
+    /// Prints one line on the standard error, and gives the program's status: 1, or 2 where the words are wrong. A
+    /// closed pipe ends the program quietly, with 0.
+    pub fn report<R: Eprint>(&self, rt: &R) -> ExitCode {
+        if self.is_closed_pipe() {
+            return ExitCode::SUCCESS;
+        }
+        match &self.cause {
+            Cause::Told => ExitCode::FAILURE,
+            Cause::Words(_) | Cause::NoText => {
+                self.print(rt);
+                ExitCode::from(2u8)
+            }
+            _ => {
+                self.print(rt);
+                ExitCode::FAILURE
+            }
+        }
+    }
+}
+
+/// What a call gave, or the failure at this file.
+pub fn at<T: Drop, E: Into<Cause> + Drop>(
+    alloc: Global,
+    path: &str,
+    given: Result<T, E>,
+) -> Result<T, Failure> {
+    match given {
+        Ok(value) => Ok(value),
+        Err(error) => Err(Failure::at_file(alloc, path, error.into())),
+    }
+}
+
+/// What came of a write to the standard output.
+#[inline(always)]
+pub fn printed(written: io::Result<()>) -> Result<(), Cause> {
+    match written {
+        Ok(()) => Ok(()),
+        Err(error) => Err(Cause::Output(error)),
+    }
+}

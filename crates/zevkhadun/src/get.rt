@@ -1,0 +1,73 @@
+//! `get`: prints documents by their numbers.
+
+use crate::arguments::{self, framing_of};
+use crate::document_output::{DocumentOutput, standard_output};
+use crate::failure::{Cause, Failure, at, printed};
+use crate::framing::Framing;
+use crate::id_range::{IdRange, ranges_of};
+use crate::store_file::{DiskReader, StorePath, store_path};
+use clap::{ArgMatches, Command};
+use std::alloc::{AllocError, Global};
+use std::io::Write;
+use std::ops::Range;
+use store_base::DocId;
+
+const EXAMPLE: &str = "\
+Example:
+  zevkhadun get words.store 7 3..9 100..     document 7, those from 3 to 8, and those from 100 on";
+
+/// The words of `get`.
+pub fn command<'a>(alloc: Global) -> Result<Command<'a>, AllocError> {
+    Command::new(alloc, "get")
+        .about("Prints documents by their numbers")
+        .after_help(EXAMPLE)
+        .arg(arguments::file(alloc, "FILE", "The store"))?
+        .arg(arguments::several(
+            alloc,
+            "ID",
+            "Documents: a number, the first at 0, or a range without its end, as 3..9 or 5..",
+        ))?
+        .arg(arguments::framing(alloc))?
+        .arg(arguments::tantivy(alloc))
+}
+
+// Prints the documents of a range.
+fn print_range(
+    alloc: Global,
+    reader: &mut DiskReader,
+    output: &mut DocumentOutput<'_>,
+    framing: Framing,
+    ids: Range<DocId>,
+) -> Result<(), Cause> {
+    for doc_id in ids {
+        let document = reader.get_document_bytes(alloc, doc_id)?;
+        printed(framing.write(output, document.as_slice()))?;
+    }
+    Ok(())
+}
+
+// Prints the documents of each range.
+fn print_ranges(
+    rt: &HostRuntime,
+    store: StorePath<'_>,
+    framing: Framing,
+    ranges: &[IdRange],
+) -> Result<(), Cause> {
+    let mut reader = store.reader(rt)?;
+    let mut output = standard_output(rt)?;
+    for range in ranges {
+        let ids = range.among(reader.num_docs())?;
+        print_range(rt.alloc(), &mut reader, &mut output, framing, ids)?;
+    }
+    printed(output.flush())
+}
+
+/// Prints the documents.
+pub fn run(rt: &HostRuntime, matches: &ArgMatches<'_>) -> Result<(), Failure> {
+    let store = store_path(matches);
+    let words = matches.get_strs("ID").unwrap_or(&[]);
+    let alloc = rt.alloc();
+    let ranges = ranges_of(alloc, words)?;
+    let printed = print_ranges(rt, store, framing_of(matches), &ranges);
+    at(alloc, store.path, printed)
+}

@@ -1,0 +1,107 @@
+//! `inspect`: draws what a store has on a page of HTML.
+
+mod blocks;
+mod histogram;
+mod page;
+mod seek_drawing;
+
+use crate::arguments;
+use crate::failure::{Cause, Failure, at};
+use crate::store_file::{DiskReader, StorePath, store_path};
+use crate::store_numbers::{block_sizes, numbers_of};
+use blocks::BlockStarts;
+use clap::{Arg, ArgAction, ArgMatches, Command};
+use histogram::Histogram;
+use page::Page;
+use std::alloc::{AllocError, Global};
+use store_base::{StoreError, TerminatingWrite};
+use store_files::DiskSink;
+
+const EXAMPLE: &str = "\
+Example:
+  zevkhadun inspect words.store --html words.html     one file, for any browser";
+
+/// The words of `inspect`.
+pub fn command<'a>(alloc: Global) -> Result<Command<'a>, AllocError> {
+    let html = Arg::new(alloc, "html")
+        .long("html")
+        .value_name("OUT")
+        .required(true)
+        .action(ArgAction::Set)
+        .help("The page to write");
+    Command::new(alloc, "inspect")
+        .about("Draws what a store has on a page of HTML")
+        .after_help(EXAMPLE)
+        .arg(arguments::file(alloc, "FILE", "The store"))?
+        .arg(html)?
+        .arg(arguments::tantivy(alloc))
+}
+
+// How the documents' sizes spread, and how many documents are damaged.
+fn document_sizes(alloc: Global, reader: &mut DiskReader) -> Result<(Histogram, u64), Cause> {
+    let mut sizes = Histogram::new();
+    let mut damaged = 0u64;
+    for document in reader.iter_raw(alloc, None) {
+        match document {
+            Ok(bytes) => sizes.add(bytes.len() as u64),
+            Err(StoreError::DamagedDocument(_)) => damaged = damaged.saturating_add(1),
+            Err(error) => return Err(Cause::Store(error)),
+        }
+    }
+    Ok((sizes, damaged))
+}
+
+// How the blocks' sizes spread.
+fn spread_of(sizes: &[usize]) -> Histogram {
+    let mut spread = Histogram::new();
+    for size in sizes {
+        spread.add(*size as u64);
+    }
+    spread
+}
+
+// The page on a store.
+fn page_of(rt: &HostRuntime, store: StorePath<'_>) -> Result<String, Cause> {
+    let alloc = rt.alloc();
+    let mut reader = store.reader(rt)?;
+    let sizes = block_sizes(alloc, &reader)?;
+    let spread = spread_of(&sizes);
+    let starts = BlockStarts::of(alloc, &reader)?;
+    let (documents, damaged) = document_sizes(alloc, &mut reader)?;
+    let mut page = String::new(alloc);
+    Page {
+        name: store.path,
+        numbers: numbers_of(&reader, sizes),
+        starts: &starts,
+        block_sizes: &spread,
+        document_sizes: &documents,
+        damaged,
+    }
+    .push_to(&mut page)?;
+    Ok(page)
+}
+
+// Why an output refused a call.
+fn refusal_of(sink: &DiskSink<HostRuntime>) -> Cause {
+    match sink.last_error() {
+        Some(error) => Cause::System(error),
+        None => Cause::Store(StoreError::Memory),
+    }
+}
+
+// Writes the page in place of the file of this name.
+fn write_page(rt: &HostRuntime, path: &str, page: &str) -> Result<(), Cause> {
+    let mut sink = DiskSink::create(rt.alloc(), *rt, path)?;
+    if sink.write_all(page.as_bytes()).is_err() || sink.terminate().is_err() {
+        return Err(refusal_of(&sink));
+    }
+    Ok(())
+}
+
+/// Writes the page.
+pub fn run(rt: &HostRuntime, matches: &ArgMatches<'_>) -> Result<(), Failure> {
+    let store = store_path(matches);
+    let out = matches.get_str("html").unwrap_or("");
+    let page = at(rt.alloc(), store.path, page_of(rt, store))?;
+    at(rt.alloc(), out, write_page(rt, out, page.as_str()))
+}

@@ -1,0 +1,175 @@
+//! The page: what a store has, drawn.
+
+use crate::inspect::blocks::BlockStarts;
+use crate::inspect::histogram::Histogram;
+use crate::inspect::seek_drawing::SeekDrawing;
+use crate::store_numbers::StoreNumbers;
+use std::alloc::AllocError;
+use std::fmt::Write;
+
+// How many bytes a footer has.
+const FOOTER_BYTES: u64 = 28;
+
+// The page's look: light and dark by what the reader's system says, and black on white in print.
+const HEAD: &str = "\
+<!DOCTYPE html>
+<html lang=\"en\">
+<head>
+<meta charset=\"utf-8\">
+<meta name=\"viewport\" content=\"width=device-width, initial-scale=1\">
+<style>
+:root { color-scheme: light dark; --text: #1d2733; --back: #ffffff; --line: #b6c2cf; --soft: #dfe7ef;
+  --data: #4a7fb5; --index: #d08a3c; --footer: #7a5ba8; --way: #d08a3c33; }
+@media (prefers-color-scheme: dark) { :root { --text: #dde5ee; --back: #14191f; --line: #45525f; --soft: #27313b;
+  --data: #6fa3d8; --index: #e0a45c; --footer: #a88bd6; --way: #e0a45c33; } }
+body { font: 15px/1.5 system-ui, sans-serif; color: var(--text); background: var(--back); max-width: 62rem;
+  margin: 2rem auto; padding: 0 1rem; }
+h1 { font-size: 1.4rem; overflow-wrap: anywhere; } h2 { font-size: 1.1rem; margin-top: 2rem; }
+table { border-collapse: collapse; } th { text-align: left; font-weight: normal; padding-right: 1.5rem; }
+td { text-align: right; font-variant-numeric: tabular-nums; }
+.parts { display: flex; height: 2.5rem; } .parts div { min-width: 2px; }
+.data { background: var(--data); } .index { background: var(--index); } .footer { background: var(--footer); }
+.key span { display: inline-block; width: 0.8rem; height: 0.8rem; margin: 0 0.4rem 0 1rem; }
+.bars { width: 100%; } .bars th { white-space: nowrap; width: 1%; } .bars .count { width: 1%; padding-left: 1rem; }
+.bar { background: var(--data); height: 1.1rem; min-width: 1px; }
+svg { width: 100%; height: auto; } svg text { fill: var(--text); font-size: 13px; }
+.entry { fill: var(--soft); stroke: var(--line); } .taken { fill: var(--index); stroke: var(--line); }
+.way { fill: var(--way); }
+@media print { :root { --text: #000; --back: #fff; } body { margin: 0; max-width: none; }
+  * { print-color-adjust: exact; -webkit-print-color-adjust: exact; } section { break-inside: avoid; } }
+</style>
+";
+
+/// What is shown of a store.
+#[derive(Clone, Copy)]
+pub struct Page<'a> {
+    pub name: &'a str,
+    pub numbers: StoreNumbers,
+    pub starts: &'a BlockStarts,
+    pub block_sizes: &'a Histogram,
+    pub document_sizes: &'a Histogram,
+    pub damaged: u64,
+}
+
+// Adds a text as HTML writes it.
+fn push_text(page: &mut String, text: &str) -> Result<(), AllocError> {
+    for letter in text.chars() {
+        match letter {
+            '&' => page.push_str("&amp;")?,
+            '<' => page.push_str("&lt;")?,
+            '>' => page.push_str("&gt;")?,
+            '"' => page.push_str("&quot;")?,
+            _ => page.push(letter)?,
+        }
+    }
+    Ok(())
+}
+
+// Adds a row of the table of numbers.
+fn push_row(page: &mut String, name: &str, number: u64) -> Result<(), AllocError> {
+    write!(page, "<tr><th>{name}</th><td>{number}</td></tr>\n")
+}
+
+impl<'a> Page<'a> {
+    // The beginning, with the store's name.
+    fn push_head(&self, page: &mut String) -> Result<(), AllocError> {
+        page.push_str(HEAD)?;
+        page.push_str("<title>")?;
+        push_text(page, self.name)?;
+        page.push_str("</title>\n</head>\n<body>\n<h1>")?;
+        push_text(page, self.name)?;
+        page.push_str("</h1>\n")
+    }
+
+    // The numbers.
+    fn push_numbers(&self, page: &mut String) -> Result<(), AllocError> {
+        let numbers = &self.numbers;
+        page.push_str("<section><h2>Numbers</h2>\n<table>\n")?;
+        push_row(page, "version", u64::from(numbers.version))?;
+        push_row(page, "period", u64::from(numbers.period))?;
+        push_row(page, "documents", u64::from(numbers.documents))?;
+        push_row(page, "damaged documents", self.damaged)?;
+        push_row(page, "blocks", numbers.blocks as u64)?;
+        push_row(page, "layers", u64::from(numbers.layers))?;
+        push_row(page, "bytes of data", numbers.data_bytes)?;
+        push_row(page, "bytes of index", numbers.index_bytes)?;
+        push_row(
+            page,
+            "bytes of the smallest block",
+            numbers.smallest_block as u64,
+        )?;
+        push_row(
+            page,
+            "bytes of the middle block",
+            numbers.middle_block as u64,
+        )?;
+        push_row(
+            page,
+            "bytes of the largest block",
+            numbers.largest_block as u64,
+        )?;
+        page.push_str("</table></section>\n")
+    }
+
+    // The parts of the file, to scale.
+    fn push_parts(&self, page: &mut String) -> Result<(), AllocError> {
+        let (data, index) = (self.numbers.data_bytes, self.numbers.index_bytes);
+        page.push_str("<section><h2>The file's parts, to scale</h2>\n<div class=\"parts\">")?;
+        write!(
+            page,
+            "<div class=\"data\" style=\"flex:{data} 0 0\" title=\"data\"></div>"
+        )?;
+        write!(
+            page,
+            "<div class=\"index\" style=\"flex:{index} 0 0\" title=\"index\"></div>"
+        )?;
+        write!(
+            page,
+            "<div class=\"footer\" style=\"flex:{FOOTER_BYTES} 0 0\" title=\"footer\"></div>"
+        )?;
+        page.push_str("</div>\n<p class=\"key\">")?;
+        write!(page, "<span class=\"data\"></span>blocks: {data} bytes")?;
+        write!(page, "<span class=\"index\"></span>index: {index} bytes")?;
+        write!(
+            page,
+            "<span class=\"footer\"></span>footer: {FOOTER_BYTES} bytes</p></section>\n"
+        )
+    }
+
+    // The layers of the index.
+    fn push_layers(&self, page: &mut String) -> Result<(), AllocError> {
+        page.push_str("<section><h2>The index, and how a seek goes down</h2>\n")?;
+        let document = self.starts.start(self.starts.len() / 2);
+        write!(
+            page,
+            "<p>Each entry of a layer stands for a run of the layer below. Here document {document} "
+        )?;
+        page.push_str(
+            "is sought: in each layer the first entry whose documents end past it is taken. ",
+        )?;
+        page.push_str(
+            "A reader that has opened the store goes straight to the bottom layer.</p>\n",
+        )?;
+        SeekDrawing::new(self.starts, &self.numbers).draw(page)?;
+        page.push_str("</section>\n")
+    }
+
+    // How the sizes spread.
+    fn push_sizes(&self, page: &mut String) -> Result<(), AllocError> {
+        page.push_str("<section><h2>Blocks by their bytes</h2>\n")?;
+        self.block_sizes.draw(page)?;
+        page.push_str("</section>\n<section><h2>Documents by their bytes</h2>\n")?;
+        self.document_sizes.draw(page)?;
+        page.push_str("</section>\n")
+    }
+
+    /// The page as HTML, on its own.
+    pub fn push_to(&self, page: &mut String) -> Result<(), AllocError> {
+        self.push_head(page)?;
+        self.push_numbers(page)?;
+        self.push_parts(page)?;
+        self.push_layers(page)?;
+        self.push_sizes(page)?;
+        page.push_str("</body>\n</html>\n")
+    }
+}

@@ -1,0 +1,187 @@
+//! `merge`: writes a store of the documents of others, in order.
+
+ghost use Rattle.std.specs.Prelude.{◌≤◌, IfOk, IfSome, length};
+ghost use Rattle.std.specs.List.{AllByRecursion};
+ghost use Rattle.store_merge.specs.Inputs.{HasWholeSet};
+ghost use Rattle.store_reader.specs.Reading.{num_docs};
+
+use crate::arguments::{self, StoreShape, shape_of, wrong_words};
+use crate::failure::{Cause, Failure};
+use crate::id_range::ids_of;
+use crate::progress::Progress;
+use crate::store_file::{DiskReader, StorePath};
+use crate::store_output::{DiskWriter, create, finish, summarize};
+use clap::{Arg, ArgAction, ArgMatches, Command};
+use std::alloc::{AllocError, Global};
+use store_base::{AliveBitSet, StoreError};
+use store_files::{DiskFile, OsFile};
+use store_merge::{MergeInput, merge_in_parts};
+
+// A store that is merged.
+type DiskInput = MergeInput<DiskFile<OsFile>>;
+
+// How many bytes of a store that is stacked are in memory at a time.
+const PART_BYTES: usize = 1 << 22;
+
+const EXAMPLE: &str = "\
+A store of six blocks or more that keeps all documents is taken block by block, every other one document by document.
+
+Example:
+  zevkhadun merge all.store a.store b.store --without a.store=0,3..9";
+
+/// The words of `merge`.
+pub fn command<'a>(alloc: Global) -> Result<Command<'a>, AllocError> {
+    let without = Arg::new(alloc, "without")
+        .long("without")
+        .value_name("INPUT=IDS")
+        .action(ArgAction::Append)
+        .help(
+            "Documents of an input to leave out: numbers and ranges between commas, as a.store=0,3..9",
+        );
+    Command::new(alloc, "merge")
+        .about("Writes a store of the documents of others, in order")
+        .after_help(EXAMPLE)
+        .arg(arguments::file(
+            alloc,
+            "OUT",
+            "The store to write; one that is there is replaced at the end",
+        ))?
+        .arg(arguments::several(alloc, "INPUT", "The stores to merge"))?
+        .arg(without)?
+        .arg(arguments::block_size(alloc))?
+        .arg(arguments::period(alloc))?
+        .arg(arguments::tantivy(alloc))?
+        .arg(arguments::quiet(alloc))
+}
+
+// What is merged, by the words.
+#[derive(Clone, Copy)]
+struct Merging<'m, 'w> {
+    paths: &'m [&'w str],
+    without: &'m [&'w str],
+    is_tantivy: bool,
+}
+
+// The documents that a word like `INPUT=IDS` leaves out, if it is of the input of this name.
+fn ids_for<'a>(word: &'a str, path: &str) -> Option<&'a str> {
+    match word.rsplit_once('=') {
+        Some((input, ids)) if input == path => Some(ids),
+        _ => None,
+    }
+}
+
+// Which documents of a store are alive, where words leave some out.
+fn alive_of(
+    alloc: Global,
+    reader: &DiskReader,
+    ids: Option<&str>,
+) -> Result<Option<AliveBitSet>, Cause>
+    ensures { IfOk result (λ alive. IfSome alive (λ set. num_docs reader.now ≤ length set)) }
+{
+    let Some(words) = ids else {
+        return Ok(None);
+    };
+    let num_docs = reader.num_docs();
+    let deleted = ids_of(alloc, words, num_docs)?;
+    Ok(Some(AliveBitSet::from_deleted_docs(alloc, &deleted, num_docs)?))
+}
+
+impl<'m, 'w> Merging<'m, 'w> {
+    // What the words leave out of an input.
+    fn ids_without(&self, path: &str) -> Option<&'w str> {
+        self.without.iter().find_map(|word| ids_for(word, path))
+    }
+
+    // The input of this name.
+    fn input(&self, rt: &HostRuntime, path: &str) -> Result<DiskInput, Cause>
+        ensures { IfOk result HasWholeSet }
+    {
+        let store = StorePath {
+            path,
+            is_tantivy: self.is_tantivy,
+        };
+        let reader = store.reader(rt)?;
+        let alive = alive_of(rt.alloc(), &reader, self.ids_without(path))?;
+        Ok(MergeInput { reader, alive })
+    }
+
+    // The inputs, in order.
+    fn inputs(&self, rt: &HostRuntime) -> Result<Vec<DiskInput>, Failure>
+        ensures { IfOk result (λ inputs. AllByRecursion HasWholeSet inputs.items) }
+    {
+        let alloc = rt.alloc();
+        let mut inputs = Vec::new(alloc);
+        for path in self.paths {
+            let input = match self.input(rt, path) {
+                Ok(input) => input,
+                Err(cause) => return Err(Failure::at_file(alloc, path, cause)),
+            };
+            if inputs.push(input).is_err() {
+                return Err(Failure::at_file(alloc, path, Cause::Store(StoreError::Memory)));
+            }
+        }
+        Ok(inputs)
+    }
+
+    // Puts the documents behind those of the writer.
+    fn merge_into(
+        &self,
+        alloc: Global,
+        writer: &mut DiskWriter,
+        inputs: &mut [DiskInput],
+    ) -> Result<(), Failure>
+        requires { AllByRecursion HasWholeSet inputs.old }
+    {
+        match merge_in_parts(alloc, writer, inputs, PART_BYTES) {
+            Ok(()) => Ok(()),
+            Err(refusal) => {
+                let path = self.paths.get(refusal.input).copied().unwrap_or("");
+                Err(Failure::at_file(alloc, path, Cause::Store(refusal.error)))
+            }
+        }
+    }
+
+    // Whether a word names an input.
+    fn names_input(&self, word: &str) -> bool {
+        self.paths.iter().any(|path| ids_for(word, path).is_some())
+    }
+
+    // The first word that names none of the inputs.
+    fn stray_word(&self) -> Option<&'w str> {
+        self.without
+            .iter()
+            .copied()
+            .find(|word| !self.names_input(word))
+    }
+}
+
+// Merges as the words say.
+fn merge_stores(
+    rt: &HostRuntime,
+    out: &str,
+    shape: StoreShape,
+    merging: &Merging<'_, '_>,
+    progress: &Progress<'_>,
+) -> Result<(), Failure> {
+    if let Some(word) = merging.stray_word() {
+        return Err(wrong_words(rt.alloc(), "no input and documents", word));
+    }
+    let mut inputs = merging.inputs(rt)?;
+    let mut writer = create(rt, out, shape)?;
+    let merged = merging.merge_into(rt.alloc(), &mut writer, &mut inputs);
+    finish(rt, out, writer, merged)?;
+    summarize(rt, out, progress)
+}
+
+/// Writes the store.
+pub fn run(rt: &HostRuntime, matches: &ArgMatches<'_>) -> Result<(), Failure> {
+    let shape = shape_of(rt.alloc(), matches)?;
+    let progress = Progress::begin(rt, matches.get_flag("quiet"));
+    let merging = Merging {
+        paths: matches.get_strs("INPUT").unwrap_or(&[]),
+        without: matches.get_strs("without").unwrap_or(&[]),
+        is_tantivy: matches.get_flag("tantivy"),
+    };
+    let out = matches.get_str("OUT").unwrap_or("");
+    merge_stores(rt, out, shape, &merging, &progress)
+}

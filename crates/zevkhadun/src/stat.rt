@@ -1,0 +1,95 @@
+//! `stat`: tells what stores have, as numbers.
+
+use crate::arguments;
+use crate::failure::{Cause, Failure, at, printed};
+use crate::store_file::StorePath;
+use crate::store_numbers::{StoreNumbers, block_sizes, numbers_of};
+use clap::{ArgMatches, Command};
+use serde_json::json;
+use std::alloc::{AllocError, Global};
+
+const EXAMPLE: &str = "\
+Example:
+  zevkhadun stat --json words.store     documents, blocks, layers and bytes";
+
+/// The words of `stat`.
+pub fn command<'a>(alloc: Global) -> Result<Command<'a>, AllocError> {
+    Command::new(alloc, "stat")
+        .about("Tells what stores have, as numbers")
+        .after_help(EXAMPLE)
+        .arg(arguments::several(alloc, "FILE", "The stores"))?
+        .arg(arguments::flag(
+            alloc,
+            "json",
+            "Prints an object of JSON for each store, on a line",
+        ))?
+        .arg(arguments::tantivy(alloc))
+}
+
+// The numbers of a store.
+fn read_numbers(rt: &HostRuntime, store: StorePath<'_>) -> Result<StoreNumbers, Cause> {
+    let reader = store.reader(rt)?;
+    let sizes = block_sizes(rt.alloc(), &reader)?;
+    Ok(numbers_of(&reader, sizes))
+}
+
+// Prints the numbers as an object of JSON.
+fn print_object(rt: &HostRuntime, path: &str, numbers: &StoreNumbers) -> Result<(), Cause> {
+    let object = json!(in rt.alloc(); {
+        "file": path,
+        "version": numbers.version,
+        "period": numbers.period,
+        "documents": numbers.documents,
+        "blocks": numbers.blocks,
+        "layers": numbers.layers,
+        "data_bytes": numbers.data_bytes,
+        "index_bytes": numbers.index_bytes,
+        "smallest_block": numbers.smallest_block,
+        "middle_block": numbers.middle_block,
+        "largest_block": numbers.largest_block
+    })?;
+    printed(println!(rt; "{object}"))
+}
+
+// Prints the numbers in lines.
+fn print_lines(rt: &HostRuntime, path: &str, numbers: &StoreNumbers) -> Result<(), Cause> {
+    let StoreNumbers {
+        version,
+        period,
+        documents,
+        blocks,
+        layers,
+        data_bytes,
+        index_bytes,
+        smallest_block,
+        middle_block,
+        largest_block,
+    } = *numbers;
+    printed(println!(rt; "{path}"))?;
+    printed(println!(rt; "  version         {version}\n  period          {period}"))?;
+    printed(println!(rt; "  documents       {documents}\n  blocks          {blocks}"))?;
+    printed(println!(rt; "  layers          {layers}\n  data bytes      {data_bytes}"))?;
+    printed(println!(rt; "  index bytes     {index_bytes}\n  smallest block  {smallest_block}"))?;
+    printed(println!(rt; "  middle block    {middle_block}\n  largest block   {largest_block}"))
+}
+
+// Tells of one store.
+fn print_store(rt: &HostRuntime, store: StorePath<'_>, is_json: bool) -> Result<(), Cause> {
+    let numbers = read_numbers(rt, store)?;
+    if is_json {
+        print_object(rt, store.path, &numbers)
+    } else {
+        print_lines(rt, store.path, &numbers)
+    }
+}
+
+/// Tells of each store.
+pub fn run(rt: &HostRuntime, matches: &ArgMatches<'_>) -> Result<(), Failure> {
+    let is_json = matches.get_flag("json");
+    let is_tantivy = matches.get_flag("tantivy");
+    for path in matches.get_strs("FILE").unwrap_or(&[]) {
+        let store = StorePath { path, is_tantivy };
+        at(rt.alloc(), path, print_store(rt, store, is_json))?;
+    }
+    Ok(())
+}

@@ -1,0 +1,79 @@
+//! What a store has, as numbers.
+
+ghost use Rattle.std.specs.Prelude.{◌≤◌};
+
+use crate::failure::Cause;
+use crate::store_file::DiskReader;
+use docstore::DocStoreVersion;
+use std::alloc::Global;
+use store_base::DocId;
+
+/// What a store has, as numbers.
+#[derive(Clone, Copy)]
+pub struct StoreNumbers {
+    pub version: u32,
+    pub period: u8,
+    pub documents: DocId,
+    pub blocks: usize,
+    pub layers: u32,
+    pub data_bytes: u64,
+    pub index_bytes: u64,
+    /// The bytes of the smallest block, of the one in the middle, and of the largest; 0 where there is none.
+    pub smallest_block: usize,
+    pub middle_block: usize,
+    pub largest_block: usize,
+}
+
+// The version's number in a file.
+fn version_number(version: DocStoreVersion) -> u32 {
+    match version {
+        DocStoreVersion::V1 => 1,
+        DocStoreVersion::V2 => 2,
+        DocStoreVersion::V3 => 3,
+    }
+}
+
+/// How many layers the index of so many blocks has.
+pub fn layers_over(blocks: usize, period: u8) -> u32
+    requires { 2 ≤ period }
+{
+    let mut entries = blocks;
+    let mut layers = 0u32;
+    for _ in 0..usize::BITS {
+        if entries == 0 {
+            break;
+        }
+        entries /= period as usize;
+        layers = layers.saturating_add(1);
+    }
+    layers
+}
+
+/// How many bytes each block has, in order.
+pub fn block_sizes(alloc: Global, reader: &DiskReader) -> Result<Vec<usize>, Cause> {
+    let mut sizes = Vec::new(alloc);
+    for checkpoint in reader.block_checkpoints() {
+        let bytes = checkpoint.byte_range;
+        sizes.push(bytes.end.saturating_sub(bytes.start))?;
+    }
+    Ok(sizes)
+}
+
+/// The numbers of a store, whose blocks have these sizes.
+pub fn numbers_of(reader: &DiskReader, mut sizes: Vec<usize>) -> StoreNumbers {
+    sizes.sort_unstable();
+    let usage = reader.space_usage();
+    let middle = sizes.len() / 2;
+    StoreNumbers {
+        version: version_number(reader.version()),
+        period: reader.period(),
+        documents: reader.num_docs(),
+        blocks: sizes.len(),
+        layers: layers_over(sizes.len(), reader.period()),
+        data_bytes: usage.data_usage(),
+        index_bytes: usage.offsets_usage(),
+        smallest_block: sizes.first().copied().unwrap_or(0),
+        middle_block: sizes.get(middle).copied().unwrap_or(0),
+        largest_block: sizes.last().copied().unwrap_or(0),
+    }
+}

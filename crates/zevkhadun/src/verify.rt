@@ -1,0 +1,122 @@
+//! `verify`: reads stores whole, and tells what breaks a promise of the format.
+
+use crate::arguments;
+use crate::checking::{BrokenPart, Verdict, broken_part, check_blocks};
+use crate::failure::{Cause, Failure, printed};
+use crate::progress::Progress;
+use crate::store_file::StorePath;
+use clap::{ArgMatches, Command};
+use std::alloc::{AllocError, Global};
+use store_base::StoreError;
+
+// What a sound file may still hide.
+const BLIND_SPOT: &str =
+    "not seen: a byte changed within a document, since the format has no checksums";
+
+const EXAMPLE: &str = "\
+Reads the footer, the index, whether its blocks cover the data, the table of each block, and the place of each document.
+The status is 1 where a store is broken.
+
+Example:
+  zevkhadun verify *.store     a line for each store, with its first fault";
+
+/// The words of `verify`.
+pub fn command<'a>(alloc: Global) -> Result<Command<'a>, AllocError> {
+    Command::new(alloc, "verify")
+        .about("Reads stores whole, and tells what breaks a promise of the format")
+        .after_help(EXAMPLE)
+        .arg(arguments::several(alloc, "FILE", "The stores"))?
+        .arg(arguments::tantivy(alloc))?
+        .arg(arguments::quiet(alloc))
+}
+
+// Reads a store's blocks.
+fn verdict_of(rt: &HostRuntime, store: StorePath<'_>, is_quiet: bool) -> Result<Verdict, Cause> {
+    let reader = store.reader(rt)?;
+    let mut file = store.file(rt)?;
+    let mut progress = Progress::begin(rt, is_quiet);
+    let verdict = check_blocks(rt, &reader, &mut file, &mut progress);
+    progress.end();
+    verdict
+}
+
+// Tells what was found in a store that was opened, and whether it is sound.
+fn print_verdict(rt: &HostRuntime, path: &str, verdict: &Verdict) -> Result<bool, Cause> {
+    let Verdict {
+        documents,
+        blocks,
+        damaged,
+        broken_blocks,
+        first,
+    } = *verdict;
+    let Some(place) = first else {
+        printed(println!(rt; "{path}: sound: {documents} documents in {blocks} blocks"))?;
+        return Ok(true);
+    };
+    let extent = format_args!(
+        "{damaged} of {documents} documents, {broken_blocks} of {blocks} blocks"
+    );
+    printed(println!(rt; "{path}: broken: {place}; broken are {extent}"))?;
+    Ok(false)
+}
+
+// Tells why a store can't be opened.
+fn print_refusal(
+    rt: &HostRuntime,
+    store: StorePath<'_>,
+    refusal: StoreError,
+) -> Result<bool, Cause> {
+    let path = store.path;
+    match broken_part(rt, store, refusal)? {
+        BrokenPart::Footer => {
+            let cause = Cause::Store(refusal);
+            printed(println!(rt; "{path}: broken: footer: {cause}"))?;
+        }
+        part => printed(println!(rt; "{path}: broken: {part}"))?,
+    }
+    Ok(false)
+}
+
+// Tells of a store, and whether it is sound.
+fn verify_store(rt: &HostRuntime, store: StorePath<'_>, is_quiet: bool) -> Result<bool, Cause> {
+    match verdict_of(rt, store, is_quiet) {
+        Ok(verdict) => print_verdict(rt, store.path, &verdict),
+        Err(Cause::Store(refusal)) => print_refusal(rt, store, refusal),
+        Err(cause) => Err(cause),
+    }
+}
+
+// Tells of each store, and whether all are sound.
+fn verify_all(
+    rt: &HostRuntime,
+    paths: &[&str],
+    is_tantivy: bool,
+    is_quiet: bool,
+) -> Result<bool, Failure> {
+    let mut is_sound = true;
+    for path in paths {
+        let store = StorePath { path, is_tantivy };
+        match verify_store(rt, store, is_quiet) {
+            Ok(found) => is_sound &= found,
+            Err(Cause::Output(error)) => return Err(Failure::from(Cause::Output(error))),
+            Err(cause) => {
+                Failure::at_file(rt.alloc(), path, cause).report(rt);
+                is_sound = false;
+            }
+        }
+    }
+    Ok(is_sound)
+}
+
+/// Tells of each store. It fails where one is broken.
+pub fn run(rt: &HostRuntime, matches: &ArgMatches<'_>) -> Result<(), Failure> {
+    let paths = matches.get_strs("FILE").unwrap_or(&[]);
+    let (is_tantivy, is_quiet) = (matches.get_flag("tantivy"), matches.get_flag("quiet"));
+    let is_sound = verify_all(rt, paths, is_tantivy, is_quiet)?;
+    printed(println!(rt; "{BLIND_SPOT}"))?;
+    if is_sound {
+        Ok(())
+    } else {
+        Err(Failure::from(Cause::Told))
+    }
+}

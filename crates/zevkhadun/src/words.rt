@@ -1,0 +1,57 @@
+//! The words that the program takes.
+
+use crate::failure::{Cause, Failure};
+use crate::{cat, get, inspect, merge, pack, stat, verify};
+use clap::{ArgMatches, Command, Error};
+use std::alloc::{AllocError, Global};
+use std::{env, io};
+
+const AFTER_HELP: &str = "\
+Documents are bytes; file names and other words are UTF-8. A failed or interrupted 'pack' or 'merge' leaves the file
+that was there. The status is 0, 1 where something failed or a store is broken, and 2 where the words are wrong.
+
+Example:
+  zevkhadun pack words.store words.txt && zevkhadun get words.store 7";
+
+// The program's command, with its subcommands.
+fn command<'a>(alloc: Global) -> Result<Command<'a>, AllocError> {
+    Command::new(alloc, "zevkhadun")
+        .bin_name("zevkhadun")?
+        .version("0.1.0")
+        .about("Keeps documents behind numbers, in files that are written once")
+        .after_help(AFTER_HELP)
+        .subcommand_required(true)
+        .arg_required_else_help(true)
+        .subcommand(pack::command(alloc)?)?
+        .subcommand(get::command(alloc)?)?
+        .subcommand(cat::command(alloc)?)?
+        .subcommand(stat::command(alloc)?)?
+        .subcommand(verify::command(alloc)?)?
+        .subcommand(merge::command(alloc)?)?
+        .subcommand(inspect::command(alloc)?)
+}
+
+// What keeps the words from being read.
+fn refusal_of(error: io::Error) -> Cause {
+    if error.kind() == io::ErrorKind::InvalidData {
+        return Cause::NoText;
+    }
+    Cause::System(error)
+}
+
+/// The words that the program was given.
+pub fn given(rt: &HostRuntime) -> Result<Vec<String>, Failure> {
+    let words = match env::args(rt) {
+        Ok(words) => words.collect(rt.alloc()),
+        Err(error) => return Err(Failure::from(refusal_of(error))),
+    };
+    match words {
+        Ok(words) => Ok(words),
+        Err(_) => Err(Failure::from(Cause::System(io::ErrorKind::OutOfMemory.into()))),
+    }
+}
+
+/// What the words say.
+pub fn parse<'a>(alloc: Global, given: &'a [String]) -> Result<ArgMatches<'a>, Error> {
+    command(alloc)?.try_get_matches_from(given)
+}
