@@ -240,7 +240,14 @@ changed numbers.store offset.store $((size - 20)) '\377'
 each_command "an offset past the file" "index offset is past the body" offset.store
 changed numbers.store index.store $((size - 29)) '\0'
 each_command "a broken index" "index is not the encoding" index.store
-broken "a broken index" "index" index.store
+broken "a broken index" "index: layer 0 at byte" index.store
+# Twenty blocks of 191 bytes together, and three layers, which begin at bytes 195, 204 and 227.
+seq 20 | "$program" pack --block-size 0 --period 3 layers.store
+for place in "191:the list of its layers at byte 191" "195:layer 2 at byte 195" "204:layer 1 at byte 204" \
+    "213:layer 1 at byte 213" "227:layer 0 at byte 227" "281:layer 0 at byte 281"; do
+    changed layers.store layer.store "${place%%:*}" '\370'
+    broken "an index that is broken at ${place%%:*}" "index: ${place#*:}$" layer.store
+done
 printf 'abc' >doc.txt && "$program" pack --framing files doc.store doc.txt
 # An index that is sound, but whose block ends before the data does: four more bytes before the index.
 { head -c 11 doc.store; printf 'more'; tail -c +12 doc.store; } >cover.store

@@ -5,6 +5,7 @@ ghost use Rattle.store_format.specs.Block.{slot, damaged, count_of, u32_at};
 ghost use Rattle.zevkhadun.specs.Blocks.{AreWhole, documents_of};
 
 use crate::failure::Cause;
+use crate::index_fault::{IndexFault, first_fault};
 use crate::progress::Progress;
 use crate::store_file::{DiskReader, StoreFile, StorePath, part_of};
 use docstore::{Checkpoint, SkipIndex, StoreError, block_read_index};
@@ -212,7 +213,7 @@ pub fn check_blocks(
 #[derive(Clone, Copy)]
 pub enum BrokenPart {
     Footer,
-    Index,
+    Index(IndexFault),
     /// The index is sound, but its blocks don't cover the data, or don't begin at 0, or one is empty.
     Coverage { data: u64, covered: Option<usize> },
 }
@@ -221,7 +222,7 @@ impl fmt::Display for BrokenPart {
     fn fmt<W: fmt::Write>(&self, f: &mut fmt::Formatter<W>) -> fmt::Result {
         match self {
             BrokenPart::Footer => f.write_str("footer"),
-            BrokenPart::Index => f.write_str("index"),
+            BrokenPart::Index(fault) => write!(f, "{fault}"),
             BrokenPart::Coverage {
                 data,
                 covered: Some(covered),
@@ -249,7 +250,11 @@ fn broken_behind_footer(rt: &HostRuntime, store: StorePath<'_>) -> Result<Broken
             data: footer.offset,
             covered: index.covered_to().map(|(_, bytes)| bytes),
         }),
-        Err(StoreError::BadIndex) => Ok(BrokenPart::Index),
+        Err(StoreError::BadIndex) => {
+            let part = part_of(rt.alloc(), &mut file, footer.offset, end)?;
+            let fault = first_fault(rt.alloc(), part.as_slice(), footer.period, footer.offset)?;
+            Ok(BrokenPart::Index(fault))
+        }
         Err(error) => Err(Cause::Store(error)),
     }
 }

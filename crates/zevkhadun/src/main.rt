@@ -13,6 +13,7 @@ mod failure;
 mod framing;
 mod get;
 mod id_range;
+mod index_fault;
 mod inspect;
 mod merge;
 mod pack;

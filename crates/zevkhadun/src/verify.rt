@@ -50,7 +50,13 @@ fn print_verdict(rt: &HostRuntime, path: &str, verdict: &Verdict) -> Result<bool
         first,
     } = *verdict;
     let Some(place) = first else {
-        printed(println!(rt; "{path}: sound: {documents} documents in {blocks} blocks"))?;
+        let document = if documents == 1 {
+            "document"
+        } else {
+            "documents"
+        };
+        let block = if blocks == 1 { "block" } else { "blocks" };
+        printed(println!(rt; "{path}: sound: {documents} {document} in {blocks} {block}"))?;
         return Ok(true);
     };
     let extent = format_args!(

@@ -19,9 +19,10 @@ const HEAD: &str = "\
 <meta name=\"viewport\" content=\"width=device-width, initial-scale=1\">
 <style>
 :root { color-scheme: light dark; --text: #1d2733; --back: #ffffff; --line: #b6c2cf; --soft: #dfe7ef;
-  --data: #4a7fb5; --index: #d08a3c; --footer: #7a5ba8; --way: #d08a3c33; }
+  --data: #4a7fb5; --index: #d08a3c; --footer: #7a5ba8; --way: #d08a3c33; --taken: #d08a3c; }
 @media (prefers-color-scheme: dark) { :root { --text: #dde5ee; --back: #14191f; --line: #45525f; --soft: #27313b;
-  --data: #6fa3d8; --index: #e0a45c; --footer: #a88bd6; --way: #e0a45c33; } }
+  --data: #6fa3d8; --index: #e0a45c; --footer: #a88bd6; --way: #e0a45c33;
+  --taken: #7d5523; } }
 body { font: 15px/1.5 system-ui, sans-serif; color: var(--text); background: var(--back); max-width: 62rem;
   margin: 2rem auto; padding: 0 1rem; }
 h1 { font-size: 1.4rem; overflow-wrap: anywhere; } h2 { font-size: 1.1rem; margin-top: 2rem; }
@@ -29,11 +30,13 @@ table { border-collapse: collapse; } th { text-align: left; font-weight: normal;
 td { text-align: right; font-variant-numeric: tabular-nums; }
 .parts { display: flex; height: 2.5rem; } .parts div { min-width: 2px; }
 .data { background: var(--data); } .index { background: var(--index); } .footer { background: var(--footer); }
-.key span { display: inline-block; width: 0.8rem; height: 0.8rem; margin: 0 0.4rem 0 1rem; }
+.key span { white-space: nowrap; margin-right: 1.2rem; }
+.key i { display: inline-block; width: 0.8rem; height: 0.8rem; margin-right: 0.4rem; }
 .bars { width: 100%; } .bars th { white-space: nowrap; width: 1%; } .bars .count { width: 1%; padding-left: 1rem; }
 .bar { background: var(--data); height: 1.1rem; min-width: 1px; }
-svg { width: 100%; height: auto; } svg text { fill: var(--text); font-size: 13px; }
-.entry { fill: var(--soft); stroke: var(--line); } .taken { fill: var(--index); stroke: var(--line); }
+.wide { overflow-x: auto; } svg { width: 100%; min-width: 44rem; height: auto; display: block; }
+svg text { fill: var(--text); font-size: 13px; }
+.entry { fill: var(--soft); stroke: var(--line); } .taken { fill: var(--taken); stroke: var(--line); }
 .way { fill: var(--way); }
 @media print { :root { --text: #000; --back: #fff; } body { margin: 0; max-width: none; }
   * { print-color-adjust: exact; -webkit-print-color-adjust: exact; } section { break-inside: avoid; } }
@@ -128,11 +131,17 @@ impl<'a> Page<'a> {
             "<div class=\"footer\" style=\"flex:{FOOTER_BYTES} 0 0\" title=\"footer\"></div>"
         )?;
         page.push_str("</div>\n<p class=\"key\">")?;
-        write!(page, "<span class=\"data\"></span>blocks: {data} bytes")?;
-        write!(page, "<span class=\"index\"></span>index: {index} bytes")?;
         write!(
             page,
-            "<span class=\"footer\"></span>footer: {FOOTER_BYTES} bytes</p></section>\n"
+            "<span><i class=\"data\"></i>blocks: {data} bytes</span> "
+        )?;
+        write!(
+            page,
+            "<span><i class=\"index\"></i>index: {index} bytes</span> "
+        )?;
+        write!(
+            page,
+            "<span><i class=\"footer\"></i>footer: {FOOTER_BYTES} bytes</span></p></section>\n"
         )
     }
 

@@ -155,7 +155,7 @@ impl<'a> SeekDrawing<'a> {
         let height = layers.saturating_mul(ROW_HEIGHT);
         write!(
             page,
-            "<svg viewBox=\"0 0 {WIDTH} {height}\" role=\"img\" aria-label=\"a seek\">\n"
+            "<div class=\"wide\"><svg viewBox=\"0 0 {WIDTH} {height}\" role=\"img\" aria-label=\"a seek\">\n"
         )?;
         let mut span = self.period.saturating_pow(self.layers.saturating_sub(1));
         for row in 0..layers {
@@ -168,6 +168,6 @@ impl<'a> SeekDrawing<'a> {
             )?;
             span /= self.period.max(1);
         }
-        page.push_str("</svg>\n")
+        page.push_str("</svg></div>\n")
     }
 }
