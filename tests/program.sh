@@ -244,7 +244,7 @@ broken "a broken index" "index: layer 0 at byte" index.store
 # Twenty blocks of 191 bytes together, and three layers, which begin at bytes 195, 204 and 227.
 seq 20 | "$program" pack --block-size 0 --period 3 layers.store
 for place in "191:the list of its layers at byte 191" "195:layer 2 at byte 195" "204:layer 1 at byte 204" \
-    "213:layer 1 at byte 213" "227:layer 0 at byte 227" "281:layer 0 at byte 281"; do
+    "213:layer 1 at byte 213" "227:layer 0 at byte 227" "282:layer 0 at byte 282"; do
     changed layers.store layer.store "${place%%:*}" '\370'
     broken "an index that is broken at ${place%%:*}" "index: ${place#*:}$" layer.store
 done
