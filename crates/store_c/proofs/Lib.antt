@@ -1,0 +1,4 @@
+pub mod TableLemmas
+pub mod TableViewLemmas
+pub mod PlacesLemmas
+pub mod TextLemmas

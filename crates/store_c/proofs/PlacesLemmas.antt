@@ -1,0 +1,35 @@
+-- The places of a run of documents.
+use Rattle.std.proofs.Common.{◌≡◌, ℕ, zero, suc, ◌+◌, ◌<◌, true, false, nat_lt, List, [], ◌∷◌, length, drop, set, Option, Some, IfSome, refl, sym, ap, ◌∙◌, subst, arith, drop-drop}
+use Rattle.std.specs.Prelude.{slice_get}
+use Rattle.std.proofs.lemmas.Bool.{ltb-true, ltb-false}
+use Rattle.std.proofs.lemmas.List.{drop-set-lt}
+use Rattle.store_c.specs.declared.block.Block.{Block}
+use Rattle.store_c.specs.declared.place.Place.{Place}
+use Rattle.store_c.specs.Calls.{IsPlace, ArePlaces}
+
+set_here : (ps : List Place) (n : ℕ) (p : Place) → n < length ps → slice_get (set ps n p) n ≡ Some p
+set_here [] n p lt = absurd (omega arith)
+set_here (x ∷ ps) zero p lt = refl
+set_here (x ∷ ps) (suc n) p lt = set_here ps n p (omega arith)
+
+set_before : (ps : List Place) (n j : ℕ) (p : Place) → j < n → slice_get (set ps n p) j ≡ slice_get ps j
+set_before [] n j p lt = refl
+set_before (x ∷ ps) zero j p lt = absurd (omega arith)
+set_before (x ∷ ps) (suc n) zero p lt = refl
+set_before (x ∷ ps) (suc n) (suc j) p lt = set_before ps n j p (omega arith)
+
+-- one more has its place
+pub one_more : (file : List ℕ) (table : List Block) (first n : ℕ) (ps : List Place) (p : Place) → n < length ps → ArePlaces file table first ps n
+    → IsPlace file table (first + n) p → ArePlaces file table first
+    (set ps n p) (n + 1)
+one_more file table first n ps p lt are is j below =
+    (elim (nat_lt j n) as (λ y. nat_lt j n ≡ y → IfSome (slice_get (set ps n p) j) (IsPlace file table (first + j))) [
+      | true ↦ λ t. let before = ltb-true j n t in subst (λ (o : Option Place). IfSome o (IsPlace file table (first + j))) (sym (set_before ps n j p before)) (are j before)
+      | false ↦ λ t. let past = ltb-false j n t in let here : n ≡ j = omega arith in
+          subst (λ (i : ℕ). IfSome (slice_get (set ps n p) i) (IsPlace file table (first + i))) here
+          (subst (λ (o : Option Place). IfSome o (IsPlace file table (first + n))) (sym (set_here ps n p lt)) is)
+    ]) refl
+
+-- those behind it stay
+pub behind_stay : (n : ℕ) (ps qs : List Place) (p : Place) → drop n ps ≡ drop n qs → drop (n + 1) (set ps n p) ≡ drop (n + 1) qs
+behind_stay n ps qs p e = drop-set-lt (n + 1) ps n p (omega arith) ∙ sym (drop-drop 1 n ps) ∙ ap (drop 1) e ∙ drop-drop 1 n qs

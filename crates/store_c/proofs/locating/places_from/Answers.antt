@@ -1,0 +1,24 @@
+use Rattle.std.proofs.Common.{◌+◌, ◌≤◌, length-set, arith, ◌∙◌}
+use Rattle.layered_index.specs.Checkpoint.{docs_end}
+use Rattle.store_format.specs.StoreFile.{checkpoints_of}
+use Rattle.store_c.proofs.TableViewLemmas.{has_past}
+use Rattle.store_c.proofs.PlacesLemmas.{one_more, behind_stay}
+use Rattle.store_c.proofs.locating.places_from.Goals as goal
+
+pub loop-at-preserved : goal.loop-at-preserved
+loop-at-preserved c =
+    let kept = c.loop-at.invariant in
+    let lt = c.loop-at-test.true in
+    let room = c.min-room.ensures in
+    let size = kept.2 in
+    (one_more _ _ _ _ _ _ (omega arith) kept.0 c.in-Ok.ensures, behind_stay c.loop-at.at c.loop-at.places c.args.places.now c.in-Ok.found kept.1, length-set _ _ _ ∙ kept.2)
+
+pub returns-then-room-places-clause-next : goal.returns-then-room-places-clause-next
+returns-then-room-places-clause-next c known =
+    let room = c.min-room.ensures in
+    let left = c.saturating_sub-left.ensures in
+    let few = c.if-room-places.true in
+    let size = c.loop-at.invariant.2 in
+    let count = c.num_docs.ensures (checkpoints_of known.view.store) known.ends in
+    let past : docs_end 0 (checkpoints_of known.view.store) ≤ c.args.first + c.min-room.result = omega arith in
+    has_past c.args.file.now known.view known.of _ past

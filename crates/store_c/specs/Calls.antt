@@ -1,0 +1,78 @@
+-- What the calls of C are answered.
+use Rattle.std.specs.Prelude.{◌≡◌, ℕ, zero, suc, ◌+◌, ◌<◌, ◌≤◌, List, [], ◌∷◌, ◌++◌, length, take, drop, map}
+use Rattle.std.specs.Prelude.{slice_get, slice_range, Option, Some, None, IfSome}
+use Rattle.layered_index.specs.declared.index.Checkpoint.{Checkpoint}
+use Rattle.store_base.specs.Outcome.{number_of}
+use Rattle.store_base.specs.declared.error.StoreError.{StoreError}
+use Rattle.store_format.specs.Block.{Slot, doc, damaged}
+use Rattle.store_format.specs.StoreFile.{checkpoints_of}
+use Rattle.store_reader.specs.Opening.{IsSomeStore}
+use Rattle.store_reader.specs.Viewing.{Viewing, IsViewOf, Finds, slot_of, count_in}
+use Rattle.std.specs.declared.result.Result.TheVariants.{Err}
+use Rattle.store_c.specs.declared.block.Block.{Block}
+use Rattle.store_c.specs.declared.place.Place.{Place}
+use Rattle.store_c.specs.declared.refusal.Refusal.{Refusal}
+use Rattle.store_c.specs.declared.refusal.Refusal.TheVariants.{NoDocument, Damaged, NoRoom, OtherTable}
+
+-- ---- tables
+
+-- where a block ends
+abbrev pub ends_of : Checkpoint → Block
+ends_of c = record { end_doc = c.doc_range.end; end_byte = c.byte_range.end }
+
+-- where the block at a position begins: at the end of the one before it, the first one here
+abbrev pub start_in : Block → List Block → ℕ → Block
+start_in start table zero = start
+start_in start [] (suc at) = start
+start_in start (b ∷ table) (suc at) = start_in b table at
+
+-- a table written over the front of this one, as far as there is room
+abbrev pub with_front : List Block → List Block → List Block
+with_front table old = take (length old) table ++ drop (length table) old
+
+-- These bytes are the file of a store, and this is the table of its blocks.
+pub record IsTableOf (file : List ℕ) (table : List Block) : Type 0 where
+  pub view : Viewing
+  pub of : IsViewOf file view
+  pub ends : table ≡ map ends_of (checkpoints_of view.store)
+
+-- These bytes are the file of a store, which has so many blocks and documents. Its table goes over the front of this
+-- one.
+pub record Fills (file : List ℕ) (old new : List Block) (count num_docs : ℕ) : Type 0 where
+  pub view : Viewing
+  pub of : IsViewOf file view
+  pub blocks : count ≡ length (checkpoints_of view.store)
+  pub docs : num_docs ≡ count_in view
+  pub filled : new ≡ with_front (map ends_of (checkpoints_of view.store)) old
+
+-- The refusal with this number is the first of these bytes, and they are no store's.
+pub record RefusesFile (file : List ℕ) (number : ℕ) : Type 0 where
+  pub error : StoreError
+  pub is : number ≡ number_of error
+  pub finds : Finds file (Err error)
+  pub no_store : IsSomeStore file → ⊥
+
+-- ---- places
+
+-- These bytes are the file of a store, and this is what stands at this number.
+pub record HasSlot (file : List ℕ) (id : ℕ) (s : Option Slot) : Type 0 where
+  pub view : Viewing
+  pub of : IsViewOf file view
+  pub slot : slot_of view id ≡ s
+
+-- A part of these bytes. It is the document of this number, if the table is theirs.
+pub record IsPlace (file : List ℕ) (table : List Block) (id : ℕ) (p : Place) : Type 0 where
+  pub within : p.start + p.len ≤ length file
+  pub document : IsTableOf file table → HasSlot file id (Some (doc (slice_range file p.start (p.start + p.len))))
+
+-- The first of these are the places of documents, one behind the other from this number on.
+abbrev pub ArePlaces : List ℕ → List Block → ℕ → List Place → ℕ → Type 0
+ArePlaces file table first places count =
+    (j : ℕ) → j < count → IfSome (slice_get places j) (IsPlace file table (first + j))
+
+-- why there is no document, if the table is that of these bytes; or it is not
+abbrev pub RefusesDocument : List ℕ → List Block → ℕ → Refusal → Type 0
+RefusesDocument file table id NoDocument = IsTableOf file table → HasSlot file id None
+RefusesDocument file table id Damaged = IsTableOf file table → HasSlot file id (Some damaged)
+RefusesDocument file table id OtherTable = IsTableOf file table → ⊥
+RefusesDocument file table id NoRoom = ⊥

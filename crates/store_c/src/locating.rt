@@ -1,0 +1,105 @@
+//! Where documents lie, by the table of their store's blocks.
+ghost use Rattle.std.specs.Prelude.{◌≡◌, ◌+◌, ◌≤◌, List, length, drop, map, MatchOption, MatchResult};
+ghost use Rattle.layered_index.specs.declared.index.Checkpoint.{Checkpoint as CheckpointOf};
+ghost use Rattle.layered_index.specs.Checkpoint.{IsInLineFrom, docs_end, first_past};
+ghost use Rattle.store_c.specs.Calls.{ends_of, start_in, IsPlace, ArePlaces, RefusesDocument};
+
+use crate::block::Block;
+use crate::place::Place;
+use crate::refusal::Refusal;
+use layered_index::Checkpoint;
+use store_base::DocId;
+use store_format::{likely_read_index, part};
+
+// Where the block at a position of a table begins.
+fn start_of(table: &[Block], at: usize) -> Block
+    requires { at ≤ length table.now }
+    ensures { result ≡ start_in (record { end_doc = 0; end_byte = 0 }) table.now at }
+{
+    match at.checked_sub(1) {
+        Some(before) => table[before],
+        None => Block {
+            end_doc: 0,
+            end_byte: 0,
+        },
+    }
+}
+
+// The first block whose documents end past the target.
+fn seek(table: &[Block], target: DocId) -> Option<Checkpoint>
+    ensures { (cs : List CheckpointOf) → table.now ≡ map ends_of cs → IsInLineFrom 0 0 cs
+        → result ≡ first_past cs target }
+{
+    let at = table.partition_point(|block| block.end_doc <= target);
+    let end = table.get(at)?;
+    let start = start_of(table, at);
+    Some(Checkpoint {
+        doc_range: start.end_doc..end.end_doc,
+        byte_range: start.end_byte..end.end_byte,
+    })
+}
+
+// How many documents the blocks have.
+fn num_docs(table: &[Block]) -> DocId
+    ensures { (cs : List CheckpointOf) → table.now ≡ map ends_of cs → result ≡ docs_end 0 cs }
+{
+    match table.last() {
+        Some(last) => last.end_doc,
+        None => 0,
+    }
+}
+
+/// Where a document lies in the file.
+pub(crate) fn place_of(file: &[u8], table: &[Block], doc_id: DocId) -> Result<Place, Refusal>
+    ensures { MatchResult result (IsPlace file.now table.now doc_id)
+        (RefusesDocument file.now table.now doc_id) }
+{
+    let Some(checkpoint) = seek(table, doc_id) else {
+        return Err(Refusal::NoDocument);
+    };
+    let docs = checkpoint.doc_range;
+    let bytes = checkpoint.byte_range;
+    if doc_id < docs.start || docs.end <= doc_id {
+        return Err(Refusal::OtherTable);
+    }
+    if bytes.end < bytes.start || file.len() < bytes.end {
+        return Err(Refusal::OtherTable);
+    }
+    let block = part(file, bytes.start, bytes.end);
+    match likely_read_index(block, docs.end - docs.start, doc_id - docs.start) {
+        Some(range) => Ok(Place {
+            start: bytes.start + range.start,
+            len: range.end - range.start,
+        }),
+        None => Err(Refusal::Damaged),
+    }
+}
+
+/// Where documents lie, one behind the other from a number on: as many as there is room for, up to the first that is
+/// refused. It answers how many were told, and that refusal.
+pub(crate) fn places_from(
+    file: &[u8],
+    table: &[Block],
+    first: DocId,
+    places: &mut [Place],
+) -> (usize, Option<Refusal>)
+    ensures found { ArePlaces file.now table.now first places.new result.0 }
+    ensures room { result.0 ≤ length places.old }
+    ensures next { MatchOption result.1 (result.0 ≡ length places.old)
+        (RefusesDocument file.now table.now (first + result.0)) }
+    ensures kept { drop result.0 places.new ≡ drop result.0 places.old }
+{
+    let left = num_docs(table).saturating_sub(first) as usize;
+    let room = places.len().min(left);
+    for at in 0..room {
+        match place_of(file, table, first + at as u32) {
+            Ok(found) => places[at] = found,
+            Err(refusal) => return (at, Some(refusal)),
+        }
+    }
+    if room < places.len() {
+        (room, Some(Refusal::NoDocument))
+    } else {
+        (room, None)
+    }
+}

@@ -1,0 +1,109 @@
+//! Reading, as C calls it. A store is opened once, which fills a table of its blocks, and read from many times. Its
+//! bytes and the table stay the caller's, who passes them again at each call; nothing is kept of them.
+ghost use Rattle.std.specs.Prelude.{◌≡◌, ◌≢◌, ◌+◌, ◌<◌, ◌≤◌, ◌⊎◌, length, take, drop, None, Some};
+ghost use Rattle.store_format.specs.Block.{damaged};
+ghost use Rattle.store_c.specs.Calls.{IsTableOf, Fills, IsPlace, ArePlaces, HasSlot, RefusesFile};
+
+use crate::block::Block;
+use crate::filling::fill;
+use crate::locating;
+use crate::place::Place;
+use crate::refusal::Refusal;
+use std::alloc::Global;
+use store_reader::StoreView;
+
+const DONE: u32 = 0;
+
+/// Opens the store whose file these bytes are: fills the table of its blocks, and tells how many blocks and how many
+/// documents there are. It is refused by 32 where the table has no room for all blocks; then the table has the first of
+/// them, and both numbers are told. It is refused by 10 where memory runs out, and by the number of the first refusal
+/// of the footer or the index.
+#[unsafe(no_mangle)]
+pub extern "C" fn zevk_open(
+    alloc: Global,
+    file: &[u8],
+    table: &mut [Block],
+    count: &mut usize,
+    num_docs: &mut u32,
+) -> u32
+    ensures filled { (result ≡ 0) ⊎ (result ≡ 32) → Fills file.now table.old table.new count.new num_docs.new }
+    ensures done { result ≡ 0 → IsTableOf file.now (take count.new table.new) }
+    ensures room { result ≡ 0 → count.new ≤ length table.old }
+
+    // Each refusal.
+    ensures no_room { result ≡ 32 → length table.old < count.new }
+    ensures refused { result ≢ 0 → result ≢ 10 → result ≢ 32 → RefusesFile file.now result }
+
+    ensures stays { result ≢ 0 → result ≢ 32 → (table.new ≡ table.old) × (count.new ≡ count.old)
+        × (num_docs.new ≡ num_docs.old) }
+{
+    let view = match StoreView::open(alloc, file) {
+        Ok(view) => view,
+        Err(error) => return error.number(),
+    };
+    *num_docs = view.num_docs();
+    *count = fill(view.block_checkpoints(), table);
+    if *count <= table.len() {
+        DONE
+    } else {
+        Refusal::NoRoom as u32
+    }
+}
+
+/// Tells where a document lies in the file, by the table that `zevk_open` filled for these bytes. By any other table
+/// there are places too, but any. It takes no memory, and changes nothing but `place`.
+///
+/// It is refused by 6 where the store has no document of this number, by 7 where the document's block doesn't say
+/// where it lies, and by 33 where the table is not that of the file.
+#[unsafe(no_mangle)]
+pub extern "C" fn zevk_locate(file: &[u8], table: &[Block], doc_id: u32, place: &mut Place) -> u32
+    ensures within { result ≡ 0 → place.new.start + place.new.len ≤ length file.now }
+    ensures done { result ≡ 0 → IsPlace file.now table.now doc_id place.new }
+
+    // Each refusal.
+    ensures no_document { result ≡ 6 → IsTableOf file.now table.now → HasSlot file.now doc_id None }
+    ensures damaged { result ≡ 7 → IsTableOf file.now table.now → HasSlot file.now doc_id (Some damaged) }
+    ensures other_table { result ≡ 33 → IsTableOf file.now table.now → ⊥ }
+    ensures no_other { result ≢ 0 → result ≢ 6 → result ≢ 7 → result ≡ 33 }
+
+    ensures kept { result ≢ 0 → place.new ≡ place.old }
+{
+    match locating::place_of(file, table, doc_id) {
+        Ok(found) => {
+            *place = found;
+            DONE
+        }
+        Err(refusal) => refusal as u32,
+    }
+}
+
+/// Tells where documents lie, one behind the other from `first` on, as many as `places` has room for, and how many
+/// these are. It stops before the first that is refused, and answers its refusal, as `zevk_locate` does.
+#[unsafe(no_mangle)]
+pub extern "C" fn zevk_locate_run(
+    file: &[u8],
+    table: &[Block],
+    first: u32,
+    places: &mut [Place],
+    count: &mut usize,
+) -> u32
+    ensures found { ArePlaces file.now table.now first places.new count.new }
+    ensures room { count.new ≤ length places.old }
+    ensures done { result ≡ 0 → count.new ≡ length places.old }
+
+    // Each refusal.
+    ensures no_document { result ≡ 6 → IsTableOf file.now table.now → HasSlot file.now (first + count.new) None }
+    ensures damaged { result ≡ 7 → IsTableOf file.now table.now
+        → HasSlot file.now (first + count.new) (Some damaged) }
+    ensures other_table { result ≡ 33 → IsTableOf file.now table.now → ⊥ }
+    ensures no_other { result ≢ 0 → result ≢ 6 → result ≢ 7 → result ≡ 33 }
+
+    ensures kept { drop count.new places.new ≡ drop count.new places.old }
+{
+    let (found, refusal) = locating::places_from(file, table, first, places);
+    *count = found;
+    match refusal {
+        Some(refusal) => refusal as u32,
+        None => DONE,
+    }
+}

@@ -1,0 +1,14 @@
+//! Why a call was refused.
+
+/// Why a call was refused, by the number that C is told. Up to 16 these are those of `StoreError`.
+#[derive(Clone, Copy, PartialEq, Eq)]
+pub enum Refusal {
+    /// The store has no document of this number.
+    NoDocument = 6,
+    /// The document's block doesn't say where the document lies.
+    Damaged = 7,
+    /// The table has fewer rows than the store has blocks.
+    NoRoom = 32,
+    /// The table is not that of the file.
+    OtherTable = 33,
+}

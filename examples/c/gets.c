@@ -1,0 +1,22 @@
+/* A hundred thousand gets of a store that is opened once.
+ *
+ * usage: gets HEX
+ */
+#include "stores.h"
+
+int main(int argc, char **argv) {
+    zevk_place place;
+    size_t len = 0, count = 0;
+    uint32_t id = 1;
+    WANT(argc == 2);
+    uint8_t *file = loaded(argv[1], &len);
+    zevk_block *table = table_of(file, len, &count);
+    for (int i = 0; i < 100000; i++) {
+        id = (id * 1664525u + 1013904223u) % DOCUMENTS;
+        WANT(zevk_locate(file, len, table, count, id, &place) == ZEVK_DONE);
+        WANT(is_document(file, len, place, id));
+    }
+    free(table);
+    free(file);
+    return 0;
+}

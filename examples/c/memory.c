@@ -1,0 +1,80 @@
+/* Each allocation of an opening is refused in turn: it answers that there is no memory, and leaves no block behind.
+ * Nothing else allocates.
+ *
+ * usage: memory HEX. It is linked with --wrap for malloc, realloc and free.
+ */
+#include "stores.h"
+
+#ifdef __cplusplus
+extern "C" {
+#endif
+void *__real_malloc(size_t size);
+void *__real_realloc(void *block, size_t size);
+void __real_free(void *block);
+void *__wrap_malloc(size_t size);
+void *__wrap_realloc(void *block, size_t size);
+void __wrap_free(void *block);
+#ifdef __cplusplus
+}
+#endif
+
+/* How many allocations are granted before one is refused, and how many blocks there are. */
+static long granted = -1;
+static long blocks = 0;
+
+static int refused(void) {
+    return granted == 0 || (granted > 0 && granted-- == 0);
+}
+
+void *__wrap_malloc(size_t size) {
+    void *block = refused() ? NULL : __real_malloc(size);
+    blocks += block != NULL;
+    return block;
+}
+
+void *__wrap_realloc(void *block, size_t size) {
+    void *moved = refused() ? NULL : __real_realloc(block, size);
+    blocks += moved != NULL && block == NULL;
+    return moved;
+}
+
+void __wrap_free(void *block) {
+    blocks -= block != NULL;
+    __real_free(block);
+}
+
+/* Opens a file with so many allocations. */
+static uint32_t open_with(const uint8_t *file, size_t len, long allocations) {
+    zevk_block table[BLOCKS];
+    zevk_place place, run[DOCUMENTS];
+    size_t count = 77, found = 0;
+    uint32_t num_docs = 78;
+    long before = blocks;
+    granted = allocations;
+    uint32_t answer = zevk_open(file, len, table, BLOCKS, &count, &num_docs);
+    granted = 0;
+    WANT(blocks == before);
+    if (answer == ZEVK_DONE) {
+        WANT(zevk_locate(file, len, table, count, 3, &place) == ZEVK_DONE && is_document(file, len, place, 3));
+        WANT(zevk_locate_run(file, len, table, count, 0, run, DOCUMENTS, &found) == ZEVK_DONE);
+    } else {
+        WANT(count == 77 && num_docs == 78);
+    }
+    granted = -1;
+    return answer;
+}
+
+int main(int argc, char **argv) {
+    size_t len = 0;
+    long opening = 0;
+    WANT(argc == 2);
+    uint8_t *file = loaded(argv[1], &len);
+    while (open_with(file, len, opening) != ZEVK_DONE) {
+        WANT(open_with(file, len, opening) == ZEVK_NO_MEMORY);
+        opening++;
+    }
+    WANT(opening > 1);
+    printf("%ld allocations of an opening\n", opening);
+    free(file);
+    return 0;
+}

@@ -1,0 +1,144 @@
+"""A store that is read by the package."""
+
+import os
+import tempfile
+import threading
+import unittest
+
+from zevkhadun import REFUSALS, Refused, Store
+from zevkhadun import refusals
+
+HEX = os.path.join(os.path.dirname(__file__), "..", "..", "words.hex")
+# A store of no documents: an index of no layers, and the footer.
+EMPTY = bytes.fromhex("8003000000000000000000000000080000000000000000000000000000")
+
+
+def document(number):
+    text = b"%d is a document's number" % number
+    return b"" if number % 5 == 0 else text[: len(text) - number % 3]
+
+
+DOCUMENTS = [document(number) for number in range(64)]
+
+with open(HEX, encoding="ascii") as text:
+    FILE = bytes.fromhex(text.read())
+
+
+class InFolder(unittest.TestCase):
+    def setUp(self):
+        folder = tempfile.TemporaryDirectory()
+        self.addCleanup(folder.cleanup)
+        self.path = os.path.join(folder.name, "a.store")
+
+    def written(self, content=FILE):
+        with open(self.path, "wb") as file:
+            file.write(content)
+        return self.path
+
+    def test_documents_come_back_by_number_from_both_ends(self):
+        with Store(self.written()) as store:
+            self.assertEqual(len(store), len(DOCUMENTS))
+            for number, wanted in enumerate(DOCUMENTS):
+                self.assertEqual(store[number], wanted)
+                self.assertEqual(store[number - len(DOCUMENTS)], wanted)
+
+    def test_slices_are_those_of_a_list(self):
+        with Store(self.written()) as store:
+            for cut in [slice(3, 9), slice(-5, None), slice(None, None, 10), slice(9, 3), slice(20, 2, -3)]:
+                self.assertEqual(store[cut], DOCUMENTS[cut])
+
+    def test_an_iteration_gives_all_in_order(self):
+        with Store(self.written()) as store:
+            self.assertEqual(list(store), DOCUMENTS)
+            self.assertIn(DOCUMENTS[61], store)
+
+    def test_a_store_of_no_documents_is_a_store(self):
+        with Store(self.written(EMPTY)) as store:
+            self.assertEqual((len(store), list(store)), (0, []))
+
+    def test_numbers_past_the_ends_are_refused(self):
+        with Store(self.written()) as store:
+            for number in [64, -65, 2**32, -(2**40)]:
+                with self.assertRaises(refusals.NoDocument) as refused:
+                    store[number]
+                self.assertIsInstance(refused.exception, IndexError)
+
+    def test_a_closed_store_is_refused_by_name(self):
+        store = Store(self.written())
+        store.close()
+        store.close()
+        with self.assertRaises(refusals.Closed):
+            store[0]
+        with self.assertRaises(refusals.Closed):
+            list(store)
+
+    def test_a_file_that_is_no_store_is_refused_by_name(self):
+        wrong = {b"": refusals.ShortFile, FILE[:-1]: Refused, FILE[1:]: Refused, b"x" * 100: refusals.BadVersion}
+        for content, refusal in wrong.items():
+            with self.assertRaises(refusal):
+                Store(self.written(content))
+
+    def test_a_damaged_document_is_refused_and_others_are_read(self):
+        content = bytearray(FILE)
+        # The first block has five documents of 92 bytes, where each starts, and their count.
+        self.assertEqual(FILE[112:116], b"\x05\x00\x00\x00")
+        content[108:112] = b"\xff" * 4
+        with Store(self.written(content)) as store:
+            with self.assertRaises(refusals.DamagedDocument):
+                store[4]
+            self.assertEqual(store[5:], DOCUMENTS[5:])
+            with self.assertRaises(refusals.DamagedDocument):
+                list(store)
+
+    def test_a_file_is_replaced_while_it_is_open(self):
+        with Store(self.written()) as store:
+            beside = self.path + ".new"
+            with open(beside, "wb") as file:
+                file.write(b"other")
+            os.replace(beside, self.path)
+            self.assertEqual(list(store), DOCUMENTS)
+
+    def test_threads_share_a_store(self):
+        wrong = []
+        with Store(self.written()) as store:
+
+            def read():
+                for _ in range(50):
+                    if list(store) != DOCUMENTS or any(store[i] != DOCUMENTS[i] for i in range(64)):
+                        wrong.append(1)
+
+            threads = [threading.Thread(target=read) for _ in range(8)]
+            for thread in threads:
+                thread.start()
+            for thread in threads:
+                thread.join()
+        self.assertEqual(wrong, [])
+
+    def test_a_store_is_closed_while_it_is_read(self):
+        wrong = []
+        store = Store(self.written())
+
+        def read():
+            try:
+                while True:
+                    if store[17] != DOCUMENTS[17]:
+                        wrong.append(1)
+            except refusals.Closed:
+                pass
+
+        threads = [threading.Thread(target=read) for _ in range(4)]
+        for thread in threads:
+            thread.start()
+        store.close()
+        for thread in threads:
+            thread.join()
+        self.assertEqual(wrong, [])
+
+    def test_each_refusal_has_its_number(self):
+        for number, refusal in REFUSALS.items():
+            self.assertEqual(refusal.number, number)
+            self.assertTrue(issubclass(refusal, Refused))
+
+
+if __name__ == "__main__":
+    unittest.main()

@@ -1,0 +1,39 @@
+"""The library's calls, as include/zevkhadun.h declares them.
+
+The library is the file that ZEVKHADUN_LIBRARY names, or libzevkhadun.so.1 where the system finds it.
+"""
+
+from __future__ import annotations
+
+import ctypes
+import os
+
+
+class Block(ctypes.Structure):
+    """Where a block of documents ends."""
+
+    _fields_ = [("end_doc", ctypes.c_uint32), ("end_byte", ctypes.c_size_t)]
+
+
+class Place(ctypes.Structure):
+    """Where a document lies in its file."""
+
+    _fields_ = [("start", ctypes.c_size_t), ("len", ctypes.c_size_t)]
+
+
+_PLACE = ctypes.POINTER(Place)
+_SIZE = ctypes.POINTER(ctypes.c_size_t)
+_BYTES = (ctypes.c_void_p, ctypes.c_size_t)
+_TABLE = (ctypes.POINTER(Block), ctypes.c_size_t)
+
+_PARAMETERS = {
+    "zevk_open": (*_BYTES, *_TABLE, _SIZE, ctypes.POINTER(ctypes.c_uint32)),
+    "zevk_locate": (*_BYTES, *_TABLE, ctypes.c_uint32, _PLACE),
+    "zevk_locate_run": (*_BYTES, *_TABLE, ctypes.c_uint32, _PLACE, ctypes.c_size_t, _SIZE),
+}
+
+calls = ctypes.CDLL(os.environ.get("ZEVKHADUN_LIBRARY", "libzevkhadun.so.1"))
+for _name, _parameters in _PARAMETERS.items():
+    _call = getattr(calls, _name)
+    _call.argtypes = _parameters
+    _call.restype = ctypes.c_uint32
