@@ -26,6 +26,12 @@ def ran(*words, stdin=b"", **how):
     return subprocess.run([PROGRAM, *words], input=stdin, capture_output=True, timeout=120, **how)
 
 
+def heed_signals():
+    """A process that was started in the background may have been told to ignore them."""
+    for end in (signal.SIGINT, signal.SIGTERM, signal.SIGHUP):
+        signal.signal(end, signal.SIG_DFL)
+
+
 def lines(count, word=b"line"):
     """A text of numbered lines."""
     return b"".join(b"%s %d\n" % (word, i) for i in range(count))
@@ -189,7 +195,8 @@ class Raced(InFolder):
 
     def begun(self):
         """A writer that has begun, and waits for its input."""
-        writing = subprocess.Popen([PROGRAM, "pack", self.path], stdin=subprocess.PIPE, stderr=subprocess.PIPE)
+        how = {"stdin": subprocess.PIPE, "stderr": subprocess.PIPE, "preexec_fn": heed_signals}
+        writing = subprocess.Popen([PROGRAM, "pack", self.path], **how)
         for _ in range(1000):
             if os.path.exists(self.path + ".part"):
                 return writing
