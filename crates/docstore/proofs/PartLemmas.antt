@@ -1,5 +1,6 @@
 -- Places between the blocks of a store, and the blocks of a part of its data.
-use Rattle.std.proofs.Common.{◌≡◌, ℕ, ◌+◌, ◌^◌, ◌<◌, ◌≤◌, true, false, List, [], ◌∷◌, ◌++◌, length, Option, Some, None, IsSome, nat_lt, nat_le, refl, sym, ◌∙◌, ap, subst, arith}
+use Rattle.std.proofs.Common.{◌≡◌, ℕ, ◌+◌, ◌^◌, ◌<◌, ◌≤◌, true, false, List, [], ◌∷◌, ◌++◌, length, Option, Some, None, IsSome, nat_lt, nat_le, refl, sym}
+use Rattle.std.proofs.Common.{◌∙◌, ap, subst, arith}
 use Rattle.std.specs.List.{AllByRecursion}
 use Rattle.std.proofs.lemmas.Bool.{ltb-false, lt-ltb, le-ltb, lt-leb, le-leb}
 use Rattle.layered_index.specs.declared.index.Checkpoint.{Checkpoint}
@@ -210,7 +211,8 @@ pub record IsInPart (cs : List Checkpoint) (total id start end length : ℕ) (c 
   pub bytes : c.byte_range.end ≤ start + length
   pub fits : start + length ≤ total
 
-pub in_part : (cs : List Checkpoint) (total id start end length : ℕ) (c : Checkpoint) → Covers cs total → (byte : ℕ) × IsBetween cs id byte × (start ≤ byte) → IsBetween cs end (start + length)
+pub in_part : (cs : List Checkpoint) (total id start end length : ℕ) (c : Checkpoint) → Covers cs total → (byte : ℕ) × IsBetween cs id byte × (start ≤ byte)
+    → IsBetween cs end (start + length)
     → id < end → first_past cs id ≡ Some c → IsInPart cs total id start end length c
 in_part cs total id start end length c covers at last lt e =
     let next = next_of cs total id at.0 c covers at.1 e in

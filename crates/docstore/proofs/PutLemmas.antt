@@ -80,7 +80,8 @@ nothing_put reader id out = record {
   after = λ i. record out { finished = sym (append-nil out.finished) i; content = sym (append-nil out.content) i };
 }
 
-pub puts_joined : (reader : Reading) (id middle next : ℕ) (old mid new : BlockOutput) → PutsBlocks reader id middle old mid → PutsBlocks reader middle next mid new → PutsBlocks reader id next old new
+pub puts_joined : (reader : Reading) (id middle next : ℕ) (old mid new : BlockOutput) → PutsBlocks reader id middle old mid → PutsBlocks reader middle next mid new
+    → PutsBlocks reader id next old new
 puts_joined reader id middle next old mid new p q = record {
   some = p.some ++ q.some;
   front = q.front ∙ ap (λ (xs : List Checkpoint). xs ++ q.some) p.front ∙ append_assoc (front_up_to id reader.checkpoints) p.some q.some;

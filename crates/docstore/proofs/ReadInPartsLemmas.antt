@@ -1,5 +1,6 @@
 -- What the reading of a store in parts brings, and what a part that is refused leaves.
-use Rattle.std.proofs.Common.{◌≡◌, ℕ, zero, suc, ◌+◌, ◌<◌, ◌≤◌, IsTrue, List, [], ◌∷◌, ◌++◌, length, take, Option, Some, None, refl, sym, ◌∙◌, ap, subst, arith, length-append}
+use Rattle.std.proofs.Common.{◌≡◌, ℕ, zero, suc, ◌+◌, ◌<◌, ◌≤◌, IsTrue, List, [], ◌∷◌, ◌++◌, length, take, Option, Some, None, refl, sym, ◌∙◌, ap, subst, arith}
+use Rattle.std.proofs.Common.{length-append}
 use Rattle.std.proofs.lemmas.List.{append-nil, map-append}
 use Rattle.std.proofs.Math.Seq.{take-append_seam}
 use Rattle.store_base.specs.Counts.{raised}
@@ -142,7 +143,8 @@ failed_part reader next cause old mid new first middle works worked p le h =
     let fails : FailsFor cause mid new = subst (λ (f : Option Cause). AfterFailedBlock f cause mid new) worked h in
     subst (λ (f : Option Cause). AfterFailedBlock f cause old new) (sym works) (fails_behind reader 0 next cause old mid new p le fails)
 
-pub refused_part : (reader read left : Reading) (times next : ℕ) (old mid new : BlockOutput) (e : StoreError) → old.failure ≡ None → mid.failure ≡ None → (p : PutsBlocks reader 0 next old mid)
+pub refused_part : (reader read left : Reading) (times next : ℕ) (old mid new : BlockOutput) (e : StoreError) → old.failure ≡ None → mid.failure ≡ None
+    → (p : PutsBlocks reader 0 next old mid)
     → AreFirstRead reader p.blocks → old.failures ≤ mid.failures → IsReadTimes times reader read → AfterStacking read left mid new e → AfterStackingInParts reader left old new e
 refused_part reader read left times next old mid new e works worked p came le kept h = after e h
   where

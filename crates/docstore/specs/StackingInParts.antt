@@ -1,5 +1,6 @@
 -- Putting a store behind what a writer has, a part of its data at a time.
-use Rattle.std.specs.Prelude.{◌≡◌, ℕ, zero, suc, ◌+◌, ◌<◌, ◌≤◌, nat_lt, nat_le, if◌then◌else◌, Bool, IsTrue}
+use Rattle.std.specs.Prelude.{◌≡◌, ℕ, zero, suc, ◌+◌, ◌<◌, ◌≤◌, nat_lt, nat_le}
+use Rattle.std.specs.Prelude.{if◌then◌else◌, Bool, IsTrue}
 use Rattle.std.specs.Prelude.{List, [], ◌∷◌, ◌++◌, length, take, None}
 use Rattle.store_base.specs.Counts.{HasRisen, raised}
 use Rattle.store_base.specs.declared.error.StoreError.{StoreError}
@@ -132,7 +133,8 @@ pub record PutsBlocks (reader : Reading) (id next : ℕ) (old new : BlockOutput)
   pub after : new ≡ with_risen new.failures (with_blocks old blocks)
 
 -- A part that begins with this block was put behind, and the next one begins with the block of that document.
-pub record PutsPart (size : ℕ) (reader : Reading) (first : Checkpoint) (next : ℕ) (old new : BlockOutput) : Type 0 where
+pub record PutsPart (size : ℕ) (reader : Reading) (first : Checkpoint) (next : ℕ) (old new : BlockOutput)
+    : Type 0 where
   pub put : PutsBlocks reader first.doc_range.start next old new
   pub more : first.doc_range.start < next
   pub between : (byte : ℕ) × IsBetween reader.checkpoints next byte

@@ -75,7 +75,8 @@ module _ (file : List ℕ) (v : Viewing) (of : IsViewOf file v) where
   block_ends id c seeks = let end = (block_within id c seeks).end in omega (arith, end, fits)
 
   -- the slot of a document is that of its place in the block that a seek finds
-  pub has : (id : ℕ) (c : Checkpoint) (s : Slot) → first_past cs id ≡ Some c → slot (slice_range file c.byte_range.start c.byte_range.end) (id - c.doc_range.start) ≡ s → HasSlot file id (Some s)
+  pub has : (id : ℕ) (c : Checkpoint) (s : Slot) → first_past cs id ≡ Some c → slot (slice_range file c.byte_range.start c.byte_range.end) (id - c.doc_range.start) ≡ s
+      → HasSlot file id (Some s)
   has id c s seeks is = record {
     view = v;
     of = of;

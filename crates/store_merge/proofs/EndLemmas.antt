@@ -88,7 +88,8 @@ unfailed_input stacking x left old new e h = elim h [
   | inr s ↦ unfailed_stop (set_of x.alive) x.reader left.reader old new e s.1
 ]
 
-pub unfailed_end : {H : Type 0} (stacking : Stacking) (inputs left : List (MergeInput H)) (old new : Writing) (e : MergeError) → IsEnded (Leaves stacking) inputs left old new e → IsUnfailed e.error old new
+pub unfailed_end : {H : Type 0} (stacking : Stacking) (inputs left : List (MergeInput H)) (old new : Writing) (e : MergeError) → IsEnded (Leaves stacking) inputs left old new e
+    → IsUnfailed e.error old new
 unfailed_end stacking inputs left old new e h = elim (unfailed_input stacking h.named h.rest h.before new e.error h.refused) [
   | inl failed ↦ inl failed
   | inr same ↦ inr (same ∙ merged_failure old h.before (take e.input inputs) h.taken_before)
@@ -107,7 +108,8 @@ all_get P xs i x is h = elim (cases_lt i (length xs)) [
   | inr le ↦ absurd (let none = slice_get_past xs i le in let p = sym none ∙ is in cc)
 ]
 
-pub begun : {H : Type 0} → StackedSlotsAreCounted → (stacking : Stacking) (inputs left : List (MergeInput H)) (old new : Writing) (e : MergeError) → AllByRecursion IsHonest inputs → IsEnded (Leaves stacking) inputs left old new e
+pub begun : {H : Type 0} → StackedSlotsAreCounted → (stacking : Stacking) (inputs left : List (MergeInput H)) (old new : Writing) (e : MergeError) → AllByRecursion IsHonest inputs
+    → IsEnded (Leaves stacking) inputs left old new e
     → IsFailed e.error ⊎ HasBegun inputs e.input old new
 begun law stacking inputs left old new e honest h = elim (unfailed_input stacking h.named h.rest h.before new e.error h.refused) [
   | inl failed ↦ inl failed

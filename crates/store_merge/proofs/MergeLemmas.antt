@@ -1,5 +1,6 @@
 -- How far a merge has come.
-use Rattle.std.proofs.Common.{◌≡◌, ℕ, zero, suc, ◌+◌, ◌<◌, ◌≤◌, inl, inr, List, [], ◌∷◌, ◌++◌, length, take, drop, get_or, set, Some, refl, sym, ◌∙◌, ap, subst, arith, append_assoc}
+use Rattle.std.proofs.Common.{◌≡◌, ℕ, zero, suc, ◌+◌, ◌<◌, ◌≤◌, inl, inr, List, [], ◌∷◌, ◌++◌, length, take, drop, get_or, set, Some, refl, sym, ◌∙◌, ap, subst}
+use Rattle.std.proofs.Common.{arith, append_assoc}
 use Rattle.std.proofs.lemmas.List.{append-nil, take_more, take_more_set, take_all, drop-drop, get_or-drop, get_or-set_same, drop-set-lt, length-set}
 use Rattle.std.proofs.lemmas.List.Concat.{flat_map-append}
 use Rattle.std.proofs.lemmas.List.Sums.{fold-append}
@@ -48,7 +49,8 @@ pub all_kept : {H : Type 0} (xs : List (MergeInput H)) → AreInputsKept xs xs
 all_kept [] = tt
 all_kept (x ∷ xs) = (record { store = same_as_it_is x.reader; set = refl }, all_kept xs)
 
-each_push : {H : Type 0} (Is : MergeInput H → MergeInput H → Type 0) (xs ys : List (MergeInput H)) (x y : MergeInput H) → AreEach Is xs ys → Is x y → AreEach Is (xs ++ x ∷ []) (ys ++ y ∷ [])
+each_push : {H : Type 0} (Is : MergeInput H → MergeInput H → Type 0) (xs ys : List (MergeInput H)) (x y : MergeInput H) → AreEach Is xs ys → Is x y
+    → AreEach Is (xs ++ x ∷ []) (ys ++ y ∷ [])
 each_push Is [] [] x y h is = (is, tt)
 each_push Is (a ∷ xs) (b ∷ ys) x y h is = (h.0, each_push Is xs ys x y h.1 is)
 each_push Is [] (b ∷ ys) x y h is = absurd h

@@ -32,7 +32,8 @@ finished old new works same sound = (sound.output.works (same ∙ works)).blocks
 slots_begin : (k : ℕ) (bs : List StoreBlock) → slots bs ≡ slots (take k bs) ++ slots (drop k bs)
 slots_begin k bs = ap slots (sym (take-append-drop k bs)) ∙ flat_map-append (λ (b : StoreBlock). map (slot b.bytes) (range_with_len 0 b.count)) (take k bs) (drop k bs)
 
-blocks_begun : StoresAreStackedInOrder → (reader : Reading) (old new : Writing) → new.output.failure ≡ old.output.failure → IsStoreWriter new → BeginsStack reader old new → BeginsSlots reader old new
+blocks_begun : StoresAreStackedInOrder → (reader : Reading) (old new : Writing) → new.output.failure ≡ old.output.failure → IsStoreWriter new → BeginsStack reader old new
+    → BeginsSlots reader old new
 blocks_begun law reader old new same sound h =
     let is : new.output.finished ≡ (with_store old h.blocks).output.finished = ap (λ (w : Writing). w.output.finished) h.after in
     let blocks : AreBlocks (with_store old h.blocks).output.finished = subst AreBlocks is (finished old new h.works same sound) in
@@ -66,7 +67,8 @@ refused_begun law reader read old new BlockTooLarge sound h same = absurd h
 refused_begun law reader read old new (BadPeriod k) sound h same = absurd h
 
 -- in an input that is stacked each slot is alive
-pub begun_grown : {H : Type 0} (x : MergeInput H) (old new : Writing) → is_stacked x ≡ true → num_docs x.reader ≡ length (slots (store_of x.reader)) → BeginsSlots x.reader old new → HasGrown x old new
+pub begun_grown : {H : Type 0} (x : MergeInput H) (old new : Writing) → is_stacked x ≡ true → num_docs x.reader ≡ length (slots (store_of x.reader)) → BeginsSlots x.reader old new
+    → HasGrown x old new
 begun_grown x old new is count h =
     let set = set_of x.alive in
     let all : list_all (is_in set) (range_with_len 0 (num_docs x.reader)) ≡ true = (both _ (list_all (is_in set) (range_with_len 0 (num_docs x.reader))) is).1 in

@@ -46,7 +46,8 @@ copied_taken x set old new is same h =
 -- ---- a copying that stops
 
 -- a writer that did not fail for good is as it was
-pub unfailed : (first : Option Cause) (cause : Cause) (old new : Writing) → old.output.failure ≡ first → new.output.failure ≡ old.output.failure → AfterFailed first cause old new → new ≡ old
+pub unfailed : (first : Option Cause) (cause : Cause) (old new : Writing) → old.output.failure ≡ first → new.output.failure ≡ old.output.failure → AfterFailed first cause old new
+    → new ≡ old
 unfailed None cause old new is same h = absurd (let f = h.failure in let p : ◌≡◌ {A = Option Cause} None (Some cause) = sym is ∙ sym same ∙ f in cc)
 unfailed (Some c) cause old new is same h = h.1
 
@@ -69,7 +70,8 @@ refused_bytes bytes old new Unserializable same h = absurd h
 refused_bytes bytes old new (BadPeriod k) same h = absurd h
 
 -- what a copying that stops has put behind
-pub stopped_grown : {H : Type 0} (x : MergeInput H) (set : Option (ℕ → Bool)) (read : Reading) (old new : Writing) (e : StoreError) → set ≡ set_of x.alive → StopsAt set x.reader read old new e
+pub stopped_grown : {H : Type 0} (x : MergeInput H) (set : Option (ℕ → Bool)) (read : Reading) (old new : Writing) (e : StoreError) → set ≡ set_of x.alive
+    → StopsAt set x.reader read old new e
     → new.output.failure ≡ old.output.failure → HasGrown x old new
 stopped_grown x set read old new e same s unchanged =
     let all = slots (store_of x.reader) in

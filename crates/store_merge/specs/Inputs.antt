@@ -26,7 +26,8 @@ pub record IsInputKept {H : Type 0} (x left : MergeInput H) : Type 0 where
   pub set : left.alive ≡ x.alive
 
 -- the same said of each input and what is left of it
-abbrev pub AreEach : {H : Type 0} → (MergeInput H → MergeInput H → Type 0) → List (MergeInput H) → List (MergeInput H)
+abbrev pub AreEach : {H : Type 0} → (MergeInput H → MergeInput H → Type 0) → List (MergeInput H)
+    → List (MergeInput H)
     → Type 0
 AreEach Is [] [] = Unit {0}
 AreEach Is (x ∷ inputs) (y ∷ left) = Is x y × AreEach Is inputs left
@@ -37,7 +38,8 @@ abbrev pub AreInputsKept : {H : Type 0} → List (MergeInput H) → List (MergeI
 AreInputsKept inputs left = AreEach IsInputKept inputs left
 
 -- Each input that is stacked was read so.
-abbrev pub AreStackedBy : {H : Type 0} → (Reading → Reading → Type 0) → List (MergeInput H) → List (MergeInput H)
+abbrev pub AreStackedBy : {H : Type 0} → (Reading → Reading → Type 0) → List (MergeInput H)
+    → List (MergeInput H)
     → Type 0
 AreStackedBy Reads inputs left = AreEach (IsStackedBy Reads) inputs left
 

@@ -1,5 +1,6 @@
 -- Why a merge ends early, and what that leaves.
-use Rattle.std.specs.Prelude.{◌≡◌, ◌⊎◌, ℕ, ◌-◌, ◌<◌, ◌≤◌, ◌^◌, Bool, true, false, IsTrue, List, ◌++◌, take, slice_get}
+use Rattle.std.specs.Prelude.{◌≡◌, ◌⊎◌, ℕ, ◌-◌, ◌<◌, ◌≤◌, ◌^◌, Bool, true, false}
+use Rattle.std.specs.Prelude.{IsTrue, List, ◌++◌, take, slice_get}
 use Rattle.std.specs.Prelude.{Option, Some, None}
 use Rattle.store_base.specs.Counts.{HasRisen}
 use Rattle.store_base.specs.declared.error.StoreError.{StoreError}
@@ -39,7 +40,8 @@ pub record RefusesDocument (id : ℕ) (reader : Reading) (old new : Writing) (e 
   pub refused : RefusesBytes bytes old new e
 
 -- The copying of a store stops at a document that is alive, behind all that are alive before it.
-pub record StopsAt (set : Option (ℕ → Bool)) (reader read : Reading) (old new : Writing) (e : StoreError) : Type 0 where
+pub record StopsAt (set : Option (ℕ → Bool)) (reader read : Reading) (old new : Writing) (e : StoreError)
+    : Type 0 where
   pub id : ℕ
   pub below : id < docs_of reader
   pub is_alive : is_in set id ≡ true
@@ -49,7 +51,8 @@ pub record StopsAt (set : Option (ℕ → Bool)) (reader read : Reading) (old ne
   pub cause : (RefusesItem id reader read e × (new ≡ before)) ⊎ RefusesDocument id reader before new e
 
 -- Why a store was not stacked, and what that leaves of the writer: this where its data was refused.
-abbrev pub RefusesStore : (Reading → Writing → Writing → Type 0) → Reading → Reading → Writing → Writing → StoreError
+abbrev pub RefusesStore : (Reading → Writing → Writing → Type 0) → Reading → Reading → Writing
+    → Writing → StoreError
     → Type 0
 RefusesStore Left reader read old new TooManyDocs = HasTooMany old reader × (new ≡ old)
 RefusesStore Left reader read old new Memory = Left reader old new
@@ -58,7 +61,8 @@ RefusesStore Left reader read old new (Failed cause) = AfterFailed old.output.fa
 RefusesStore Left reader read old new _ = ⊥
 
 -- Why an input was refused, and what that leaves of the writer.
-abbrev pub RefusesInput : {H : Type 0} → (Reading → Writing → Writing → Type 0) → MergeInput H → MergeInput H → Writing
+abbrev pub RefusesInput : {H : Type 0} → (Reading → Writing → Writing → Type 0) → MergeInput H
+    → MergeInput H → Writing
     → Writing → StoreError → Type 0
 RefusesInput Left x left old new e =
     ((is_stacked x ≡ true) × RefusesStore Left x.reader left.reader old new e)

@@ -8,6 +8,7 @@ pub mod failing_file;
 pub mod failing_sink;
 pub mod lying_file;
 pub mod making;
+pub mod merge_inputs;
 
 pub use failing_file::FailingFile;
 pub use failing_sink::FailingSink;

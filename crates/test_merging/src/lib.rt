@@ -6,6 +6,4 @@ mod merge_refusals;
 #[cfg(test)]
 mod merging;
 #[cfg(test)]
-mod parts;
-#[cfg(test)]
 mod stacking;

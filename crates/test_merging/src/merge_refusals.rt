@@ -2,13 +2,13 @@
 ghost use Rattle.std.specs.List.{AllByRecursion};
 ghost use Rattle.store_merge.specs.Inputs.{HasWholeSet};
 
-use crate::merging::{input, six_blocks, whole};
 use docstore::{BlockCompressor, Cause, Compressor, StoreError, StoreWriter};
 use std::alloc::Global;
 use std::test::Fail;
 use store_base::{FileHandle, MemSink};
 use store_merge::{MergeError, MergeInput, merge};
 use test_devices::making::{opened, opened_bytes, written};
+use test_devices::merge_inputs::{input, six_blocks, whole};
 use test_devices::{FailingFile, FailingSink};
 
 // How a merge is refused, and how many documents it took.

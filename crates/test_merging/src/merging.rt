@@ -3,43 +3,13 @@ ghost use Rattle.std.specs.Prelude.{◌≤◌, IfOk};
 ghost use Rattle.std.specs.List.{AllByRecursion};
 ghost use Rattle.store_merge.specs.Inputs.{HasWholeSet};
 
-use docstore::{Compressor, StoreError, StoreReader, StoreWriter};
+use docstore::{Compressor, StoreError, StoreWriter};
 use std::alloc::Global;
 use std::test::Fail;
-use store_base::{AliveBitSet, FileHandle, MemFile, MemSink};
+use store_base::{FileHandle, MemFile, MemSink};
 use store_merge::{MergeInput, merge};
 use test_devices::making::{closed, is_found, opened_bytes, written};
-
-/// A store of which nothing is deleted, with no set.
-pub fn whole<H: FileHandle>(reader: StoreReader<H>) -> MergeInput<H>
-    ensures { HasWholeSet result }
-{
-    MergeInput {
-        reader,
-        alive: None,
-    }
-}
-
-/// A store with a set.
-pub fn input(
-    alloc: Global,
-    file: Vec<u8>,
-    deleted: &[u32],
-) -> Result<MergeInput<MemFile>, StoreError>
-    ensures { IfOk result HasWholeSet }
-{
-    let reader = opened_bytes(alloc, file)?;
-    let alive = AliveBitSet::for_test_from_deleted_docs(alloc, deleted, reader.num_docs())?;
-    Ok(MergeInput {
-        reader,
-        alive: Some(alive),
-    })
-}
-
-/// Six blocks, of 99 bytes in all.
-pub fn six_blocks(alloc: Global) -> Result<Vec<u8>, StoreError> {
-    written(alloc, 0, &[b"a", b"b", b"c", b"d", b"e", b"f"])
-}
+use test_devices::merge_inputs::{input, six_blocks};
 
 // The file of a merge.
 fn merged<H: FileHandle>(

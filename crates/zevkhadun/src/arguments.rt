@@ -16,6 +16,15 @@ pub fn file<'a>(alloc: Global, id: &'a str, help: &'a str) -> Arg<'a> {
         .help(help)
 }
 
+/// The store that is written.
+pub fn output<'a>(alloc: Global) -> Arg<'a> {
+    file(
+        alloc,
+        "OUT",
+        "The store to write; one that is there is replaced at the end",
+    )
+}
+
 /// One or more words that have to be there.
 pub fn several<'a>(alloc: Global, id: &'a str, help: &'a str) -> Arg<'a> {
     Arg::new(alloc, id)

@@ -41,11 +41,7 @@ pub fn command<'a>(alloc: Global) -> Result<Command<'a>, AllocError> {
     Command::new(alloc, "merge")
         .about("Writes a store of the documents of others, in order")
         .after_help(EXAMPLE)
-        .arg(arguments::file(
-            alloc,
-            "OUT",
-            "The store to write; one that is there is replaced at the end",
-        ))?
+        .arg(arguments::output(alloc))?
         .arg(arguments::several(alloc, "INPUT", "The stores to merge"))?
         .arg(without)?
         .arg(arguments::block_size(alloc))?

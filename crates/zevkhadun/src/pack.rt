@@ -30,11 +30,7 @@ pub fn command<'a>(alloc: Global) -> Result<Command<'a>, AllocError> {
     Command::new(alloc, "pack")
         .about("Writes a store of documents")
         .after_help(EXAMPLE)
-        .arg(arguments::file(
-            alloc,
-            "OUT",
-            "The store to write; one that is there is replaced at the end",
-        ))?
+        .arg(arguments::output(alloc))?
         .arg(inputs)?
         .arg(arguments::framing(alloc))?
         .arg(arguments::block_size(alloc))?

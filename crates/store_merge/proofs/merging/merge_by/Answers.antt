@@ -41,4 +41,5 @@ returns-clause-works g c =
     let left : List (MergeInput g.row.H.Denot) = c.take_inputs.new.inputs in
     let old = c.args.writer.now in
     let new = c.take_inputs.new.writer in
-    err_then (IsEnded (Leaves c.args.stacking) inputs left old new) (λ e. IsUnfailed e.error old new) c.take_inputs.result (unfailed_end c.args.stacking inputs left old new) c.take_inputs.ensures.ended
+    err_then (IsEnded (Leaves c.args.stacking) inputs left old new) (λ e. IsUnfailed e.error old new) c.take_inputs.result
+    (unfailed_end c.args.stacking inputs left old new) c.take_inputs.ensures.ended

@@ -1,6 +1,5 @@
 //! Stores stacked a part of their data at a time, alone and by a merge.
 
-use crate::merging::{input, six_blocks, whole};
 use docstore::{Compressor, StoreError, StoreWriter};
 use std::alloc::Global;
 use std::test::Fail;
@@ -8,6 +7,7 @@ use store_base::MemSink;
 use store_merge::{MergeError, merge_in_parts};
 use test_devices::FailingFile;
 use test_devices::making::{closed, is_found, opened, opened_bytes, written};
+use test_devices::merge_inputs::{input, six_blocks, whole};
 
 // The file of a document with six blocks of 9 bytes behind it, stacked in parts of so many bytes.
 fn stacked_in_parts(alloc: Global, part_bytes: usize) -> Result<Vec<u8>, StoreError> {
