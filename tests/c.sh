@@ -24,27 +24,15 @@ check() {
     passed=$((passed + 1))
 }
 
-# The functions that the header declares.
+# The header's declarations are the crate's, and the shared library has their functions and no other.
 declared() {
-    grep -oE '^(uint32_t|size_t) zevk_[a-z_]+\(' "$top/crates/store_c/include/zevkhadun.h" |
-        grep -oE 'zevk_[a-z_]+' | sort
+    python3 "$top/tests/header.py" "$top/crates/store_c/include/zevkhadun.h" "$top/crates/store_c/src"
 }
-
-# The functions that the crate exports.
-exported() {
-    grep -hoE 'extern "C" fn zevk_[a-z_]+' "$top"/crates/store_c/src/*.rt | grep -oE 'zevk_[a-z_]+' | sort
-}
-
-# The functions that the library has for others.
 symbols() {
-    nm -D --defined-only "$work/prefix/lib/libzevkhadun.so" | awk '{print $3}' | sort
-}
-
-same_symbols() {
-    declared >"$work/declared"
-    exported >"$work/exported"
-    symbols >"$work/symbols"
-    diff "$work/declared" "$work/exported" && diff "$work/declared" "$work/symbols" && [ -s "$work/declared" ]
+    grep -oE '^[a-z0-9_]+ zevk_[a-z_]+\(' "$top/crates/store_c/include/zevkhadun.h" |
+        grep -oE 'zevk_[a-z_]+' | sort >"$work/declared"
+    nm -D --defined-only "$work/prefix/lib/libzevkhadun.so" | awk '{print $3}' | sort >"$work/symbols"
+    diff "$work/declared" "$work/symbols" && [ -s "$work/declared" ]
 }
 
 warnings="-Wall -Wextra -Wpedantic -Wconversion -Wshadow -Werror"
@@ -56,17 +44,20 @@ compiled() {
 }
 
 check "build" bash "$source/build.sh" "$work/prefix"
-check "header, exports and symbols" same_symbols
+check "header and crate" declared
+check "header and symbols" symbols
 
 for linked in "" "-fsanitize=address,undefined -fno-sanitize-recover=all"; do
     flags="-g -O1 $linked"
-    for compiler in gcc clang; do
-        check "$compiler $flags: build" compiled $compiler -std=c11 $flags "$source/stress.c"
-        check "$compiler $flags" "$work/program" "$hex"
-    done
-    for compiler in g++ clang++; do
-        check "$compiler $flags: build" compiled $compiler -std=c++17 $flags -x c++ "$source/stress.c"
-        check "$compiler $flags" "$work/program" "$hex"
+    for program in stress writing; do
+        for compiler in gcc clang; do
+            check "$compiler $flags: build of $program" compiled $compiler -std=c11 $flags "$source/$program.c"
+            check "$compiler $flags: $program" "$work/program" "$hex"
+        done
+        for compiler in g++ clang++; do
+            check "$compiler $flags: build of $program" compiled $compiler -std=c++17 $flags -x c++ "$source/$program.c"
+            check "$compiler $flags: $program" "$work/program" "$hex"
+        done
     done
 done
 
@@ -99,6 +90,19 @@ example() {
     printf '0: abc\n1: de\n' | diff - "$work/told"
 }
 check "example" example
+
+# The other example packs lines, which the first one prints.
+check "pack: build" gcc -std=c11 $warnings -o "$work/pack" "$source/pack.c" $flags
+pack() {
+    printf 'abc\n\nde' | LD_LIBRARY_PATH="$work/prefix/lib" "$work/pack" "$work/lines"
+    LD_LIBRARY_PATH="$work/prefix/lib" "$work/example" "$work/lines" >"$work/told"
+    printf '0: abc\n1: \n2: de\n' | diff - "$work/told"
+}
+check "pack" pack
+full() {
+    ! printf 'abc\n' | LD_LIBRARY_PATH="$work/prefix/lib" "$work/pack" /dev/full
+}
+check "pack to a full disk" full
 
 export ZEVKHADUN_LIBRARY=$work/prefix/lib/libzevkhadun.so.1 PYTHONDONTWRITEBYTECODE=1
 python() {

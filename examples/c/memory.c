@@ -1,5 +1,5 @@
-/* Each allocation of an opening is refused in turn: it answers that there is no memory, and leaves no block behind.
- * Nothing else allocates.
+/* Each allocation of an opening, a stacking and a closing is refused in turn: it answers that there is no memory, changes
+ * nothing, and leaves no block behind. Nothing else allocates.
  *
  * usage: memory HEX. It is linked with --wrap for malloc, realloc and free.
  */
@@ -64,17 +64,47 @@ static uint32_t open_with(const uint8_t *file, size_t len, long allocations) {
     return answer;
 }
 
+/* Stacks a file and closes, with so many allocations for each. */
+static uint32_t write_with(const uint8_t *file, size_t len, long allocations) {
+    zevk_block table[BLOCKS + 1];
+    uint32_t starts[4];
+    uint8_t end[256];
+    zevk_writer writer;
+    size_t count = 77, data_len = 78, end_len = 79;
+    long before = blocks;
+    granted = 0;
+    zevk_writer_begin(&writer, 0);
+    WANT(zevk_writer_put(&writer, starts, 4, table, BLOCKS + 1, 5, &count) == ZEVK_DONE && count == 2);
+    WANT(zevk_writer_end_block(&writer, starts, 4, table, BLOCKS + 1, &count) == ZEVK_DONE && count == 0);
+    granted = allocations;
+    uint32_t answer = zevk_writer_stack(&writer, table, BLOCKS + 1, file, len, &count, &data_len);
+    WANT(blocks == before);
+    WANT(answer == ZEVK_DONE || (writer.blocks == 1 && count == 0 && data_len == 78));
+    if (answer == ZEVK_DONE) {
+        granted = allocations;
+        answer = zevk_writer_close(&writer, table, BLOCKS + 1, 8, end, sizeof end, &end_len);
+        WANT(blocks == before);
+        WANT(answer == ZEVK_DONE || end_len == 79);
+    }
+    granted = -1;
+    return answer;
+}
+
 int main(int argc, char **argv) {
     size_t len = 0;
-    long opening = 0;
+    long opening = 0, writing = 0;
     WANT(argc == 2);
     uint8_t *file = loaded(argv[1], &len);
     while (open_with(file, len, opening) != ZEVK_DONE) {
         WANT(open_with(file, len, opening) == ZEVK_NO_MEMORY);
         opening++;
     }
-    WANT(opening > 1);
-    printf("%ld allocations of an opening\n", opening);
+    while (write_with(file, len, writing) != ZEVK_DONE) {
+        WANT(write_with(file, len, writing) == ZEVK_NO_MEMORY);
+        writing++;
+    }
+    WANT(opening > 1 && writing > opening);
+    printf("%ld allocations of an opening, %ld of a closing\n", opening, writing);
     free(file);
     return 0;
 }

@@ -29,7 +29,7 @@ shifted-checkpoints docs bytes id byte (b ∷ bs) =
     λ i. checkpoint (id + docs) (ids i) (byte + bytes) (places i) ∷ rest i
 
 -- the checkpoints of a store behind other blocks
-shifted_behind : (docs bytes : ℕ) (cs : List Checkpoint) (bs : List StoreBlock) → cs ≡ checkpoints_of bs → map (shifted docs bytes) cs ≡ checkpoints_from docs bytes bs
+pub shifted_behind : (docs bytes : ℕ) (cs : List Checkpoint) (bs : List StoreBlock) → cs ≡ checkpoints_of bs → map (shifted docs bytes) cs ≡ checkpoints_from docs bytes bs
 shifted_behind docs bytes cs bs is =
     let id : 0 + docs ≡ docs = omega arith in
     let place : 0 + bytes ≡ bytes = omega arith in

@@ -1,4 +1,4 @@
-/* Document stores, read from C and C++: from bytes at hand, by a table of their blocks.
+/* Document stores for C and C++: read from bytes at hand by a table of their blocks, and written by such a table too.
  *
  * The library is proved: each call does what is said here of it, for every argument that keeps to the rules below,
  * and reads and writes no byte beyond what it is given. The contracts stand in crates/store_c/src. This header is
@@ -13,10 +13,12 @@
  *   below 2^63 bytes.
  * - What a call writes to lies apart from all else that it is given. What it reads does not change meanwhile; a
  *   mapped file that another process cuts ends the program by SIGBUS.
- * - `malloc`, `realloc` and `free` are of one allocator, and give blocks that are aligned for any type. zevk_open is
- *   not called by a signal handler, or in the child of a fork of a process with threads.
+ * - `malloc`, `realloc` and `free` are of one allocator, and give blocks that are aligned for any type. The calls
+ *   that take memory, zevk_open, zevk_writer_stack and zevk_writer_close, are not called by a signal handler, or in the
+ *   child of a fork of a process with threads. They give back all that they take.
  *
- * Any number of threads may read by one table of one file at once, as long as no one writes to either.
+ * Any number of threads may read by one table of one file at once, as long as no one writes to either. A writer is one
+ * thread's at a time.
  */
 #ifndef ZEVKHADUN_H
 #define ZEVKHADUN_H
@@ -41,9 +43,14 @@ enum zevk_refusal {
     ZEVK_NO_DOCUMENT = 6,       /* the store has no document of this number */
     ZEVK_DAMAGED_DOCUMENT = 7,  /* the document's block doesn't say where it lies */
     ZEVK_NO_MEMORY = 10,        /* a growth was refused */
-    ZEVK_BAD_PERIOD = 16,       /* the footer has a period below 2 or above 64 */
-    ZEVK_NO_ROOM = 32,          /* the table has fewer rows than the store has blocks */
-    ZEVK_OTHER_TABLE = 33       /* the table is not that of the file */
+    ZEVK_OLD_VERSION = 11,      /* the documents of a store to be stacked may be in an older form */
+    ZEVK_BLOCK_TOO_LARGE = 13,  /* a block would have 2^32 bytes or more */
+    ZEVK_TOO_MANY_DOCS = 14,    /* there would be 2^32 documents or more */
+    ZEVK_BAD_PERIOD = 16,       /* a period below 2 or above 64 */
+    ZEVK_NO_ROOM = 32,          /* an array of the caller's is too short for what is to be written to it */
+    ZEVK_OTHER_TABLE = 33,      /* the table is not that of the file */
+    ZEVK_OPEN_BLOCK = 34,       /* the open block has documents, and must be ended first */
+    ZEVK_OTHER_WRITER = 35      /* the writer and its table are not as these calls left them */
 };
 
 /* How many bytes hold each refusal's text and the zero behind it. */
@@ -95,6 +102,70 @@ uint32_t zevk_locate(const uint8_t *file, size_t file_len, const zevk_block *tab
  * Refusals: as zevk_locate. `count` is written in any case. */
 uint32_t zevk_locate_run(const uint8_t *file, size_t file_len, const zevk_block *table, size_t table_len,
                          uint32_t first, zevk_place *places, size_t places_len, size_t *count);
+
+/* ---- writing
+ *
+ * A store is written document by document: its bytes go to the caller's file, and these calls tell what goes behind
+ * them. What they keep is the caller's: the numbers of a writer; `starts`, where the documents of the open block begin;
+ * and `table`, a row for each block that was ended, the same table by which the file is read afterwards.
+ *
+ *     zevk_writer_begin(&writer, 16384);
+ *     for each document:
+ *         zevk_writer_put(&writer, starts, .., table, .., len, &count);
+ *         write the document; write count numbers of starts
+ *     zevk_writer_end_block(&writer, starts, .., table, .., &count);
+ *     write count numbers of starts
+ *     zevk_writer_close(&writer, table, .., 8, end, .., &len);
+ *     write len bytes of end
+ *
+ * The caller may move the arrays in memory between calls, and make them longer after NO_ROOM: the call changed nothing,
+ * and is made again. Numbers of `starts` are written as they stand in memory, lowest byte first. Once all is written,
+ * the file is that of tantivy's own writer, and of the Rust and the Rattle one, byte for byte. */
+
+/* The numbers of a writer. The caller doesn't change them. */
+typedef struct zevk_writer {
+    size_t block_size;  /* a block is ended once its documents weigh more: their bytes and eight for each */
+    size_t blocks;      /* how many blocks were ended: so many rows of the table count */
+    size_t docs;        /* how many documents the open block has: so many of the starts count */
+    size_t bytes;       /* how many bytes they have */
+} zevk_writer;
+
+/* Begins a store that has nothing yet. It is never refused. tantivy's block size is 16384. */
+void zevk_writer_begin(zevk_writer *writer, size_t block_size);
+
+/* Puts a document of `len` bytes. The caller writes its bytes behind what was written, and behind them `count`
+ * numbers of `starts`, its first ones: none, or the table of the block that this document ends.
+ *
+ * Refusals: NO_ROOM where `starts` has no room for two numbers behind those of the open block, or `table` for one more
+ * row; TOO_MANY_DOCS where 2^32 - 1 documents were put; BLOCK_TOO_LARGE where the open block with this document and its
+ * table would have 2^32 bytes. */
+uint32_t zevk_writer_put(zevk_writer *writer, uint32_t *starts, size_t starts_len, zevk_block *table, size_t table_len,
+                         size_t len, size_t *count);
+
+/* Ends the open block, if it has documents. The caller writes the first `count` numbers of `starts` behind what was
+ * written: none, or the table of the block. It comes before zevk_writer_stack and zevk_writer_close.
+ *
+ * Refusals: NO_ROOM where the open block has documents, and there is no room for one more number or one more row, which
+ * does not come if the arrays are as long as for the last zevk_writer_put; OTHER_WRITER. */
+uint32_t zevk_writer_end_block(zevk_writer *writer, uint32_t *starts, size_t starts_len, zevk_block *table,
+                               size_t table_len, size_t *count);
+
+/* Puts the store whose file these bytes are behind what was written, its blocks as they are, damaged ones too. The
+ * caller writes the first `len` bytes of the file behind what was written. The store has `count` blocks.
+ *
+ * Refusals: those of zevk_open for the bytes of the file, and NO_MEMORY; OLD_VERSION for a store of version 1;
+ * OPEN_BLOCK; TOO_MANY_DOCS where both have 2^32 documents or more; NO_ROOM where the table has no room for `count`
+ * more rows, which is told, and the rows behind those that count are anything then; OTHER_WRITER. */
+uint32_t zevk_writer_stack(zevk_writer *writer, zevk_block *table, size_t table_len, const uint8_t *file,
+                           size_t file_len, size_t *count, size_t *len);
+
+/* Gives what goes behind what was written, and the file is whole: `len` bytes of `end`, the index, by so many blocks in
+ * a block of it, and the footer. tantivy's period is 8. The writer stays as it is.
+ *
+ * Refusals: BAD_PERIOD; OPEN_BLOCK; OTHER_WRITER; NO_MEMORY; NO_ROOM where `end` is shorter than `len`, which is told:
+ * so a first call with no room asks how much is needed. */
+uint32_t zevk_writer_close(const zevk_writer *writer, const zevk_block *table, size_t table_len, uint8_t period,
+                           uint8_t *end, size_t end_len, size_t *len);
 
 #ifdef __cplusplus
 }

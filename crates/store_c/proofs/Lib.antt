@@ -2,3 +2,8 @@ pub mod TableLemmas
 pub mod TableViewLemmas
 pub mod PlacesLemmas
 pub mod TextLemmas
+pub mod MemoryLemmas
+pub mod MemoryRefusalLemmas
+pub mod StackLemmas
+pub mod EndLemmas
+pub mod CloseLemmas

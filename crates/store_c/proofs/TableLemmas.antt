@@ -5,12 +5,18 @@ use Rattle.std.specs.Prelude.{slice_get, slice_index_or}
 use Rattle.std.specs.List.{AllByRecursion}
 use Rattle.std.specs.List.Sorted.{IsNonDecreasingBy}
 use Rattle.std.proofs.lemmas.Bool.{lt-ltb, le-ltb}
-use Rattle.std.proofs.lemmas.List.{length-map}
+use Rattle.std.proofs.lemmas.List.{length-map, map-append}
 use Rattle.layered_index.specs.declared.index.Checkpoint.{Checkpoint}
-use Rattle.layered_index.specs.Checkpoint.{checkpoint, IsInLineFrom, IsFilled, docs_end, first_past}
+use Rattle.layered_index.specs.Checkpoint.{checkpoint, IsInLineFrom, IsWithinLimits, IsFilled, docs_end, first_past}
+use Rattle.layered_index.specs.LineLemmas.{in_line-split}
+use Rattle.docstore.specs.Stacking.{shifted}
 use Rattle.layered_index.proofs.CheckpointLemmas.{same_checkpoint}
 use Rattle.store_c.specs.declared.block.Block.{Block}
-use Rattle.store_c.specs.Calls.{ends_of, start_in, with_front}
+use Rattle.store_c.specs.Calls.{ends_of, ends_behind, start_in, with_front}
+
+-- where the first block begins
+abbrev pub zero_block : Block
+zero_block = record { end_doc = 0; end_byte = 0 }
 
 -- ---- filling
 
@@ -116,9 +122,6 @@ num_docs_is table cs b is last =
     sym (last_ends 0 cs (length table - 1) b (omega arith) (ap (λ (t : List Block). slice_get t (length table - 1)) (sym is) ∙ last))
 
 -- what a partition of a table by a target finds
-abbrev zero_block : Block
-zero_block = record { end_doc = 0; end_byte = 0 }
-
 pub IsNonDecreasing-table : (table : List Block) (cs : List Checkpoint) → table ≡ map ends_of cs → IsInLineFrom 0 0 cs → IsNonDecreasingBy (λ (b : Block). b.end_doc) table
 IsNonDecreasing-table table cs is line = subst (IsNonDecreasingBy (λ (b : Block). b.end_doc)) (sym is) (λ i j d le lt. rise cs i j d line le lt)
 
@@ -136,3 +139,27 @@ pub none_in : (table : List Block) (cs : List Checkpoint) (target at : ℕ) → 
 none_in table cs target at is before all =
     let size : length table ≡ length cs = ap length is ∙ length-map cs ends_of in
     sym (none_found cs target zero_block (λ k lt. subst (λ (t : List Block). (slice_index_or t k zero_block).end_doc ≤ target) is (before k zero_block (omega arith))))
+
+-- ---- blocks behind others
+
+-- each of the checkpoints keeps within the limits
+pub limits_of : (docs bytes : ℕ) (done rest all : List Checkpoint) (c : Checkpoint) → done ++ c ∷ rest ≡ all → IsInLineFrom docs bytes (map (shifted docs bytes) all)
+    → IsWithinLimits (shifted docs bytes c)
+limits_of docs bytes done rest all c is line =
+    let parts : map (shifted docs bytes) all ≡ map (shifted docs bytes) done ++ shifted docs bytes c ∷ map (shifted docs bytes) rest =
+    ap (map (shifted docs bytes)) (sym is) ∙ map-append (shifted docs bytes) done (c ∷ rest) in
+    (in_line-split docs bytes (map (shifted docs bytes) done) (shifted docs bytes c ∷ map (shifted docs bytes) rest) (subst (IsInLineFrom docs bytes) parts line)).1.2
+
+-- behind nothing they stand where they are
+pub first_shifted : (cs : List Checkpoint) → map (shifted 0 0) cs ≡ cs
+first_shifted [] = refl
+first_shifted (c ∷ cs) =
+    let here : shifted 0 0 c ≡ c = same_checkpoint _ c (omega arith) (omega arith) (omega arith) (omega arith) in
+    λ i. here i ∷ first_shifted cs i
+
+pub first_ends : (cs : List Checkpoint) → map (ends_behind zero_block) cs ≡ map ends_of cs
+first_ends [] = refl
+first_ends (c ∷ cs) =
+    let doc : c.doc_range.end + 0 ≡ c.doc_range.end = omega arith in
+    let byte : c.byte_range.end + 0 ≡ c.byte_range.end = omega arith in
+    λ i. record { end_doc = doc i; end_byte = byte i } ∷ first_ends cs i

@@ -21,6 +21,13 @@ use Rattle.store_c.specs.declared.refusal.Refusal.TheVariants.{NoDocument, Damag
 abbrev pub ends_of : Checkpoint → Block
 ends_of c = record { end_doc = c.doc_range.end; end_byte = c.byte_range.end }
 
+-- where it ends behind this place
+abbrev pub ends_behind : Block → Checkpoint → Block
+ends_behind start c = record {
+  end_doc = c.doc_range.end + start.end_doc;
+  end_byte = c.byte_range.end + start.end_byte;
+}
+
 -- where the block at a position begins: at the end of the one before it, the first one here
 abbrev pub start_in : Block → List Block → ℕ → Block
 start_in start table zero = start

@@ -13,7 +13,12 @@ refusal_text number =
     if number == 6 then codes "no document of this number" else
     if number == 7 then codes "the document is damaged" else
     if number == 10 then codes "no memory" else
+    if number == 11 then codes "the store's documents may be in an older form" else
+    if number == 13 then codes "the block has no place in 32 bits" else
+    if number == 14 then codes "the documents can't be numbered" else
     if number == 16 then codes "bad checkpoint period" else
-    if number == 32 then codes "the table has no room for all blocks" else
+    if number == 32 then codes "no room for what is to be written" else
     if number == 33 then codes "the table is not that of the file" else
+    if number == 34 then codes "the open block must be ended first" else
+    if number == 35 then codes "the writer is not as the calls left it" else
     codes "unknown refusal"

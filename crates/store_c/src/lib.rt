@@ -1,12 +1,19 @@
-//! A store's documents, for C: read from bytes that stay the caller's, by a table that stays the caller's too.
+//! Stores for C: read from bytes that stay the caller's, by a table that stays the caller's too, and written in memory
+//! that is the caller's.
 //!
 //! A call answers 0, or the number of a refusal: that of `StoreError` up to 16, and from 32 on that of `Refusal`.
 #![tactic(auto)]
 
 pub mod block;
+mod ending;
 mod filling;
 mod locating;
+mod open_block;
 pub mod place;
 pub mod reading;
 pub mod refusal;
 pub mod refusal_text;
+mod stacking;
+pub mod writer;
+pub mod writer_refusal;
+pub mod writing;

@@ -11,8 +11,8 @@ use layered_index::Checkpoint;
 use store_base::DocId;
 use store_format::{likely_read_index, part};
 
-// Where the block at a position of a table begins.
-fn start_of(table: &[Block], at: usize) -> Block
+/// Where the block at a position of a table begins.
+pub(crate) fn start_of(table: &[Block], at: usize) -> Block
     requires { at ≤ length table.now }
     ensures { result ≡ start_in (record { end_doc = 0; end_byte = 0 }) table.now at }
 {

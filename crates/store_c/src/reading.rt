@@ -14,6 +14,12 @@ use store_reader::StoreView;
 
 const DONE: u32 = 0;
 
+// Where the first block begins.
+const FIRST: Block = Block {
+    end_doc: 0,
+    end_byte: 0,
+};
+
 /// Opens the store whose file these bytes are: fills the table of its blocks, and tells how many blocks and how many
 /// documents there are. It is refused by 32 where the table has no room for all blocks; then the table has the first of
 /// them, and both numbers are told. It is refused by 10 where memory runs out, and by the number of the first refusal
@@ -42,7 +48,7 @@ pub extern "C" fn zevk_open(
         Err(error) => return error.number(),
     };
     *num_docs = view.num_docs();
-    *count = fill(view.block_checkpoints(), table);
+    *count = fill(view.block_checkpoints(), FIRST, table);
     if *count <= table.len() {
         DONE
     } else {

@@ -1,6 +1,6 @@
-//! Why a call was refused.
+//! Why a call that reads was refused.
 
-/// Why a call was refused, by the number that C is told. Up to 16 these are those of `StoreError`.
+/// Why a call that reads was refused, by the number that C is told. Up to 16 these are those of `StoreError`.
 #[derive(Clone, Copy, PartialEq, Eq)]
 pub enum Refusal {
     /// The store has no document of this number.

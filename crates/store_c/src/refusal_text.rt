@@ -18,9 +18,14 @@ fn text_of(number: u32) -> &'static str
         6 => "no document of this number",
         7 => "the document is damaged",
         10 => "no memory",
+        11 => "the store's documents may be in an older form",
+        13 => "the block has no place in 32 bits",
+        14 => "the documents can't be numbered",
         16 => "bad checkpoint period",
-        32 => "the table has no room for all blocks",
+        32 => "no room for what is to be written",
         33 => "the table is not that of the file",
+        34 => "the open block must be ended first",
+        35 => "the writer is not as the calls left it",
         _ => "unknown refusal",
     }
 }

@@ -1,10 +1,23 @@
 use Rattle.std.proofs.Common.{◌≡◌, List, [], ◌∷◌, ◌++◌, length, map, set, sym, ap, ◌∙◌, arith, append_assoc, length-append}
 use Rattle.std.proofs.lemmas.List.{map-append, length-map}
 use Rattle.layered_index.specs.declared.index.Checkpoint.{Checkpoint}
-use Rattle.store_c.specs.Calls.{ends_of, with_front}
-use Rattle.store_c.proofs.TableLemmas.{front_more, front_full, length-front}
+use Rattle.store_c.specs.declared.block.Block.{Block}
+use Rattle.store_c.specs.Calls.{ends_behind, with_front}
+use Rattle.store_c.proofs.TableLemmas.{front_more, front_full, length-front, limits_of}
 use Rattle.store_c.proofs.filling.fill.Goals.{then-count-table, else-count-table}
 use Rattle.store_c.proofs.filling.fill.Goals as goal
+
+pub overflow_add-table : goal.overflow_add-table
+overflow_add-table c =
+    let within = limits_of c.args.start.end_doc c.args.start.end_byte c.loop-checkpoint.invariant.0 c.next.new.self _ c.in-Some.checkpoint
+        (ap (λ (xs : List Checkpoint). c.loop-checkpoint.invariant.0 ++ xs) (sym c.in-Some.ensures.steps) ∙ c.loop-checkpoint.invariant.1) c.requires.in_line in
+    let end = within.doc_end in omega arith
+
+pub overflow_add-table-then-count-table : goal.overflow_add-table-then-count-table
+overflow_add-table-then-count-table c =
+    let within = limits_of c.args.start.end_doc c.args.start.end_byte c.loop-checkpoint.invariant.0 c.next.new.self _ c.in-Some.checkpoint
+        (ap (λ (xs : List Checkpoint). c.loop-checkpoint.invariant.0 ++ xs) (sym c.in-Some.ensures.steps) ∙ c.loop-checkpoint.invariant.1) c.requires.in_line in
+    let end = within.byte_end in omega arith
 
 pub loop-checkpoint-preserved : goal.loop-checkpoint-preserved
 loop-checkpoint-preserved c =
@@ -13,16 +26,17 @@ loop-checkpoint-preserved c =
     let next = c.in-Some.checkpoint in
     let count = c.loop-checkpoint.invariant.2 in
     let table = c.loop-checkpoint.invariant.3 in
-    let size : length (map ends_of done) ≡ length done = length-map done ends_of in
-    let room : length c.loop-checkpoint.table ≡ length old = ap length table ∙ length-front (map ends_of done) old in
-    let more : map ends_of (done ++ next ∷ []) ≡ map ends_of done ++ ends_of next ∷ [] = map-append ends_of done (next ∷ []) in
-    let place : length (map ends_of done) ≡ c.loop-checkpoint.count = omega arith in (
+    let behind : Checkpoint → Block = ends_behind c.args.start in
+    let size : length (map behind done) ≡ length done = length-map done behind in
+    let room : length c.loop-checkpoint.table ≡ length old = ap length table ∙ length-front (map behind done) old in
+    let more : map behind (done ++ next ∷ []) ≡ map behind done ++ behind next ∷ [] = map-append behind done (next ∷ []) in
+    let place : length (map behind done) ≡ c.loop-checkpoint.count = omega arith in (
       done ++ next ∷ [],
       append_assoc done (next ∷ []) c.next.new.self ∙ ap (λ (xs : List Checkpoint). done ++ xs) (sym c.in-Some.ensures.steps) ∙ c.loop-checkpoint.invariant.1,
       omega (arith, length-append done (next ∷ [])),
       elim c.if-count-table.branch [
-        | then-count-table w ↦ w.table-is ∙ (λ i. set (table i) (sym place i) (ends_of next)) ∙ sym (front_more (map ends_of done) old (ends_of next) (omega (arith, w.if-count-table)))
+        | then-count-table w ↦ w.table-is ∙ (λ i. set (table i) (sym place i) (behind next)) ∙ sym (front_more (map behind done) old (behind next) (omega (arith, w.if-count-table)))
             ∙ ap (λ (t : List _). with_front t old) (sym more)
-        | else-count-table w ↦ w.table-is ∙ table ∙ sym (front_full (map ends_of done) old (ends_of next) (omega (arith, w.if-count-table))) ∙ ap (λ (t : List _). with_front t old) (sym more)
+        | else-count-table w ↦ w.table-is ∙ table ∙ sym (front_full (map behind done) old (behind next) (omega (arith, w.if-count-table))) ∙ ap (λ (t : List _). with_front t old) (sym more)
       ],
     )

@@ -1,0 +1,46 @@
+-- The end of the file of a writer's memory.
+use Rattle.std.proofs.Common.{◌≡◌, ℕ, ◌+◌, ◌≤◌, List, [], ◌∷◌, ◌++◌, length, take, map, refl, sym, ap, ◌∙◌, subst, arith, append_assoc}
+use Rattle.std.proofs.lemmas.List.{append-nil}
+use Rattle.std.specs.List.{concat}
+use Rattle.layered_index.specs.Checkpoint.{bytes_end}
+use Rattle.layered_index.specs.Layers.{index_part}
+use Rattle.store_format.specs.Footer.{footer}
+use Rattle.store_format.specs.StoreFile.{StoreBlock, IsStore, data_of, checkpoints_of, file, reserved_of}
+use Rattle.store_format.proofs.ApartLemmas.{files_are_stores}
+use Rattle.store_format.proofs.StoreLemmas.{checkpoints_cover}
+use Rattle.docstore.specs.Writer.{Writing}
+use Rattle.store_c.specs.declared.block.Block.{Block}
+use Rattle.store_c.specs.declared.writer.Writer.{Writer}
+use Rattle.store_c.specs.declared.writer_refusal.WriterRefusal.TheVariants.{OtherWriter}
+use Rattle.store_c.specs.Calls.{ends_of}
+use Rattle.store_c.specs.Writing.{memory, Holds, IsOther, IsEndOf, EndsFile, RefusesIndex}
+use Rattle.store_c.proofs.MemoryLemmas.{none_pending}
+
+-- the ends of a writer's blocks
+rows_are : (writer : Writer) (table ends : List Block) (starts text : List ℕ) (w : Writing) → ends ≡ take writer.blocks table → Holds (memory writer starts table) text w
+    → ends ≡ map ends_of (checkpoints_of w.output.finished)
+rows_are writer table ends starts text w is h = is ∙ ap (λ (n : ℕ). take n table) h.blocks ∙ h.rows
+
+-- where no blocks end so, no writer has them
+pub other_index : (writer : Writer) (table ends : List Block) → ends ≡ take writer.blocks table → RefusesIndex ends OtherWriter → IsOther writer table
+other_index writer table ends is refused starts text w h =
+    refused (checkpoints_of w.output.finished) (checkpoints_cover w.output.finished (h.sound.output.works h.works).blocks).in_line (rows_are writer table ends starts text w is h)
+
+pub closed : (writer : Writer) (table ends : List Block) (period : ℕ) (end : List ℕ) → writer.docs ≡ 0 → ends ≡ take writer.blocks table → 2 ≤ period → period ≤ 64 → IsEndOf period ends end
+    → EndsFile period end writer table
+closed writer table ends period end none is least most made starts text w h =
+    let bs = w.output.finished in
+    let blocks = (h.sound.output.works h.works).blocks in
+    let covers = checkpoints_cover bs blocks in
+    let pending = none_pending w.pending (sym h.docs ∙ none) in
+    let front_bytes = data_of bs in
+    let index = index_part period (checkpoints_of bs) in
+    let front : text ≡ front_bytes = h.written ∙ ap (λ (docs : List (List ℕ)). front_bytes ++ concat docs) pending ∙ append-nil front_bytes in
+    let behind : end ≡ index ++ footer 3 (length front_bytes) 0 (reserved_of period 3) =
+    made (checkpoints_of bs) covers.in_line (rows_are writer table ends starts text w is h) ∙ ap (λ (n : ℕ). index ++ footer 3 n 0 (reserved_of period 3)) covers.end in
+    let all : text ++ end ≡ file period 3 bs = (λ i. front i ++ behind i) ∙ sym (append_assoc front_bytes index (footer 3 (length front_bytes) 0 (reserved_of period 3))) in
+    record {
+      pending = pending;
+      file = all;
+      store = subst (λ (bytes : List ℕ). IsStore period bytes 3 bs) (sym all) (files_are_stores period bs least most blocks);
+    }

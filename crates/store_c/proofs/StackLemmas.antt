@@ -1,0 +1,156 @@
+-- The caller's memory of a writer once a store is put behind it.
+use Rattle.std.proofs.Common.{◌≡◌, ℕ, suc, ◌+◌, ◌-◌, ◌^◌, ◌<◌, ◌≤◌, List, [], ◌∷◌, ◌++◌, length, take, map, refl, sym, ap, ◌∙◌, subst, arith, append_assoc, length-append}
+use Rattle.std.proofs.lemmas.List.{append-nil, map-append, length-map, length-take, length-take-le, take-append-drop, take_all}
+use Rattle.std.proofs.lemmas.Slice.{take-put_mid}
+use Rattle.std.proofs.Math.Seq.{take-append_seam}
+use Rattle.std.specs.Prelude.{drop}
+use borrow.Rule.Slice.PartMut.{put_mid}
+use Rattle.std.specs.List.{AllByRecursion, concat}
+use Rattle.layered_index.specs.declared.index.Checkpoint.{Checkpoint}
+use Rattle.layered_index.specs.Checkpoint.{IsInLineFrom}
+use Rattle.store_format.specs.Footer.{version_number}
+use Rattle.store_format.specs.StoreFile.{StoreBlock, IsStoreBlock, IsStore, AreBlocks, data_of, docs_in, checkpoints_of, checkpoints_from}
+use Rattle.store_format.proofs.StoreLemmas.{docs_in-append, data_of-append, data_fits, AreBlocks-append, checkpoints_from-append, checkpoints_in_line_from}
+use Rattle.store_format.proofs.BlockLemmas.{length-block}
+use Rattle.store_reader.specs.Viewing.{Viewing, count_in}
+use Rattle.docstore.specs.BlockOutput.{BlockOutput, with_blocks}
+use Rattle.docstore.specs.Stacking.{shifted, with_store}
+use Rattle.docstore.specs.Writer.{Writing, blocks_of, flushed}
+use Rattle.docstore.proofs.ShiftedCheckpointLemmas.{shifted_behind}
+use Rattle.docstore.proofs.TakenLemmas.{length-slots}
+use Rattle.store_c.specs.declared.block.Block.{Block}
+use Rattle.store_c.specs.declared.writer.Writer.{Writer}
+use Rattle.store_c.specs.Calls.{ends_of, ends_behind, start_in, with_front}
+use Rattle.store_c.specs.Writing.{Memory, memory, Holds, PutsBlocks, IsOther}
+use Rattle.store_c.proofs.TableLemmas.{zero_block, front_is, length-front}
+use Rattle.store_c.proofs.MemoryLemmas.{has_finished, open_at, none_pending}
+
+-- ---- blocks behind others
+
+-- they are in line there
+pub in_line_behind : (docs bytes : ℕ) (cs : List Checkpoint) (bs : List StoreBlock) → cs ≡ checkpoints_of bs → AllByRecursion IsStoreBlock bs → docs + docs_in bs < 2 ^ 32
+    → bytes + length (data_of bs) < 2 ^ 64 → IsInLineFrom docs bytes (map (shifted docs bytes) cs)
+in_line_behind docs bytes cs bs is each few fits =
+    subst (IsInLineFrom docs bytes) (sym (shifted_behind docs bytes cs bs is)) (checkpoints_in_line_from docs bytes bs each few fits)
+
+ends_joined : (start : Block) (cs : List Checkpoint) → map (ends_behind start) cs ≡ map ends_of (map (shifted start.end_doc start.end_byte) cs)
+ends_joined start [] = refl
+ends_joined start (c ∷ cs) = ap (λ (bs : List Block). ends_behind start c ∷ bs) (ends_joined start cs)
+
+-- where they end
+ends_there : (start : Block) (cs : List Checkpoint) (bs : List StoreBlock) → cs ≡ checkpoints_of bs → map (ends_behind start) cs ≡ map ends_of (checkpoints_from start.end_doc start.end_byte bs)
+ends_there start cs bs is = ends_joined start cs ∙ ap (map ends_of) (shifted_behind start.end_doc start.end_byte cs bs is)
+
+-- ---- a writer without an open block
+
+pub without_documents : (w : Writing) (bs : List StoreBlock) → w.pending ≡ [] → with_store w bs ≡ record w { pending = []; output = with_blocks w.output bs }
+without_documents w bs none =
+    let nothing : with_blocks w.output (blocks_of w.pending) ≡ w.output =
+    ap (λ (docs : List (List ℕ)). with_blocks w.output (blocks_of docs)) none
+        ∙ (λ i. record w.output { finished = append-nil w.output.finished i; content = append-nil w.output.content i }) in
+    ap (λ (out : BlockOutput). record w { pending = []; output = with_blocks out bs }) nothing
+
+pub length-checkpoints : (id byte : ℕ) (bs : List StoreBlock) → length (checkpoints_from id byte bs) ≡ length bs
+length-checkpoints id byte [] = refl
+length-checkpoints id byte (b ∷ bs) = ap suc (length-checkpoints (id + b.count) (byte + length b.bytes) bs)
+
+-- its table has the rows of its blocks
+pub rows_fit : (writer : Writer) (table : List Block) → length table < writer.blocks → IsOther writer table
+rows_fit writer table short starts text w h =
+    let size = length-map (checkpoints_of w.output.finished) ends_of in
+    omega (arith, h.blocks, ap length h.rows, length-checkpoints 0 0 w.output.finished, size, length-take (length w.output.finished) table)
+
+-- ---- the table with more rows
+
+-- the rows so far, and those of more blocks written behind them
+rows_written : (table mid ys rs : List Block) (from k n : ℕ) → from ≤ length table → ys ≡ with_front rs mid → length rs ≤ length ys → n ≡ from + length rs
+    → take n (put_mid from k table ys) ≡ take from table ++ rs
+rows_written table mid ys rs from k n fits is room size =
+    let all = put_mid from k table ys in
+    let rest = drop (length rs) mid in
+    let end = from + length ys in
+    let short : length rs ≤ length mid = omega (arith, ap length is, length-front rs mid) in
+    let parts : ys ≡ rs ++ rest = is ∙ ap (λ (xs : List Block). xs ++ rest) (take_all (length mid) rs short) in
+    let cut : all ≡ (take from table ++ rs) ++ (rest ++ drop end all) =
+    sym (take-append-drop end all)
+    ∙ ap (λ (xs : List Block). xs ++ drop end all) (take-put_mid from k table ys end refl fits ∙ ap (λ (xs : List Block). take from table ++ xs) parts ∙ sym (append_assoc (take from table) rs rest))
+    ∙ append_assoc (take from table ++ rs) rest (drop end all) in
+    let len : n ≡ length (take from table ++ rs) = omega (arith, length-append (take from table) rs, length-take-le from table fits) in
+    ap (λ (i : ℕ). take i all) len ∙ ap (take (length (take from table ++ rs))) cut ∙ take-append_seam (take from table ++ rs) (rest ++ drop end all)
+
+-- the numbers with so many more blocks
+abbrev pub with_more : Writer → ℕ → Writer
+with_more writer count = record { block_size = writer.block_size; blocks = writer.blocks + count; docs = writer.docs; bytes = writer.bytes }
+
+module _ (writer : Writer) (table mid ys : List Block) (k count : ℕ) (start : Block) (cs : List Checkpoint) (view : Viewing) (store : IsStore view.period view.file (version_number view.version) view.store)
+    (are : cs ≡ checkpoints_of view.store) (closed : writer.docs ≡ 0) (fits : writer.blocks ≤ length table) (from : start ≡ start_in zero_block table writer.blocks)
+    (few : count_in view ≤ 4294967295 - start.end_doc) where
+  -- what is known of a writer of this memory
+  record IsBehind (text : List ℕ) (w : Writing) : Type 0 where
+    pub none : w.pending ≡ []
+    pub doc : start.end_doc ≡ docs_in w.output.finished
+    pub byte : start.end_byte ≡ length (data_of w.output.finished)
+    pub blocks : AreBlocks (w.output.finished ++ view.store)
+
+  behind : (starts text : List ℕ) (w : Writing) → Holds (memory writer starts table) text w → IsBehind text w
+  behind starts text w h =
+      let m = memory writer starts table in
+      let at = from ∙ open_at m w (has_finished m text w h) in
+      let doc = ap (λ (b : Block). b.end_doc) at in
+      let finished = (h.sound.output.works h.works).blocks in
+      record {
+        none = none_pending w.pending (sym h.docs ∙ closed);
+        doc = doc;
+        byte = ap (λ (b : Block). b.end_byte) at;
+        blocks = AreBlocks-append w.output.finished view.store finished store.blocks.each (omega (arith, doc, few, length-slots view.store, finished.few_docs));
+      }
+
+  -- its blocks have their place in the file
+  pub has_place : 18446744073709551615 - start.end_byte < length (data_of view.store) → IsOther writer table
+  has_place large starts text w h =
+      let b = behind starts text w h in
+      omega (arith, b.byte, data_fits (w.output.finished ++ view.store) b.blocks, ap length (data_of-append w.output.finished view.store), length-append (data_of w.output.finished) (data_of view.store))
+
+  pub stacked : ys ≡ with_front (map (ends_behind start) cs) mid → count ≡ length cs → count ≤ length ys → PutsBlocks view writer table (with_more writer count) (put_mid writer.blocks k table ys)
+  stacked is counted room starts text w h =
+      let b = behind starts text w h in
+      let bs = w.output.finished in
+      let rs = map (ends_behind start) cs in
+      let doc : start.end_doc ≡ 0 + docs_in bs = omega (arith, b.doc) in
+      let byte : start.end_byte ≡ 0 + length (data_of bs) = omega (arith, b.byte) in
+      let rows : rs ≡ map ends_of (checkpoints_from (0 + docs_in bs) (0 + length (data_of bs)) view.store) =
+      ends_there start cs view.store are ∙ (λ i. map ends_of (checkpoints_from (doc i) (byte i) view.store)) in
+      let size : length rs ≡ count = length-map cs (ends_behind start) ∙ sym counted in
+      let blocks : length cs ≡ length view.store = ap length are ∙ length-checkpoints 0 0 view.store in
+      let held = h.sound.output.works h.works in
+      subst (Holds (memory (with_more writer count) starts (put_mid writer.blocks k table ys)) (text ++ data_of view.store)) (sym (without_documents w view.store b.none)) (record {
+        sound = record {
+          ids = omega (arith, b.blocks.few_docs);
+          light = omega arith;
+          output = record {
+            least = h.sound.output.least;
+            most = h.sound.output.most;
+            ids = b.blocks.few_docs;
+            works = λ _. record {
+              written = ap (λ (xs : List ℕ). xs ++ data_of view.store) held.written ∙ append_assoc w.output.before (data_of bs) (data_of view.store)
+                  ∙ ap (λ (xs : List ℕ). w.output.before ++ xs) (sym (data_of-append bs view.store));
+              blocks = b.blocks;
+            };
+          };
+        };
+        works = h.works;
+        alone = h.alone;
+        fits = omega (arith, length-block []);
+        block_size = h.block_size;
+        docs = closed;
+        bytes = omega (arith, h.bytes, ap (λ (docs : List (List ℕ)). length (concat docs)) b.none);
+        starts = refl;
+        blocks = omega (arith, h.blocks, counted, blocks, length-append bs view.store);
+        rows = rows_written table mid ys rs writer.blocks k (length (bs ++ view.store)) fits is (omega (arith, size, room)) (omega (arith, size, counted, blocks, h.blocks, length-append bs view.store))
+            ∙ (λ i. (ap (λ (n : ℕ). take n table) h.blocks ∙ h.rows) i ++ rows i)
+            ∙ sym (map-append ends_of (checkpoints_of bs) (checkpoints_from (0 + docs_in bs) (0 + length (data_of bs)) view.store))
+            ∙ ap (map ends_of) (sym (checkpoints_from-append 0 0 bs view.store));
+        written = (λ i. (h.written ∙ ap (λ (docs : List (List ℕ)). data_of bs ++ concat docs) b.none ∙ append-nil (data_of bs)) i ++ data_of view.store)
+            ∙ sym (data_of-append bs view.store) ∙ sym (append-nil (data_of (bs ++ view.store)));
+      })
+

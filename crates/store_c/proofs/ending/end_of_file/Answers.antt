@@ -1,0 +1,20 @@
+use Rattle.std.proofs.Common.{◌≡◌, refl, ◌+◌, ◌++◌, ◌∷◌, [], List, ℕ, length, sym, ap, ◌∙◌, subst, arith, append_assoc}
+use Rattle.layered_index.specs.declared.index.Checkpoint.{Checkpoint}
+use Rattle.layered_index.specs.Checkpoint.{bytes_end}
+use Rattle.layered_index.specs.Layers.{index_part}
+use Rattle.store_format.specs.Footer.{footer}
+use Rattle.store_format.specs.StoreFile.{reserved_of}
+use Rattle.docstore.proofs.PendingLemmas.{from_ok}
+use Rattle.store_c.specs.declared.block.Block.{Block}
+use Rattle.store_c.proofs.EndLemmas.{same_blocks, last_byte}
+use Rattle.store_c.proofs.ending.end_of_file.Goals as goal
+
+pub returns-clause-end : goal.returns-clause-end
+returns-clause-end c cs line ends =
+    let index = c.in_ok-index.ensures.index in
+    let same : c.in_ok-index.index.checkpoints ≡ cs = same_blocks 0 0 _ cs index.in_line line (index.ends_are ∙ ends) in
+    let last : c.start_of-last.result.end_byte ≡ bytes_end 0 cs = ap (λ (b : Block). b.end_byte) c.start_of-last.ensures ∙ last_byte 0 0 cs c.args.ends.now ends in
+    let first = from_ok c.serialize_into.result (sym c.if-is_err.ensures.value) c.serialize_into.ensures.ok in
+    let second = from_ok c.serialize.result (sym c.if-is_err-2.ensures.value) c.serialize.ensures.ok in
+    let f = c.with_period-footer.ensures in
+    rw (c.into_bytes.ensures, second, first, c.new-end.ensures.content, f.offset, f.decompressor, f.period, index.period_is, same, last) refl

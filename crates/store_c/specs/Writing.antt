@@ -1,0 +1,193 @@
+-- What the caller's memory has of a store that is written, and what the calls make of it.
+use Rattle.std.specs.Prelude.{◌≡◌, ◌≢◌, ◌⊎◌, ℕ, ◌+◌, ◌-◌, ◌*◌, ◌<◌, ◌≤◌, ◌^◌, List, [], ◌++◌, length, take, map, None}
+use Rattle.std.specs.List.{flat_map, concat}
+use Rattle.layered_index.specs.declared.index.Checkpoint.{Checkpoint}
+use Rattle.layered_index.specs.Checkpoint.{checkpoint, bytes_end, IsInLineFrom}
+use Rattle.layered_index.specs.Layers.{Index, index_part}
+use Rattle.store_base.specs.Outputs.{Termination}
+use Rattle.store_base.specs.Serialize.{fixed}
+use Rattle.store_format.specs.Block.{block, starts_from}
+use Rattle.store_format.specs.Footer.{footer}
+use Rattle.store_format.specs.StoreFile.{IsStore, data_of, checkpoints_of, file, reserved_of}
+use Rattle.store_format.specs.declared.kinds.Compressor.{Compressor}
+use Rattle.store_format.specs.declared.version.DocStoreVersion.TheVariants.{V1}
+use Rattle.store_reader.specs.Viewing.{Viewing, IsViewOf, count_in}
+use Rattle.docstore.specs.BlockOutput.{new_output}
+use Rattle.docstore.specs.Writer.{Writing, IsStoreWriter, IsTooLarge, new_writing, num_docs, flushed, with_document}
+use Rattle.docstore.specs.Stacking.{with_store}
+use Rattle.store_c.specs.declared.block.Block.{Block}
+use Rattle.store_c.specs.declared.writer.Writer.{Writer}
+use Rattle.store_c.specs.declared.writer_refusal.WriterRefusal.{WriterRefusal}
+use Rattle.store_c.specs.declared.writer_refusal.WriterRefusal.TheVariants.{NoMemory, OldVersion, BlockTooLarge, TooManyDocs}
+use Rattle.store_c.specs.declared.writer_refusal.WriterRefusal.TheVariants.{NoRoom, OpenBlock, OtherWriter}
+use Rattle.store_c.specs.Calls.{ends_of}
+
+-- ---- memory
+
+-- a writer's numbers, where the documents of its open block begin, and the table of its blocks
+pub record Memory : Type 0 where
+  pub writer : Writer
+  pub starts : List ℕ
+  pub table : List Block
+
+abbrev pub memory : Writer → List ℕ → List Block → Memory
+memory writer starts table = record { writer = writer; starts = starts; table = table }
+
+-- It is the memory of a writer in this state, once these bytes were written.
+pub record Holds (m : Memory) (text : List ℕ) (w : Writing) : Type 0 where
+  pub sound : IsStoreWriter w
+  pub works : w.output.failure ≡ None
+  pub alone : w.output.before ≡ []
+  pub fits : length (block w.pending) < 2 ^ 32
+  pub block_size : m.writer.block_size ≡ w.block_size
+  pub docs : m.writer.docs ≡ length w.pending
+  pub bytes : m.writer.bytes ≡ length (concat w.pending)
+  pub starts : take (length w.pending) m.starts ≡ starts_from 0 w.pending
+  pub blocks : m.writer.blocks ≡ length w.output.finished
+  pub rows : take (length w.output.finished) m.table ≡ map ends_of (checkpoints_of w.output.finished)
+  pub written : text ≡ data_of w.output.finished ++ concat w.pending
+
+-- ---- what the calls make of it
+
+-- whatever else it has, it is the memory of a writer of nothing yet
+abbrev pub Begins : ℕ → Writer → Type 0
+Begins block_size writer =
+    (starts : List ℕ) (table : List Block) (compressor : Compressor) (period : ℕ) (termination : Termination)
+    (failures : ℕ) → 2 ≤ period → period ≤ 64 → Holds (memory writer starts table) []
+    (new_writing block_size (new_output compressor period [] termination failures))
+
+-- so many numbers, four bytes each
+abbrev pub bytes_of : ℕ → List ℕ → List ℕ
+bytes_of count starts = flat_map (fixed 4) (take count starts)
+
+-- A document of this length is put, once it is written and so many starts behind it.
+abbrev pub PutsDocument : ℕ → ℕ → Memory → Memory → Type 0
+PutsDocument len count old new =
+    (written : List ℕ) (w : Writing) (document : List ℕ) → length document ≡ len → Holds old written w
+    → Holds new (written ++ document ++ bytes_of count new.starts) (with_document w document)
+
+-- The open block is ended, once so many starts are written.
+abbrev pub EndsBlock : ℕ → Memory → Memory → Type 0
+EndsBlock count old new =
+    (written : List ℕ) (w : Writing) → Holds old written w
+    → Holds new (written ++ bytes_of count new.starts) (flushed w)
+
+-- The blocks of a store are put behind the others, once its data is written.
+abbrev pub PutsBlocks : Viewing → Writer → List Block → Writer → List Block → Type 0
+PutsBlocks view old_writer old_table new_writer new_table =
+    (starts : List ℕ) (written : List ℕ) (w : Writing) → Holds (memory old_writer starts old_table) written w
+    → Holds (memory new_writer starts new_table) (written ++ data_of view.store) (with_store w view.store)
+
+-- These bytes are the file of a store that can be stacked, whose data are the first of them.
+pub record PutsStore (bytes : List ℕ) (len count : ℕ) (old_writer : Writer) (old_table : List Block)
+    (new_writer : Writer) (new_table : List Block) : Type 0 where
+  pub view : Viewing
+  pub of : IsViewOf bytes view
+  pub version : view.version ≢ V1
+  pub front : take len bytes ≡ data_of view.store
+  pub within : len ≤ length bytes
+  pub blocks : count ≡ length (checkpoints_of view.store)
+  pub puts : PutsBlocks view old_writer old_table new_writer new_table
+
+-- These bytes are the file of the writer's blocks, and no document waits.
+pub record IsFileOf (period : ℕ) (bytes : List ℕ) (w : Writing) : Type 0 where
+  pub pending : w.pending ≡ []
+  pub file : bytes ≡ file period 3 w.output.finished
+  pub store : IsStore period bytes 3 w.output.finished
+
+-- Behind what was written these bytes make the file.
+abbrev pub EndsFile : ℕ → List ℕ → Writer → List Block → Type 0
+EndsFile period end writer table =
+    (starts : List ℕ) (written : List ℕ) (w : Writing) → Holds (memory writer starts table) written w
+    → IsFileOf period (written ++ end) w
+
+-- ---- refusals
+
+-- The block of the open documents with one of this length has no place in 32 bits.
+abbrev pub IsTooLong : ℕ → Memory → Type 0
+IsTooLong len m =
+    (written : List ℕ) (w : Writing) (document : List ℕ) → length document ≡ len → Holds m written w
+    → IsTooLarge w document
+
+-- There is no number left for a document.
+abbrev pub HasNoNumber : Memory → Type 0
+HasNoNumber m = (written : List ℕ) (w : Writing) → Holds m written w → num_docs w ≡ 2 ^ 32 - 1
+
+-- It is no writer's memory.
+abbrev pub IsOther : Writer → List Block → Type 0
+IsOther writer table =
+    (starts : List ℕ) (written : List ℕ) (w : Writing) → Holds (memory writer starts table) written w → ⊥
+
+-- The documents of both can't be numbered.
+abbrev pub HasTooManyWith : Viewing → Writer → List Block → Type 0
+HasTooManyWith view writer table =
+    (starts : List ℕ) (written : List ℕ) (w : Writing) → Holds (memory writer starts table) written w
+    → 2 ^ 32 ≤ num_docs w + count_in view
+
+-- why a document of this length isn't put
+abbrev pub RefusesLength : ℕ → Memory → WriterRefusal → Type 0
+RefusesLength len m NoRoom = (length m.starts < m.writer.docs + 2) ⊎ (length m.table ≤ m.writer.blocks)
+RefusesLength len m TooManyDocs = HasNoNumber m
+RefusesLength len m BlockTooLarge = IsTooLong len m
+RefusesLength len m _ = ⊥
+
+-- why the open block isn't ended
+abbrev pub RefusesBlock : Memory → WriterRefusal → Type 0
+RefusesBlock m NoRoom =
+    (0 < m.writer.docs) × ((length m.starts ≤ m.writer.docs) ⊎ (length m.table ≤ m.writer.blocks))
+RefusesBlock m OtherWriter = IsOther m.writer m.table
+RefusesBlock m _ = ⊥
+
+-- These bytes are the file of a store, and this is so of it.
+pub record RefusesStore (bytes : List ℕ) (Why : Viewing → Type 0) : Type 0 where
+  pub view : Viewing
+  pub of : IsViewOf bytes view
+  pub why : Why view
+
+-- why the blocks of a store aren't put behind these
+abbrev pub RefusesBlocks : Viewing → Writer → List Block → WriterRefusal → Type 0
+RefusesBlocks view writer table OldVersion = view.version ≡ V1
+RefusesBlocks view writer table OpenBlock = 0 < writer.docs
+RefusesBlocks view writer table TooManyDocs = HasTooManyWith view writer table
+RefusesBlocks view writer table OtherWriter = IsOther writer table
+RefusesBlocks view writer table NoRoom = length table < writer.blocks + length (checkpoints_of view.store)
+RefusesBlocks view writer table _ = ⊥
+
+-- ---- blocks and their ends
+
+-- A block that begins here and has so many documents of so many bytes ends here, and has its place in 32 bits.
+pub record EndsAt (start : Block) (docs bytes : ℕ) (end : Block) : Type 0 where
+  pub doc : end.end_doc ≡ start.end_doc + docs
+  pub byte : end.end_byte ≡ start.end_byte + (bytes + 4 * docs + 4)
+  pub few_docs : start.end_doc + docs < 2 ^ 32
+  pub few_bytes : bytes + 4 * docs + 4 < 2 ^ 32
+
+-- why there is no such place
+abbrev pub RefusesEnd : Block → ℕ → ℕ → WriterRefusal → Type 0
+RefusesEnd start docs bytes TooManyDocs = 2 ^ 32 ≤ start.end_doc + docs
+RefusesEnd start docs bytes BlockTooLarge =
+    (start.end_doc + docs < 2 ^ 32)
+    × ((2 ^ 32 ≤ bytes + 4 * docs + 4) ⊎ (2 ^ 64 ≤ start.end_byte + (bytes + 4 * docs + 4)))
+RefusesEnd start docs bytes _ = ⊥
+
+-- from the one end to the other
+abbrev pub between : Block → Block → Checkpoint
+between start end = checkpoint start.end_doc end.end_doc start.end_byte end.end_byte
+
+-- the index of blocks that end so
+pub record IsIndexOf (period : ℕ) (ends : List Block) (index : Index) : Type 0 where
+  pub period_is : index.period ≡ period
+  pub ends_are : map ends_of index.checkpoints ≡ ends
+  pub in_line : IsInLineFrom 0 0 index.checkpoints
+
+-- the index and the footer of blocks that end so, if blocks can
+abbrev pub IsEndOf : ℕ → List Block → List ℕ → Type 0
+IsEndOf period ends end =
+    (cs : List Checkpoint) → IsInLineFrom 0 0 cs → ends ≡ map ends_of cs
+    → end ≡ index_part period cs ++ footer 3 (bytes_end 0 cs) 0 (reserved_of period 3)
+
+-- why there is none: no blocks end so, or memory ran out
+abbrev pub RefusesIndex : List Block → WriterRefusal → Type 0
+RefusesIndex ends OtherWriter = (cs : List Checkpoint) → IsInLineFrom 0 0 cs → ends ≡ map ends_of cs → ⊥
+RefusesIndex ends NoMemory = Unit {0}
+RefusesIndex ends _ = ⊥

@@ -1,0 +1,81 @@
+//! The end of a file: the index of its blocks, and its footer.
+ghost use Rattle.std.specs.Prelude.{◌≡◌, ◌≤◌, IfOk, IfErr, MatchOption};
+ghost use Rattle.layered_index.specs.Checkpoint.{IsWithinLimits};
+ghost use Rattle.store_c.specs.Writing.{between, IsIndexOf, IsEndOf, RefusesIndex};
+
+use crate::block::Block;
+use crate::locating::start_of;
+use crate::writer_refusal::WriterRefusal;
+use layered_index::{Checkpoint, SkipIndexBuilder};
+use std::alloc::Global;
+use store_base::{BinarySerializable, MemSink};
+use store_format::{DOC_STORE_VERSION, Decompressor, DocStoreFooter};
+
+// A block is shorter than this.
+const BLOCK_LIMIT: usize = 0x1_0000_0000;
+
+// The checkpoint of a block from the one end to the other, if a block can be so.
+fn checkpoint_between(start: Block, end: Block) -> Option<Checkpoint>
+    ensures { MatchOption result (IsWithinLimits (between start end) → ⊥)
+        (λ c. (c ≡ between start end) × IsWithinLimits c) }
+{
+    if end.end_doc < start.end_doc || end.end_byte < start.end_byte {
+        return None;
+    }
+    if end.end_byte - start.end_byte >= BLOCK_LIMIT {
+        return None;
+    }
+    Some(Checkpoint {
+        doc_range: start.end_doc..end.end_doc,
+        byte_range: start.end_byte..end.end_byte,
+    })
+}
+
+// The index of the blocks that end so.
+fn index_of(alloc: Global, ends: &[Block], period: u8) -> Result<SkipIndexBuilder, WriterRefusal>
+    requires least { 2 ≤ period }
+    requires most { period ≤ 64 }
+    ensures index { IfOk result (IsIndexOf period ends.now) }
+    ensures refused { IfErr result (RefusesIndex ends.now) }
+{
+    let mut index = SkipIndexBuilder::with_period(alloc, period);
+    let mut start = Block {
+        end_doc: 0,
+        end_byte: 0,
+    };
+    for end in ends {
+        let Some(checkpoint) = checkpoint_between(start, *end) else {
+            return Err(WriterRefusal::OtherWriter);
+        };
+        if index.insert(checkpoint).is_err() {
+            return Err(WriterRefusal::NoMemory);
+        }
+        start = *end;
+    }
+    Ok(index)
+}
+
+/// What stands behind blocks that end so: their index and the footer.
+pub(crate) fn end_of_file(alloc: Global, ends: &[Block], period: u8) -> Result<Vec<u8>, WriterRefusal>
+    requires least { 2 ≤ period }
+    requires most { period ≤ 64 }
+    ensures end { IfOk result (λ end. IsEndOf period ends.now end.items) }
+    ensures refused { IfErr result (RefusesIndex ends.now) }
+{
+    let index = index_of(alloc, ends, period)?;
+    let last = start_of(ends, ends.len());
+    let footer = DocStoreFooter::with_period(
+        last.end_byte as u64,
+        Decompressor::None,
+        DOC_STORE_VERSION,
+        period,
+    );
+    let mut end = MemSink::new(alloc);
+    if index.serialize_into(&mut end).is_err() {
+        return Err(WriterRefusal::NoMemory);
+    }
+    if footer.serialize(&mut end).is_err() {
+        return Err(WriterRefusal::NoMemory);
+    }
+    Ok(end.into_bytes())
+}

@@ -1,0 +1,115 @@
+//! The open block of a store that is written.
+ghost use Rattle.std.specs.Prelude.{◌≡◌, ◌+◌, ◌*◌, ◌<◌, ◌≤◌, ◌^◌, ◌⊎◌, length, set, IfOk, IfErr, OnErr};
+ghost use Rattle.store_c.specs.Writing.{memory, EndsAt, RefusesEnd, PutsDocument, EndsBlock, RefusesLength};
+ghost use Rattle.store_c.specs.Writing.{RefusesBlock};
+
+use crate::block::Block;
+use crate::locating::start_of;
+use crate::writer::Writer;
+use crate::writer_refusal::WriterRefusal;
+
+// A block is shorter than this.
+const BLOCK_LIMIT: usize = 0x1_0000_0000;
+
+/// Where a block ends that begins here and has so many documents of so many bytes.
+pub(crate) fn end_of(start: Block, docs: usize, bytes: usize) -> Result<Block, WriterRefusal>
+    requires few { docs < 2 ^ 61 }
+    ensures end { IfOk result (EndsAt start docs bytes) }
+    ensures refused { IfErr result (RefusesEnd start docs bytes) }
+{
+    let end_doc = start.end_doc as usize + docs;
+    if end_doc > u32::MAX as usize {
+        return Err(WriterRefusal::TooManyDocs);
+    }
+    let table = 4 * docs + 4;
+    if bytes >= BLOCK_LIMIT || bytes + table >= BLOCK_LIMIT {
+        return Err(WriterRefusal::BlockTooLarge);
+    }
+    match start.end_byte.checked_add(bytes + table) {
+        Some(end_byte) => Ok(Block {
+            end_doc: end_doc as u32,
+            end_byte,
+        }),
+        None => Err(WriterRefusal::BlockTooLarge),
+    }
+}
+
+/// Ends the open block here. It answers how many starts the block's table has: the last of them is the count of its
+/// documents.
+pub(crate) fn finish(
+    writer: &mut Writer,
+    starts: &mut [u32],
+    table: &mut [Block],
+    end: Block,
+) -> usize
+    requires docs { writer.old.docs < length starts.old }
+    requires few { writer.old.docs < 2 ^ 32 }
+    requires blocks { writer.old.blocks < length table.old }
+    ensures count { result ≡ writer.old.docs + 1 }
+    ensures starts { starts.new ≡ set starts.old writer.old.docs writer.old.docs }
+    ensures table { table.new ≡ set table.old writer.old.blocks end }
+    ensures writer { writer.new ≡ record {
+        block_size = writer.old.block_size; blocks = writer.old.blocks + 1; docs = 0; bytes = 0 } }
+{
+    let docs = writer.docs;
+    starts[docs] = docs as u32;
+    table[writer.blocks] = end;
+    writer.blocks += 1;
+    writer.docs = 0;
+    writer.bytes = 0;
+    docs + 1
+}
+
+/// Puts a document of so many bytes. It answers how many starts are to be written behind it.
+pub(crate) fn put(
+    writer: &mut Writer,
+    starts: &mut [u32],
+    table: &mut [Block],
+    len: usize,
+) -> Result<usize, WriterRefusal>
+    ensures put { IfOk result (λ count. PutsDocument len count (memory writer.old starts.old table.old)
+        (memory writer.new starts.new table.new)) }
+    ensures count { IfOk result (λ count. count ≤ length starts.old) }
+    ensures refused { IfErr result (RefusesLength len (memory writer.old starts.old table.old)) }
+    ensures kept { OnErr result (memory writer.new starts.new table.new ≡ memory writer.old starts.old table.old) }
+{
+    if writer.docs.saturating_add(2) > starts.len() || writer.blocks >= table.len() {
+        return Err(WriterRefusal::NoRoom);
+    }
+    let start = start_of(table, writer.blocks);
+    let bytes = writer.bytes.saturating_add(len);
+    let end = end_of(start, writer.docs + 1, bytes)?;
+    starts[writer.docs] = writer.bytes as u32;
+    writer.docs += 1;
+    writer.bytes = bytes;
+    if bytes + 8 * writer.docs > writer.block_size {
+        Ok(finish(writer, starts, table, end))
+    } else {
+        Ok(0)
+    }
+}
+
+/// Ends the open block, if it has documents. It answers how many starts are to be written.
+pub(crate) fn end_block(
+    writer: &mut Writer,
+    starts: &mut [u32],
+    table: &mut [Block],
+) -> Result<usize, WriterRefusal>
+    ensures ended { IfOk result (λ count. EndsBlock count (memory writer.old starts.old table.old)
+        (memory writer.new starts.new table.new)) }
+    ensures count { IfOk result (λ count. count ≤ length starts.old) }
+    ensures refused { IfErr result (RefusesBlock (memory writer.old starts.old table.old)) }
+    ensures kept { OnErr result (memory writer.new starts.new table.new ≡ memory writer.old starts.old table.old) }
+{
+    if writer.docs == 0 {
+        return Ok(0);
+    }
+    if writer.docs >= starts.len() || writer.blocks >= table.len() {
+        return Err(WriterRefusal::NoRoom);
+    }
+    let start = start_of(table, writer.blocks);
+    match end_of(start, writer.docs, writer.bytes) {
+        Ok(end) => Ok(finish(writer, starts, table, end)),
+        Err(_) => Err(WriterRefusal::OtherWriter),
+    }
+}

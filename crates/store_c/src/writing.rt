@@ -1,0 +1,199 @@
+//! Writing, as C calls it. A writer's numbers, the starts of the documents of its open block and the table of its blocks
+//! are the caller's memory, and so are the documents: the caller writes them, and what these calls tell to write behind
+//! them.
+ghost use Rattle.std.specs.Prelude.{◌≡◌, ◌≢◌, ◌⊎◌, ◌+◌, ◌<◌, ◌≤◌, length, take};
+ghost use Rattle.store_format.specs.StoreFile.{checkpoints_of};
+ghost use Rattle.store_format.specs.declared.version.DocStoreVersion.TheVariants.{V1};
+ghost use Rattle.store_c.specs.Calls.{RefusesFile};
+ghost use Rattle.store_c.specs.Writing.{memory, Begins, PutsDocument, EndsBlock, PutsStore, EndsFile};
+ghost use Rattle.store_c.specs.Writing.{IsTooLong, HasNoNumber, IsOther, RefusesStore, HasTooManyWith};
+
+use crate::block::Block;
+use crate::ending::end_of_file;
+use crate::open_block;
+use crate::stacking;
+use crate::writer::Writer;
+use crate::writer_refusal::WriterRefusal;
+use std::alloc::Global;
+use store_reader::StoreView;
+
+const DONE: u32 = 0;
+
+/// Begins a store that has nothing yet. A block of documents is ended once they weigh more than the block size: their
+/// bytes and eight for each.
+#[unsafe(no_mangle)]
+pub extern "C" fn zevk_writer_begin(writer: &mut Writer, block_size: usize)
+    ensures { Begins block_size writer.new }
+{
+    *writer = Writer {
+        block_size,
+        blocks: 0,
+        docs: 0,
+        bytes: 0,
+    };
+}
+
+/// Puts a document of so many bytes, which the caller writes behind what was written, and behind it the first `count`
+/// of the starts, four bytes each from the lowest on: none, or the table of the block that this document ends.
+///
+/// It is refused by 14 where there is no number left for a document, by 13 where its block has no place in 32 bits, and
+/// by 32 where there is no room for two more starts or for one more block.
+#[unsafe(no_mangle)]
+pub extern "C" fn zevk_writer_put(
+    writer: &mut Writer,
+    starts: &mut [u32],
+    table: &mut [Block],
+    len: usize,
+    count: &mut usize,
+) -> u32
+    ensures put { result ≡ 0 → PutsDocument len count.new (memory writer.old starts.old table.old)
+        (memory writer.new starts.new table.new) }
+    ensures count { result ≡ 0 → count.new ≤ length starts.old }
+
+    // Each refusal.
+    ensures too_large { result ≡ 13 → IsTooLong len (memory writer.old starts.old table.old) }
+    ensures too_many { result ≡ 14 → HasNoNumber (memory writer.old starts.old table.old) }
+    ensures no_room { result ≡ 32 → (length starts.old < writer.old.docs + 2) ⊎ (length table.old ≤ writer.old.blocks) }
+    ensures no_other { result ≢ 0 → result ≢ 13 → result ≢ 14 → result ≡ 32 }
+
+    ensures stays { result ≢ 0 → (memory writer.new starts.new table.new ≡ memory writer.old starts.old table.old)
+        × (count.new ≡ count.old) }
+{
+    match open_block::put(writer, starts, table, len) {
+        Ok(starts) => {
+            *count = starts;
+            DONE
+        }
+        Err(refusal) => refusal as u32,
+    }
+}
+
+/// Ends the open block, if it has documents. The caller writes the first `count` of the starts behind what was written,
+/// four bytes each from the lowest on: none, or the block's table.
+///
+/// It is refused by 32 where there is no room for one more start or for one more block, and by 35 where the numbers are
+/// not as these calls left them.
+#[unsafe(no_mangle)]
+pub extern "C" fn zevk_writer_end_block(
+    writer: &mut Writer,
+    starts: &mut [u32],
+    table: &mut [Block],
+    count: &mut usize,
+) -> u32
+    ensures ended { result ≡ 0 → EndsBlock count.new (memory writer.old starts.old table.old)
+        (memory writer.new starts.new table.new) }
+    ensures count { result ≡ 0 → count.new ≤ length starts.old }
+
+    // Each refusal.
+    ensures no_room { result ≡ 32 → (0 < writer.old.docs)
+        × ((length starts.old ≤ writer.old.docs) ⊎ (length table.old ≤ writer.old.blocks)) }
+    ensures other { result ≡ 35 → IsOther writer.old table.old }
+    ensures no_other { result ≢ 0 → result ≢ 32 → result ≡ 35 }
+
+    ensures stays { result ≢ 0 → (memory writer.new starts.new table.new ≡ memory writer.old starts.old table.old)
+        × (count.new ≡ count.old) }
+{
+    match open_block::end_block(writer, starts, table) {
+        Ok(starts) => {
+            *count = starts;
+            DONE
+        }
+        Err(refusal) => refusal as u32,
+    }
+}
+
+/// Puts the blocks of the store whose file these bytes are behind those that were ended. The caller writes its data
+/// behind what was written: the first `len` bytes of the file. It has `count` blocks.
+///
+/// It is refused by the number of the first refusal of the footer or the index, by 10 where memory runs out, by 11 where
+/// its documents may be in an older form, by 34 where the open block has documents, by 14 where the documents of both
+/// can't be numbered, by 35 where the numbers are not as these calls left them, and by 32 where there is no room for so
+/// many blocks. Then `count` is told, and the rows behind those that were ended are anything.
+#[unsafe(no_mangle)]
+pub extern "C" fn zevk_writer_stack(
+    alloc: Global,
+    writer: &mut Writer,
+    table: &mut [Block],
+    file: &[u8],
+    count: &mut usize,
+    len: &mut usize,
+) -> u32
+    ensures stacked { result ≡ 0
+        → PutsStore file.now len.new count.new writer.old table.old writer.new table.new }
+
+    // Each refusal.
+    ensures old_version { result ≡ 11 → RefusesStore file.now (λ view. view.version ≡ V1) }
+    ensures too_many { result ≡ 14 → RefusesStore file.now (λ view. HasTooManyWith view writer.old table.old) }
+    ensures open_block { result ≡ 34 → 0 < writer.old.docs }
+    ensures other { result ≡ 35 → IsOther writer.old table.old }
+    ensures no_room { result ≡ 32 → RefusesStore file.now (λ view. (count.new ≡ length (checkpoints_of view.store))
+        × (length table.old < writer.old.blocks + count.new)) }
+    ensures refused { result ≢ 0 → result ≢ 10 → result ≢ 11 → result ≢ 14 → result ≢ 32 → result ≢ 34
+        → result ≢ 35 → RefusesFile file.now result }
+
+    ensures kept { result ≢ 0 → (writer.new ≡ writer.old) × (len.new ≡ len.old) }
+    ensures stays { result ≢ 0 → result ≢ 32 → (table.new ≡ table.old) × (count.new ≡ count.old) }
+    ensures rows { take writer.old.blocks table.new ≡ take writer.old.blocks table.old }
+{
+    let view = match StoreView::open(alloc, file) {
+        Ok(view) => view,
+        Err(error) => return error.number(),
+    };
+    match stacking::stack(writer, table, &view, count) {
+        Ok(()) => {
+            *len = view.block_data().len();
+            DONE
+        }
+        Err(refusal) => refusal as u32,
+    }
+}
+
+/// Gives what the caller writes behind what was written, and the file is whole: its index, with so many blocks in a
+/// block of it, and its footer. It tells how many bytes they have.
+///
+/// It is refused by 16 where the period is below 2 or above 64, by 34 where the open block has documents, by 35 where
+/// the numbers or the table are not as these calls left them, by 10 where memory runs out, and by 32 where they have no
+/// room. Then their length is told.
+#[unsafe(no_mangle)]
+pub extern "C" fn zevk_writer_close(
+    alloc: Global,
+    writer: &Writer,
+    table: &[Block],
+    period: u8,
+    end: &mut [u8],
+    len: &mut usize,
+) -> u32
+    ensures closed { result ≡ 0 → EndsFile period (take len.new end.new) writer.now table.now }
+    ensures within { result ≡ 0 → len.new ≤ length end.old }
+
+    // Each refusal.
+    ensures bad_period { result ≡ 16 → (period < 2) ⊎ (64 < period) }
+    ensures open_block { result ≡ 34 → 0 < writer.now.docs }
+    ensures other { result ≡ 35 → IsOther writer.now table.now }
+    ensures no_room { result ≡ 32 → length end.old < len.new }
+    ensures no_other { result ≢ 0 → result ≢ 10 → result ≢ 16 → result ≢ 32 → result ≢ 34 → result ≡ 35 }
+
+    ensures stays { result ≢ 0 → end.new ≡ end.old }
+    ensures kept { result ≢ 0 → result ≢ 32 → len.new ≡ len.old }
+{
+    if period < 2 || period > 64 {
+        return WriterRefusal::BadPeriod as u32;
+    }
+    if writer.docs > 0 {
+        return WriterRefusal::OpenBlock as u32;
+    }
+    let Some(ends) = table.get(..writer.blocks) else {
+        return WriterRefusal::OtherWriter as u32;
+    };
+    let bytes = match end_of_file(alloc, ends, period) {
+        Ok(bytes) => bytes,
+        Err(refusal) => return refusal as u32,
+    };
+    *len = bytes.len();
+    if bytes.len() <= end.len() {
+        end[..bytes.len()].copy_from_slice(&bytes);
+        DONE
+    } else {
+        WriterRefusal::NoRoom as u32
+    }
+}
