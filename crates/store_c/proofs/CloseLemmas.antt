@@ -1,11 +1,10 @@
 -- The end of the file of a writer's memory.
-use Rattle.std.proofs.Common.{◌≡◌, ℕ, ◌+◌, ◌≤◌, List, [], ◌∷◌, ◌++◌, length, take, map, refl, sym, ap, ◌∙◌, subst, arith, append_assoc}
+use Rattle.std.proofs.Common.{◌≡◌, ℕ, ◌≤◌, List, ◌++◌, length, take, map, sym, ap, ◌∙◌, subst, append_assoc}
 use Rattle.std.proofs.lemmas.List.{append-nil}
 use Rattle.std.specs.List.{concat}
-use Rattle.layered_index.specs.Checkpoint.{bytes_end}
 use Rattle.layered_index.specs.Layers.{index_part}
 use Rattle.store_format.specs.Footer.{footer}
-use Rattle.store_format.specs.StoreFile.{StoreBlock, IsStore, data_of, checkpoints_of, file, reserved_of}
+use Rattle.store_format.specs.StoreFile.{IsStore, data_of, checkpoints_of, file, reserved_of}
 use Rattle.store_format.proofs.ApartLemmas.{files_are_stores}
 use Rattle.store_format.proofs.StoreLemmas.{checkpoints_cover}
 use Rattle.docstore.specs.Writer.{Writing}

@@ -21,7 +21,8 @@ same_blocks doc byte (c ∷ cs) (d ∷ ds) p q e =
     let doc_end : c.doc_range.end ≡ d.doc_range.end = ap (λ (b : Block). b.end_doc) first in
     let byte_end : c.byte_range.end ≡ d.byte_range.end = ap (λ (b : Block). b.end_byte) first in
     let here : c ≡ d = same_checkpoint c d (p.0 ∙ sym q.0) doc_end (p.1 ∙ sym q.1) byte_end in
-    let others = same_blocks d.doc_range.end d.byte_range.end cs ds (subst (λ (n : ℕ). IsInLineFrom n d.byte_range.end cs) doc_end (subst (λ (n : ℕ). IsInLineFrom c.doc_range.end n cs) byte_end p.3)) q.3 rest in
+    let others = same_blocks d.doc_range.end d.byte_range.end cs ds
+    (subst (λ (n : ℕ). IsInLineFrom n d.byte_range.end cs) doc_end (subst (λ (n : ℕ). IsInLineFrom c.doc_range.end n cs) byte_end p.3)) q.3 rest in
     λ i. here i ∷ others i
 
 -- a block that ends behind others that are in line is within the limits
@@ -42,7 +43,8 @@ next_within doc byte (c ∷ cs) (x ∷ done) start end left p q d b e =
     (subst (λ (n : ℕ). IsInLineFrom n x.byte_range.end cs) doc_end (subst (λ (n : ℕ). IsInLineFrom c.doc_range.end n cs) byte_end p.3)) q.3 d b rest
 
 -- the last of the places is where the blocks end
-pub last_byte : (doc byte : ℕ) (cs : List Checkpoint) (ends : List Block) → ends ≡ map ends_of cs → (start_in (record { end_doc = doc; end_byte = byte }) ends (length ends)).end_byte ≡ bytes_end byte cs
+pub last_byte : (doc byte : ℕ) (cs : List Checkpoint) (ends : List Block) → ends ≡ map ends_of cs
+    → (start_in (record { end_doc = doc; end_byte = byte }) ends (length ends)).end_byte ≡ bytes_end byte cs
 last_byte doc byte [] [] e = refl
 last_byte doc byte [] (b ∷ ends) e = absurd cc
 last_byte doc byte (c ∷ cs) [] e = absurd cc
@@ -60,8 +62,7 @@ pub one_more_end : (ends : List Block) (i : ℕ) (done : List Checkpoint) (start
 one_more_end ends i done start c lt are at is within =
     let b = get_or ends i zero_block in
     let here : ends_of c ≡ b = ap ends_of is in
-    let next = ends_put start.end_doc start.end_byte done c at (ap (λ (x : Checkpoint). x.doc_range.start) is) (ap (λ (x : Checkpoint). x.byte_range.start) is) within in
-    (
+    let next = ends_put start.end_doc start.end_byte done c at (ap (λ (x : Checkpoint). x.doc_range.start) is) (ap (λ (x : Checkpoint). x.byte_range.start) is) within in (
       map-append ends_of done (c ∷ []) ∙ (λ j. are j ++ here j ∷ []) ∙ sym (take_more ends i zero_block lt),
       subst (λ (x : Checkpoint). EndsAt x.doc_range.end x.byte_range.end (done ++ c ∷ [])) is next,
     )
@@ -74,5 +75,5 @@ none_more ends i done start lt are at past cs line is =
     let left = drop (i + 1) ends in
     let parts : map ends_of cs ≡ map ends_of done ++ b ∷ left =
     sym is ∙ sym (take-append-drop (i + 1) ends) ∙ ap (λ (xs : List Block). xs ++ left) (take_more ends i zero_block lt) ∙ append_assoc (take i ends) (b ∷ []) left
-        ∙ ap (λ (xs : List Block). xs ++ b ∷ left) (sym are) in
+    ∙ ap (λ (xs : List Block). xs ++ b ∷ left) (sym are) in
     past (next_within 0 0 cs done start b left line at.in_line at.docs at.bytes parts)

@@ -1,20 +1,19 @@
 -- The caller's memory of a writer: what it has once a document is put, or its open block ended.
-use Rattle.std.proofs.Common.{◌≡◌, ℕ, zero, suc, ◌+◌, ◌*◌, ◌^◌, ◌<◌, ◌≤◌, nat_lt, List, [], ◌∷◌, ◌++◌, length, take, drop, set, map, None, refl, sym, ap, ◌∙◌, subst}
+use Rattle.std.proofs.Common.{◌≡◌, ℕ, ◌+◌, ◌*◌, ◌^◌, ◌<◌, ◌≤◌, List, [], ◌∷◌, ◌++◌, length, take, set, map, None, refl, sym, ap, ◌∙◌, subst}
 use Rattle.std.proofs.Common.{arith, append_assoc, length-append, length-set}
 use Rattle.std.proofs.lemmas.Bool.{lt-ltb, le-ltb}
-use Rattle.std.proofs.lemmas.List.{append-nil, map-append, take_more_set, take-set-le}
+use Rattle.std.proofs.lemmas.List.{append-nil, map-append, take_more_set}
 use Rattle.std.proofs.lemmas.Grind.{flat_map-append}
 use Rattle.std.specs.List.{flat_map, concat}
 use Rattle.std.specs.Prelude.{min}
-use Rattle.layered_index.specs.declared.index.Checkpoint.{Checkpoint}
 use Rattle.store_base.specs.Serialize.{fixed}
 use Rattle.store_format.specs.Block.{block, starts_from}
-use Rattle.store_format.specs.StoreFile.{StoreBlock, IsStoreBlock, AreBlocks, block_of, data_of, docs_in, checkpoints_of, checkpoints_from}
-use Rattle.store_format.proofs.BlockLemmas.{starts_from-append, concat-append, length-block, length-concat, length-starts_from}
-use Rattle.store_format.proofs.StoreLemmas.{docs_in-cons, docs_in-append, length-data_of-cons, data_of-append, data_fits, AreBlocks-append, checkpoints_from-append}
+use Rattle.store_format.specs.StoreFile.{StoreBlock, AreBlocks, block_of, data_of, docs_in, checkpoints_of, checkpoints_from}
+use Rattle.store_format.proofs.BlockLemmas.{starts_from-append, concat-append, length-block, length-concat}
+use Rattle.store_format.proofs.StoreLemmas.{docs_in-cons, length-data_of-cons, data_of-append, AreBlocks-append, checkpoints_from-append}
 use Rattle.docstore.specs.Trace.{weight}
-use Rattle.docstore.specs.BlockOutput.{BlockOutput, with_blocks, HoldsBlocks, IsSound}
-use Rattle.docstore.specs.Writer.{Writing, IsStoreWriter, blocks_of, num_docs, flushed, with_document}
+use Rattle.docstore.specs.BlockOutput.{with_blocks, HoldsBlocks, IsSound}
+use Rattle.docstore.specs.Writer.{Writing, blocks_of, flushed, with_document}
 use Rattle.store_c.specs.declared.block.Block.{Block}
 use Rattle.store_c.specs.declared.writer.Writer.{Writer}
 use Rattle.store_c.specs.Calls.{ends_of, start_in}
@@ -239,7 +238,8 @@ module _ (old : Memory) (len : ℕ) (end : Block) (room : old.writer.docs + 2 �
       let long : length mid.starts ≡ length old.starts = length-set old.starts old.writer.docs old.writer.bytes in
       let some : 0 < length more = omega (arith, g.docs) in
       let on : with_document w d ≡ with_block w more =
-      rw (lt-ltb w.block_size (weight more) (omega (arith, g.heavy, h.block_size))) (ap (λ (bs : List StoreBlock). record w { pending = []; output = with_blocks w.output bs }) (blocks_of_some more some)) in
+      rw (lt-ltb w.block_size (weight more) (omega (arith, g.heavy, h.block_size)))
+      (ap (λ (bs : List StoreBlock). record w { pending = []; output = with_blocks w.output bs }) (blocks_of_some more some)) in
       let ends' : EndsAt (start_in zero_block old.table old.writer.blocks) (length more) (length (concat more)) end =
       subst (λ (n : ℕ). EndsAt (start_in zero_block old.table old.writer.blocks) n (length (concat more)) end) (sym g.docs)
       (subst (λ (n : ℕ). EndsAt (start_in zero_block old.table old.writer.blocks) (old.writer.docs + 1) n end) (sym g.bytes) ends) in
@@ -247,7 +247,8 @@ module _ (old : Memory) (len : ℕ) (end : Block) (room : old.writer.docs + 2 �
       let count : length more + 1 ≡ old.writer.docs + 2 = omega (arith, g.docs) in
       subst (Holds (memory (without_open mid.writer) tail (set old.table old.writer.blocks end)) ((text ++ d) ++ bytes_of (old.writer.docs + 2) tail)) (sym on)
       (subst (λ (n : ℕ). Holds (memory (without_open mid.writer) tail (set old.table old.writer.blocks end)) ((text ++ d) ++ bytes_of n tail) (with_block w more)) count
-      (subst (λ (n : ℕ). Holds (memory (without_open mid.writer) (set mid.starts n n) (set old.table old.writer.blocks end)) ((text ++ d) ++ bytes_of (length more + 1) (set mid.starts n n)) (with_block w more)) g.docs holds))
+      (subst (λ (n : ℕ). Holds (memory (without_open mid.writer) (set mid.starts n n) (set old.table old.writer.blocks end))
+      ((text ++ d) ++ bytes_of (length more + 1) (set mid.starts n n)) (with_block w more)) g.docs holds))
 
 -- ---- the open block is ended
 
@@ -263,7 +264,8 @@ ended old end some room rows ends text w h =
     let holds = block_ended old w docs end (has_finished old text w h) (omega (arith, h.docs)) h.starts (omega (arith, h.docs)) rows ends' text h.written in
     let on : flushed w ≡ with_block w docs = ap (λ (bs : List StoreBlock). record w { pending = []; output = with_blocks w.output bs }) (blocks_of_some docs (omega (arith, h.docs))) in
     subst (λ (n : ℕ). Holds (memory (without_open old.writer) (set old.starts n n) after) (text ++ bytes_of (n + 1) (set old.starts n n)) (flushed w)) (sym h.docs)
-    (subst (Holds (memory (without_open old.writer) (set old.starts (length docs) (length docs)) after) (text ++ bytes_of (length docs + 1) (set old.starts (length docs) (length docs)))) (sym on) holds)
+    (subst (Holds (memory (without_open old.writer) (set old.starts (length docs) (length docs)) after)
+    (text ++ bytes_of (length docs + 1) (set old.starts (length docs) (length docs)))) (sym on) holds)
 
 pub none_pending : (docs : List (List ℕ)) → length docs ≡ 0 → docs ≡ []
 none_pending [] e = refl

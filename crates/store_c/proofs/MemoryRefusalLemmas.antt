@@ -1,13 +1,13 @@
 -- Why a document isn't put into the caller's memory, or its open block not ended.
-use Rattle.std.proofs.Common.{◌≡◌, ℕ, ◌+◌, ◌*◌, ◌^◌, ◌<◌, ◌≤◌, ◌⊎◌, inl, inr, List, [], ◌∷◌, ◌++◌, length, refl, sym, ap, ◌∙◌, arith, length-append, true, false, nat_lt}
+use Rattle.std.proofs.Common.{◌≡◌, ℕ, ◌+◌, ◌*◌, ◌^◌, ◌<◌, ◌≤◌, inl, inr, List, [], ◌∷◌, ◌++◌, length, refl, ap, arith, length-append, true, false, nat_lt}
 use Rattle.std.proofs.lemmas.Bool.{ltb-true, ltb-false}
 use Rattle.std.specs.List.{concat}
 use Rattle.std.specs.Prelude.{min}
 use Rattle.store_format.specs.Block.{block}
-use Rattle.store_format.specs.StoreFile.{StoreBlock, block_of, data_of, docs_in}
+use Rattle.store_format.specs.StoreFile.{block_of, data_of, docs_in}
 use Rattle.store_format.proofs.BlockLemmas.{concat-append, length-block}
 use Rattle.store_format.proofs.StoreLemmas.{length-data_of-cons, data_of-append, data_fits}
-use Rattle.docstore.specs.Writer.{Writing, num_docs, IsTooLarge, HasIdLeft}
+use Rattle.docstore.specs.Writer.{Writing}
 use Rattle.store_c.specs.declared.block.Block.{Block}
 use Rattle.store_c.specs.declared.writer_refusal.WriterRefusal.{WriterRefusal}
 use Rattle.store_c.specs.declared.writer_refusal.WriterRefusal.TheVariants.{NoMemory, OldVersion, BlockTooLarge, TooManyDocs, BadPeriod, NoRoom, OpenBlock, OtherWriter}

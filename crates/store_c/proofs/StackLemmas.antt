@@ -10,19 +10,19 @@ use Rattle.layered_index.specs.declared.index.Checkpoint.{Checkpoint}
 use Rattle.layered_index.specs.Checkpoint.{IsInLineFrom}
 use Rattle.store_format.specs.Footer.{version_number}
 use Rattle.store_format.specs.StoreFile.{StoreBlock, IsStoreBlock, IsStore, AreBlocks, data_of, docs_in, checkpoints_of, checkpoints_from}
-use Rattle.store_format.proofs.StoreLemmas.{docs_in-append, data_of-append, data_fits, AreBlocks-append, checkpoints_from-append, checkpoints_in_line_from}
+use Rattle.store_format.proofs.StoreLemmas.{data_of-append, data_fits, AreBlocks-append, checkpoints_from-append, checkpoints_in_line_from}
 use Rattle.store_format.proofs.BlockLemmas.{length-block}
 use Rattle.store_reader.specs.Viewing.{Viewing, count_in}
 use Rattle.docstore.specs.BlockOutput.{BlockOutput, with_blocks}
 use Rattle.docstore.specs.Stacking.{shifted, with_store}
-use Rattle.docstore.specs.Writer.{Writing, blocks_of, flushed}
+use Rattle.docstore.specs.Writer.{Writing, blocks_of}
 use Rattle.docstore.proofs.ShiftedCheckpointLemmas.{shifted_behind}
 use Rattle.docstore.proofs.TakenLemmas.{length-slots}
 use Rattle.store_c.specs.declared.block.Block.{Block}
 use Rattle.store_c.specs.declared.writer.Writer.{Writer}
 use Rattle.store_c.specs.Calls.{ends_of, ends_behind, start_in, with_front}
-use Rattle.store_c.specs.Writing.{Memory, memory, Holds, PutsBlocks, IsOther}
-use Rattle.store_c.proofs.TableLemmas.{zero_block, front_is, length-front}
+use Rattle.store_c.specs.Writing.{memory, Holds, PutsBlocks, IsOther}
+use Rattle.store_c.proofs.TableLemmas.{zero_block, length-front}
 use Rattle.store_c.proofs.MemoryLemmas.{has_finished, open_at, none_pending}
 
 -- ---- blocks behind others
@@ -47,7 +47,7 @@ pub without_documents : (w : Writing) (bs : List StoreBlock) → w.pending ≡ [
 without_documents w bs none =
     let nothing : with_blocks w.output (blocks_of w.pending) ≡ w.output =
     ap (λ (docs : List (List ℕ)). with_blocks w.output (blocks_of docs)) none
-        ∙ (λ i. record w.output { finished = append-nil w.output.finished i; content = append-nil w.output.content i }) in
+    ∙ (λ i. record w.output { finished = append-nil w.output.finished i; content = append-nil w.output.content i }) in
     ap (λ (out : BlockOutput). record w { pending = []; output = with_blocks out bs }) nothing
 
 pub length-checkpoints : (id byte : ℕ) (bs : List StoreBlock) → length (checkpoints_from id byte bs) ≡ length bs
@@ -82,7 +82,8 @@ rows_written table mid ys rs from k n fits is room size =
 abbrev pub with_more : Writer → ℕ → Writer
 with_more writer count = record { block_size = writer.block_size; blocks = writer.blocks + count; docs = writer.docs; bytes = writer.bytes }
 
-module _ (writer : Writer) (table mid ys : List Block) (k count : ℕ) (start : Block) (cs : List Checkpoint) (view : Viewing) (store : IsStore view.period view.file (version_number view.version) view.store)
+module _ (writer : Writer) (table mid ys : List Block) (k count : ℕ) (start : Block) (cs : List Checkpoint) (view : Viewing)
+    (store : IsStore view.period view.file (version_number view.version) view.store)
     (are : cs ≡ checkpoints_of view.store) (closed : writer.docs ≡ 0) (fits : writer.blocks ≤ length table) (from : start ≡ start_in zero_block table writer.blocks)
     (few : count_in view ≤ 4294967295 - start.end_doc) where
   -- what is known of a writer of this memory
@@ -109,7 +110,13 @@ module _ (writer : Writer) (table mid ys : List Block) (k count : ℕ) (start : 
   pub has_place : 18446744073709551615 - start.end_byte < length (data_of view.store) → IsOther writer table
   has_place large starts text w h =
       let b = behind starts text w h in
-      omega (arith, b.byte, data_fits (w.output.finished ++ view.store) b.blocks, ap length (data_of-append w.output.finished view.store), length-append (data_of w.output.finished) (data_of view.store))
+      omega (
+        arith,
+        b.byte,
+        data_fits (w.output.finished ++ view.store) b.blocks,
+        ap length (data_of-append w.output.finished view.store),
+        length-append (data_of w.output.finished) (data_of view.store),
+      )
 
   pub stacked : ys ≡ with_front (map (ends_behind start) cs) mid → count ≡ length cs → count ≤ length ys → PutsBlocks view writer table (with_more writer count) (put_mid writer.blocks k table ys)
   stacked is counted room starts text w h =
@@ -146,11 +153,11 @@ module _ (writer : Writer) (table mid ys : List Block) (k count : ℕ) (start : 
         bytes = omega (arith, h.bytes, ap (λ (docs : List (List ℕ)). length (concat docs)) b.none);
         starts = refl;
         blocks = omega (arith, h.blocks, counted, blocks, length-append bs view.store);
-        rows = rows_written table mid ys rs writer.blocks k (length (bs ++ view.store)) fits is (omega (arith, size, room)) (omega (arith, size, counted, blocks, h.blocks, length-append bs view.store))
+        rows = rows_written table mid ys rs writer.blocks k (length (bs ++ view.store)) fits is (omega (arith, size, room))
+            (omega (arith, size, counted, blocks, h.blocks, length-append bs view.store))
             ∙ (λ i. (ap (λ (n : ℕ). take n table) h.blocks ∙ h.rows) i ++ rows i)
             ∙ sym (map-append ends_of (checkpoints_of bs) (checkpoints_from (0 + docs_in bs) (0 + length (data_of bs)) view.store))
             ∙ ap (map ends_of) (sym (checkpoints_from-append 0 0 bs view.store));
         written = (λ i. (h.written ∙ ap (λ (docs : List (List ℕ)). data_of bs ++ concat docs) b.none ∙ append-nil (data_of bs)) i ++ data_of view.store)
             ∙ sym (data_of-append bs view.store) ∙ sym (append-nil (data_of (bs ++ view.store)));
       })
-

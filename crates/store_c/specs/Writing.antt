@@ -1,5 +1,6 @@
 -- What the caller's memory has of a store that is written, and what the calls make of it.
-use Rattle.std.specs.Prelude.{◌≡◌, ◌≢◌, ◌⊎◌, ℕ, ◌+◌, ◌-◌, ◌*◌, ◌<◌, ◌≤◌, ◌^◌, List, [], ◌++◌, length, take, map, None}
+use Rattle.std.specs.Prelude.{◌≡◌, ◌≢◌, ◌⊎◌, ℕ, ◌+◌, ◌-◌, ◌*◌, ◌<◌, ◌≤◌, ◌^◌, List, [], ◌++◌}
+use Rattle.std.specs.Prelude.{length, take, map, None}
 use Rattle.std.specs.List.{flat_map, concat}
 use Rattle.layered_index.specs.declared.index.Checkpoint.{Checkpoint}
 use Rattle.layered_index.specs.Checkpoint.{checkpoint, bytes_end, IsInLineFrom}
@@ -13,7 +14,8 @@ use Rattle.store_format.specs.declared.kinds.Compressor.{Compressor}
 use Rattle.store_format.specs.declared.version.DocStoreVersion.TheVariants.{V1}
 use Rattle.store_reader.specs.Viewing.{Viewing, IsViewOf, count_in}
 use Rattle.docstore.specs.BlockOutput.{new_output}
-use Rattle.docstore.specs.Writer.{Writing, IsStoreWriter, IsTooLarge, new_writing, num_docs, flushed, with_document}
+use Rattle.docstore.specs.Writer.{Writing, IsStoreWriter, IsTooLarge, new_writing, num_docs, flushed}
+use Rattle.docstore.specs.Writer.{with_document}
 use Rattle.docstore.specs.Stacking.{with_store}
 use Rattle.store_c.specs.declared.block.Block.{Block}
 use Rattle.store_c.specs.declared.writer.Writer.{Writer}

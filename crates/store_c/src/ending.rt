@@ -56,7 +56,11 @@ fn index_of(alloc: Global, ends: &[Block], period: u8) -> Result<SkipIndexBuilde
 }
 
 /// What stands behind blocks that end so: their index and the footer.
-pub(crate) fn end_of_file(alloc: Global, ends: &[Block], period: u8) -> Result<Vec<u8>, WriterRefusal>
+pub(crate) fn end_of_file(
+    alloc: Global,
+    ends: &[Block],
+    period: u8,
+) -> Result<Vec<u8>, WriterRefusal>
     requires least { 2 ≤ period }
     requires most { period ≤ 64 }
     ensures end { IfOk result (λ end. IsEndOf period ends.now end.items) }

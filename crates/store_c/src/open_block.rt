@@ -49,7 +49,11 @@ pub(crate) fn finish(
     ensures starts { starts.new ≡ set starts.old writer.old.docs writer.old.docs }
     ensures table { table.new ≡ set table.old writer.old.blocks end }
     ensures writer { writer.new ≡ record {
-        block_size = writer.old.block_size; blocks = writer.old.blocks + 1; docs = 0; bytes = 0 } }
+      block_size = writer.old.block_size;
+      blocks = writer.old.blocks + 1;
+      docs = 0;
+      bytes = 0;
+    } }
 {
     let docs = writer.docs;
     starts[docs] = docs as u32;

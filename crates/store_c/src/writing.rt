@@ -1,6 +1,6 @@
-//! Writing, as C calls it. A writer's numbers, the starts of the documents of its open block and the table of its blocks
-//! are the caller's memory, and so are the documents: the caller writes them, and what these calls tell to write behind
-//! them.
+//! Writing, as C calls it. A writer's numbers, the starts of the documents of its open block and the table of its
+//! blocks are the caller's memory, and so are the documents: the caller writes them, and what these calls tell to write
+//! behind them.
 ghost use Rattle.std.specs.Prelude.{◌≡◌, ◌≢◌, ◌⊎◌, ◌+◌, ◌<◌, ◌≤◌, length, take};
 ghost use Rattle.store_format.specs.StoreFile.{checkpoints_of};
 ghost use Rattle.store_format.specs.declared.version.DocStoreVersion.TheVariants.{V1};
@@ -10,10 +10,9 @@ ghost use Rattle.store_c.specs.Writing.{IsTooLong, HasNoNumber, IsOther, Refuses
 
 use crate::block::Block;
 use crate::ending::end_of_file;
-use crate::open_block;
-use crate::stacking;
 use crate::writer::Writer;
 use crate::writer_refusal::WriterRefusal;
+use crate::{open_block, stacking};
 use std::alloc::Global;
 use store_reader::StoreView;
 
@@ -105,10 +104,10 @@ pub extern "C" fn zevk_writer_end_block(
 /// Puts the blocks of the store whose file these bytes are behind those that were ended. The caller writes its data
 /// behind what was written: the first `len` bytes of the file. It has `count` blocks.
 ///
-/// It is refused by the number of the first refusal of the footer or the index, by 10 where memory runs out, by 11 where
-/// its documents may be in an older form, by 34 where the open block has documents, by 14 where the documents of both
-/// can't be numbered, by 35 where the numbers are not as these calls left them, and by 32 where there is no room for so
-/// many blocks. Then `count` is told, and the rows behind those that were ended are anything.
+/// It is refused by the number of the first refusal of the footer or the index, by 10 where memory runs out, by 11
+/// where its documents may be in an older form, by 34 where the open block has documents, by 14 where the documents of
+/// both can't be numbered, by 35 where the numbers are not as these calls left them, and by 32 where there is no room
+/// for so many blocks. Then `count` is told, and the rows behind those that were ended are anything.
 #[unsafe(no_mangle)]
 pub extern "C" fn zevk_writer_stack(
     alloc: Global,

@@ -1,9 +1,5 @@
-use Rattle.std.proofs.Common.{◌≡◌, refl, ◌+◌, ◌++◌, ◌∷◌, [], List, ℕ, length, sym, ap, ◌∙◌, subst, arith, append_assoc}
-use Rattle.layered_index.specs.declared.index.Checkpoint.{Checkpoint}
+use Rattle.std.proofs.Common.{◌≡◌, refl, sym, ap, ◌∙◌}
 use Rattle.layered_index.specs.Checkpoint.{bytes_end}
-use Rattle.layered_index.specs.Layers.{index_part}
-use Rattle.store_format.specs.Footer.{footer}
-use Rattle.store_format.specs.StoreFile.{reserved_of}
 use Rattle.docstore.proofs.PendingLemmas.{from_ok}
 use Rattle.store_c.specs.declared.block.Block.{Block}
 use Rattle.store_c.proofs.EndLemmas.{same_blocks, last_byte}

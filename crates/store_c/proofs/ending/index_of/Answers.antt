@@ -1,6 +1,4 @@
-use Rattle.std.proofs.Common.{◌≡◌, ◌++◌, ◌∷◌, [], List, sym, ap, ◌∙◌, subst}
-use Rattle.layered_index.specs.declared.index.Checkpoint.{Checkpoint}
-use Rattle.layered_index.specs.Checkpoint.{EndsAt}
+use Rattle.std.proofs.Common.{sym}
 use Rattle.layered_index.specs.LineLemmas.{ends_in_line}
 use Rattle.docstore.proofs.PendingLemmas.{from_ok}
 use Rattle.store_c.proofs.EndLemmas.{one_more_end, none_more}
@@ -13,12 +11,12 @@ returns-in_default-clause-refused c =
 pub insert-requires : goal.insert-requires
 insert-requires c =
     let more = one_more_end c.args.ends.now c.loop-end.end-index c.loop-end.index.checkpoints c.loop-end.start c.in-Some.checkpoint c.loop-end-test.true c.loop-end.invariant.1 c.loop-end.invariant.2
-        c.in-Some.ensures.0 c.in-Some.ensures.1 in
+    c.in-Some.ensures.0 c.in-Some.ensures.1 in
     ends_in_line _ _ _ more.1
 
 pub loop-end-preserved : goal.loop-end-preserved
 loop-end-preserved c =
     let more = one_more_end c.args.ends.now c.loop-end.end-index c.loop-end.index.checkpoints c.loop-end.start c.in-Some.checkpoint c.loop-end-test.true c.loop-end.invariant.1 c.loop-end.invariant.2
-        c.in-Some.ensures.0 c.in-Some.ensures.1 in
+    c.in-Some.ensures.0 c.in-Some.ensures.1 in
     let is = from_ok c.insert.result (sym c.if-is_err.ensures.value) c.insert.ensures.ok in
     rw is (c.loop-end.invariant.0, more.0, more.1)

@@ -10,13 +10,13 @@ use Rattle.store_c.proofs.filling.fill.Goals as goal
 pub overflow_add-table : goal.overflow_add-table
 overflow_add-table c =
     let within = limits_of c.args.start.end_doc c.args.start.end_byte c.loop-checkpoint.invariant.0 c.next.new.self _ c.in-Some.checkpoint
-        (ap (λ (xs : List Checkpoint). c.loop-checkpoint.invariant.0 ++ xs) (sym c.in-Some.ensures.steps) ∙ c.loop-checkpoint.invariant.1) c.requires.in_line in
+    (ap (λ (xs : List Checkpoint). c.loop-checkpoint.invariant.0 ++ xs) (sym c.in-Some.ensures.steps) ∙ c.loop-checkpoint.invariant.1) c.requires.in_line in
     let end = within.doc_end in omega arith
 
 pub overflow_add-table-then-count-table : goal.overflow_add-table-then-count-table
 overflow_add-table-then-count-table c =
     let within = limits_of c.args.start.end_doc c.args.start.end_byte c.loop-checkpoint.invariant.0 c.next.new.self _ c.in-Some.checkpoint
-        (ap (λ (xs : List Checkpoint). c.loop-checkpoint.invariant.0 ++ xs) (sym c.in-Some.ensures.steps) ∙ c.loop-checkpoint.invariant.1) c.requires.in_line in
+    (ap (λ (xs : List Checkpoint). c.loop-checkpoint.invariant.0 ++ xs) (sym c.in-Some.ensures.steps) ∙ c.loop-checkpoint.invariant.1) c.requires.in_line in
     let end = within.byte_end in omega arith
 
 pub loop-checkpoint-preserved : goal.loop-checkpoint-preserved

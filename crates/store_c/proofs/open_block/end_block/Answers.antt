@@ -1,7 +1,7 @@
-use Rattle.std.proofs.Common.{◌≡◌, ◌+◌, ℕ, sym, subst, arith}
+use Rattle.std.proofs.Common.{subst, arith}
 use Rattle.store_c.specs.declared.block.Block.{Block}
 use Rattle.store_c.specs.Writing.{Memory, memory, EndsAt, RefusesEnd}
-use Rattle.store_c.proofs.MemoryLemmas.{ended, none_ended}
+use Rattle.store_c.proofs.MemoryLemmas.{ended}
 use Rattle.store_c.proofs.MemoryRefusalLemmas.{end_refused}
 use Rattle.store_c.proofs.open_block.end_block.Goals as goal
 

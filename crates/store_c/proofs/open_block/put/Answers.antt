@@ -1,7 +1,7 @@
-use Rattle.std.proofs.Common.{◌≡◌, ◌+◌, ℕ, sym, ap, ◌∙◌, subst, arith, length-set}
+use Rattle.std.proofs.Common.{◌≡◌, ◌+◌, subst, arith}
 use Rattle.std.proofs.lemmas.Result.{err_from_is_err_and}
 use Rattle.store_c.specs.declared.block.Block.{Block}
-use Rattle.store_c.specs.Writing.{Memory, memory, EndsAt, RefusesEnd}
+use Rattle.store_c.specs.Writing.{Memory, memory, RefusesEnd}
 use Rattle.store_c.proofs.MemoryLemmas.{exact_sum, exact_end, put_open, put_full}
 use Rattle.store_c.proofs.MemoryRefusalLemmas.{put_refused}
 use Rattle.store_c.proofs.open_block.put.Goals as goal

@@ -1,7 +1,6 @@
-use Rattle.std.proofs.Common.{◌≡◌, length, map, sym, ap, ◌∙◌, subst, arith}
+use Rattle.std.proofs.Common.{length, map, sym, ap, ◌∙◌, subst, arith}
 use Rattle.layered_index.specs.Checkpoint.{IsInLineFrom}
 use Rattle.docstore.specs.Stacking.{shifted}
-use Rattle.store_format.specs.StoreFile.{checkpoints_of}
 use Rattle.store_c.proofs.TableLemmas.{first_shifted}
 use Rattle.store_c.proofs.TableViewLemmas.{no_more, in_line}
 use Rattle.store_c.proofs.reading.zevk_open.Goals as goal

@@ -1,7 +1,7 @@
-use Rattle.std.proofs.Common.{◌≡◌, ◌+◌, ◌≤◌, ℕ, [], length, sym, refl, ap, ◌∙◌, subst, arith}
+use Rattle.std.proofs.Common.{[], length, refl, ap, ◌∙◌, arith}
 use Rattle.docstore.proofs.TakenLemmas.{length-slots}
 use Rattle.store_format.specs.Footer.{version_number}
-use Rattle.store_format.specs.StoreFile.{IsStore, checkpoints_of}
+use Rattle.store_format.specs.StoreFile.{IsStore}
 use Rattle.store_reader.specs.Viewing.{Viewing, IsViewOf}
 use Rattle.store_c.specs.declared.block.Block.{Block}
 use Rattle.store_c.specs.Writing.{memory}
@@ -52,5 +52,5 @@ returns-clause-stacked c =
     let v = c.args.view.now in
     let few = c.if-num_docs-start.false in
     let done = stacked c.args.writer.now c.args.table.now _ c.fill.new.table _ c.fill.result c.start_of-start.result c.block_checkpoints.result v c.num_docs.ensures.store c.block_checkpoints.ensures
-        (omega arith) (omega arith) c.start_of-start.ensures (omega (arith, c.num_docs.ensures.count)) c.fill.ensures.filled c.fill.ensures.count c.if-count-rows.false in
+    (omega arith) (omega arith) c.start_of-start.ensures (omega (arith, c.num_docs.ensures.count)) c.fill.ensures.filled c.fill.ensures.count c.if-count-rows.false in
     done
