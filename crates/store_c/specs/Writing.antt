@@ -20,8 +20,9 @@ use Rattle.docstore.specs.Stacking.{with_store}
 use Rattle.store_c.specs.declared.block.Block.{Block}
 use Rattle.store_c.specs.declared.writer.Writer.{Writer}
 use Rattle.store_c.specs.declared.writer_refusal.WriterRefusal.{WriterRefusal}
-use Rattle.store_c.specs.declared.writer_refusal.WriterRefusal.TheVariants.{NoMemory, OldVersion, BlockTooLarge, TooManyDocs}
-use Rattle.store_c.specs.declared.writer_refusal.WriterRefusal.TheVariants.{NoRoom, OpenBlock, OtherWriter}
+use Rattle.store_c.specs.declared.writer_refusal.WriterRefusal.TheVariants.{NoMemory, OldVersion, BlockTooLarge}
+use Rattle.store_c.specs.declared.writer_refusal.WriterRefusal.TheVariants.{TooManyDocs, NoRoom, OpenBlock}
+use Rattle.store_c.specs.declared.writer_refusal.WriterRefusal.TheVariants.{OtherWriter}
 use Rattle.store_c.specs.Calls.{ends_of}
 
 -- ---- memory
