@@ -1,0 +1,59 @@
+/* What each side is asked to do: the same few calls, so that one loop serves them all. */
+#ifndef SIDE_H
+#define SIDE_H
+
+#include <stdbool.h>
+#include <stddef.h>
+#include <stdint.h>
+
+#include "check.h"
+#include "documents.h"
+
+/* How a store is written and read. */
+struct settings {
+    uint32_t count;      /* documents, numbered from 0 */
+    size_t length;       /* bytes of each */
+    size_t block_size;   /* bytes of a block, where a side is told one by whoever chooses: ours */
+    size_t cache_bytes;  /* what a reader may keep of the file in memory of its own */
+    unsigned threads;    /* how many read at once */
+    bool scattered;      /* reads will be far apart, in a file that is not in memory */
+};
+
+struct side {
+    const char *name;
+
+    /* Called once before anything else. NULL where there is nothing to do. */
+    void (*prepare)(const struct settings *settings);
+
+    /* Writes all documents by their numbers, and ends with a file that needs no more work before it is opened. */
+    void (*write)(const char *path, const struct documents *documents, const struct settings *settings);
+
+    /* Opens what was written. All threads share it. */
+    void *(*open)(const char *path, const struct settings *settings);
+
+    /* What one thread reads by, and its end. */
+    void *(*begin)(void *store);
+    void (*end)(void *reader);
+
+    /* A document, whose bytes stay until the next call by the same reader. */
+    struct bytes (*get)(void *reader, uint32_t number);
+
+    /* Adds all documents to the check, in order, by the side's own walk. */
+    void (*iterate)(void *reader, struct check *check);
+
+    void (*close)(void *store);
+};
+
+extern const struct side plain_side, lmdb_side, sqlite_side, leveldb_side, rocksdb_side, cdb_side, zevk_side;
+
+/* Ends the program with a text, and where it came from. */
+_Noreturn void stop(const char *who, const char *why);
+
+/* Ends the program where a condition does not hold. */
+static inline void require(bool condition, const char *who, const char *why) {
+    if (!condition) {
+        stop(who, why);
+    }
+}
+
+#endif

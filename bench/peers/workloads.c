@@ -1,0 +1,151 @@
+#include "workloads.h"
+
+#include <stdlib.h>
+
+#include "clock.h"
+#include "files.h"
+#include "memory.h"
+
+/* Of every so many documents one is got before the clock starts, so that tables and inner pages are in memory too. */
+enum { WARM_EVERY = 32, MOST_LEFT_OF_A_THOUSAND = 20 };
+
+static struct check walked(const struct work *work, void *reader) {
+    struct check check = {0, 0};
+    work->side->iterate(reader, &check);
+    require(check.count == work->settings.count, work->side->name, "not all documents came");
+    return check;
+}
+
+static void warm(const struct work *work, void *reader) {
+    struct check check = walked(work, reader);
+    for (uint32_t number = 0; number < work->settings.count; number += WARM_EVERY) {
+        check_add(&check, work->side->get(reader, number));
+    }
+}
+
+static struct check got(const struct side *side, void *reader, const uint32_t *numbers, size_t count) {
+    struct check check = {0, 0};
+    for (size_t at = 0; at < count; at++) {
+        check_add(&check, side->get(reader, numbers[at]));
+    }
+    return check;
+}
+
+static uint64_t more(uint64_t now, uint64_t before) {
+    return now > before ? now - before : 0;
+}
+
+struct told work_write(const struct work *work) {
+    struct documents documents = documents_of(work->settings.length);
+    path_remove(work->path);
+    uint64_t start = clock_now();
+    work->side->write(work->path, &documents, &work->settings);
+    uint64_t closed = clock_now();
+    path_sync(work->path);
+    uint64_t synced = clock_now();
+    documents_free(&documents);
+
+    void *store = work->side->open(work->path, &work->settings);
+    void *reader = work->side->begin(store);
+    struct check check = walked(work, reader);
+    work->side->end(reader);
+    work->side->close(store);
+    return (struct told){
+        .count = work->settings.count,
+        .nanoseconds = closed - start,
+        .sync_nanoseconds = synced - closed,
+        .file_bytes = path_size(work->path),
+        .peak_bytes = peak_memory(),
+        .check = check.value,
+    };
+}
+
+/* Gets that are timed, by a reader that was opened before; `is_cold` is whether nothing is read before them. */
+static struct told timed_gets(const struct work *work, bool is_cold) {
+    const struct settings *settings = &work->settings;
+    uint32_t *numbers = numbers_of(work->order, work->questions, settings->count, work->hot, 0);
+    uint64_t before = own_memory(), start = clock_now();
+    void *store = work->side->open(work->path, settings);
+    void *reader = work->side->begin(store);
+    uint64_t opened = clock_now();
+    if (!is_cold) {
+        warm(work, reader);
+    }
+    uint64_t warmed = clock_now();
+    struct check check = got(work->side, reader, numbers, work->questions);
+    uint64_t end = clock_now();
+    struct told told = {
+        .count = check.count,
+        .nanoseconds = end - warmed,
+        .open_nanoseconds = opened - start,
+        .own_bytes = more(own_memory(), before),
+        .peak_bytes = peak_memory(),
+        .check = check.value,
+    };
+    work->side->end(reader);
+    work->side->close(store);
+    free(numbers);
+    return told;
+}
+
+struct told work_get(const struct work *work) {
+    return timed_gets(work, false);
+}
+
+struct told work_cold(const struct work *work) {
+    struct work scattered = *work;
+    scattered.settings.scattered = true;
+    unsigned left = path_drop(work->path);
+    require(left <= MOST_LEFT_OF_A_THOUSAND, work->side->name, "the file stays in memory: is it on a disk?");
+    return timed_gets(&scattered, true);
+}
+
+struct told work_iterate(const struct work *work) {
+    void *store = work->side->open(work->path, &work->settings);
+    void *reader = work->side->begin(store);
+    struct check before = walked(work, reader);
+    uint64_t start = clock_now();
+    struct check check = walked(work, reader);
+    uint64_t end = clock_now();
+    require(check.value == before.value, work->side->name, "two walks differ");
+    work->side->end(reader);
+    work->side->close(store);
+    return (struct told){
+        .count = check.count,
+        .nanoseconds = end - start,
+        .peak_bytes = peak_memory(),
+        .check = check.value,
+    };
+}
+
+static uint64_t time_to_first(const struct work *work, struct check *check) {
+    uint64_t start = clock_now();
+    void *store = work->side->open(work->path, &work->settings);
+    void *reader = work->side->begin(store);
+    check_add(check, work->side->get(reader, 0));
+    uint64_t end = clock_now();
+    work->side->end(reader);
+    work->side->close(store);
+    return end - start;
+}
+
+/* The first one brings the file into memory, and is not counted. */
+struct told work_open(const struct work *work) {
+    struct check unseen = {0, 0}, check = {0, 0};
+    uint64_t before = own_memory(), sum = 0;
+    time_to_first(work, &unseen);
+    for (size_t time = 0; time < work->questions; time++) {
+        sum += time_to_first(work, &check);
+    }
+    return (struct told){
+        .count = work->questions,
+        .nanoseconds = sum,
+        .own_bytes = more(own_memory(), before),
+        .peak_bytes = peak_memory(),
+        .check = check.value,
+    };
+}
+
+struct told work_size(const struct work *work) {
+    return (struct told){.count = work->settings.count, .file_bytes = path_size(work->path)};
+}
