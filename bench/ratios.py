@@ -23,8 +23,8 @@ OTHER_PANELS: List[Panel] = [
     ("open, to the first document", "zevk", DISK, DISK, {"group": "open"}),
     ("get from a file that is not in memory", "zevk", DISK, DISK, {"group": "cold"}),
     ("get, uniform, eight threads", "zevk", DISK, DISK, {"group": "threads", "threads": 8}),
-    ("write, file system in memory", "disk", MEMORY, MEMORY, {"group": "write"}),
-    ("write and sync, disk", "disk", DISK, DISK, {"group": "write"}),
+    ("write, file system in memory", "zevk", MEMORY, MEMORY, {"group": "write"}),
+    ("write and sync, disk", "zevk", DISK, DISK, {"group": "write"}),
 ]
 OUTSIDE_PANELS: List[Panel] = [
     ("get, uniform", "reader", PROCESS, PROCESS, {"group": "memory", "workload": "uniform"}),

@@ -47,12 +47,11 @@ def arguments() -> argparse.Namespace:
 
 
 def build() -> None:
-    """Our programs and our library for C where they aren't built yet, and the sides in C."""
+    """Our program and our library for C where they aren't built yet, and the sides in C."""
     OUT.mkdir(exist_ok=True)
-    for crate, word in [("zevkhadun", "--help"), ("bench_store", "")]:
-        if not (TOP / "crates" / crate / "out" / crate).exists():
-            words = ["rt", "run", "--jobs", "2"] + (["--", word] if word else [])
-            subprocess.run(words, cwd=TOP / "crates" / crate, check=True, stdout=subprocess.DEVNULL)
+    if not (TOP / "crates/bench_store/out/bench_store").exists():
+        words = ["rt", "run", "--jobs", "2"]
+        subprocess.run(words, cwd=TOP / "crates/bench_store", check=True, stdout=subprocess.DEVNULL)
     if not (OUT / "prefix/lib/libzevkhadun.a").exists():
         subprocess.run(["bash", str(TOP / "examples/c/build.sh"), str(OUT / "prefix")], check=True)
     subprocess.run(["make", "--silent", "-j2", "-C", str(HERE / "peers")], check=True)
@@ -62,7 +61,6 @@ def programs_of(given: argparse.Namespace, disk: Path, memory: Path) -> sides.Pr
     outside = {name: Path(path).resolve() for name, path in (word.split("=", 1) for word in given.outside)}
     return sides.Programs(
         peers=OUT / "peers",
-        zevkhadun=TOP / "crates/zevkhadun/out/zevkhadun",
         bench_store=TOP / "crates/bench_store/out/bench_store",
         disk=disk,
         memory=memory,

@@ -1,7 +1,6 @@
 """Starting the program of a side for one workload, and reading what it tells."""
 
 import json
-import os
 import re
 import shutil
 import subprocess
@@ -34,7 +33,6 @@ class Programs:
     """What is run, and where its files are."""
 
     peers: Path
-    zevkhadun: Path
     bench_store: Path
     disk: Path
     memory: Path
@@ -44,8 +42,8 @@ class Programs:
         return self.memory if place == MEMORY else self.disk
 
 
-def _run(command: List[str], folder: Path, variables: Dict[str, str]) -> subprocess.CompletedProcess:
-    answer = subprocess.run(command, cwd=folder, env={**os.environ, **variables}, capture_output=True, text=True)
+def _run(command: List[str], folder: Path) -> subprocess.CompletedProcess:
+    answer = subprocess.run(command, cwd=folder, capture_output=True, text=True)
     if answer.returncode != 0:
         raise Failed(f"{' '.join(command)}: {answer.stderr.strip() or answer.returncode}")
     return answer
@@ -61,7 +59,7 @@ def _peers(programs: Programs, row: Row, workload: str, path: Path) -> Dict[str,
     words = [f"n={row.documents}", f"l={row.length}", f"bs={row.block_size}", f"q={row.questions}", f"hot={row.hot}",
              f"threads={row.threads}"]
     command = [str(programs.peers), row.side, workload, str(path)] + words
-    return json.loads(_run(command, path.parent, {"ZEVKHADUN": str(programs.zevkhadun)}).stdout)
+    return json.loads(_run(command, path.parent).stdout)
 
 
 def make(programs: Programs, row: Row) -> str:
@@ -90,7 +88,7 @@ def _run_store_side(programs: Programs, row: Row) -> Dict[str, object]:
         words.append(f"q={row.questions}")
     if row.workload == "hot":
         words.append(f"hot={row.hot}")
-    answer = _run([str(program), workload] + words, programs.folder(row.place), {})
+    answer = _run([str(program), workload] + words, programs.folder(row.place))
     _, count, nanoseconds = answer.stdout.split()[:3]
     told: Dict[str, object] = {"count": int(count), "ns": int(nanoseconds)}
     check = re.search(r"check=(\d+)", answer.stderr)

@@ -1,13 +1,12 @@
-/* Ours: a mapped file that is read by the library for C. */
+/* Ours, by the library for C: a file that is written, and mapped and read. */
 #include <stdio.h>
 #include <stdlib.h>
-#include <sys/wait.h>
 #include <zevkhadun.h>
 
 #include "files.h"
 #include "side.h"
 
-enum { RUN = 512, COMMAND_LENGTH = 4096, USUAL_BLOCK = 8192, USUAL_ROWS = 64 };
+enum { RUN = 512, USUAL_BLOCK = 8192, USUAL_ROWS = 64, PERIOD = 8, WRITE_BUFFER = 1 << 20 };
 
 struct zevk_store {
     struct map map;
@@ -24,28 +23,65 @@ static void expect(uint32_t refusal) {
     }
 }
 
-static void put_document(FILE *pipe, struct bytes document) {
-    uint32_t length = (uint32_t)document.length;
-    uint8_t front[4] = {(uint8_t)length, (uint8_t)(length >> 8), (uint8_t)(length >> 16), (uint8_t)(length >> 24)};
-    require(fwrite_unlocked(front, 1, sizeof front, pipe) == sizeof front, "zevk", "the program takes no more");
-    require(fwrite_unlocked(document.start, 1, length, pipe) == length, "zevk", "the program takes no more");
+/* A store that is written: its file, and the arrays of its writer. */
+struct writing {
+    FILE *file;
+    zevk_writer writer;
+    uint32_t *starts;
+    zevk_block *table;
+    size_t room;
+};
+
+static void grow(struct writing *to) {
+    to->room *= 2;
+    to->starts = realloc(to->starts, to->room * sizeof *to->starts);
+    to->table = realloc(to->table, to->room * sizeof *to->table);
+    require(to->starts != NULL && to->table != NULL, "zevk", "no memory");
 }
 
-/* The store is made by the program ZEVKHADUN, which reads the documents from a pipe. So the time of a write by this
- * side is that of the pipe and the program. */
-static void zevk_write(const char *path, const struct documents *documents, const struct settings *settings) {
-    char command[COMMAND_LENGTH];
-    const char *program = getenv("ZEVKHADUN");
-    require(program != NULL, "zevk", "ZEVKHADUN has to name the program that makes stores");
-    int length = snprintf(command, sizeof command, "'%s' pack --quiet --framing lengths --block-size %zu '%s' -",
-                          program, settings->block_size, path);
-    require(length < (int)sizeof command, "zevk", "a path that is too long");
-    FILE *pipe = popen(command, "w");
-    require(pipe != NULL, "zevk", "the program can't be started");
-    for (uint32_t number = 0; number < settings->count; number++) {
-        put_document(pipe, document_at(documents, number));
+static void append(struct writing *to, const void *start, size_t length) {
+    require(fwrite_unlocked(start, 1, length, to->file) == length, "zevk", "a file that can't be written");
+}
+
+static void put_document(struct writing *to, struct bytes document) {
+    size_t count = 0;
+    uint32_t refusal;
+    while ((refusal = zevk_writer_put(&to->writer, to->starts, to->room, to->table, to->room, document.length, &count))
+           == ZEVK_NO_ROOM) {
+        grow(to);
     }
-    require(pclose(pipe) == 0, "zevk", "the program failed");
+    expect(refusal);
+    append(to, document.start, document.length);
+    append(to, to->starts, count * sizeof *to->starts);
+}
+
+static void put_end(struct writing *to) {
+    size_t count = 0, length = 0;
+    uint8_t none;
+    expect(zevk_writer_end_block(&to->writer, to->starts, to->room, to->table, to->room, &count));
+    append(to, to->starts, count * sizeof *to->starts);
+    uint32_t asked = zevk_writer_close(&to->writer, to->table, to->room, PERIOD, &none, 0, &length);
+    expect(asked == ZEVK_NO_ROOM ? ZEVK_DONE : asked);
+    uint8_t *end = malloc(length);
+    require(end != NULL, "zevk", "no memory");
+    expect(zevk_writer_close(&to->writer, to->table, to->room, PERIOD, end, length, &length));
+    append(to, end, length);
+    free(end);
+}
+
+static void zevk_write(const char *path, const struct documents *documents, const struct settings *settings) {
+    struct writing to = {.file = fopen(path, "wb"), .room = USUAL_ROWS};
+    require(to.file != NULL, "zevk", "a file that can't be written");
+    require(setvbuf(to.file, NULL, _IOFBF, WRITE_BUFFER) == 0, "zevk", "no memory");
+    grow(&to);
+    zevk_writer_begin(&to.writer, settings->block_size);
+    for (uint32_t number = 0; number < settings->count; number++) {
+        put_document(&to, document_at(documents, number));
+    }
+    put_end(&to);
+    require(fclose(to.file) == 0, "zevk", "a file that can't be written");
+    free(to.starts);
+    free(to.table);
 }
 
 static uint32_t opened(struct zevk_store *store, size_t rows) {
