@@ -2,7 +2,10 @@
 # The library for C: its header, its symbols, and programs over it by two compilers, in C and C++, under sanitizers and
 # valgrind; and what stands on it, the packages for Python and Rust.
 #
-# It needs `rt`, gcc, clang, valgrind, python3 and cargo.
+# usage: c.sh [LIBRARY]
+#
+# LIBRARY is the static library of store_c, as c_library.sh makes it; without it `rt lib` does. It needs `rt`, gcc,
+# clang, valgrind, python3 and cargo.
 set -eu
 top=$(cd "$(dirname "$0")/.." && pwd)
 source=$top/examples/c
@@ -43,7 +46,7 @@ compiled() {
     "$1" $linked -o "$work/program" "$work/program.o" "$work/prefix/lib/libzevkhadun.a"
 }
 
-check "build" bash "$source/build.sh" "$work/prefix"
+check "build" bash "$source/build.sh" "$work/prefix" "$@"
 check "header and crate" declared
 check "header and symbols" symbols
 

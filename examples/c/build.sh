@@ -1,12 +1,13 @@
 #!/usr/bin/env bash
 # Builds libzevkhadun.a and libzevkhadun.so and installs them, the header and a pkg-config file.
 #
-# usage: build.sh PREFIX
+# usage: build.sh PREFIX [LIBRARY]
 #
-# The crate is proved and compiled by `rt lib`. Its three functions of the heap are the kit's, over malloc.
+# The crate is proved and compiled by `rt lib`, unless LIBRARY is its static library already. Its three functions of the
+# heap are the kit's, over malloc.
 set -eu
-if [ $# -ne 1 ]; then
-    echo "usage: $0 PREFIX" >&2
+if [ $# -lt 1 ] || [ $# -gt 2 ]; then
+    echo "usage: $0 PREFIX [LIBRARY]" >&2
     exit 2
 fi
 top=$(cd "$(dirname "$0")/../.." && pwd)
@@ -15,11 +16,14 @@ heap=$(dirname "$(rt doc | head -n 1)")/c/liblibc_c.a
 mkdir -p "$1/include" "$1/lib/pkgconfig"
 prefix=$(cd "$1" && pwd)
 
-(cd "$crate" && rt lib --jobs 2 >/dev/null)
+library=${2:-$crate/out/libstore_c.a}
+if [ $# -eq 1 ]; then
+    (cd "$crate" && rt lib --jobs 2 >/dev/null)
+fi
 
 ar -M <<MRI
 create $prefix/lib/libzevkhadun.a
-addlib $crate/out/libstore_c.a
+addlib $library
 addlib $heap
 save
 end
