@@ -1,12 +1,11 @@
 //! Arguments that several commands have.
 
-ghost use Rattle.std.specs.Prelude.{◌≤◌};
-
 use crate::byte_size::parse_size;
 use crate::failure::{Cause, Failure};
 use crate::framing::{FRAMING_HELP, FRAMINGS, Framing};
 use clap::{Arg, ArgAction, ArgMatches, value_parser};
 use std::alloc::{AllocError, Global};
+use store_commands::StoreShape;
 
 /// A file that has to be named.
 pub fn file<'a>(alloc: Global, id: &'a str, help: &'a str) -> Arg<'a> {
@@ -91,23 +90,11 @@ pub fn period<'a>(alloc: Global) -> Arg<'a> {
         .help("How many entries each run of the index has, 2 to 64")
 }
 
-/// How a store is to be written.
-#[derive(Clone, Copy)]
-pub struct StoreShape {
-    pub block_size: usize,
-    pub period: u8,
-    pub ghost least: { 2 ≤ period },
-    pub ghost most: { period ≤ 64 },
-}
-
 // The shape, or `None` where a word names none.
 fn shape_in(matches: &ArgMatches<'_>) -> Option<StoreShape> {
     let block_size = parse_size(matches.get_str("block-size").unwrap_or("16K"))?;
     let period = matches.get_one::<u8>("period").unwrap_or(8);
-    if period < 2 || period > 64 {
-        return None;
-    }
-    Some(StoreShape { block_size, period })
+    StoreShape::new(block_size, period)
 }
 
 /// How the store is to be written.

@@ -1,42 +1,15 @@
 //! Goes over the documents of a store block by block: each block is read once, and nothing of it is copied.
 
-ghost use Rattle.std.specs.Prelude.{◌≡◌, ◌≤◌, Some};
-ghost use Rattle.store_format.specs.Block.{slot};
-ghost use Rattle.store_reader.specs.CallAnswers.{exact_result};
-ghost use Rattle.store_reader.specs.Viewing.{given};
-
 use crate::failure::{Cause, printed};
 use crate::framing::Framing;
-use crate::store_file::{DiskReader, StoreFile, part_of};
-use docstore::block_read_index;
+use crate::store_file::{DiskReader, StoreFile};
 use std::alloc::Global;
 use std::io::Write;
 use std::ops::Range;
-use store_base::{AliveBitSet, DocId, StoreError};
-
-/// The document at a position of a block, or its refusal where it is damaged.
-#[inline(always)]
-pub fn document_at<'a>(
-    block: &'a [u8],
-    doc_id: DocId,
-    position: u32,
-) -> Result<&'a [u8], StoreError>
-    ensures { given result ≡ exact_result doc_id (Some (slot block.entry.now position)) }
-{
-    match block_read_index(block, position) {
-        Some(range) => Ok(&block[range]),
-        None => Err(StoreError::DamagedDocument(doc_id)),
-    }
-}
-
-// Whether a document is kept; without a set each is.
-#[inline(always)]
-fn is_kept(alive: Option<&AliveBitSet>, doc_id: DocId) -> bool {
-    match alive {
-        Some(alive) => alive.is_alive(doc_id),
-        None => true,
-    }
-}
+use store_base::{AliveBitSet, DocId};
+use store_commands::block_documents::document_at;
+use store_commands::kept_documents::is_kept;
+use store_commands::store_part::part_of;
 
 // Writes the documents of a block that are kept.
 fn write_block<W: Write>(
@@ -44,10 +17,10 @@ fn write_block<W: Write>(
     framing: Framing,
     ids: Range<DocId>,
     block: &[u8],
-    alive: Option<&AliveBitSet>,
+    kept: Option<&AliveBitSet>,
 ) -> Result<(), Cause> {
     for doc_id in ids.start..ids.end {
-        if is_kept(alive, doc_id) {
+        if is_kept(kept, doc_id) {
             let document = document_at(block, doc_id, doc_id - ids.start)?;
             printed(framing.write(output, document))?;
         }
@@ -62,7 +35,7 @@ pub fn write_documents<W: Write>(
     file: &mut StoreFile,
     output: &mut W,
     framing: Framing,
-    alive: Option<&AliveBitSet>,
+    kept: Option<&AliveBitSet>,
 ) -> Result<(), Cause> {
     for checkpoint in reader.block_checkpoints() {
         let bytes = &checkpoint.byte_range;
@@ -72,7 +45,7 @@ pub fn write_documents<W: Write>(
             framing,
             checkpoint.doc_range,
             block.as_slice(),
-            alive,
+            kept,
         )?;
     }
     Ok(())

@@ -5,12 +5,11 @@ use crate::block_walk::write_documents;
 use crate::document_output::standard_output;
 use crate::failure::{Cause, Failure, at, printed};
 use crate::framing::Framing;
-use crate::id_range::ids_of;
 use crate::store_file::{StorePath, store_path};
 use clap::{Arg, ArgAction, ArgMatches, Command};
 use std::alloc::{AllocError, Global};
 use std::io::Write;
-use store_base::{AliveBitSet, DocId};
+use store_commands::kept_documents::kept_of;
 
 const EXAMPLE: &str = "\
 Example:
@@ -30,19 +29,6 @@ pub fn command<'a>(alloc: Global) -> Result<Command<'a>, AllocError> {
         .arg(without)?
         .arg(arguments::framing(alloc))?
         .arg(arguments::tantivy(alloc))
-}
-
-// Which documents are to be printed, where words leave some out.
-fn kept_of(
-    alloc: Global,
-    num_docs: DocId,
-    without: Option<&str>,
-) -> Result<Option<AliveBitSet>, Cause> {
-    let Some(words) = without else {
-        return Ok(None);
-    };
-    let deleted = ids_of(alloc, words, num_docs)?;
-    Ok(Some(AliveBitSet::from_deleted_docs(alloc, &deleted, num_docs)?))
 }
 
 // Prints the documents.

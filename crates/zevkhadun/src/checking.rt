@@ -1,190 +1,12 @@
 //! Reads a store block by block and slot by slot, and finds what breaks a promise of the format.
 
-ghost use Rattle.std.specs.Prelude.{◌≡◌, ◌≤◌, ◌+◌, ◌*◌, length, IfSome, IsNone};
-ghost use Rattle.store_format.specs.Block.{slot, damaged, count_of, u32_at};
-ghost use Rattle.zevkhadun.specs.Blocks.{AreWhole, documents_of};
-
 use crate::failure::Cause;
-use crate::index_fault::{IndexFault, first_fault};
 use crate::progress::Progress;
-use crate::store_file::{DiskReader, StoreFile, StorePath, part_of};
-use docstore::{Checkpoint, SkipIndex, StoreError, block_read_index};
-use std::fmt;
-use store_base::DocId;
-
-/// Why the table of a block isn't the one that its index promises.
-#[derive(Clone, Copy)]
-pub enum TableFault {
-    /// The block has no room for the count.
-    Short,
-    /// The table has another count.
-    Count { counted: u32, promised: u32 },
-    /// The block has no room for the table.
-    Large { counted: u32 },
-    /// Bytes stand before the first document.
-    Start { start: u32 },
-}
-
-impl fmt::Display for TableFault {
-    fn fmt<W: fmt::Write>(&self, f: &mut fmt::Formatter<W>) -> fmt::Result {
-        match self {
-            TableFault::Short => f.write_str("its table has no count"),
-            TableFault::Count { counted, promised } => {
-                write!(
-                    f,
-                    "its table counts {counted} documents, the index {promised}"
-                )
-            }
-            TableFault::Large { counted } => {
-                write!(f, "its table of {counted} documents does not fit into it")
-            }
-            TableFault::Start { start } => {
-                write!(f, "its first document begins at byte {start}, not at 0")
-            }
-        }
-    }
-}
-
-/// What was found first.
-#[derive(Clone, Copy)]
-pub enum Fault {
-    Table { fault: TableFault },
-    Slot { doc_id: DocId },
-}
-
-/// The first fault, and the block that has it.
-#[derive(Clone, Copy)]
-pub struct FaultPlace {
-    pub fault: Fault,
-    pub block: u64,
-    pub byte: usize,
-}
-
-impl fmt::Display for FaultPlace {
-    fn fmt<W: fmt::Write>(&self, f: &mut fmt::Formatter<W>) -> fmt::Result {
-        let (block, byte) = (self.block, self.byte);
-        match self.fault {
-            Fault::Table { fault } => write!(f, "block {block} at byte {byte}: {fault}"),
-            Fault::Slot { doc_id } => {
-                write!(
-                    f,
-                    "block {block} at byte {byte}: document {doc_id} is damaged"
-                )
-            }
-        }
-    }
-}
-
-/// What a store has, and what of it is broken.
-#[derive(Clone, Copy)]
-pub struct Verdict {
-    pub documents: DocId,
-    pub blocks: u64,
-    pub damaged: u64,
-    pub broken_blocks: u64,
-    pub first: Option<FaultPlace>,
-}
-
-// The number of four bytes at a place.
-#[tactic(auto, unfolding(store_format::specs::Block::u32_at))]
-fn number_at(bytes: &[u8], place: usize) -> Option<u32>
-    ensures { IfSome result (λ number. number ≡ u32_at bytes.now place) }
-{
-    let (number, _) = bytes.get(place..)?.split_first_chunk::<4>()?;
-    Some(u32::from_le_bytes(*number))
-}
-
-// Where the table of a block breaks what the index promises, by how many documents.
-fn table_fault(block: &[u8], promised: u32) -> Option<TableFault>
-    ensures counted { IsNone result → count_of block.now ≡ promised }
-    ensures fits { IsNone result → 4 * (promised + 1) ≤ length block.now }
-{
-    let Some(counted) = number_at(block, block.len().saturating_sub(4)) else {
-        return Some(TableFault::Short);
-    };
-    if counted != promised {
-        return Some(TableFault::Count { counted, promised });
-    }
-    let table = (u64::from(counted) + 1) * 4;
-    let Some(place) = block.len().checked_sub(table as usize) else {
-        return Some(TableFault::Large { counted });
-    };
-    match number_at(block, place) {
-        Some(start) if start > 0 && counted > 0 => Some(TableFault::Start { start }),
-        _ => None,
-    }
-}
-
-// The first document of a block that is damaged.
-fn first_damaged(block: &[u8], documents: u32) -> Option<u32>
-    ensures damaged { IfSome result (λ position. slot block.now position ≡ damaged) }
-    ensures before { IfSome result (λ position. AreWhole block.now position) }
-    ensures whole { IsNone result → AreWhole block.now documents }
-{
-    for position in 0..documents {
-        if block_read_index(block, position).is_none() {
-            return Some(position);
-        }
-    }
-    None
-}
-
-// How many documents of a block are damaged.
-fn damaged_in(block: &[u8], documents: u32) -> u64 {
-    let mut damaged = 0u64;
-    for position in 0..documents {
-        let is_damaged = block_read_index(block, position).is_none();
-        damaged = damaged.saturating_add(u64::from(is_damaged));
-    }
-    damaged
-}
-
-// What breaks a promise in a block, whose first document has this id.
-fn fault_in(block: &[u8], first: DocId, documents: u32) -> Option<Fault>
-    ensures whole { IsNone result → AreWhole block.now documents }
-    ensures counted { IsNone result → count_of block.now ≡ documents }
-{
-    if let Some(fault) = table_fault(block, documents) {
-        return Some(Fault::Table { fault });
-    }
-    let position = first_damaged(block, documents)?;
-    Some(Fault::Slot {
-        doc_id: first.saturating_add(position),
-    })
-}
-
-impl Verdict {
-    // Of a store of so many documents, of which nothing was read yet.
-    fn of_documents(documents: DocId) -> Verdict {
-        Verdict {
-            documents,
-            blocks: 0,
-            damaged: 0,
-            broken_blocks: 0,
-            first: None,
-        }
-    }
-
-    // Takes one block more.
-    fn take(&mut self, checkpoint: &Checkpoint, block: &[u8])
-        ensures kept { IsNone self.new.first → IsNone self.old.first }
-        ensures whole { IsNone self.new.first → AreWhole block.now (documents_of checkpoint.now) }
-        ensures counted { IsNone self.new.first → count_of block.now ≡ documents_of checkpoint.now }
-    {
-        let ids = &checkpoint.doc_range;
-        let documents = ids.end.saturating_sub(ids.start);
-        if let Some(fault) = fault_in(block, ids.start, documents) {
-            self.broken_blocks = self.broken_blocks.saturating_add(1);
-            self.first = self.first.or(Some(FaultPlace {
-                fault,
-                block: self.blocks,
-                byte: checkpoint.byte_range.start,
-            }));
-        }
-        self.damaged = self.damaged.saturating_add(damaged_in(block, documents));
-        self.blocks = self.blocks.saturating_add(1);
-    }
-}
+use crate::store_file::{DiskReader, StoreFile, StorePath};
+use docstore::StoreError;
+use store_commands::broken_part::{BrokenPart, broken_before_footer};
+use store_commands::checking::Verdict;
+use store_commands::store_part::part_of;
 
 /// What is found in an opened store whose file this is.
 pub fn check_blocks(
@@ -209,56 +31,6 @@ pub fn check_blocks(
     Ok(verdict)
 }
 
-/// Which part of a file keeps it from being opened.
-#[derive(Clone, Copy)]
-pub enum BrokenPart {
-    Footer,
-    Index(IndexFault),
-    /// The index is sound, but its blocks don't cover the data, or don't begin at 0, or one is empty.
-    Coverage { data: u64, covered: Option<usize> },
-}
-
-impl fmt::Display for BrokenPart {
-    fn fmt<W: fmt::Write>(&self, f: &mut fmt::Formatter<W>) -> fmt::Result {
-        match self {
-            BrokenPart::Footer => f.write_str("footer"),
-            BrokenPart::Index(fault) => write!(f, "{fault}"),
-            BrokenPart::Coverage {
-                data,
-                covered: Some(covered),
-            } => {
-                write!(
-                    f,
-                    "coverage: blocks end at byte {covered}, the data at {data}"
-                )
-            }
-            BrokenPart::Coverage {
-                data: _,
-                covered: None,
-            } => { f.write_str("coverage: blocks don't begin at 0, or one is empty") }
-        }
-    }
-}
-
-// Which part it is, where the footer is sound.
-fn broken_behind_footer(rt: &HostRuntime, store: StorePath<'_>) -> Result<BrokenPart, Cause> {
-    let (footer, mut file) = store.footer(rt)?;
-    let end = file.len();
-    let part = part_of(rt.alloc(), &mut file, footer.offset, end)?;
-    match SkipIndex::open_with_period(rt.alloc(), part, footer.period) {
-        Ok(index) => Ok(BrokenPart::Coverage {
-            data: footer.offset,
-            covered: index.covered_to().map(|(_, bytes)| bytes),
-        }),
-        Err(StoreError::BadIndex) => {
-            let part = part_of(rt.alloc(), &mut file, footer.offset, end)?;
-            let fault = first_fault(rt.alloc(), part.as_slice(), footer.period, footer.offset)?;
-            Ok(BrokenPart::Index(fault))
-        }
-        Err(error) => Err(Cause::Store(error)),
-    }
-}
-
 /// Which part keeps a store from being opened, by the refusal; or the refusal, where it is not the file's fault.
 pub fn broken_part(
     rt: &HostRuntime,
@@ -267,7 +39,10 @@ pub fn broken_part(
 ) -> Result<BrokenPart, Cause> {
     match refusal {
         StoreError::Read | StoreError::Memory => Err(Cause::Store(refusal)),
-        StoreError::BadIndex => broken_behind_footer(rt, store),
+        StoreError::BadIndex => {
+            let (footer, mut file) = store.footer(rt)?;
+            Ok(broken_before_footer(rt.alloc(), &footer, &mut file)?)
+        }
         _ => Ok(BrokenPart::Footer),
     }
 }

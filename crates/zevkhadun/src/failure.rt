@@ -3,7 +3,8 @@
 use std::alloc::{AllocError, AllocFailed, Global};
 use std::process::ExitCode;
 use std::{fmt, io};
-use store_base::{DocId, NoMemory, ReadFault, StoreError};
+use store_base::{DocId, NoMemory, StoreError};
+use store_commands::RequestError;
 use store_files::CreateError;
 
 /// What went wrong.
@@ -99,9 +100,14 @@ impl From<StoreError> for Cause {
     }
 }
 
-impl From<ReadFault> for Cause {
-    fn from(fault: ReadFault) -> Cause {
-        Cause::Store(StoreError::from(fault))
+impl From<RequestError> for Cause {
+    fn from(error: RequestError) -> Cause {
+        match error {
+            RequestError::NoRange(text) => Cause::Words(text),
+            RequestError::NoDocument { doc_id, num_docs } => Cause::NoDocument { doc_id, num_docs },
+            RequestError::NoTantivyTail => Cause::NoTantivyTail,
+            RequestError::Store(error) => Cause::Store(error),
+        }
     }
 }
 

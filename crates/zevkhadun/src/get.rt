@@ -4,13 +4,13 @@ use crate::arguments::{self, framing_of};
 use crate::document_output::{DocumentOutput, standard_output};
 use crate::failure::{Cause, Failure, at, printed};
 use crate::framing::Framing;
-use crate::id_range::{IdRange, ranges_of};
 use crate::store_file::{DiskReader, StorePath, store_path};
 use clap::{ArgMatches, Command};
 use std::alloc::{AllocError, Global};
 use std::io::Write;
 use std::ops::Range;
 use store_base::DocId;
+use store_commands::{IdRange, ranges_of};
 
 const EXAMPLE: &str = "\
 Example:
@@ -67,7 +67,7 @@ pub fn run(rt: &HostRuntime, matches: &ArgMatches<'_>) -> Result<(), Failure> {
     let store = store_path(matches);
     let words = matches.get_strs("ID").unwrap_or(&[]);
     let alloc = rt.alloc();
-    let ranges = ranges_of(alloc, words)?;
+    let ranges = at(alloc, store.path, ranges_of(alloc, words))?;
     let printed = print_ranges(rt, store, framing_of(matches), &ranges);
     at(alloc, store.path, printed)
 }

@@ -1,19 +1,19 @@
 //! `merge`: writes a store of the documents of others, in order.
 
-ghost use Rattle.std.specs.Prelude.{◌≤◌, IfOk, IfSome, length};
+ghost use Rattle.std.specs.Prelude.{IfOk};
 ghost use Rattle.std.specs.List.{AllByRecursion};
 ghost use Rattle.store_merge.specs.Inputs.{HasWholeSet};
-ghost use Rattle.store_reader.specs.Reading.{num_docs};
 
-use crate::arguments::{self, StoreShape, shape_of, wrong_words};
+use crate::arguments::{self, shape_of, wrong_words};
 use crate::failure::{Cause, Failure};
-use crate::id_range::ids_of;
 use crate::progress::Progress;
-use crate::store_file::{DiskReader, StorePath};
+use crate::store_file::StorePath;
 use crate::store_output::{DiskWriter, create, finish, summarize};
 use clap::{Arg, ArgAction, ArgMatches, Command};
 use std::alloc::{AllocError, Global};
-use store_base::{AliveBitSet, StoreError};
+use store_base::StoreError;
+use store_commands::StoreShape;
+use store_commands::kept_documents::input_without;
 use store_files::{DiskFile, OsFile};
 use store_merge::{MergeInput, merge_in_parts};
 
@@ -66,22 +66,6 @@ fn ids_for<'a>(word: &'a str, path: &str) -> Option<&'a str> {
     }
 }
 
-// Which documents of a store are alive, where words leave some out.
-fn alive_of(
-    alloc: Global,
-    reader: &DiskReader,
-    ids: Option<&str>,
-) -> Result<Option<AliveBitSet>, Cause>
-    ensures { IfOk result (λ alive. IfSome alive (λ set. num_docs reader.now ≤ length set)) }
-{
-    let Some(words) = ids else {
-        return Ok(None);
-    };
-    let num_docs = reader.num_docs();
-    let deleted = ids_of(alloc, words, num_docs)?;
-    Ok(Some(AliveBitSet::from_deleted_docs(alloc, &deleted, num_docs)?))
-}
-
 impl<'m, 'w> Merging<'m, 'w> {
     // What the words leave out of an input.
     fn ids_without(&self, path: &str) -> Option<&'w str> {
@@ -97,8 +81,7 @@ impl<'m, 'w> Merging<'m, 'w> {
             is_tantivy: self.is_tantivy,
         };
         let reader = store.reader(rt)?;
-        let alive = alive_of(rt.alloc(), &reader, self.ids_without(path))?;
-        Ok(MergeInput { reader, alive })
+        Ok(input_without(rt.alloc(), reader, self.ids_without(path))?)
     }
 
     // The inputs, in order.

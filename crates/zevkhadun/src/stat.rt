@@ -3,10 +3,10 @@
 use crate::arguments;
 use crate::failure::{Cause, Failure, at, printed};
 use crate::store_file::StorePath;
-use crate::store_numbers::{StoreNumbers, block_sizes, numbers_of};
 use clap::{ArgMatches, Command};
 use serde_json::json;
 use std::alloc::{AllocError, Global};
+use store_commands::store_numbers::{StoreNumbers, block_sizes, numbers_of};
 
 const EXAMPLE: &str = "\
 Example:

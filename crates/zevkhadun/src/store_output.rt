@@ -1,11 +1,11 @@
 //! A store that is written to disk.
 
-use crate::arguments::StoreShape;
 use crate::failure::{Cause, Failure, at};
 use crate::progress::Progress;
 use crate::store_file::StorePath;
 use docstore::{Compressor, StoreWriter};
 use std::io;
+use store_commands::StoreShape;
 use store_files::DiskSink;
 
 /// A writer to a file on disk.

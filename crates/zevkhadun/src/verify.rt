@@ -1,13 +1,15 @@
 //! `verify`: reads stores whole, and tells what breaks a promise of the format.
 
 use crate::arguments;
-use crate::checking::{BrokenPart, Verdict, broken_part, check_blocks};
+use crate::checking::{broken_part, check_blocks};
 use crate::failure::{Cause, Failure, printed};
 use crate::progress::Progress;
 use crate::store_file::StorePath;
 use clap::{ArgMatches, Command};
 use std::alloc::{AllocError, Global};
 use store_base::StoreError;
+use store_commands::broken_part::BrokenPart;
+use store_commands::checking::Verdict;
 
 // What a sound file may still hide.
 const BLIND_SPOT: &str =

@@ -8,13 +8,13 @@ mod seek_drawing;
 use crate::arguments;
 use crate::failure::{Cause, Failure, at};
 use crate::store_file::{DiskReader, StorePath, store_path};
-use crate::store_numbers::{block_sizes, numbers_of};
 use blocks::BlockStarts;
 use clap::{Arg, ArgAction, ArgMatches, Command};
 use histogram::Histogram;
 use page::Page;
 use std::alloc::{AllocError, Global};
 use store_base::{StoreError, TerminatingWrite};
+use store_commands::store_numbers::{block_sizes, numbers_of};
 use store_files::DiskSink;
 
 const EXAMPLE: &str = "\

@@ -3,9 +3,9 @@
 use crate::inspect::blocks::BlockStarts;
 use crate::inspect::histogram::Histogram;
 use crate::inspect::seek_drawing::SeekDrawing;
-use crate::store_numbers::StoreNumbers;
 use std::alloc::AllocError;
 use std::fmt::Write;
+use store_commands::store_numbers::StoreNumbers;
 
 // How many bytes a footer has.
 const FOOTER_BYTES: u64 = 28;

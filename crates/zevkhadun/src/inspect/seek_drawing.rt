@@ -1,9 +1,9 @@
 //! A drawing of the layers of an index, and of how a seek goes down through them.
 
 use crate::inspect::blocks::BlockStarts;
-use crate::store_numbers::StoreNumbers;
 use std::alloc::AllocError;
 use std::fmt::Write;
+use store_commands::store_numbers::StoreNumbers;
 
 // The drawing's width, the height of a run's boxes, and that of a run with its title and the room behind it.
 const WIDTH: u64 = 1000;

@@ -2,7 +2,7 @@
 
 ghost use Rattle.std.specs.Prelude.{◌<◌, ◌≤◌, IfOk};
 
-use crate::failure::Cause;
+use crate::request_error::RequestError;
 use std::alloc::Global;
 use std::ops::Range;
 use store_base::DocId;
@@ -34,12 +34,12 @@ impl IdRange {
     }
 
     /// The numbers, among those of so many documents. The first that is none of them is refused.
-    pub fn among(self, num_docs: DocId) -> Result<Range<DocId>, Cause>
+    pub fn among(self, num_docs: DocId) -> Result<Range<DocId>, RequestError>
         ensures within { IfOk result (λ ids. ids.start < ids.end → ids.end ≤ num_docs) }
     {
         let end = self.end.unwrap_or(num_docs.max(self.start));
         if end > num_docs && end > self.start {
-            return Err(Cause::NoDocument {
+            return Err(RequestError::NoDocument {
                 doc_id: num_docs.max(self.start),
                 num_docs,
             });
@@ -49,15 +49,15 @@ impl IdRange {
 }
 
 // The range that a word names, or the refusal of the word.
-fn range_of(alloc: Global, word: &str) -> Result<IdRange, Cause> {
+fn range_of(alloc: Global, word: &str) -> Result<IdRange, RequestError> {
     match IdRange::from_word(word) {
         Some(range) => Ok(range),
-        None => Err(Cause::Words(format!(in alloc; "'{word}' is no document or range")?)),
+        None => Err(RequestError::NoRange(format!(in alloc; "'{word}' is no document or range")?)),
     }
 }
 
 /// The ranges that words name.
-pub fn ranges_of(alloc: Global, words: &[&str]) -> Result<Vec<IdRange>, Cause> {
+pub fn ranges_of(alloc: Global, words: &[&str]) -> Result<Vec<IdRange>, RequestError> {
     let mut ranges = Vec::new(alloc);
     for word in words {
         ranges.push(range_of(alloc, word)?)?;
@@ -66,7 +66,7 @@ pub fn ranges_of(alloc: Global, words: &[&str]) -> Result<Vec<IdRange>, Cause> {
 }
 
 // Adds the numbers of a range.
-fn add_ids(ids: &mut Vec<DocId>, range: Range<DocId>) -> Result<(), Cause> {
+fn add_ids(ids: &mut Vec<DocId>, range: Range<DocId>) -> Result<(), RequestError> {
     for doc_id in range {
         ids.push(doc_id)?;
     }
@@ -74,7 +74,7 @@ fn add_ids(ids: &mut Vec<DocId>, range: Range<DocId>) -> Result<(), Cause> {
 }
 
 /// The numbers that ranges between commas name, among those of so many documents.
-pub fn ids_of(alloc: Global, words: &str, num_docs: DocId) -> Result<Vec<DocId>, Cause> {
+pub fn ids_of(alloc: Global, words: &str, num_docs: DocId) -> Result<Vec<DocId>, RequestError> {
     let mut ids = Vec::new(alloc);
     for word in words.split(',') {
         add_ids(&mut ids, range_of(alloc, word)?.among(num_docs)?)?;

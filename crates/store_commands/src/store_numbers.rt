@@ -2,11 +2,9 @@
 
 ghost use Rattle.std.specs.Prelude.{◌≤◌};
 
-use crate::failure::Cause;
-use crate::store_file::DiskReader;
-use docstore::DocStoreVersion;
+use docstore::{DocStoreVersion, StoreReader};
 use std::alloc::Global;
-use store_base::DocId;
+use store_base::{DocId, FileHandle, StoreError};
 
 /// What a store has, as numbers.
 #[derive(Clone, Copy)]
@@ -50,7 +48,10 @@ pub fn layers_over(blocks: usize, period: u8) -> u32
 }
 
 /// How many bytes each block has, in order.
-pub fn block_sizes(alloc: Global, reader: &DiskReader) -> Result<Vec<usize>, Cause> {
+pub fn block_sizes<H: FileHandle>(
+    alloc: Global,
+    reader: &StoreReader<H>,
+) -> Result<Vec<usize>, StoreError> {
     let mut sizes = Vec::new(alloc);
     for checkpoint in reader.block_checkpoints() {
         let bytes = checkpoint.byte_range;
@@ -60,7 +61,7 @@ pub fn block_sizes(alloc: Global, reader: &DiskReader) -> Result<Vec<usize>, Cau
 }
 
 /// The numbers of a store, whose blocks have these sizes.
-pub fn numbers_of(reader: &DiskReader, mut sizes: Vec<usize>) -> StoreNumbers {
+pub fn numbers_of<H: FileHandle>(reader: &StoreReader<H>, mut sizes: Vec<usize>) -> StoreNumbers {
     sizes.sort_unstable();
     let usage = reader.space_usage();
     let middle = sizes.len() / 2;

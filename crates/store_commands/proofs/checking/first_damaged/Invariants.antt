@@ -1,5 +1,5 @@
-use Rattle.zevkhadun.specs.Blocks.{AreWhole}
-use Rattle.zevkhadun.proofs.checking.first_damaged.Given as goal
+use Rattle.store_commands.specs.Blocks.{AreWhole}
+use Rattle.store_commands.proofs.checking.first_damaged.Given as goal
 
 -- none so far is damaged
 abbrev pub invariant-loop-position : goal.invariant-loop-position

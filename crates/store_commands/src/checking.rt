@@ -1,0 +1,183 @@
+//! Looks over a store block by block and slot by slot for what breaks a promise of the format.
+
+ghost use Rattle.std.specs.Prelude.{◌≡◌, ◌≤◌, ◌+◌, ◌*◌, length, IfSome, IsNone};
+ghost use Rattle.store_format.specs.Block.{slot, damaged, count_of, u32_at};
+ghost use Rattle.store_commands.specs.Blocks.{AreWhole, documents_of};
+
+use docstore::{Checkpoint, block_read_index};
+use std::fmt;
+use store_base::DocId;
+
+/// Why the table of a block isn't the one that its index promises.
+#[derive(Clone, Copy)]
+pub enum TableFault {
+    /// The block has no room for the count.
+    Short,
+    /// The table has another count.
+    Count { counted: u32, promised: u32 },
+    /// The block has no room for the table.
+    Large { counted: u32 },
+    /// Bytes stand before the first document.
+    Start { start: u32 },
+}
+
+impl fmt::Display for TableFault {
+    fn fmt<W: fmt::Write>(&self, f: &mut fmt::Formatter<W>) -> fmt::Result {
+        match self {
+            TableFault::Short => f.write_str("its table has no count"),
+            TableFault::Count { counted, promised } => {
+                write!(
+                    f,
+                    "its table counts {counted} documents, the index {promised}"
+                )
+            }
+            TableFault::Large { counted } => {
+                write!(f, "its table of {counted} documents does not fit into it")
+            }
+            TableFault::Start { start } => {
+                write!(f, "its first document begins at byte {start}, not at 0")
+            }
+        }
+    }
+}
+
+/// What was found first.
+#[derive(Clone, Copy)]
+pub enum Fault {
+    Table { fault: TableFault },
+    Slot { doc_id: DocId },
+}
+
+/// The first fault, and the block that has it.
+#[derive(Clone, Copy)]
+pub struct FaultPlace {
+    pub fault: Fault,
+    pub block: u64,
+    pub byte: usize,
+}
+
+impl fmt::Display for FaultPlace {
+    fn fmt<W: fmt::Write>(&self, f: &mut fmt::Formatter<W>) -> fmt::Result {
+        let (block, byte) = (self.block, self.byte);
+        match self.fault {
+            Fault::Table { fault } => write!(f, "block {block} at byte {byte}: {fault}"),
+            Fault::Slot { doc_id } => {
+                write!(
+                    f,
+                    "block {block} at byte {byte}: document {doc_id} is damaged"
+                )
+            }
+        }
+    }
+}
+
+/// What a store has, and what of it is broken.
+#[derive(Clone, Copy)]
+pub struct Verdict {
+    pub documents: DocId,
+    pub blocks: u64,
+    pub damaged: u64,
+    pub broken_blocks: u64,
+    pub first: Option<FaultPlace>,
+}
+
+// The number of four bytes at a place.
+#[tactic(auto, unfolding(store_format::specs::Block::u32_at))]
+fn number_at(bytes: &[u8], place: usize) -> Option<u32>
+    ensures { IfSome result (λ number. number ≡ u32_at bytes.now place) }
+{
+    let (number, _) = bytes.get(place..)?.split_first_chunk::<4>()?;
+    Some(u32::from_le_bytes(*number))
+}
+
+// Where the table of a block breaks what the index promises, by how many documents.
+fn table_fault(block: &[u8], promised: u32) -> Option<TableFault>
+    ensures counted { IsNone result → count_of block.now ≡ promised }
+    ensures fits { IsNone result → 4 * (promised + 1) ≤ length block.now }
+{
+    let Some(counted) = number_at(block, block.len().saturating_sub(4)) else {
+        return Some(TableFault::Short);
+    };
+    if counted != promised {
+        return Some(TableFault::Count { counted, promised });
+    }
+    let table = (u64::from(counted) + 1) * 4;
+    let Some(place) = block.len().checked_sub(table as usize) else {
+        return Some(TableFault::Large { counted });
+    };
+    match number_at(block, place) {
+        Some(start) if start > 0 && counted > 0 => Some(TableFault::Start { start }),
+        _ => None,
+    }
+}
+
+// The first document of a block that is damaged.
+fn first_damaged(block: &[u8], documents: u32) -> Option<u32>
+    ensures damaged { IfSome result (λ position. slot block.now position ≡ damaged) }
+    ensures before { IfSome result (λ position. AreWhole block.now position) }
+    ensures whole { IsNone result → AreWhole block.now documents }
+{
+    for position in 0..documents {
+        if block_read_index(block, position).is_none() {
+            return Some(position);
+        }
+    }
+    None
+}
+
+// How many documents of a block are damaged.
+fn damaged_in(block: &[u8], documents: u32) -> u64 {
+    let mut damaged = 0u64;
+    for position in 0..documents {
+        let is_damaged = block_read_index(block, position).is_none();
+        damaged = damaged.saturating_add(u64::from(is_damaged));
+    }
+    damaged
+}
+
+// What breaks a promise in a block, whose first document has this id.
+fn fault_in(block: &[u8], first: DocId, documents: u32) -> Option<Fault>
+    ensures whole { IsNone result → AreWhole block.now documents }
+    ensures counted { IsNone result → count_of block.now ≡ documents }
+{
+    if let Some(fault) = table_fault(block, documents) {
+        return Some(Fault::Table { fault });
+    }
+    let position = first_damaged(block, documents)?;
+    Some(Fault::Slot {
+        doc_id: first.saturating_add(position),
+    })
+}
+
+impl Verdict {
+    /// Of a store of so many documents, of which nothing was read yet.
+    pub fn of_documents(documents: DocId) -> Verdict {
+        Verdict {
+            documents,
+            blocks: 0,
+            damaged: 0,
+            broken_blocks: 0,
+            first: None,
+        }
+    }
+
+    /// Takes one block more.
+    pub fn take(&mut self, checkpoint: &Checkpoint, block: &[u8])
+        ensures kept { IsNone self.new.first → IsNone self.old.first }
+        ensures whole { IsNone self.new.first → AreWhole block.now (documents_of checkpoint.now) }
+        ensures counted { IsNone self.new.first → count_of block.now ≡ documents_of checkpoint.now }
+    {
+        let ids = &checkpoint.doc_range;
+        let documents = ids.end.saturating_sub(ids.start);
+        if let Some(fault) = fault_in(block, ids.start, documents) {
+            self.broken_blocks = self.broken_blocks.saturating_add(1);
+            self.first = self.first.or(Some(FaultPlace {
+                fault,
+                block: self.blocks,
+                byte: checkpoint.byte_range.start,
+            }));
+        }
+        self.damaged = self.damaged.saturating_add(damaged_in(block, documents));
+        self.blocks = self.blocks.saturating_add(1);
+    }
+}

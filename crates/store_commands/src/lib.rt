@@ -1,0 +1,17 @@
+//! What the commands of the program find out about stores, apart from words, files and terminals.
+#![tactic(auto)]
+
+pub mod block_documents;
+pub mod broken_part;
+pub mod checking;
+pub mod id_range;
+pub mod index_fault;
+pub mod kept_documents;
+pub mod request_error;
+pub mod store_numbers;
+pub mod store_part;
+pub mod store_shape;
+
+pub use id_range::{IdRange, ids_of, ranges_of};
+pub use request_error::RequestError;
+pub use store_shape::StoreShape;
