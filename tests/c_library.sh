@@ -16,7 +16,7 @@ kit=$(dirname "$(rt doc | head -n 1)")
 cd "$crates/store_c"
 
 if [ ! -d "$crates/store_reader/out/rlib" ] || [ -e "$crates/store_reader/out/rlib/stamp" ]; then
-    rt lib
+    rt lib --jobs 2
     cp out/libstore_c.a "$out"
     exit
 fi
