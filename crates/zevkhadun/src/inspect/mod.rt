@@ -7,14 +7,16 @@ mod seek_drawing;
 
 use crate::arguments;
 use crate::failure::{Cause, Failure, at};
-use crate::store_file::{DiskReader, StorePath, store_path};
+use crate::store_file::{DiskReader, StoreFile, StorePath, store_path};
 use blocks::BlockStarts;
 use clap::{Arg, ArgAction, ArgMatches, Command};
+use docstore::block_read_index;
 use histogram::Histogram;
 use page::Page;
 use std::alloc::{AllocError, Global};
 use store_base::{StoreError, TerminatingWrite};
 use store_commands::store_numbers::{block_sizes, numbers_of};
+use store_commands::store_part::part_of;
 use store_files::DiskSink;
 
 const EXAMPLE: &str = "\
@@ -38,17 +40,40 @@ pub fn command<'a>(alloc: Global) -> Result<Command<'a>, AllocError> {
 }
 
 // How the documents' sizes spread, and how many documents are damaged.
-fn document_sizes(alloc: Global, reader: &mut DiskReader) -> Result<(Histogram, u64), Cause> {
-    let mut sizes = Histogram::new();
-    let mut damaged = 0u64;
-    for document in reader.iter_raw(alloc, None) {
-        match document {
-            Ok(bytes) => sizes.add(bytes.len() as u64),
-            Err(StoreError::DamagedDocument(_)) => damaged = damaged.saturating_add(1),
-            Err(error) => return Err(Cause::Store(error)),
+#[derive(Clone, Copy)]
+struct DocumentSizes {
+    spread: Histogram,
+    damaged: u64,
+}
+
+impl DocumentSizes {
+    // Counts the documents of a block.
+    fn add_block(&mut self, block: &[u8], documents: u32) {
+        for position in 0..documents {
+            match block_read_index(block, position) {
+                Some(range) => self.spread.add(range.len() as u64),
+                None => self.damaged = self.damaged.saturating_add(1),
+            }
         }
     }
-    Ok((sizes, damaged))
+}
+
+// The sizes of the documents of an opened store whose file this is.
+fn document_sizes(
+    alloc: Global,
+    reader: &DiskReader,
+    file: &mut StoreFile,
+) -> Result<DocumentSizes, StoreError> {
+    let mut sizes = DocumentSizes {
+        spread: Histogram::new(),
+        damaged: 0,
+    };
+    for checkpoint in reader.block_checkpoints() {
+        let (ids, bytes) = (&checkpoint.doc_range, &checkpoint.byte_range);
+        let block = part_of(alloc, file, bytes.start as u64, bytes.end as u64)?;
+        sizes.add_block(block.as_slice(), ids.end.saturating_sub(ids.start));
+    }
+    Ok(sizes)
 }
 
 // How the blocks' sizes spread.
@@ -63,19 +88,20 @@ fn spread_of(sizes: &[usize]) -> Histogram {
 // The page on a store.
 fn page_of(rt: &HostRuntime, store: StorePath<'_>) -> Result<String, Cause> {
     let alloc = rt.alloc();
-    let mut reader = store.reader(rt)?;
+    let reader = store.reader(rt)?;
+    let mut file = store.file(rt)?;
     let sizes = block_sizes(alloc, &reader)?;
     let spread = spread_of(&sizes);
     let starts = BlockStarts::of(alloc, &reader)?;
-    let (documents, damaged) = document_sizes(alloc, &mut reader)?;
+    let documents = document_sizes(alloc, &reader, &mut file)?;
     let mut page = String::new(alloc);
     Page {
         name: store.path,
         numbers: numbers_of(&reader, sizes),
         starts: &starts,
         block_sizes: &spread,
-        document_sizes: &documents,
-        damaged,
+        document_sizes: &documents.spread,
+        damaged: documents.damaged,
     }
     .push_to(&mut page)?;
     Ok(page)
