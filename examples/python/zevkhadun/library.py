@@ -21,15 +21,33 @@ class Place(ctypes.Structure):
     _fields_ = [("start", ctypes.c_size_t), ("len", ctypes.c_size_t)]
 
 
+class WriterNumbers(ctypes.Structure):
+    """The numbers of a writer, which only the library changes."""
+
+    _fields_ = [
+        ("block_size", ctypes.c_size_t),
+        ("blocks", ctypes.c_size_t),
+        ("docs", ctypes.c_size_t),
+        ("bytes", ctypes.c_size_t),
+    ]
+
+
 _PLACE = ctypes.POINTER(Place)
 _SIZE = ctypes.POINTER(ctypes.c_size_t)
 _BYTES = (ctypes.c_void_p, ctypes.c_size_t)
 _TABLE = (ctypes.POINTER(Block), ctypes.c_size_t)
+_STARTS = (ctypes.POINTER(ctypes.c_uint32), ctypes.c_size_t)
+_WRITER = ctypes.POINTER(WriterNumbers)
 
 _PARAMETERS = {
     "zevk_open": (*_BYTES, *_TABLE, _SIZE, ctypes.POINTER(ctypes.c_uint32)),
     "zevk_locate": (*_BYTES, *_TABLE, ctypes.c_uint32, _PLACE),
     "zevk_locate_run": (*_BYTES, *_TABLE, ctypes.c_uint32, _PLACE, ctypes.c_size_t, _SIZE),
+    "zevk_writer_begin": (_WRITER, ctypes.c_size_t),
+    "zevk_writer_put": (_WRITER, *_STARTS, *_TABLE, ctypes.c_size_t, _SIZE),
+    "zevk_writer_end_block": (_WRITER, *_STARTS, *_TABLE, _SIZE),
+    "zevk_writer_stack": (_WRITER, *_TABLE, *_BYTES, _SIZE, _SIZE),
+    "zevk_writer_close": (_WRITER, *_TABLE, ctypes.c_uint8, *_BYTES, _SIZE),
 }
 
 calls = ctypes.CDLL(os.environ.get("ZEVKHADUN_LIBRARY", "libzevkhadun.so.1"))
@@ -37,3 +55,5 @@ for _name, _parameters in _PARAMETERS.items():
     _call = getattr(calls, _name)
     _call.argtypes = _parameters
     _call.restype = ctypes.c_uint32
+# This one is never refused.
+calls.zevk_writer_begin.restype = None

@@ -44,20 +44,52 @@ class NoMemory(Refused, MemoryError):
     """A growth was refused."""
 
 
+class OldVersion(Refused):
+    """The documents of a store to be stacked may be in an older form."""
+
+
+class BlockTooLarge(Refused):
+    """A block would have 2^32 bytes or more."""
+
+
+class TooManyDocs(Refused):
+    """There would be 2^32 documents or more."""
+
+
 class BadPeriod(Refused):
-    """The footer has a period below 2 or above 64."""
+    """A period below 2 or above 64."""
 
 
 class NoRoom(Refused):
-    """The table has fewer rows than the store has blocks."""
+    """An array is too short for what is to be written to it."""
 
 
 class OtherTable(Refused):
     """The table is not that of the file, which was changed since it was opened."""
 
 
+class OpenBlock(Refused):
+    """The open block has documents, and must be ended first."""
+
+
+class OtherWriter(Refused):
+    """The writer and its table are not as the library left them."""
+
+
 class Closed(Refused, ValueError):
-    """The store is closed."""
+    """The store or the writer is closed."""
+
+
+class Failed(Refused, ValueError):
+    """The writer failed before, and its file beside was removed."""
+
+
+class Busy(Refused):
+    """Another writes to the file of this name."""
+
+
+class NotPlainFile(Refused):
+    """The name is that of a folder, a device or another thing that is no plain file."""
 
 
 #: the class of each number
@@ -70,9 +102,14 @@ REFUSALS: Dict[int, Type[Refused]] = {
     6: NoDocument,
     7: DamagedDocument,
     10: NoMemory,
+    11: OldVersion,
+    13: BlockTooLarge,
+    14: TooManyDocs,
     16: BadPeriod,
     32: NoRoom,
     33: OtherTable,
+    34: OpenBlock,
+    35: OtherWriter,
 }
 
 for _number, _class in REFUSALS.items():

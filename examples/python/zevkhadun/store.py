@@ -20,12 +20,12 @@ class _Opened:
 
     def __init__(self, path: Union[str, "os.PathLike[str]"]) -> None:
         with open(path, "rb") as file:
-            self._len = os.fstat(file.fileno()).st_size
+            self.len = os.fstat(file.fileno()).st_size
             # A private map: ctypes wants a buffer that could be written. No byte of it is.
-            held = mmap.mmap(file.fileno(), self._len, access=mmap.ACCESS_COPY) if self._len else bytearray(1)
+            held = mmap.mmap(file.fileno(), self.len, access=mmap.ACCESS_COPY) if self.len else bytearray(1)
         # This keeps the map.
         self._first = ctypes.c_uint8.from_buffer(held)
-        self._at = ctypes.addressof(self._first)
+        self.at = ctypes.addressof(self._first)
         self._fill(0)
         if self._blocks.value:
             self._fill(self._blocks.value)
@@ -35,7 +35,7 @@ class _Opened:
         self._blocks = ctypes.c_size_t()
         count = ctypes.c_uint32()
         blocks = ctypes.byref(self._blocks)
-        answer = calls.zevk_open(self._at, self._len, self._table, rows, blocks, ctypes.byref(count))
+        answer = calls.zevk_open(self.at, self.len, self._table, rows, blocks, ctypes.byref(count))
         if rows or answer != NoRoom.number:
             check(answer)
         self.count = count.value
@@ -43,7 +43,7 @@ class _Opened:
     def document(self, number: int) -> bytes:
         place = Place()
         rows = self._blocks.value
-        check(calls.zevk_locate(self._at, self._len, self._table, rows, number, ctypes.byref(place)))
+        check(calls.zevk_locate(self.at, self.len, self._table, rows, number, ctypes.byref(place)))
         return self._bytes(place)
 
     def run(self, first: int) -> List[bytes]:
@@ -52,13 +52,13 @@ class _Opened:
         count = ctypes.c_size_t()
         rows = self._blocks.value
         told = ctypes.byref(count)
-        answer = calls.zevk_locate_run(self._at, self._len, self._table, rows, first, places, RUN, told)
+        answer = calls.zevk_locate_run(self.at, self.len, self._table, rows, first, places, RUN, told)
         if not count.value:
             check(answer)
         return [self._bytes(places[i]) for i in range(count.value)]
 
     def _bytes(self, place: Place) -> bytes:
-        return ctypes.string_at(self._at + place.start, place.len)
+        return ctypes.string_at(self.at + place.start, place.len)
 
 
 class Store:

@@ -1,6 +1,6 @@
 //! Why a call was refused.
 
-use std::{error, fmt};
+use std::{error, fmt, io};
 
 /// Why a call was refused.
 #[derive(Clone, Copy, Debug, PartialEq, Eq)]
@@ -13,6 +13,9 @@ pub enum Refusal {
     NoDocument,
     DamagedDocument,
     NoMemory,
+    OldVersion,
+    BlockTooLarge,
+    TooManyDocs,
     BadPeriod,
     /// A number that this crate doesn't know.
     Other(u32),
@@ -29,6 +32,9 @@ impl Refusal {
             6 => Refusal::NoDocument,
             7 => Refusal::DamagedDocument,
             10 => Refusal::NoMemory,
+            11 => Refusal::OldVersion,
+            13 => Refusal::BlockTooLarge,
+            14 => Refusal::TooManyDocs,
             16 => Refusal::BadPeriod,
             other => Refusal::Other(other),
         }
@@ -44,6 +50,9 @@ impl Refusal {
             Refusal::NoDocument => "no document of this number",
             Refusal::DamagedDocument => "the document is damaged",
             Refusal::NoMemory => "no memory",
+            Refusal::OldVersion => "the store's documents may be in an older form",
+            Refusal::BlockTooLarge => "a block would have 2^32 bytes or more",
+            Refusal::TooManyDocs => "there would be 2^32 documents or more",
             Refusal::BadPeriod => "the period is below 2 or above 64",
             Refusal::Other(_) => "refused",
         }
@@ -58,8 +67,54 @@ impl fmt::Display for Refusal {
 
 impl error::Error for Refusal {}
 
-/// What the library answers where the table has no room.
+/// Why a writer did not do what it was asked.
+#[derive(Debug)]
+pub enum Error {
+    /// The library refused the call. The writer has the documents that it had, and goes on.
+    Refused(Refusal),
+    /// The output failed. The writer takes no more.
+    Io(io::Error),
+    /// The output failed before, so what it holds is not known.
+    Failed,
+}
+
+impl fmt::Display for Error {
+    fn fmt(&self, f: &mut fmt::Formatter<'_>) -> fmt::Result {
+        match self {
+            Error::Refused(refusal) => refusal.fmt(f),
+            Error::Io(error) => error.fmt(f),
+            Error::Failed => f.write_str("the writer's output failed before"),
+        }
+    }
+}
+
+impl error::Error for Error {
+    fn source(&self) -> Option<&(dyn error::Error + 'static)> {
+        match self {
+            Error::Refused(refusal) => Some(refusal),
+            Error::Io(error) => Some(error),
+            Error::Failed => None,
+        }
+    }
+}
+
+impl From<Refusal> for Error {
+    fn from(refusal: Refusal) -> Error {
+        Error::Refused(refusal)
+    }
+}
+
+impl From<io::Error> for Error {
+    fn from(error: io::Error) -> Error {
+        Error::Io(error)
+    }
+}
+
+/// What the library answers where an array has no room.
 pub(crate) const NO_ROOM: u32 = 32;
+
+/// What it answers where the open block must be ended first.
+pub(crate) const OPEN_BLOCK: u32 = 34;
 
 /// The refusal of an answer, if it is one.
 pub(crate) fn check(answer: u32) -> Result<(), Refusal> {

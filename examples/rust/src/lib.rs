@@ -1,4 +1,4 @@
-//! Document stores: documents by number, read from bytes at hand.
+//! Document stores: documents by number, read from bytes at hand, and written to any output.
 //!
 //! ```
 //! # fn main() -> Result<(), zevkhadun::Refusal> {
@@ -14,10 +14,25 @@
 //! # Ok(())
 //! # }
 //! ```
+//!
+//! ```
+//! # fn main() -> Result<(), Box<dyn std::error::Error>> {
+//! use zevkhadun::{Store, Writer};
+//!
+//! let mut writer = Writer::new(Vec::new());
+//! assert_eq!(writer.put(b"apple")?, 0);
+//! assert_eq!(writer.put(b"banana")?, 1);
+//! let file = writer.close()?;
+//! assert_eq!(Store::open(&file)?.get(1)?, b"banana");
+//! # Ok(())
+//! # }
+//! ```
 
 mod error;
 mod raw;
 mod store;
+mod writer;
 
-pub use error::Refusal;
+pub use error::{Error, Refusal};
 pub use store::{Documents, Store};
+pub use writer::{Options, Writer};

@@ -4,7 +4,7 @@
 #[repr(C)]
 #[derive(Clone, Copy, Default)]
 pub(crate) struct Block {
-    end_doc: u32,
+    pub(crate) end_doc: u32,
     end_byte: usize,
 }
 
@@ -14,6 +14,16 @@ pub(crate) struct Block {
 pub(crate) struct Place {
     pub(crate) start: usize,
     pub(crate) len: usize,
+}
+
+/// The numbers of a writer, which only the library changes.
+#[repr(C)]
+#[derive(Clone, Copy, Default)]
+pub(crate) struct WriterNumbers {
+    block_size: usize,
+    pub(crate) blocks: usize,
+    pub(crate) docs: usize,
+    bytes: usize,
 }
 
 extern "C" {
@@ -42,5 +52,41 @@ extern "C" {
         places: *mut Place,
         places_len: usize,
         count: *mut usize,
+    ) -> u32;
+    pub(crate) fn zevk_writer_begin(writer: *mut WriterNumbers, block_size: usize);
+    pub(crate) fn zevk_writer_put(
+        writer: *mut WriterNumbers,
+        starts: *mut u32,
+        starts_len: usize,
+        table: *mut Block,
+        table_len: usize,
+        len: usize,
+        count: *mut usize,
+    ) -> u32;
+    pub(crate) fn zevk_writer_end_block(
+        writer: *mut WriterNumbers,
+        starts: *mut u32,
+        starts_len: usize,
+        table: *mut Block,
+        table_len: usize,
+        count: *mut usize,
+    ) -> u32;
+    pub(crate) fn zevk_writer_stack(
+        writer: *mut WriterNumbers,
+        table: *mut Block,
+        table_len: usize,
+        file: *const u8,
+        file_len: usize,
+        count: *mut usize,
+        len: *mut usize,
+    ) -> u32;
+    pub(crate) fn zevk_writer_close(
+        writer: *const WriterNumbers,
+        table: *const Block,
+        table_len: usize,
+        period: u8,
+        end: *mut u8,
+        end_len: usize,
+        len: *mut usize,
     ) -> u32;
 }

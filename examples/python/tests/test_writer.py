@@ -1,0 +1,368 @@
+"""Stores that are written by the package."""
+
+import array
+import errno
+import fcntl
+import io
+import mmap
+import os
+import stat
+import tempfile
+import unittest
+from unittest import mock
+
+from zevkhadun import Store, Writer, refusals
+
+HEX = os.path.join(os.path.dirname(__file__), "..", "..", "words.hex")
+
+with open(HEX, encoding="ascii") as text:
+    FILE = bytes.fromhex(text.read())
+
+
+class Stop(Exception):
+    """What a test ends a `with` by."""
+
+
+def documents_of(count, seed):
+    """Documents of 0, 8, 100 and 20000 bytes in turn, each of its own bytes."""
+    lengths = [0, 8, 100, 0, 20000, 8]
+    return [bytes([(seed + number) % 256]) * lengths[number % len(lengths)] for number in range(count)]
+
+
+class InFolder(unittest.TestCase):
+    def setUp(self):
+        folder = tempfile.TemporaryDirectory()
+        self.addCleanup(folder.cleanup)
+        self.folder = folder.name
+        self.path = os.path.join(self.folder, "a.store")
+        self.beside = self.path + ".part"
+
+    def at(self, name):
+        return os.path.join(self.folder, name)
+
+    def content(self, name="a.store"):
+        with open(self.at(name), "rb") as file:
+            return file.read()
+
+    def written(self, documents, name="a.store", **options):
+        with Writer(self.at(name), **options) as writer:
+            numbers = [writer.put(document) for document in documents]
+            self.assertEqual(numbers, list(range(len(documents))))
+            self.assertEqual(len(writer), len(documents))
+        return self.at(name)
+
+    def stacked(self, name, *parts, **options):
+        with Writer(self.at(name), **options) as writer:
+            for part in parts:
+                with Store(self.at(part)) as store:
+                    writer.stack(store)
+        return self.content(name)
+
+    def documents(self, name="a.store"):
+        with Store(self.at(name)) as store:
+            return list(store)
+
+
+class Contents(InFolder):
+    def test_documents_come_back_for_any_block_size_and_period(self):
+        documents = documents_of(60, 1)
+        for block_size in [0, 1, 50, 16384, 2**64 - 1]:
+            for period in [2, 8, 64]:
+                self.written(documents, block_size=block_size, period=period)
+                self.assertEqual(self.documents(), documents)
+                self.assertEqual(os.listdir(self.folder), ["a.store"])
+
+    def test_a_known_file_is_written_byte_for_byte(self):
+        with open(self.at("known"), "wb") as file:
+            file.write(FILE)
+        self.written(self.documents("known"), block_size=120, period=3)
+        self.assertEqual(self.content(), FILE)
+
+    def test_all_kinds_of_bytes_are_put(self):
+        numbers = array.array("I", [1, 2, 3])
+        grid = memoryview(bytes(range(6))).cast("B", (2, 3))
+        kinds = [b"ab", bytearray(b"cd"), memoryview(b"efgh")[1:3], memoryview(b"efgh")[::2], numbers, grid]
+        self.written(kinds)
+        self.assertEqual(self.documents(), [b"ab", b"cd", b"fg", b"eg", numbers.tobytes(), bytes(range(6))])
+
+    def test_what_has_no_bytes_is_refused_and_the_writer_goes_on(self):
+        with Writer(self.path) as writer:
+            writer.put(b"a")
+            for wrong in ["text", 7, None, [1]]:
+                with self.assertRaises(TypeError):
+                    writer.put(wrong)
+            self.assertEqual(writer.put(b"b"), 1)
+        self.assertEqual(self.documents(), [b"a", b"b"])
+
+    def test_a_file_where_nothing_was_put_has_no_documents(self):
+        self.written([])
+        self.assertEqual(self.documents(), [])
+
+    def test_a_hundred_thousand_documents(self):
+        documents = [b"%d" % number for number in range(100000)]
+        # A block each, so the table grows; and one block of all, so the starts do.
+        for block_size in [0, 2**32]:
+            self.written(documents, block_size=block_size)
+            # Not assertEqual, which is slow to tell how long lists differ.
+            self.assertTrue(self.documents() == documents)
+
+    def test_documents_longer_than_the_buffer(self):
+        documents = [b"a" * 10, b"b" * (3 << 20), b"c", b"d" * (1 << 20), b"e" * ((1 << 20) - 1), b"f"]
+        self.written(documents)
+        self.assertTrue(self.documents() == documents)
+
+
+class Stacking(InFolder):
+    def test_the_documents_of_both_in_order(self):
+        first, second = documents_of(40, 1), documents_of(50, 77)
+        self.written(first, "b", block_size=50)
+        self.written(second, "c", block_size=1000, period=3)
+        self.stacked("a.store", "b", "c")
+        self.assertEqual(self.documents(), first + second)
+
+    def test_two_shapes_give_one_file(self):
+        for name, count, size in [("a", 30, 50), ("b", 0, 1), ("c", 3, 1), ("d", 200, 16384)]:
+            self.written(documents_of(count, count), name, block_size=size)
+        for first, second, third in ["acd", "bca", "dbc"]:
+            self.stacked("left", first, second, block_size=7, period=2)
+            self.stacked("right", second, third, block_size=9, period=5)
+            left = self.stacked("both", "left", third)
+            self.assertEqual(left, self.stacked("other", first, "right"))
+            self.assertEqual(
+                self.documents("both"), self.documents(first) + self.documents(second) + self.documents(third)
+            )
+
+    def test_documents_before_and_behind_a_store(self):
+        inner = documents_of(300, 5)
+        self.written(inner, "b", block_size=1)
+        with Writer(self.path) as writer, Store(self.at("b")) as store:
+            self.assertEqual(writer.put(b"first"), 0)
+            writer.stack(store)
+            self.assertEqual(len(writer), 301)
+            self.assertEqual(writer.put(b"last"), 301)
+        self.assertEqual(self.documents(), [b"first", *inner, b"last"])
+
+    def test_a_store_is_stacked_into_its_own_file(self):
+        self.written([b"a", b"b"])
+        self.stacked("a.store", "a.store", "a.store")
+        self.assertEqual(self.documents(), [b"a", b"b", b"a", b"b"])
+
+    def test_a_refused_store_leaves_the_file_that_would_have_been(self):
+        documents = documents_of(20, 3)
+        self.written(documents, "wanted")
+        old = bytearray(self.content("wanted"))
+        # Version 1 has no place for a period, which is 8 there.
+        old[-28] = 1
+        old[-15] = 0
+        with open(self.at("old"), "wb") as file:
+            file.write(old)
+        closed = Store(self.at("wanted"))
+        closed.close()
+        with Writer(self.path) as writer, Store(self.at("old")) as store:
+            for number, document in enumerate(documents):
+                with self.assertRaises(refusals.OldVersion):
+                    writer.stack(store)
+                with self.assertRaises(refusals.Closed):
+                    writer.stack(closed)
+                self.assertEqual(writer.put(document), number)
+        self.assertEqual(self.content(), self.content("wanted"))
+
+
+class Files(InFolder):
+    def test_an_exception_leaves_the_old_file_and_none_beside(self):
+        self.written([b"old"])
+        before = self.content()
+        with self.assertRaises(Stop):
+            with Writer(self.path) as writer:
+                writer.put(b"new" * (1 << 20))
+                self.assertTrue(os.path.exists(self.beside))
+                raise Stop
+        self.assertEqual(self.content(), before)
+        self.assertEqual(os.listdir(self.folder), ["a.store"])
+
+    def test_an_exception_leaves_no_file_where_none_was(self):
+        with self.assertRaises(Stop):
+            with Writer(self.path):
+                raise Stop
+        self.assertEqual(os.listdir(self.folder), [])
+
+    def test_the_name_is_given_at_the_end(self):
+        self.written([b"old"])
+        with Writer(self.path) as writer:
+            writer.put(b"new")
+            self.assertEqual(self.documents(), [b"old"])
+        self.assertEqual(self.documents(), [b"new"])
+
+    def test_a_second_writer_is_busy(self):
+        with Writer(self.path) as writer:
+            writer.put(b"a")
+            with self.assertRaises(refusals.Busy):
+                Writer(self.path)
+            with open(self.beside, "rb") as other, self.assertRaises(BlockingIOError):
+                fcntl.flock(other, fcntl.LOCK_EX | fcntl.LOCK_NB)
+        self.assertEqual(self.documents(), [b"a"])
+        self.written([b"b"])
+
+    def test_a_file_beside_that_another_locked_is_left_as_it_is(self):
+        with open(self.beside, "wb") as other:
+            other.write(b"another's")
+            other.flush()
+            fcntl.flock(other, fcntl.LOCK_EX)
+            with self.assertRaises(refusals.Busy):
+                Writer(self.path)
+        self.assertEqual(self.content("a.store.part"), b"another's")
+
+    def test_a_file_beside_that_lost_its_name_meanwhile_is_busy(self):
+        def renamed(descriptor, operation):
+            os.rename(self.beside, self.path)
+
+        with mock.patch("fcntl.flock", renamed), self.assertRaises(refusals.Busy):
+            Writer(self.path)
+        self.assertEqual(os.listdir(self.folder), ["a.store"])
+
+    def test_the_file_is_kept_before_it_has_its_name_and_the_folder_behind(self):
+        seen = []
+
+        def kept(descriptor):
+            is_folder = stat.S_ISDIR(os.fstat(descriptor).st_mode)
+            seen.append((is_folder, os.path.exists(self.path)))
+
+        with mock.patch("os.fsync", kept):
+            self.written([b"a"])
+        self.assertEqual(seen, [(False, False), (True, True)])
+
+    def test_what_a_crash_left_is_taken_over(self):
+        with open(self.beside, "wb") as file:
+            file.write(b"x" * 100000)
+        self.written([b"a"])
+        self.assertEqual(self.documents(), [b"a"])
+        self.assertEqual(os.listdir(self.folder), ["a.store"])
+
+    def test_the_mode_is_kept_and_links_are_followed(self):
+        self.written([b"old"])
+        for mode in [0o600, 0o754]:
+            os.chmod(self.path, mode)
+            self.written([b"new"])
+            self.assertEqual(stat.S_IMODE(os.stat(self.path).st_mode), mode)
+        os.symlink("a.store", self.at("link"))
+        self.written([b"by link"], "link")
+        self.assertTrue(os.path.islink(self.at("link")))
+        self.assertEqual(self.documents(), [b"by link"])
+
+    def test_what_is_no_plain_file_is_refused(self):
+        os.mkdir(self.path)
+        with self.assertRaises(refusals.NotPlainFile):
+            Writer(self.path)
+        os.symlink("nowhere", self.at("link"))
+        with self.assertRaises(FileNotFoundError):
+            Writer(self.at("link"))
+        with self.assertRaises(FileNotFoundError):
+            Writer(self.at("no/such/folder"))
+        self.assertEqual(sorted(os.listdir(self.folder)), ["a.store", "link"])
+
+    def test_a_path_without_a_folder(self):
+        before = os.getcwd()
+        self.addCleanup(os.chdir, before)
+        os.chdir(self.folder)
+        with Writer("plain.store") as writer:
+            writer.put(b"a")
+        self.assertEqual(self.documents("plain.store"), [b"a"])
+
+
+class Ends(InFolder):
+    def test_closed_twice_is_fine_and_a_put_is_refused(self):
+        writer = Writer(self.path)
+        writer.put(b"a")
+        writer.close()
+        before = self.content()
+        writer.close()
+        writer.discard()
+        for call in [lambda: writer.put(b"b"), lambda: writer.stack(Store(self.path))]:
+            with self.assertRaisesRegex(ValueError, "the writer is closed"):
+                call()
+        self.assertEqual(self.content(), before)
+
+    def test_discarded_in_a_with(self):
+        with Writer(self.path) as writer:
+            writer.put(b"a")
+            writer.discard()
+            with self.assertRaises(refusals.Closed):
+                writer.put(b"b")
+        self.assertEqual(os.listdir(self.folder), [])
+
+    def test_bad_periods_and_block_sizes_change_nothing(self):
+        for period in [-1, 0, 1, 65, 256 + 8]:
+            with self.assertRaises(refusals.BadPeriod):
+                Writer(self.path, period=period)
+        for block_size in [-1, 2**64]:
+            with self.assertRaises(ValueError):
+                Writer(self.path, block_size=block_size)
+        for wrong in ["8", 8.0, None]:
+            with self.assertRaises(TypeError):
+                Writer(self.path, period=wrong)
+            with self.assertRaises(TypeError):
+                Writer(self.path, block_size=wrong)
+        self.assertEqual(os.listdir(self.folder), [])
+
+    def test_what_is_too_large_is_refused_and_the_writer_goes_on(self):
+        with Writer(self.path, block_size=0) as writer, mmap.mmap(-1, 2**32) as large:
+            with self.assertRaises(refusals.BlockTooLarge):
+                writer.put(large)
+            writer.put(b"a")
+            writer._table[0].end_doc = 2**32 - 1
+            with self.assertRaises(refusals.TooManyDocs):
+                writer.put(b"b")
+            writer._table[0].end_doc = 1
+            self.assertEqual(writer.put(b"c"), 1)
+        self.assertEqual(self.documents(), [b"a", b"c"])
+
+    def failing(self, patched, act):
+        """A call of the system fails, and the writer refuses all that follows."""
+        self.written([b"old"])
+        writer = Writer(self.path)
+        writer.put(b"new")
+        with patched, self.assertRaises(OSError):
+            act(writer)
+        for call in [writer.close, lambda: writer.put(b"b")]:
+            with self.assertRaises(refusals.Failed):
+                call()
+        self.assertEqual(self.documents(), [b"old"])
+        self.assertEqual(os.listdir(self.folder), ["a.store"])
+
+    def test_a_full_disk_is_told_and_the_writer_takes_no_more(self):
+        full = OSError(errno.ENOSPC, "full")
+        at_write = mock.patch("zevkhadun.output.Output._hand_over", side_effect=full)
+        self.failing(at_write, lambda writer: writer.put(b"x" * (2 << 20)))
+        self.failing(at_write, lambda writer: writer.close())
+        self.failing(mock.patch("os.fsync", side_effect=full), lambda writer: writer.close())
+        self.failing(mock.patch("os.replace", side_effect=full), lambda writer: writer.close())
+
+    def test_a_failure_that_is_caught_in_a_with_is_told_at_its_end(self):
+        with self.assertRaises(refusals.Failed):
+            with Writer(self.path) as writer:
+                with mock.patch("zevkhadun.output.Output.write", side_effect=MemoryError):
+                    with self.assertRaises(MemoryError):
+                        writer.put(b"a")
+        self.assertEqual(os.listdir(self.folder), [])
+
+    def test_short_writes_are_gone_on_with(self):
+        writer = Writer(self.path)
+        output = writer._output
+        output._file.close()
+        output._file = Slow(self.beside, "r+b")
+        documents = [b"abc" * 1000, b"de"]
+        for document in documents:
+            writer.put(document)
+        writer.close()
+        self.assertEqual(self.documents(), documents)
+
+
+class Slow(io.FileIO):
+    """A file that takes up to 100 bytes at once."""
+
+    def write(self, content):
+        return super().write(bytes(content[:100]))
+
+
+if __name__ == "__main__":
+    unittest.main()

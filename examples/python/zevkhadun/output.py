@@ -1,0 +1,143 @@
+"""A file that takes its name only once it is whole.
+
+It does what the Rattle `DiskSink` does, by the same names and locks, so that writers of both kinds exclude one another.
+"""
+
+from __future__ import annotations
+
+import fcntl
+import os
+import stat
+from typing import Optional, Tuple, Union
+
+from .refusals import Busy, NotPlainFile
+
+#: how many bytes are gathered before they go to the system
+BUFFER_SIZE = 1 << 20
+
+
+def _found_at(path: str) -> Optional[os.stat_result]:
+    """What the file of this name is, if there is one."""
+    try:
+        return os.lstat(path)
+    except FileNotFoundError:
+        return None
+
+
+def _replaced_file(path: str) -> Tuple[str, Optional[os.stat_result]]:
+    """The name of the file that is to be replaced, where links lead, and what it is, if it is there."""
+    found = _found_at(path)
+    if found is not None and stat.S_ISLNK(found.st_mode):
+        # A link that leads nowhere is refused here.
+        os.stat(path)
+        path = os.path.realpath(path)
+        found = _found_at(path)
+    if found is not None and not stat.S_ISREG(found.st_mode):
+        raise NotPlainFile(f"{path} is not a plain file")
+    return path, found
+
+
+def _lock(descriptor: int, path: str) -> None:
+    """Locks the file of this name. One that another holds, or that took its name in the meantime, is busy."""
+    try:
+        fcntl.flock(descriptor, fcntl.LOCK_EX | fcntl.LOCK_NB)
+    except BlockingIOError:
+        raise Busy(f"{path} is being written by another") from None
+    named = _found_at(path)
+    if named is None or not os.path.samestat(named, os.fstat(descriptor)):
+        raise Busy(f"{path} is being written by another")
+
+
+def _owned_by(path: str, user: int, group: int) -> None:
+    """Gives the file its owner and group where the system lets us."""
+    try:
+        os.chown(path, user, group)
+    except OSError:
+        pass
+
+
+def _copy_access(beside: str, replaced: os.stat_result) -> None:
+    """Gives the file beside the mode of the one that it will replace, and its group and owner if that goes."""
+    _owned_by(beside, -1, replaced.st_gid)
+    _owned_by(beside, replaced.st_uid, -1)
+    os.chmod(beside, replaced.st_mode & 0o777)
+
+
+def _sync_folder(path: str) -> None:
+    """Asks the system to keep the names of the folder that the file of this name is in."""
+    folder = os.open(os.path.dirname(path) or ".", os.O_RDONLY | os.O_CLOEXEC)
+    try:
+        os.fsync(folder)
+    finally:
+        os.close(folder)
+
+
+def _opener(path: str, _flags: int) -> int:
+    """Opens a file to write to it, and leaves what it holds: another may have locked it."""
+    return os.open(path, os.O_WRONLY | os.O_CREAT | os.O_CLOEXEC, 0o666)
+
+
+class Output:
+    """The file beside, which has `.part` behind the name, until it is published or removed."""
+
+    def __init__(self, path: Union[str, "os.PathLike[str]"]) -> None:
+        """Begins the file beside: locked, empty, and with the access that the replaced file has.
+
+        What a crash left there is taken over. Raises OSError, Busy and NotPlainFile; nothing was changed then.
+        """
+        self._path, replaced = _replaced_file(os.fspath(path))
+        self._beside = self._path + ".part"
+        self._buffer = bytearray()
+        self._file = open(self._beside, "wb", buffering=0, opener=_opener)
+        self._is_beside = True
+        try:
+            _lock(self._file.fileno(), self._beside)
+            os.ftruncate(self._file.fileno(), 0)
+            if replaced is not None:
+                _copy_access(self._beside, replaced)
+        except Busy:
+            self._file.close()
+            raise
+        except BaseException:
+            self.remove()
+            raise
+
+    def write(self, content: Union[bytes, memoryview]) -> None:
+        """Puts bytes behind the others. Raises OSError."""
+        if len(self._buffer) + len(content) < BUFFER_SIZE:
+            self._buffer += content
+            return
+        self._hand_over(self._buffer)
+        self._buffer = bytearray()
+        if len(content) < BUFFER_SIZE:
+            self._buffer += content
+        else:
+            self._hand_over(content)
+
+    def publish(self) -> None:
+        """Asks the system to keep the bytes, and then to give them their name.
+
+        Raises OSError. The file of the name is the old one then, or is whole.
+        """
+        self._hand_over(self._buffer)
+        os.fsync(self._file.fileno())
+        os.replace(self._beside, self._path)
+        self._is_beside = False
+        _sync_folder(self._path)
+        self._file.close()
+
+    def remove(self) -> None:
+        """Removes the file beside, if it has not got the name, and lets it go."""
+        if self._is_beside:
+            self._is_beside = False
+            try:
+                os.remove(self._beside)
+            except OSError:
+                pass
+        # Only now, as the lock goes with it.
+        self._file.close()
+
+    def _hand_over(self, content: Union[bytes, bytearray, memoryview]) -> None:
+        rest = memoryview(content)
+        while rest:
+            rest = rest[self._file.write(rest) :]
