@@ -19,12 +19,13 @@ from typing import Dict, List
 import dask
 from dask.distributed import Client, Future, LocalCluster, as_completed, wait
 
+HERE = Path(__file__).resolve().parent
+sys.path.insert(0, str(HERE.parent / "python"))
+
 from corpus import Corpus, Places
 from segments import pack_segment, remove_leftovers
 from tree import stacked_in, stacked_in_turn
-
-HERE = Path(__file__).resolve().parent
-sys.path.insert(0, str(HERE.parent / "python"))
+from zevkhadun import Store
 
 
 def arguments() -> argparse.Namespace:
@@ -44,14 +45,12 @@ def pack(corpus: Corpus, segment: int, path: str) -> str:
 
 
 def count(path: str) -> int:
-    from zevkhadun import Store
     with Store(path) as store:
         return len(store)
 
 
 def differences(corpus: Corpus, segment: int, packed: str, whole: str, places: Places) -> int:
     """How many documents of a segment are not the same in the segment's store and in the whole one."""
-    from zevkhadun import Store
     wrong = 0
     with Store(packed) as own, Store(whole) as all_of_them:
         for number, document in enumerate(corpus.segment(segment)):
