@@ -4,8 +4,8 @@
 #
 # usage: c.sh [LIBRARY]
 #
-# LIBRARY is the static library of store_c, as c_library.sh makes it; without it `rt lib` does. It needs `rt`, gcc,
-# clang, valgrind, python3 and cargo.
+# LIBRARY is the static library of store_c, as c_library.sh makes it; without it `rt lib` does. The crate storetool is
+# taken as it was built, or else built. It needs `rt`, gcc, clang, valgrind, python3 and cargo.
 set -eu
 top=$(cd "$(dirname "$0")/.." && pwd)
 source=$top/examples/c
@@ -118,5 +118,19 @@ rust() {
     (cd "$top/examples/rust" && cargo test --offline --locked)
 }
 check "Rust" rust
+
+# The outside vectors: what storetool answers is what C, Rust and Python are answered.
+tool=$top/crates/storetool/out/storetool
+if [ ! -x "$tool" ]; then
+    (cd "$top/crates/storetool" && rt run --jobs 2 </dev/null >/dev/null)
+fi
+check "answers: build in C" gcc -std=c11 $warnings -I"$work/prefix/include" -o "$work/answers" "$source/answers.c" \
+    "$work/prefix/lib/libzevkhadun.a"
+rust_answers() {
+    (cd "$top/examples/rust" && cargo build --offline --locked --example answers)
+}
+check "answers: build in Rust" rust_answers
+check "answers to the outside vectors" python3 "$top/tests/answers.py" "$tool" "$work/answers" \
+    "$work/target/debug/examples/answers"
 
 echo "$passed checks passed"

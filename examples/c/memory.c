@@ -1,5 +1,5 @@
-/* Each allocation of an opening, a stacking and a closing is refused in turn: it answers that there is no memory, changes
- * nothing, and leaves no block behind. Nothing else allocates.
+/* Each allocation of an opening, a stacking and a closing is refused in turn: it answers that there is no memory,
+ * changes nothing, and leaves no block behind. Nothing else allocates.
  *
  * usage: memory HEX. It is linked with --wrap for malloc, realloc and free.
  */

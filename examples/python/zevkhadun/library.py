@@ -32,11 +32,12 @@ class WriterNumbers(ctypes.Structure):
     ]
 
 
-_PLACE = ctypes.POINTER(Place)
+# Arrays are addresses: a pointer to a type costs more in each call than the call itself.
+_PLACE = ctypes.c_void_p
 _SIZE = ctypes.POINTER(ctypes.c_size_t)
 _BYTES = (ctypes.c_void_p, ctypes.c_size_t)
-_TABLE = (ctypes.POINTER(Block), ctypes.c_size_t)
-_STARTS = (ctypes.POINTER(ctypes.c_uint32), ctypes.c_size_t)
+_TABLE = (ctypes.c_void_p, ctypes.c_size_t)
+_STARTS = (ctypes.c_void_p, ctypes.c_size_t)
 _WRITER = ctypes.POINTER(WriterNumbers)
 
 _PARAMETERS = {

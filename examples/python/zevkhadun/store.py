@@ -14,6 +14,9 @@ from .refusals import Closed, NoDocument, NoRoom, check
 #: how many places an iteration asks for at once
 RUN = 512
 
+_locate = calls.zevk_locate
+_address = ctypes.addressof
+
 
 class _Opened:
     """A map of a file, and the table of its blocks. It is unmapped once nobody reads it any more."""
@@ -23,42 +26,50 @@ class _Opened:
             self.len = os.fstat(file.fileno()).st_size
             # A private map: ctypes wants a buffer that could be written. No byte of it is.
             held = mmap.mmap(file.fileno(), self.len, access=mmap.ACCESS_COPY) if self.len else bytearray(1)
-        # This keeps the map.
+        self._map = held
+        # This keeps the map where it is.
         self._first = ctypes.c_uint8.from_buffer(held)
         self.at = ctypes.addressof(self._first)
-        self._fill(0)
-        if self._blocks.value:
-            self._fill(self._blocks.value)
+        rows = self._fill(0)
+        if rows:
+            self._fill(rows)
+        self._table_at = ctypes.addressof(self._table)
+        self._rows = rows
 
-    def _fill(self, rows: int) -> None:
+    def _fill(self, rows: int) -> int:
+        """Makes a table of so many rows, and answers how many there should be."""
         self._table = (Block * max(rows, 1))()
-        self._blocks = ctypes.c_size_t()
+        blocks = ctypes.c_size_t()
         count = ctypes.c_uint32()
-        blocks = ctypes.byref(self._blocks)
-        answer = calls.zevk_open(self.at, self.len, self._table, rows, blocks, ctypes.byref(count))
+        answer = calls.zevk_open(
+            self.at, self.len, self._table, rows, ctypes.byref(blocks), ctypes.byref(count)
+        )
         if rows or answer != NoRoom.number:
             check(answer)
         self.count = count.value
+        return blocks.value
 
     def document(self, number: int) -> bytes:
         place = Place()
-        rows = self._blocks.value
-        check(calls.zevk_locate(self.at, self.len, self._table, rows, number, ctypes.byref(place)))
-        return self._bytes(place)
+        answer = _locate(self.at, self.len, self._table_at, self._rows, number, _address(place))
+        if answer:
+            check(answer)
+        start = place.start
+        return self._map[start : start + place.len]
 
     def run(self, first: int) -> List[bytes]:
         """The next documents, one at least."""
         places = (Place * RUN)()
         count = ctypes.c_size_t()
-        rows = self._blocks.value
-        told = ctypes.byref(count)
-        answer = calls.zevk_locate_run(self.at, self.len, self._table, rows, first, places, RUN, told)
+        answer = calls.zevk_locate_run(
+            self.at, self.len, self._table_at, self._rows, first, places, RUN, ctypes.byref(count)
+        )
         if not count.value:
             check(answer)
-        return [self._bytes(places[i]) for i in range(count.value)]
-
-    def _bytes(self, place: Place) -> bytes:
-        return ctypes.string_at(self.at + place.start, place.len)
+        # A start and a length of each.
+        numbers = memoryview(places).cast("B").cast("N").tolist()[: 2 * count.value]
+        held = self._map
+        return [held[start : start + length] for start, length in zip(numbers[::2], numbers[1::2])]
 
 
 class Store:

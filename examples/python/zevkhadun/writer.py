@@ -14,6 +14,8 @@ from .output import Output
 from .refusals import BadPeriod, Closed, Failed, NoRoom, OpenBlock, check
 from .store import Store
 
+_put = calls.zevk_writer_put
+
 #: the greatest block size
 MOST = 2 ** (8 * ctypes.sizeof(ctypes.c_size_t)) - 1
 
@@ -56,15 +58,17 @@ class Writer:
         self._numbers = WriterNumbers()
         self._starts = (ctypes.c_uint32 * 64)()
         self._table = (Block * 64)()
-        calls.zevk_writer_begin(ctypes.byref(self._numbers), block_size)
+        self._count = ctypes.c_size_t()
+        self._numbers_at = ctypes.byref(self._numbers)
+        self._count_at = ctypes.byref(self._count)
+        self._documents = 0
+        calls.zevk_writer_begin(self._numbers_at, block_size)
         self._output = Output(path)
         self._stage = _Stage.OPEN
 
     def __len__(self) -> int:
         """How many documents were put and stacked."""
-        blocks = self._numbers.blocks
-        ended: int = self._table[blocks - 1].end_doc if blocks else 0
-        return ended + int(self._numbers.docs)
+        return self._documents
 
     def put(self, document: Union[bytes, bytearray, memoryview]) -> int:
         """Puts a document behind the others, and answers its number.
@@ -76,17 +80,18 @@ class Writer:
         view = memoryview(document)
         is_plain = view.format == "B" and view.ndim == 1 and view.c_contiguous
         content = view if is_plain else view.tobytes()
-        number = len(self)
-        count = ctypes.c_size_t()
+        number = self._documents
         try:
-            answer = self._ask_put(len(content), count)
+            answer = self._ask_put(len(content))
             if not answer:
+                self._documents = number + 1
                 self._output.write(content)
-                self._write_starts(count)
+                self._write_starts()
         except BaseException:
             self._fail()
             raise
-        check(answer)
+        if answer:
+            check(answer)
         return number
 
     def stack(self, store: Store) -> None:
@@ -100,6 +105,8 @@ class Writer:
         length = ctypes.c_size_t()
         try:
             answer = self._ask_stack(opened.at, opened.len, length)
+            if not answer:
+                self._documents += opened.count
             if not answer and length.value:
                 content = (ctypes.c_uint8 * length.value).from_address(opened.at)
                 self._output.write(memoryview(content))
@@ -154,18 +161,11 @@ class Writer:
         self._stage = _Stage.FAILED
         self._output.remove()
 
-    def _ask_put(self, length: int, count: ctypes.c_size_t) -> int:
+    def _ask_put(self, length: int) -> int:
         """Answers the library's number, with arrays that are long enough."""
         while True:
-            answer: int = calls.zevk_writer_put(
-                ctypes.byref(self._numbers),
-                self._starts,
-                len(self._starts),
-                self._table,
-                len(self._table),
-                length,
-                ctypes.byref(count),
-            )
+            starts, table = self._starts, self._table
+            answer: int = _put(self._numbers_at, starts, len(starts), table, len(table), length, self._count_at)
             if answer != NoRoom.number:
                 return answer
             self._grow_starts(self._numbers.docs + 2)
@@ -173,37 +173,35 @@ class Writer:
 
     def _ask_stack(self, file: int, file_len: int, length: ctypes.c_size_t) -> int:
         """Answers the library's number, with a table that is long enough, and the open block ended if it must be."""
-        count = ctypes.c_size_t()
         while True:
             answer: int = calls.zevk_writer_stack(
-                ctypes.byref(self._numbers),
+                self._numbers_at,
                 self._table,
                 len(self._table),
                 file,
                 file_len,
-                ctypes.byref(count),
+                self._count_at,
                 ctypes.byref(length),
             )
             if answer == OpenBlock.number:
                 self._end_block()
             elif answer == NoRoom.number:
-                self._grow_table(self._numbers.blocks + count.value)
+                self._grow_table(self._numbers.blocks + self._count.value)
             else:
                 return answer
 
     def _end_block(self) -> None:
-        count = ctypes.c_size_t()
         check(
             calls.zevk_writer_end_block(
-                ctypes.byref(self._numbers),
+                self._numbers_at,
                 self._starts,
                 len(self._starts),
                 self._table,
                 len(self._table),
-                ctypes.byref(count),
+                self._count_at,
             )
         )
-        self._write_starts(count)
+        self._write_starts()
 
     def _asked_end(self) -> bytes:
         """The index and the footer."""
@@ -218,7 +216,7 @@ class Writer:
     def _ask_close(self, end: bytearray, end_len: int, length: ctypes.c_size_t) -> int:
         first = ctypes.c_uint8.from_buffer(end)
         answer: int = calls.zevk_writer_close(
-            ctypes.byref(self._numbers),
+            self._numbers_at,
             self._table,
             len(self._table),
             self._period,
@@ -228,9 +226,11 @@ class Writer:
         )
         return answer
 
-    def _write_starts(self, count: ctypes.c_size_t) -> None:
-        if count.value:
-            self._output.write(ctypes.string_at(self._starts, count.value * ctypes.sizeof(ctypes.c_uint32)))
+    def _write_starts(self) -> None:
+        """Writes as many of the starts as the last call told."""
+        count = self._count.value
+        if count:
+            self._output.write(ctypes.string_at(self._starts, count * ctypes.sizeof(ctypes.c_uint32)))
 
     def _grow_starts(self, needed: int) -> None:
         if needed > len(self._starts):

@@ -1,0 +1,231 @@
+#!/usr/bin/env python3
+"""Times the package for Python beside what Python has: sqlite3, dbm.gnu, and a dict of offsets over a mapped file.
+
+Each side does each workload in turn, in as many rounds as asked; one JSON file has every round, and the least times are
+printed as a table. ZEVKHADUN_LIBRARY names the library for C where the system doesn't find it; dbm.gnu is left out where
+Python has none (Debian: python3-gdbm, and /usr/bin/python3).
+"""
+
+import argparse
+import json
+import mmap
+import random
+import sqlite3
+import struct
+import sys
+import tempfile
+import time
+from array import array
+from pathlib import Path
+from typing import Callable, Dict, Iterable, Iterator, List
+
+HERE = Path(__file__).resolve().parent
+sys.path.insert(0, str(HERE.parent / "examples" / "python"))
+
+import machine  # noqa: E402
+from zevkhadun import Store, Writer  # noqa: E402
+
+try:
+    import dbm.gnu as gnu
+except ImportError:
+    gnu = None
+
+SEED = 20261123
+
+
+def documents(count: int, length: int) -> Iterator[bytes]:
+    """Documents that differ, all of one length of eight bytes or more."""
+    rest = bytes(length - 8)
+    for number in range(count):
+        yield struct.pack("<Q", number * 0x9E3779B97F4A7C15 % 2**64) + rest
+
+
+class Zevkhadun:
+    """This library."""
+
+    name = "zevkhadun"
+
+    @staticmethod
+    def write(path: str, given: Iterable[bytes]) -> None:
+        with Writer(path) as writer:
+            for document in given:
+                writer.put(document)
+
+    def __init__(self, path: str) -> None:
+        self.store = Store(path)
+        self.get = self.store.__getitem__
+
+    def __iter__(self) -> Iterator[bytes]:
+        return iter(self.store)
+
+    def close(self) -> None:
+        self.store.close()
+
+
+class Sqlite:
+    """A table of numbers and blobs, by the module sqlite3."""
+
+    name = "sqlite3"
+
+    @staticmethod
+    def write(path: str, given: Iterable[bytes]) -> None:
+        base = sqlite3.connect(path, isolation_level=None)
+        base.execute("PRAGMA journal_mode=OFF")
+        base.execute("CREATE TABLE documents (id INTEGER PRIMARY KEY, bytes BLOB)")
+        base.execute("BEGIN")
+        base.executemany("INSERT INTO documents VALUES (?, ?)", enumerate(given))
+        base.execute("COMMIT")
+        base.close()
+
+    def __init__(self, path: str) -> None:
+        self.base = sqlite3.connect(f"file:{path}?mode=ro", uri=True)
+        self.base.execute("PRAGMA mmap_size=17179869184")
+        self.cursor = self.base.cursor()
+
+    def get(self, number: int) -> bytes:
+        return self.cursor.execute("SELECT bytes FROM documents WHERE id = ?", (number,)).fetchone()[0]
+
+    def __iter__(self) -> Iterator[bytes]:
+        return (row[0] for row in self.base.execute("SELECT bytes FROM documents ORDER BY id"))
+
+    def close(self) -> None:
+        self.base.close()
+
+
+class Gnu:
+    """A hash of numbers as text, by the module dbm.gnu."""
+
+    name = "dbm.gnu"
+
+    @staticmethod
+    def write(path: str, given: Iterable[bytes]) -> None:
+        with gnu.open(path, "nf") as base:
+            for number, document in enumerate(given):
+                base[str(number)] = document
+            base.sync()
+
+    def __init__(self, path: str) -> None:
+        self.base = gnu.open(path, "r")
+
+    def get(self, number: int) -> bytes:
+        return self.base[str(number)]
+
+    def __iter__(self) -> Iterator[bytes]:
+        # In the order of the numbers, which the hash does not have.
+        number = 0
+        while (key := str(number)) in self.base:
+            yield self.base[key]
+            number += 1
+
+    def close(self) -> None:
+        self.base.close()
+
+
+class Offsets:
+    """The floor: a mapped file, and a dict of where each document ends, which is made when it is opened."""
+
+    name = "dict over mmap"
+
+    @staticmethod
+    def write(path: str, given: Iterable[bytes]) -> None:
+        ends = array("Q")
+        end = 0
+        with open(path, "wb", buffering=1 << 20) as file:
+            for document in given:
+                file.write(document)
+                end += len(document)
+                ends.append(end)
+            ends.tofile(file)
+            file.write(struct.pack("<Q", end))
+
+    def __init__(self, path: str) -> None:
+        with open(path, "rb") as file:
+            self.map = mmap.mmap(file.fileno(), 0, access=mmap.ACCESS_READ)
+        (table,) = struct.unpack("<Q", self.map[-8:])
+        ends = array("Q", self.map[table:-8])
+        starts = [0, *ends]
+        self.places = {number: (starts[number], end) for number, end in enumerate(ends)}
+
+    def get(self, number: int) -> bytes:
+        start, end = self.places[number]
+        return self.map[start:end]
+
+    def __iter__(self) -> Iterator[bytes]:
+        return (self.map[start:end] for start, end in self.places.values())
+
+    def close(self) -> None:
+        self.map.close()
+
+
+def summed(given: Iterable[bytes]) -> int:
+    """What each side has to give: the sum of the documents' first eight bytes."""
+    return sum(int.from_bytes(document[:8], "little") for document in given) % 2**64
+
+
+def timed(work: Callable[[], object]) -> int:
+    start = time.perf_counter_ns()
+    work()
+    return time.perf_counter_ns() - start
+
+
+def opened(side: type, path: str) -> None:
+    reader = side(path)
+    reader.get(0)
+    reader.close()
+
+
+def round_of(side: type, folder: Path, count: int, length: int, asked: List[int]) -> Dict[str, float]:
+    """Nanoseconds of each workload, for a document, or for an opening."""
+    path = str(folder / side.name.replace(" ", "-"))
+    given = list(documents(count, length))
+    told = {"write": timed(lambda: side.write(path, given)) / count}
+    told["open"] = float(timed(lambda: opened(side, path)))
+    reader = side(path)
+    if summed(reader) != summed(given):
+        sys.exit(f"{side.name} gives other documents")
+    get = reader.get
+    in_turn = range(len(asked))
+    for name, numbers in (("uniform", asked), ("sequence", in_turn)):
+        told[name] = timed(lambda: [get(number) for number in numbers]) / len(asked)
+    told["iterate"] = timed(lambda: sum(1 for _ in reader)) / count
+    reader.close()
+    told["bytes"] = float(Path(path).stat().st_size)
+    Path(path).unlink()
+    return told
+
+
+def table_of(sides: List[type], rounds: Dict[str, List[Dict[str, float]]]) -> str:
+    """The least times of each side as a Markdown table."""
+    lines = ["| Python, ns | " + " | ".join(side.name for side in sides) + " |", "|---" * (len(sides) + 1) + "|"]
+    for workload in rounds[sides[0].name][0]:
+        least = [min(told[workload] for told in rounds[side.name]) for side in sides]
+        lines.append(f"| {workload} | " + " | ".join(f"{value:.0f}" for value in least) + " |")
+    return "\n".join(lines)
+
+
+def main() -> int:
+    parser = argparse.ArgumentParser(description=__doc__.splitlines()[0])
+    parser.add_argument("--documents", type=int, default=200_000)
+    parser.add_argument("--length", type=int, default=100)
+    parser.add_argument("--asked", type=int, default=100_000)
+    parser.add_argument("--rounds", type=int, default=5)
+    parser.add_argument("--output", type=Path, default=HERE / "from_python.json")
+    given = parser.parse_args()
+    sides = [Zevkhadun, Sqlite] + ([Gnu] if gnu else []) + [Offsets]
+    asked = [random.Random(SEED).randrange(given.documents) for _ in range(given.asked)]
+    rounds: Dict[str, List[Dict[str, float]]] = {side.name: [] for side in sides}
+    versions = {**machine.versions(), "sqlite3": sqlite3.sqlite_version}
+    before = machine.load()
+    with tempfile.TemporaryDirectory(dir="/dev/shm") as folder:
+        for _ in range(given.rounds):
+            for side in sides:
+                rounds[side.name].append(round_of(side, Path(folder), given.documents, given.length, asked))
+    told = {"machine": machine.machine(), "versions": versions, "load": [before, machine.load()], "seed": SEED,
+            "documents": given.documents, "length": given.length, "asked": given.asked, "rounds": rounds}
+    given.output.write_text(json.dumps(told, indent=1) + "\n")
+    print(table_of(sides, rounds))
+    return 0
+
+
+if __name__ == "__main__":
+    sys.exit(main())

@@ -1,0 +1,60 @@
+//! Prints what a store's file is answered: for each file the number of the refusal of its opening, or how many
+//! documents there are and some of them in hexadecimal digits, as tests/answers.py asks for them.
+//!
+//! usage: answers FILE..
+
+use std::fmt::Write;
+use zevkhadun::{Refusal, Store};
+
+/// How many of the first documents are printed.
+const FIRST: u32 = 200;
+
+fn number_of(refusal: Refusal) -> u32 {
+    match refusal {
+        Refusal::ShortFile => 1,
+        Refusal::BadVersion => 2,
+        Refusal::BadBlockKind => 3,
+        Refusal::BadOffset => 4,
+        Refusal::BadIndex => 5,
+        Refusal::NoDocument => 6,
+        Refusal::DamagedDocument => 7,
+        Refusal::NoMemory => 10,
+        Refusal::OldVersion => 11,
+        Refusal::BlockTooLarge => 13,
+        Refusal::TooManyDocs => 14,
+        Refusal::BadPeriod => 16,
+        Refusal::Other(number) => number,
+    }
+}
+
+fn text_of(answer: Result<&[u8], Refusal>) -> String {
+    let mut text = String::new();
+    match answer {
+        Err(refusal) => return format!("error {}", number_of(refusal)),
+        Ok([]) => text.push('-'),
+        Ok(document) => {
+            for byte in document {
+                // A String takes all that is written.
+                let _ = write!(text, "{byte:02x}");
+            }
+        }
+    }
+    text
+}
+
+fn main() -> std::io::Result<()> {
+    for path in std::env::args_os().skip(1) {
+        let file = std::fs::read(path)?;
+        match Store::open(&file) {
+            Err(refusal) => println!("error {}", number_of(refusal)),
+            Ok(store) => {
+                println!("docs {}", store.len());
+                let first = 0..store.len().min(FIRST);
+                for doc_id in first.chain([store.len().wrapping_sub(1), store.len()]) {
+                    println!("{}", text_of(store.get(doc_id)));
+                }
+            }
+        }
+    }
+    Ok(())
+}
