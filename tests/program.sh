@@ -178,6 +178,11 @@ same "merged stores come in order" wanted.txt back.txt
 same "merged stores leave documents out" wanted.txt back.txt
 "$program" merge a.store a.store a.store && "$program" cat a.store >back.txt
 same "a store may be merged into its own name" twice.txt back.txt
+mkdir many
+for number in $(seq 100 140); do printf '%s\n' "$number" | "$program" pack "many/$number.store"; done
+(ulimit -n 20; "$program" merge all.store many/*.store) && "$program" cat all.store >back.txt
+seq 100 140 >wanted.txt
+same "more stores are merged than files may be open" wanted.txt back.txt
 refuses "leaves out of no input" 2 "no input and documents: 'c.store=1'" merge x.store a.store --without c.store=1
 refuses "a word without documents" 2 "no input and documents" merge x.store a.store --without a.store
 refuses "leaves out what isn't there" 1 "a.store: no document 9" merge x.store a.store --without a.store=9
@@ -326,6 +331,8 @@ count "no summary where it is to be quiet" $([ -s terminal.txt ] && echo 1 || ec
 seq 1 200000 >more.txt
 on_terminal "$program pack big.store more.txt"
 count "progress on a terminal" $(grep -qE '65536 documents, [0-9]+ bytes, [0-9]+ MB/s' terminal.txt && echo 0 || echo 1)
+on_terminal "$program merge all.store big.store big.store"
+count "progress of a merge on a terminal" $(grep -qE '200000 documents, [0-9]+ bytes, [0-9]+ MB/s' terminal.txt && echo 0 || echo 1)
 "$program" pack big.store more.txt 2>err.txt
 count "no progress where there is no terminal" $([ -s err.txt ] && echo 1 || echo 0)
 

@@ -25,7 +25,7 @@ pub fn check_blocks(
                 .doc_range
                 .end
                 .saturating_sub(checkpoint.doc_range.start),
-            block.len(),
+            block.len() as u64,
         );
     }
     Ok(verdict)

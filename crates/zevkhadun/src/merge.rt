@@ -1,15 +1,15 @@
 //! `merge`: writes a store of the documents of others, in order.
 
 ghost use Rattle.std.specs.Prelude.{IfOk};
-ghost use Rattle.std.specs.List.{AllByRecursion};
 ghost use Rattle.store_merge.specs.Inputs.{HasWholeSet};
 
 use crate::arguments::{self, shape_of, wrong_words};
-use crate::failure::{Cause, Failure};
+use crate::failure::{Cause, Failure, at};
 use crate::progress::Progress;
 use crate::store_file::StorePath;
 use crate::store_output::{DiskWriter, create, finish, summarize};
 use clap::{Arg, ArgAction, ArgMatches, Command};
+use docstore::DocStoreVersion;
 use std::alloc::{AllocError, Global};
 use store_base::StoreError;
 use store_commands::StoreShape;
@@ -84,40 +84,52 @@ impl<'m, 'w> Merging<'m, 'w> {
         Ok(input_without(rt.alloc(), reader, self.ids_without(path))?)
     }
 
-    // The inputs, in order.
-    fn inputs(&self, rt: &HostRuntime) -> Result<Vec<DiskInput>, Failure>
-        ensures { IfOk result (λ inputs. AllByRecursion HasWholeSet inputs.items) }
-    {
+    // Opens each input once, so that nothing is written where one of them can't be merged. None stays open: there may be
+    // more of them than files may be.
+    fn try_inputs(&self, rt: &HostRuntime) -> Result<(), Failure> {
         let alloc = rt.alloc();
-        let mut inputs = Vec::new(alloc);
         for path in self.paths {
-            let input = match self.input(rt, path) {
-                Ok(input) => input,
-                Err(cause) => return Err(Failure::at_file(alloc, path, cause)),
-            };
-            if inputs.push(input).is_err() {
-                return Err(Failure::at_file(alloc, path, Cause::Store(StoreError::Memory)));
+            let input = at(alloc, path, self.input(rt, path))?;
+            if input.reader.version() == DocStoreVersion::V1 {
+                return Err(Failure::at_file(alloc, path, Cause::Store(StoreError::OldVersion)));
             }
         }
-        Ok(inputs)
+        Ok(())
     }
 
-    // Puts the documents behind those of the writer.
-    fn merge_into(
+    // Puts the documents of an input behind those of the writer.
+    fn merge_input(
         &self,
-        alloc: Global,
+        rt: &HostRuntime,
         writer: &mut DiskWriter,
-        inputs: &mut [DiskInput],
-    ) -> Result<(), Failure>
-        requires { AllByRecursion HasWholeSet inputs.old }
-    {
-        match merge_in_parts(alloc, writer, inputs, PART_BYTES) {
-            Ok(()) => Ok(()),
-            Err(refusal) => {
-                let path = self.paths.get(refusal.input).copied().unwrap_or("");
-                Err(Failure::at_file(alloc, path, Cause::Store(refusal.error)))
-            }
+        progress: &mut Progress<'_>,
+        path: &str,
+    ) -> Result<(), Cause> {
+        let mut inputs = [self.input(rt, path)?];
+        let bytes = inputs[0].reader.space_usage().total();
+        let documents_before = writer.num_docs();
+        if let Err(refusal) = merge_in_parts(rt.alloc(), writer, &mut inputs, PART_BYTES) {
+            return Err(Cause::Store(refusal.error));
         }
+        progress.add(writer.num_docs().saturating_sub(documents_before), bytes);
+        Ok(())
+    }
+
+    // Puts the documents of each input behind those of the writer, in order.
+    fn merge_inputs(
+        &self,
+        rt: &HostRuntime,
+        writer: &mut DiskWriter,
+        progress: &mut Progress<'_>,
+    ) -> Result<(), Failure> {
+        for path in self.paths {
+            at(
+                rt.alloc(),
+                path,
+                self.merge_input(rt, writer, progress, path),
+            )?;
+        }
+        Ok(())
     }
 
     // Whether a word names an input.
@@ -140,14 +152,15 @@ fn merge_stores(
     out: &str,
     shape: StoreShape,
     merging: &Merging<'_, '_>,
-    progress: &Progress<'_>,
+    progress: &mut Progress<'_>,
 ) -> Result<(), Failure> {
     if let Some(word) = merging.stray_word() {
         return Err(wrong_words(rt.alloc(), "no input and documents", word));
     }
-    let mut inputs = merging.inputs(rt)?;
+    merging.try_inputs(rt)?;
     let mut writer = create(rt, out, shape)?;
-    let merged = merging.merge_into(rt.alloc(), &mut writer, &mut inputs);
+    let merged = merging.merge_inputs(rt, &mut writer, progress);
+    progress.end();
     finish(rt, out, writer, merged)?;
     summarize(rt, out, progress)
 }
@@ -155,12 +168,12 @@ fn merge_stores(
 /// Writes the store.
 pub fn run(rt: &HostRuntime, matches: &ArgMatches<'_>) -> Result<(), Failure> {
     let shape = shape_of(rt.alloc(), matches)?;
-    let progress = Progress::begin(rt, matches.get_flag("quiet"));
+    let mut progress = Progress::begin(rt, matches.get_flag("quiet"));
     let merging = Merging {
         paths: matches.get_strs("INPUT").unwrap_or(&[]),
         without: matches.get_strs("without").unwrap_or(&[]),
         is_tantivy: matches.get_flag("tantivy"),
     };
     let out = matches.get_str("OUT").unwrap_or("");
-    merge_stores(rt, out, shape, &merging, &progress)
+    merge_stores(rt, out, shape, &merging, &mut progress)
 }

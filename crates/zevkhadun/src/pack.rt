@@ -65,7 +65,7 @@ impl<'a> Packing<'a> {
             };
             let document = self.framing.document_in(piece);
             at(self.rt.alloc(), self.out, writer.store_bytes(document))?;
-            progress.add(1, document.len());
+            progress.add(1, document.len() as u64);
             taken = taken.saturating_add(piece.len());
             rest = behind;
         }
@@ -87,7 +87,7 @@ impl<'a> Packing<'a> {
             return Ok(false);
         }
         at(alloc, self.out, writer.store_bytes(document))?;
-        progress.add(1, document.len());
+        progress.add(1, document.len() as u64);
         Ok(self.framing != Framing::Files)
     }
 

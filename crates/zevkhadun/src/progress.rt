@@ -40,9 +40,9 @@ impl<'a> Progress<'a> {
     }
 
     /// So many documents more, and so many bytes.
-    pub fn add(&mut self, documents: u32, bytes: usize) {
+    pub fn add(&mut self, documents: u32, bytes: u64) {
         self.documents = self.documents.saturating_add(u64::from(documents));
-        self.bytes = self.bytes.saturating_add(bytes as u64);
+        self.bytes = self.bytes.saturating_add(bytes);
         if self.is_shown
             && (self.documents >= self.next_documents || self.bytes >= self.next_bytes)
         {
