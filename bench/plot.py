@@ -53,6 +53,11 @@ def time_text(nanoseconds: float) -> str:
     return f"{nanoseconds:.3g} ns"
 
 
+def listed(names: List[str]) -> str:
+    """Names as a sentence has them."""
+    return " and ".join([", ".join(names[:-1]), names[-1]] if len(names) > 1 else names)
+
+
 def _growth_sentence(figures: Figures) -> str:
     gets, opens, memory = growth.gets(figures), growth.opens(figures), growth.memory(figures)
     if "zevk" not in gets or "zevk" not in opens:
@@ -60,7 +65,7 @@ def _growth_sentence(figures: Figures) -> str:
     (few, first), (many, last) = gets["zevk"][0], gets["zevk"][-1]
     slower = [label_of(side) for side, line in opens.items()
               if side != "zevk" and line[-1][1] < opens["zevk"][-1][1]]
-    behind = f", where {' and '.join(slower)} need less" if slower else ""
+    behind = f", where {listed(slower)} need less" if slower else ""
     (_, shortest), (_, longest) = opens["zevk"][0], opens["zevk"][-1]
     return (f"From {few} to {many} blocks a get by our library for C goes from {time_text(first)} to {time_text(last)} "
             f"and an open from {time_text(shortest)} to {time_text(longest)}{behind}; at {many} blocks an opened store "
