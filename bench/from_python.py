@@ -2,8 +2,8 @@
 """Times the package for Python beside what Python has: sqlite3, dbm.gnu, and a dict of offsets over a mapped file.
 
 Each side does each workload in turn, in as many rounds as asked; one JSON file has every round, and the least times are
-printed as a table. ZEVKHADUN_LIBRARY names the library for C where the system doesn't find it; dbm.gnu is left out where
-Python has none (Debian: python3-gdbm, and /usr/bin/python3).
+printed as a table. ZEVKHADUN_LIBRARY names the library for C where the system doesn't find it; dbm.gnu is left out
+where Python has none (Debian: python3-gdbm, and /usr/bin/python3).
 """
 
 import argparse

@@ -261,7 +261,8 @@ class Named(InFolder):
             self.assertEqual(ran("get", path, "0").stdout, b"x\n")
 
     def test_bytes_that_are_no_text(self):
-        done = subprocess.run([PROGRAM, "cat", os.fsencode(self.folder) + b"/\xff.store"], capture_output=True, timeout=60)
+        name = os.fsencode(self.folder) + b"/\xff.store"
+        done = subprocess.run([PROGRAM, "cat", name], capture_output=True, timeout=60)
         self.assertIn(done.returncode, (1, 2))
         self.assertTrue(done.stderr)
 

@@ -229,7 +229,10 @@ changed numbers.store second.store $((size - 28)) '\2'
 same "version 1 is read" numbers.txt back.txt
 "$program" merge x.store second.store && "$program" cat x.store >back.txt
 same "version 2 is merged" numbers.txt back.txt
-refuses "version 1 is not merged" 1 "first.store: a version 1 store can't be stacked" merge x.store first.store
+rm x.store
+refuses "version 1 is not merged" \
+    1 "first.store: a version 1 store can't be stacked" merge x.store numbers.store first.store
+count "nothing is written of a merge with a store of version 1" $([ -e x.store ] && echo 1 || echo 0)
 head -c 10 numbers.store >short.store
 each_command "a short file" "file of 10 bytes is shorter than a footer" short.store
 broken "a short file" "footer: file of 10 bytes" short.store
@@ -260,7 +263,9 @@ changed cover.store cover2.store $((46 + 4 - 24)) '\17'
 each_command "an index that doesn't cover the data" "index is not the encoding" cover2.store
 broken "an index that doesn't cover the data" "coverage: blocks end at byte 11, the data at 15" cover2.store
 changed doc.store slot.store 3 '\11'
-broken "a damaged document" "block 0 at byte 0: its first document begins at byte 9, not at 0; broken are 1 of 1 documents, 1 of 1 blocks" slot.store
+broken "a damaged document" \
+    "block 0 at byte 0: its first document begins at byte 9, not at 0; broken are 1 of 1 documents, 1 of 1 blocks" \
+    slot.store
 refuses "a damaged document: get" 1 "slot.store: document 0 is damaged" get slot.store 0
 refuses "a damaged document: cat" 1 "slot.store: document 0 is damaged" cat slot.store
 prints "a damaged document: stat" '"documents":1' stat --json slot.store
@@ -273,19 +278,23 @@ changed pair.store pair2.store 12 '\377'
 broken "a damaged slot" "block 0 at byte 0: document 0 is damaged; broken are 2 of 3 documents" pair2.store
 refuses "no such file" 1 "gone: No such file" cat gone
 status=0; "$program" verify gone numbers.store >out.txt 2>err.txt || status=$?
-count "verify goes on behind a file that isn't there" $([ "$status" = 1 ] && grep -q 'gone: No such file' err.txt && grep -q 'numbers.store: sound' out.txt && echo 0 || echo 1)
+count "verify goes on behind a file that isn't there" \
+    $([ "$status" = 1 ] && grep -q 'gone: No such file' err.txt && grep -q 'numbers.store: sound' out.txt &&
+        echo 0 || echo 1)
 refuses "a folder" 1 "$room: not a plain file" cat "$room"
 
 # --- the system ---
 "$program" pack kept.store lines.txt && cp kept.store old.store
 status=0; (ulimit -f 1; trap '' XFSZ; "$program" pack kept.store random.bin --framing text) 2>err.txt || status=$?
 count "a full disk ends with 1" $((status != 1))
-count "a full disk is told on one line with the file" $([ "$(wc -l <err.txt)" = 1 ] && grep -q 'kept.store: ' err.txt && echo 0 || echo 1)
+count "a full disk is told on one line with the file" \
+    $([ "$(wc -l <err.txt)" = 1 ] && grep -q 'kept.store: ' err.txt && echo 0 || echo 1)
 same "a full disk leaves the old file" old.store kept.store
 status=0; (ulimit -f 1; trap '' XFSZ; "$program" merge kept.store numbers.store) 2>err.txt || status=$?
 count "a merge on a full disk ends with 1" $((status != 1))
 same "a merge on a full disk leaves the old file" old.store kept.store
-refuses "a refused input" 1 "cut.bin: the input ends within a document" pack --framing lengths kept.store "$(printf '\5\0\0\0ab' >cut.bin; echo cut.bin)"
+printf '\5\0\0\0ab' >cut.bin
+refuses "a refused input" 1 "cut.bin: the input ends within a document" pack --framing lengths kept.store cut.bin
 refuses "an input that isn't there" 1 "gone: No such file" pack kept.store gone
 same "a refused input leaves the old file" old.store kept.store
 count "nothing is left beside" $([ -e kept.store.part ] && echo 1 || echo 0)
@@ -295,7 +304,9 @@ refuses_full() { # NAME WORDS..: a full output is told of
     local name=$1 status=0
     shift
     "$program" "$@" >/dev/full 2>err.txt || status=$?
-    count "$name" $([ "$status" = 1 ] && [ "$(wc -l <err.txt)" = 1 ] && grep -q 'standard output: No space' err.txt && echo 0 || echo 1)
+    count "$name" \
+        $([ "$status" = 1 ] && [ "$(wc -l <err.txt)" = 1 ] && grep -q 'standard output: No space' err.txt &&
+            echo 0 || echo 1)
 }
 refuses_full "a full output: cat" cat numbers.store
 refuses_full "a full output: get" get numbers.store 0..
@@ -319,11 +330,13 @@ count "a closed pipe is silent" $([ -s err.txt ] && echo 1 || echo 0)
 for words in "get numbers.store 0.." "stat numbers.store numbers.store" "verify numbers.store"; do
     # shellcheck disable=SC2086
     (sleep 0.2; "$program" $words 2>err.txt; echo "$?" >status.txt) | true
-    count "a closed pipe is silent and ends with 0: $words" $([ ! -s err.txt ] && [ "$(cat status.txt)" = 0 ] && echo 0 || echo 1)
+    count "a closed pipe is silent and ends with 0: $words" \
+        $([ ! -s err.txt ] && [ "$(cat status.txt)" = 0 ] && echo 0 || echo 1)
 done
 on_terminal() { script -qec "$*" /dev/null </dev/null >terminal.txt; }
 on_terminal "$program pack big.store numbers.txt"
-count "a summary on a terminal" $(grep -qE '20000 documents, [0-9]+ bytes, [0-9]+ blocks, [0-9.]+ seconds' terminal.txt && echo 0 || echo 1)
+count "a summary on a terminal" \
+    $(grep -qE '20000 documents, [0-9]+ bytes, [0-9]+ blocks, [0-9.]+ seconds' terminal.txt && echo 0 || echo 1)
 on_terminal "$program merge big.store numbers.store a.store"
 count "a summary of a merge on a terminal" $(grep -qE '20006 documents' terminal.txt && echo 0 || echo 1)
 on_terminal "$program pack --quiet big.store numbers.txt"
@@ -332,7 +345,8 @@ seq 1 200000 >more.txt
 on_terminal "$program pack big.store more.txt"
 count "progress on a terminal" $(grep -qE '65536 documents, [0-9]+ bytes, [0-9]+ MB/s' terminal.txt && echo 0 || echo 1)
 on_terminal "$program merge all.store big.store big.store"
-count "progress of a merge on a terminal" $(grep -qE '200000 documents, [0-9]+ bytes, [0-9]+ MB/s' terminal.txt && echo 0 || echo 1)
+count "progress of a merge on a terminal" \
+    $(grep -qE '200000 documents, [0-9]+ bytes, [0-9]+ MB/s' terminal.txt && echo 0 || echo 1)
 "$program" pack big.store more.txt 2>err.txt
 count "no progress where there is no terminal" $([ -s err.txt ] && echo 1 || echo 0)
 
@@ -343,14 +357,17 @@ for command in "" pack get cat stat verify merge inspect; do
     same "the help of '$command'" "$here/help/${command:-zevkhadun}.txt" help.txt
 done
 status=0; "$program" cat $'\377' 2>err.txt || status=$?
-count "words that are no UTF-8 end with 2" $([ "$status" = 2 ] && [ "$(wc -l <err.txt)" = 1 ] && grep -q 'have to be UTF-8' err.txt && echo 0 || echo 1)
+count "words that are no UTF-8 end with 2" \
+    $([ "$status" = 2 ] && [ "$(wc -l <err.txt)" = 1 ] && grep -q 'have to be UTF-8' err.txt && echo 0 || echo 1)
 "$program" --version >out.txt; echo "zevkhadun 0.1.0" >wanted.txt
 same "the version" wanted.txt out.txt
-for words in "" "pac x" "pack" "get x" "cat" "stat" "verify" "merge x" "inspect x" "pack --framing bytes x y" "cat --jsn x"; do
+for words in "" "pac x" "pack" "get x" "cat" "stat" "verify" "merge x" \
+    "inspect x" "pack --framing bytes x y" "cat --jsn x"; do
     status=0
     # shellcheck disable=SC2086
     "$program" $words >out.txt 2>err.txt </dev/null || status=$?
-    count "wrong words end with 2: '$words'" $([ "$status" = 2 ] && [ -s err.txt ] && [ ! -s out.txt ] && echo 0 || echo 1)
+    count "wrong words end with 2: '$words'" \
+        $([ "$status" = 2 ] && [ -s err.txt ] && [ ! -s out.txt ] && echo 0 || echo 1)
 done
 "$program" pac x 2>err.txt || true
 count "a misspelt word brings a suggestion" $(grep -q "pack" err.txt && echo 0 || echo 1)

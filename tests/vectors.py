@@ -3,9 +3,9 @@
 
 usage: vectors.py PROGRAM
 
-PROGRAM is the built `zevkhadun`. The files are the words of `crates/test_vectors/data` that are bytes in hex, and enough
-of them for a footer. Where a store is sound, what `get` and `cat` give is the same; where it isn't, some command that
-reads fails with one line. The last line tells how many files it were.
+PROGRAM is the built `zevkhadun`. The files are the words of `crates/test_vectors/data` that are bytes in hex, and
+enough of them for a footer. Where a store is sound, what `get` and `cat` give is the same; where it isn't, some command
+that reads fails with one line. The last line tells how many files it were.
 """
 
 import os

@@ -1,5 +1,5 @@
-//! Tests of what is tried in turn: each read and each write that fails, iterators that are dropped, and every short list
-//! of calls.
+//! Tests of what is tried in turn: each read and each write that fails, iterators that are dropped, and every short
+//! list of calls.
 #![tactic(auto)]
 
 #[cfg(test)]
