@@ -163,8 +163,8 @@ fn a_damaged_block_is_answered_the_same(rt: HostRuntime) -> Result<(), Fail> {
     let file = damaged(alloc)?;
     assert_eq!(rt; file.len(), 58);
     let (answers, none) = read_at(alloc, &file, 0)?;
-    let expected =
-        b"ok abc\nerror \x07\0\0\0\nok abc\nerror \x06\0\0\0\nok abc\nerror \x07\0\0\0\nend\nerror \x07\0\0\0\nend\nend\n";
+    let expected = b"ok abc\nerror \x07\0\0\0\nok abc\nerror \x06\0\0\0\nok abc\n\
+        error \x07\0\0\0\nend\nerror \x07\0\0\0\nend\nend\n";
     assert_eq!(rt; answers.as_slice(), expected.as_slice());
     assert_eq!(rt; none, stats(0, 0, 8));
     for (capacity, counts) in [(1, stats(1, 1, 7)), (100, stats(2, 6, 2))] {

@@ -1,7 +1,9 @@
 //! `merge`: writes a store of the documents of others, in order.
 
-ghost use Rattle.std.specs.Prelude.{IfOk};
+ghost use Rattle.std.specs.Prelude.{IfOk, OnOk};
+ghost use Rattle.std.specs.List.{AllByRecursion};
 ghost use Rattle.store_merge.specs.Inputs.{HasWholeSet};
+ghost use Rattle.store_merge.specs.Merge.{IsMerged};
 
 use crate::arguments::{self, shape_of, wrong_words};
 use crate::failure::{Cause, Failure, at};
@@ -66,6 +68,21 @@ fn ids_for<'a>(word: &'a str, path: &str) -> Option<&'a str> {
     }
 }
 
+// Puts the documents of opened stores behind those of the writer, in order.
+fn merge_opened(
+    alloc: Global,
+    writer: &mut DiskWriter,
+    inputs: &mut [DiskInput],
+) -> Result<(), StoreError>
+    requires { AllByRecursion HasWholeSet inputs.old }
+    ensures { OnOk result (IsMerged inputs.old writer.old writer.new) }
+{
+    match merge_in_parts(alloc, writer, inputs, PART_BYTES) {
+        Ok(()) => Ok(()),
+        Err(refusal) => Err(refusal.error),
+    }
+}
+
 impl<'m, 'w> Merging<'m, 'w> {
     // What the words leave out of an input.
     fn ids_without(&self, path: &str) -> Option<&'w str> {
@@ -84,9 +101,9 @@ impl<'m, 'w> Merging<'m, 'w> {
         Ok(input_without(rt.alloc(), reader, self.ids_without(path))?)
     }
 
-    // Opens each input once, so that nothing is written where one of them can't be merged. None stays open: there may be
-    // more of them than files may be.
-    fn try_inputs(&self, rt: &HostRuntime) -> Result<(), Failure> {
+    // Opens each input once, so that nothing is written where one of them can't be merged. None stays open: there may
+    // be more of them than files may be.
+    fn check_inputs(&self, rt: &HostRuntime) -> Result<(), Failure> {
         let alloc = rt.alloc();
         for path in self.paths {
             let input = at(alloc, path, self.input(rt, path))?;
@@ -108,9 +125,7 @@ impl<'m, 'w> Merging<'m, 'w> {
         let mut inputs = [self.input(rt, path)?];
         let bytes = inputs[0].reader.space_usage().total();
         let documents_before = writer.num_docs();
-        if let Err(refusal) = merge_in_parts(rt.alloc(), writer, &mut inputs, PART_BYTES) {
-            return Err(Cause::Store(refusal.error));
-        }
+        merge_opened(rt.alloc(), writer, &mut inputs)?;
         progress.add(writer.num_docs().saturating_sub(documents_before), bytes);
         Ok(())
     }
@@ -157,7 +172,7 @@ fn merge_stores(
     if let Some(word) = merging.stray_word() {
         return Err(wrong_words(rt.alloc(), "no input and documents", word));
     }
-    merging.try_inputs(rt)?;
+    merging.check_inputs(rt)?;
     let mut writer = create(rt, out, shape)?;
     let merged = merging.merge_inputs(rt, &mut writer, progress);
     progress.end();
