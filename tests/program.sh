@@ -298,6 +298,31 @@ refuses "a refused input" 1 "cut.bin: the input ends within a document" pack --f
 refuses "an input that isn't there" 1 "gone: No such file" pack kept.store gone
 same "a refused input leaves the old file" old.store kept.store
 count "nothing is left beside" $([ -e kept.store.part ] && echo 1 || echo 0)
+# NAME FILE PATTERN WORDS..: the words are refused with one line of this pattern, and the file has the bytes that it had.
+keeps() {
+    cp "$2" "$2.before"
+    refuses "$1" 1 "$3" "${@:4}"
+    same "$1: the file is kept" "$2.before" "$2"
+    count "$1: nothing is left beside" $([ -e "$2.part" ] && echo 1 || echo 0)
+}
+keeps "a forgotten output of pack" lines.txt "lines.txt: a file stands there that is no store; give another name" \
+    pack lines.txt
+keeps "a forgotten output before other inputs" lines.txt "no store" pack lines.txt nul.txt open.txt
+keeps "an output that is its input" lines.txt "no store" pack lines.txt lines.txt
+keeps "a merge into what is no store" numbers.txt "numbers.txt: a file stands there that is no store" \
+    merge numbers.txt numbers.store
+keeps "a page in the place of a store" numbers.store "numbers.store: a file stands there that is no page of HTML" \
+    inspect small.store --html numbers.store
+head -c 1000 numbers.store >beginning.store
+keeps "a store that was cut is no store" beginning.store "no store" pack beginning.store lines.txt
+: >nothing.store && "$program" pack nothing.store lines.txt
+same "an empty file is replaced" kept.store nothing.store
+"$program" inspect kept.store --html page.html && "$program" inspect small.store --html page.html
+count "a page is replaced" $?
+refuses "an output to the standard output" 2 "no name for a store: '-'" pack -
+refuses "a merge to the standard output" 2 "no name for a store: '-'" merge - numbers.store
+"$program" pack ./- lines.txt
+same "a file may have that name" kept.store ./-
 refuses "a folder that isn't there" 1 "gone/x.store: No such file" pack gone/x.store lines.txt
 refuses "an output that is a folder" 1 "not a plain file" pack "$room" lines.txt
 refuses_full() { # NAME WORDS..: a full output is told of

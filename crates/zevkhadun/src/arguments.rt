@@ -20,7 +20,7 @@ pub fn output<'a>(alloc: Global) -> Arg<'a> {
     file(
         alloc,
         "OUT",
-        "The store to write; one that is there is replaced at the end",
+        "The store to write; one that is there is replaced at the end, any other file is kept",
     )
 }
 

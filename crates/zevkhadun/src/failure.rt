@@ -20,6 +20,8 @@ pub enum Cause {
     Output(io::Error),
     /// The output can't be begun.
     Create(CreateError),
+    /// A file that is none of this kind has the output's name.
+    OtherFile(&'static str),
     /// A call on a store was refused.
     Store(StoreError),
     /// The store has no document of this number, but so many others.
@@ -38,6 +40,7 @@ impl Cause {
         match self {
             Cause::Words(_) => "; try '--help'",
             Cause::Create(CreateError::Busy(_)) => "; wait for it, or end it",
+            Cause::OtherFile(_) => "; give another name, or remove it",
             Cause::CutInput => "; is it in another framing?",
             Cause::NoTantivyTail => "; for a store that stands alone leave '--tantivy' out",
             Cause::Store(error) => advice_for(error),
@@ -68,6 +71,7 @@ impl fmt::Display for Cause {
             Cause::System(error) => write!(f, "{error}"),
             Cause::Output(error) => write!(f, "standard output: {error}"),
             Cause::Create(error) => write!(f, "{error}"),
+            Cause::OtherFile(kind) => write!(f, "a file stands there that is no {kind}"),
             Cause::Store(StoreError::BadBlockKind(kind)) => {
                 write!(f, "blocks are packed by kind {kind}, not raw")
             }

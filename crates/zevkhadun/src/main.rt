@@ -16,6 +16,7 @@ mod inspect;
 mod merge;
 mod pack;
 mod progress;
+mod replacing;
 mod stat;
 mod store_file;
 mod store_output;

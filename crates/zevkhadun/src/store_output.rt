@@ -1,7 +1,9 @@
 //! A store that is written to disk.
 
+use crate::arguments::wrong_words;
 use crate::failure::{Cause, Failure, at};
 use crate::progress::Progress;
+use crate::replacing::check_store;
 use crate::store_file::StorePath;
 use docstore::{Compressor, StoreWriter};
 use std::io;
@@ -11,9 +13,13 @@ use store_files::DiskSink;
 /// A writer to a file on disk.
 pub type DiskWriter = StoreWriter<DiskSink<HostRuntime>>;
 
-/// A writer to a file of this name, which is replaced at the end.
+/// A writer to a file of this name. A store that has it is replaced at the end; any other file is kept.
 pub fn create(rt: &HostRuntime, path: &str, shape: StoreShape) -> Result<DiskWriter, Failure> {
     let alloc = rt.alloc();
+    if path == "-" {
+        return Err(wrong_words(alloc, "no name for a store", path));
+    }
+    at(alloc, path, check_store(rt, path))?;
     let sink = at(alloc, path, DiskSink::create(alloc, *rt, path))?;
     Ok(StoreWriter::with_period(
         alloc,

@@ -7,6 +7,7 @@ mod seek_drawing;
 
 use crate::arguments;
 use crate::failure::{Cause, Failure, at};
+use crate::replacing::check_page;
 use crate::store_file::{DiskReader, StoreFile, StorePath, store_path};
 use blocks::BlockStarts;
 use clap::{Arg, ArgAction, ArgMatches, Command};
@@ -30,7 +31,7 @@ pub fn command<'a>(alloc: Global) -> Result<Command<'a>, AllocError> {
         .value_name("OUT")
         .required(true)
         .action(ArgAction::Set)
-        .help("The page to write");
+        .help("The page to write; one that is there is replaced, any other file is kept");
     Command::new(alloc, "inspect")
         .about("Draws what a store has on a page of HTML")
         .after_help(EXAMPLE)
@@ -115,8 +116,9 @@ fn refusal_of(sink: &DiskSink<HostRuntime>) -> Cause {
     }
 }
 
-// Writes the page in place of the file of this name.
+// Writes the page in place of one of this name.
 fn write_page(rt: &HostRuntime, path: &str, page: &str) -> Result<(), Cause> {
+    check_page(rt, path)?;
     let mut sink = DiskSink::create(rt.alloc(), *rt, path)?;
     if sink.write_all(page.as_bytes()).is_err() || sink.terminate().is_err() {
         return Err(refusal_of(&sink));

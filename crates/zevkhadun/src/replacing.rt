@@ -1,0 +1,51 @@
+//! What an output may replace: a file of its own kind, or an empty one.
+
+use crate::failure::Cause;
+use crate::store_file::{StoreFile, StorePath};
+use docstore::DocStoreFooter;
+use std::fs;
+use store_base::StoreError;
+use store_commands::store_part::part_of;
+
+// How a page of HTML begins.
+const DOCTYPE: &[u8; 15] = b"<!DOCTYPE html>";
+
+// The file of this name, where there is one that has bytes. An output refuses itself what is no plain file.
+fn file_with_bytes(rt: &HostRuntime, path: &str) -> Result<Option<StoreFile>, Cause> {
+    let store = StorePath {
+        path,
+        is_tantivy: false,
+    };
+    match fs::metadata(rt, path) {
+        Ok(found) if found.is_file() && found.len() > 0 => Ok(Some(store.file(rt)?)),
+        _ => Ok(None),
+    }
+}
+
+/// Refuses a name that a file has which is no store.
+pub fn check_store(rt: &HostRuntime, path: &str) -> Result<(), Cause> {
+    let Some(file) = file_with_bytes(rt, path)? else {
+        return Ok(());
+    };
+    match DocStoreFooter::extract_footer(rt.alloc(), file) {
+        Ok(_) => Ok(()),
+        Err(refusal) => Err(match refusal.error {
+            StoreError::Read | StoreError::Memory => Cause::Store(refusal.error),
+            _ => Cause::OtherFile("store"),
+        }),
+    }
+}
+
+/// Refuses a name that a file has which is no page of HTML.
+pub fn check_page(rt: &HostRuntime, path: &str) -> Result<(), Cause> {
+    let Some(mut file) = file_with_bytes(rt, path)? else {
+        return Ok(());
+    };
+    let end = file.len().min(DOCTYPE.len() as u64);
+    let beginning = part_of(rt.alloc(), &mut file, 0, end)?;
+    if beginning.as_slice() == DOCTYPE.as_slice() {
+        Ok(())
+    } else {
+        Err(Cause::OtherFile("page of HTML"))
+    }
+}
