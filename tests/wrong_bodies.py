@@ -134,6 +134,8 @@ def try_crate(kit, crate, edits):
 
 def main(tree, *names):
     kit = load_kit()
+    # Its first call takes a signal, which only the main thread may.
+    kit.rtlib.guarded()
     crates = {crate.name: crate for crate in kit.rtlib.crates_below(os.path.abspath(tree))}
     edits = collections.defaultdict(list)
     for path in sorted(glob.glob(f"{REPOSITORY}/crates/*/must-fail/*.edit")):
