@@ -298,7 +298,7 @@ refuses "a refused input" 1 "cut.bin: the input ends within a document" pack --f
 refuses "an input that isn't there" 1 "gone: No such file" pack kept.store gone
 same "a refused input leaves the old file" old.store kept.store
 count "nothing is left beside" $([ -e kept.store.part ] && echo 1 || echo 0)
-# NAME FILE PATTERN WORDS..: the words are refused with one line of this pattern, and the file has the bytes that it had.
+# NAME FILE PATTERN WORDS..: the words are refused with a line of this pattern, and the file has the bytes that it had.
 keeps() {
     cp "$2" "$2.before"
     refuses "$1" 1 "$3" "${@:4}"

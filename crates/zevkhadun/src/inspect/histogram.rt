@@ -35,9 +35,12 @@ impl Histogram {
         peak
     }
 
-    /// Draws a bar for each bin that has sizes, the longest over the whole width.
+    /// Draws a bar for each bin that has sizes, the longest over the whole width, and says so where there is none.
     pub fn draw(&self, page: &mut String) -> Result<(), AllocError> {
-        let peak = self.peak().max(1);
+        let peak = self.peak();
+        if peak == 0 {
+            return page.push_str("<p>none</p>\n");
+        }
         page.push_str("<table class=\"bars\">\n")?;
         for (count, bits) in self.counts.iter().zip(0u32..=u64::BITS) {
             if *count > 0 {
@@ -45,6 +48,15 @@ impl Histogram {
             }
         }
         page.push_str("</table>\n")
+    }
+}
+
+// Adds the sizes that a bin takes.
+fn push_range(page: &mut String, least: u64, most: u64) -> Result<(), AllocError> {
+    if least == most {
+        write!(page, "{least}")
+    } else {
+        write!(page, "{least} to {most}")
     }
 }
 
@@ -56,9 +68,11 @@ fn draw_bar(page: &mut String, bits: u32, count: u64, peak: u64) -> Result<(), A
     let least = most - most / 2;
     let permille = (count.saturating_mul(1000) / peak.max(1)).max(1);
     let (whole, tenth) = (permille / 10, permille % 10);
+    page.push_str("<tr><th>")?;
+    push_range(page, least, most)?;
     write!(
         page,
-        "<tr><th>{least} to {most}</th><td><div class=\"bar\" style=\"width:{whole}.{tenth}%\"></div></td>"
+        "</th><td><div class=\"bar\" style=\"width:{whole}.{tenth}%\"></div></td>"
     )?;
     write!(page, "<td class=\"count\">{count}</td></tr>\n")
 }

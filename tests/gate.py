@@ -1,17 +1,15 @@
 #!/usr/bin/env python3
-"""Tries the wrong bodies of crates/*/must-fail, many in one check.
+"""The kit's `rt ci` and `rt must-fail`, which here try the wrong bodies of a crate many in one check.
 
-usage: wrong_bodies.py TREE [CRATE..]
+usage, at the top of the repository: gate.py ci
+                                     gate.py must-fail [CRATE..]
 
-TREE is a copy of the repository without these edits, in which `rt ci` has proved every crate. `rt must-fail` gives each
-edit a check of its own, most of which goes into reading the libraries and into what it offers as a help. Here a check
-has an edit in each of many functions. That decides the same, since a function is checked against the contracts of those
-that it calls, whatever their bodies. An edit is refused where the check finds no proof of the function itself. What it
-doesn't say so of is left to the kit, alone.
+`rt` gives each edit of must-fail a check of its own, most of which goes into reading the libraries and into what it
+offers as a help. Here a check has an edit in each of many functions. That decides the same, since a function is checked
+against the contracts of those that it calls, whatever their bodies. An edit is refused where the check finds no proof
+of the function itself. What it doesn't say so of is left to the kit, alone. All else is the kit's.
 """
 import collections
-import concurrent.futures
-import glob
 import importlib.machinery
 import importlib.util
 import os
@@ -20,11 +18,9 @@ import shutil
 import sys
 import tempfile
 
-REPOSITORY = os.path.dirname(os.path.dirname(os.path.abspath(__file__)))
 FUNCTION = re.compile(r'^ *(?:pub(?:\(\w+\))? )?(?:const )?(?:unsafe )?(?:extern "C" )?fn (\w+)', re.M)
 # A function has no proof of its own; where it only calls one without, the line says "no proof: it calls".
 UNPROVED = re.compile(r"^fn (\S+): (?:not proved|no proof: (?!it calls))", re.M)
-FLAGS = ["--jobs", "1"]
 
 
 def load_kit():
@@ -104,10 +100,10 @@ def path_of(crate, function):
     return re.compile("::".join(filter(None, (crate.name, module, rf"(?:\w+::)?{name}"))))
 
 
-def refused_together(kit, crate, those, kept):
+def refused_together(kit, crate, those, flags, kept):
     """Returns the edits of a round that one check refuses: none where it has no proof of another function too."""
     texts = edited(crate, those.values())
-    unproved = UNPROVED.findall(kit.checked(crate, texts, FLAGS, kept).stdout) if texts else []
+    unproved = UNPROVED.findall(kit.checked(crate, texts, flags, kept).stdout) if texts else []
     refused, told = [], set()
     for function, edit in those.items():
         names = list(filter(path_of(crate, function).fullmatch, unproved))
@@ -116,42 +112,33 @@ def refused_together(kit, crate, those, kept):
     return refused if told == set(unproved) else []
 
 
-def try_crate(kit, crate, edits):
-    """Returns for each edit of a crate whether it is refused, and what to say."""
+def try_edits(kit, crate, paths, flags):
+    """Returns for each edit of a crate whether it is refused, and what to say: what the kit's `must_fail_all` does."""
+    edits = [Edit(path) for path in paths]
     rounds, left = rounds_of(crate, edits)
-    answers = []
-    with tempfile.TemporaryDirectory(prefix="wrong-bodies-") as kept:
+    answers = {}
+    with tempfile.TemporaryDirectory(prefix="gate-") as kept:
         for those in rounds:
-            refused = refused_together(kit, crate, those, kept)
-            answers += [(True, f"{edit.name}: refused") for edit in refused]
+            refused = refused_together(kit, crate, those, flags, kept)
+            answers |= {edit: (True, f"must-fail {edit.name}: refused, beside others") for edit in refused}
             left += [edit for edit in those.values() if edit not in refused]
-        answers += [kit.must_fail(crate, edit.path, FLAGS, kept) for edit in left]
-        if kit.checked(crate, {}, FLAGS, kept).returncode:
-            answers.append((False, f"{crate.name}: not proved without an edit"))
-    print(f"{crate.name}: {len(edits)} wrong bodies tried, {len(left)} of them alone", flush=True)
-    return answers
+        answers |= {edit: kit.must_fail(crate, edit.path, flags, kept) for edit in left}
+        is_sound = not kit.checked(crate, {}, flags, kept).returncode
+    kit.say(f"{crate.name}: {len(edits)} must-fail edits tried, {len(left)} of them alone")
+    # As the kit has it: what was not refused so is tried from nothing, and all where the crate itself is not proved.
+    return [
+        answers[edit] if is_sound and answers[edit][0] else kit.must_fail(crate, edit.path, flags) for edit in edits
+    ]
 
 
-def main(tree, *names):
+def main(*words):
     kit = load_kit()
-    # Its first call takes a signal, which only the main thread may.
-    kit.rtlib.guarded()
-    crates = {crate.name: crate for crate in kit.rtlib.crates_below(os.path.abspath(tree))}
-    edits = collections.defaultdict(list)
-    for path in sorted(glob.glob(f"{REPOSITORY}/crates/*/must-fail/*.edit")):
-        edits[path.split("/")[-3]].append(Edit(path))
-    longest_first = sorted(names or edits, key=lambda name: -len(edits[name]))
-    with concurrent.futures.ThreadPoolExecutor(os.cpu_count()) as lanes:
-        tried = [lanes.submit(try_crate, kit, crates[name], edits[name]) for name in longest_first]
-        answers = [answer for lane in tried for answer in lane.result()]
-    for is_refused, text in answers:
-        print(text if is_refused else f"FAILED: {text}")
-    failed = sum(not is_refused for is_refused, _ in answers)
-    print(f"wrong bodies: {len(answers) - failed} refused, {failed} failed")
-    return 1 if failed else 0
+    assert callable(kit.must_fail_all)
+    kit.must_fail_all = lambda crate, paths, flags: try_edits(kit, crate, paths, flags)
+    return kit.main(words)
 
 
 if __name__ == "__main__":
-    if len(sys.argv) < 2:
+    if sys.argv[1:2] not in (["ci"], ["must-fail"]):
         sys.exit(__doc__)
     sys.exit(main(*sys.argv[1:]))
