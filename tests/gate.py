@@ -19,8 +19,8 @@ import sys
 import tempfile
 
 FUNCTION = re.compile(r'^ *(?:pub(?:\(\w+\))? )?(?:const )?(?:unsafe )?(?:extern "C" )?fn (\w+)', re.M)
-# A function has no proof of its own; where it only calls one without, the line says "no proof: it calls".
-UNPROVED = re.compile(r"^fn (\S+): (?:not proved|no proof: (?!it calls))", re.M)
+# A function has no proof of its own; of one that only calls such a function the line says "it calls".
+UNPROVED = re.compile(r"^fn (\S+): (?:not proved(?!; it calls)|no proof(?!: it calls))", re.M)
 
 
 def load_kit():
@@ -93,11 +93,14 @@ def edited(crate, edits):
     return texts
 
 
-def path_of(crate, function):
-    """Returns what the names of functions of this name in this file look like in a check's output."""
+def lines_of(crate, function, those, unproved):
+    """Returns which of the unproved functions this one of a round is. A method stands in the module of its type."""
     file, name = function
+    if [other for _, other in those].count(name) == 1:
+        return [path for path in unproved if path.endswith(f"::{name}")]
     module = re.sub(r"(/mod|/?lib)?\.rt$", "", file.removeprefix("src/")).replace("/", "::")
-    return re.compile("::".join(filter(None, (crate.name, module, rf"(?:\w+::)?{name}"))))
+    path = re.compile("::".join(filter(None, (crate.name, module, rf"(?:\w+::)?{name}"))))
+    return list(filter(path.fullmatch, unproved))
 
 
 def refused_together(kit, crate, those, flags, kept):
@@ -106,8 +109,8 @@ def refused_together(kit, crate, those, flags, kept):
     unproved = UNPROVED.findall(kit.checked(crate, texts, flags, kept).stdout) if texts else []
     refused, told = [], set()
     for function, edit in those.items():
-        names = list(filter(path_of(crate, function).fullmatch, unproved))
-        refused += [edit] if names else []
+        names = lines_of(crate, function, those, unproved)
+        refused += [edit] if len(names) == 1 else []
         told.update(names)
     return refused if told == set(unproved) else []
 
