@@ -117,6 +117,8 @@ def refused_together(kit, crate, those, flags, kept):
 
 def try_edits(kit, crate, paths, flags):
     """Returns for each edit of a crate whether it is refused, and what to say: what the kit's `must_fail_all` does."""
+    if len(paths) < 2:
+        return [kit.must_fail(crate, path, flags) for path in paths]
     edits = [Edit(path) for path in paths]
     rounds, left = rounds_of(crate, edits)
     answers = {}
