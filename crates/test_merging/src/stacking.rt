@@ -39,17 +39,24 @@ fn blocks_of_three_stores_are_joined_in_either_grouping(rt: HostRuntime) -> Resu
     Ok(())
 }
 
-#[test]
-fn a_failed_read_of_a_stack_is_repeated(rt: HostRuntime) -> Result<(), Fail> {
-    let alloc = rt.alloc();
+// A writer of a document and of a store whose data was read at the second time alone.
+fn stacked_again(alloc: Global) -> Result<StoreWriter<MemSink>, StoreError> {
     let file = FailingFile::new(alloc, written(alloc, 16384, &[b"abc"])?, 3)?;
     let mut reader = opened(alloc, file)?;
     let mut writer = StoreWriter::new(alloc, MemSink::new(alloc), Compressor::None, 16384);
     writer.store_bytes(b"x")?;
-    assert_eq!(rt; writer.stack(&mut reader), Err(StoreError::Read));
-    assert_eq!(rt; writer.num_docs(), 1);
-    assert!(rt; !writer.has_failed());
-    assert_eq!(rt; writer.stack(&mut reader), Ok(()));
+    let refused = writer.stack(&mut reader);
+    if refused != Err(StoreError::Read) || writer.num_docs() != 1 || writer.has_failed() {
+        return Err(StoreError::BadIndex);
+    }
+    writer.stack(&mut reader)?;
+    Ok(writer)
+}
+
+#[test]
+fn a_failed_read_of_a_stack_is_repeated(rt: HostRuntime) -> Result<(), Fail> {
+    let alloc = rt.alloc();
+    let mut writer = stacked_again(alloc)?;
     writer.store_bytes(b"y")?;
     assert_eq!(rt; writer.num_docs(), 3);
     let mut reader = opened_bytes(alloc, closed(writer)?.into_bytes())?;

@@ -52,19 +52,25 @@ fn each_part_is_one_read(rt: HostRuntime) -> Result<(), Fail> {
     Ok(())
 }
 
-#[test]
-fn a_failed_read_leaves_the_parts_before(rt: HostRuntime) -> Result<(), Fail> {
-    let alloc = rt.alloc();
+// A writer of a document and of six blocks in parts of two, the second of which was not read. The reader can go on.
+fn half_stacked(alloc: Global) -> Result<StoreWriter<MemSink>, StoreError> {
     let mut reader = opened(alloc, FailingFile::new(alloc, six_blocks(alloc)?, 4)?)?;
     let mut writer = StoreWriter::new(alloc, MemSink::new(alloc), Compressor::None, 16384);
     writer.store_bytes(b"x")?;
-    assert_eq!(rt;
-        writer.stack_in_parts(&mut reader, 18),
-        Err(StoreError::Read)
-    );
+    let stacked = writer.stack_in_parts(&mut reader, 18);
+    if stacked == Err(StoreError::Read) && is_found(alloc, &mut reader, 5, b"f") {
+        Ok(writer)
+    } else {
+        Err(StoreError::BadDocument)
+    }
+}
+
+#[test]
+fn a_failed_read_leaves_the_parts_before(rt: HostRuntime) -> Result<(), Fail> {
+    let alloc = rt.alloc();
+    let mut writer = half_stacked(alloc)?;
     assert_eq!(rt; writer.num_docs(), 3);
     assert!(rt; !writer.has_failed());
-    assert!(rt; is_found(alloc, &mut reader, 5, b"f"));
     writer.store_bytes(b"y")?;
     let file = closed(writer)?.into_bytes();
     assert!(rt; file == written(alloc, 0, &[b"x", b"a", b"b", b"y"])?);

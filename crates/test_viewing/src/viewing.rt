@@ -26,16 +26,25 @@ fn a_view_gives_documents(rt: HostRuntime) -> Result<(), Fail> {
     let file = written(alloc, 0, &[b"a", b"bc", b""])?;
     let view = StoreView::open(alloc, file.as_slice())?;
     assert_eq!(rt; view.num_docs(), 3);
-    assert_eq!(rt; view.get(0)?, b"a".as_slice());
-    assert_eq!(rt; view.get(1)?, b"bc".as_slice());
-    assert_eq!(rt; view.get(2)?, b"".as_slice());
+    for (doc_id, document) in (0..3u32).zip([b"a".as_slice(), b"bc", b""]) {
+        assert_eq!(rt; view.get(doc_id)?, document);
+    }
     assert_eq!(rt; view.get(3).err(), Some(StoreError::InvalidArgument(3)));
-    assert_eq!(rt; view.locate(0)?, 0..1);
-    assert_eq!(rt; view.locate(1)?, 9..11);
-    assert_eq!(rt; view.locate(2)?, 19..19);
+    Ok(())
+}
+
+#[test]
+fn a_view_names_places(rt: HostRuntime) -> Result<(), Fail> {
+    let alloc = rt.alloc();
+    let file = written(alloc, 0, &[b"a", b"bc", b""])?;
+    let view = StoreView::open(alloc, file.as_slice())?;
+    for (doc_id, place) in (0..3u32).zip([0..1, 9..11, 19..19]) {
+        assert_eq!(rt; view.locate(doc_id)?, place);
+    }
+    let past = u32::MAX;
     assert_eq!(rt;
-        view.locate(u32::MAX).err(),
-        Some(StoreError::InvalidArgument(u32::MAX))
+        view.locate(past).err(),
+        Some(StoreError::InvalidArgument(past))
     );
     Ok(())
 }
