@@ -1,13 +1,13 @@
 #!/usr/bin/env python3
 """The kit's `rt ci` and `rt must-fail`, which here try the wrong bodies of a crate many in one check.
 
-usage, at the top of the repository: gate.py ci
+usage, at the top of the repository: gate.py ci [CRATE..]
                                      gate.py must-fail [CRATE..]
 
-`rt` gives each edit of must-fail a check of its own, most of which goes into reading the libraries and into what it
-offers as a help. Here a check has an edit in each of many functions. That decides the same, since a function is checked
-against the contracts of those that it calls, whatever their bodies. An edit is refused where the check finds no proof
-of the function itself. What it doesn't say so of is left to the kit, alone. All else is the kit's.
+`rt` gives each edit of must-fail a check of its own, most of which goes into reading the libraries. Here a check has an
+edit in each of many functions. That decides the same, since a function is checked against the contracts of those that it
+calls, whatever their bodies. An edit is refused where the check finds no proof of the function itself. What it doesn't
+say so of is left to the kit, alone. All else is the kit's, and a kit that is made otherwise does all of it.
 """
 import collections
 import importlib.machinery
@@ -16,11 +16,12 @@ import os
 import re
 import shutil
 import sys
-import tempfile
 
 FUNCTION = re.compile(r'^ *(?:pub(?:\(\w+\))? )?(?:const )?(?:unsafe )?(?:extern "C" )?fn (\w+)', re.M)
 # A function has no proof of its own; of one that only calls such a function the line says "it calls".
 UNPROVED = re.compile(r"^fn (\S+): (?:not proved(?!; it calls)|no proof(?!: it calls))", re.M)
+# What is taken of the kit, and what is put in the place of two of these.
+NAMES = ("REFUSED", "checked", "edits_of", "linked", "main", "must_fail", "say", "seeded")
 
 
 def load_kit():
@@ -41,7 +42,6 @@ class Edit:
 
     def __init__(self, path):
         self.path = path
-        self.name = "/".join(path.split("/")[-3::2])
         lines = read(path).split("\n")
         self.files = [line.removeprefix("file: ") for line in lines if line.startswith("file: ")]
         self.old = [line.removeprefix("old: ") for line in lines if line.startswith("old: ")]
@@ -65,22 +65,21 @@ def function_around(text, place):
 
 
 def rounds_of(crate, edits):
-    """Returns the edits of one function each in rounds, where each function has at most one, and the other edits."""
-    rounds, others, places = [], [], collections.Counter()
+    """Returns the edits of one function each in rounds, where each function has at most one."""
+    rounds, places = [], collections.Counter()
     for edit in edits:
         function = edit.function_in(crate.folder)
         if function is None:
-            others.append(edit)
             continue
         if places[function] == len(rounds):
             rounds.append({})
         rounds[places[function]][function] = edit
         places[function] += 1
-    return rounds, others
+    return [those for those in rounds if len(those) > 1]
 
 
 def edited(crate, edits):
-    """Returns the files that these edits change, as they are then, or nothing where one can't be applied."""
+    """Returns the texts of the files that these edits change, as they are then, or nothing where one can't be applied."""
     texts = {}
     for edit in edits:
         path = edit.files[0]
@@ -103,44 +102,50 @@ def lines_of(crate, function, those, unproved):
     return list(filter(path.fullmatch, unproved))
 
 
-def refused_together(kit, crate, those, flags, kept):
-    """Returns the edits of a round that one check refuses: none where it has no proof of another function too."""
-    texts = edited(crate, those.values())
-    unproved = UNPROVED.findall(kit.checked(crate, texts, flags, kept).stdout) if texts else []
-    refused, told = [], set()
-    for function, edit in those.items():
-        names = lines_of(crate, function, those, unproved)
-        refused += [edit] if len(names) == 1 else []
-        told.update(names)
-    return refused if told == set(unproved) else []
+class Gate:
+    """The kit's command, and which edits were refused beside others."""
 
+    def __init__(self, kit):
+        self.kit, self.alone, self.begin, self.refused = kit, kit.must_fail, kit.seeded, set()
+        kit.must_fail, kit.seeded = self.must_fail, self.seeded
 
-def try_edits(kit, crate, paths, flags):
-    """Returns for each edit of a crate whether it is refused, and what to say: what the kit's `must_fail_all` does."""
-    if len(paths) < 2:
-        return [kit.must_fail(crate, path, flags) for path in paths]
-    edits = [Edit(path) for path in paths]
-    rounds, left = rounds_of(crate, edits)
-    answers = {}
-    with tempfile.TemporaryDirectory(prefix="gate-") as kept:
-        for those in rounds:
-            refused = refused_together(kit, crate, those, flags, kept)
-            answers |= {edit: (True, f"must-fail {edit.name}: refused, beside others") for edit in refused}
-            left += [edit for edit in those.values() if edit not in refused]
-        answers |= {edit: kit.must_fail(crate, edit.path, flags, kept) for edit in left}
-        is_sound = not kit.checked(crate, {}, flags, kept).returncode
-    kit.say(f"{crate.name}: {len(edits)} must-fail edits tried, {len(left)} of them alone")
-    # As the kit has it: what was not refused so is tried from nothing, and all where the crate itself is not proved.
-    return [
-        answers[edit] if is_sound and answers[edit][0] else kit.must_fail(crate, edit.path, flags) for edit in edits
-    ]
+    def refused_together(self, crate, those, flags, kept):
+        """Returns the edits of a round that one check refuses: none where it has no proof of another function too."""
+        texts = edited(crate, those.values())
+        unproved = UNPROVED.findall(self.kit.checked(crate, texts, flags, kept).stdout) if texts else []
+        refused, told = [], set()
+        for function, edit in those.items():
+            names = lines_of(crate, function, those, unproved)
+            refused += [edit] if len(names) == 1 else []
+            told.update(names)
+        return refused if told == set(unproved) else []
+
+    def seeded(self, crate, flags, start=None):
+        """As the kit's: makes what the edits of a crate are tried over. Then it tries them, each round over a copy."""
+        room = self.begin(crate, flags, start)
+        edits = [Edit(path) for path in self.kit.edits_of(crate)[0]]
+        for number, those in enumerate(rounds_of(crate, edits) if room else []):
+            kept = f"{room}/round-{number}"
+            self.kit.linked(f"{room}/seed", kept)
+            refused = self.refused_together(crate, those, flags, kept)
+            shutil.rmtree(kept, ignore_errors=True)
+            self.refused.update(edit.path for edit in refused)
+            self.kit.say(f"{crate.name}: {len(refused)} of {len(those)} must-fail edits are refused in one check")
+        return room
+
+    def must_fail(self, crate, path, flags, kept=None):
+        """As the kit's: what a try of an edit comes to, and what to say."""
+        if kept and path in self.refused:
+            label = f"must-fail {crate.name}/{os.path.basename(path)}"
+            return self.kit.REFUSED, f"{label}: refused, as it must be, beside others"
+        return self.alone(crate, path, flags, kept)
 
 
 def main(*words):
     kit = load_kit()
-    assert callable(kit.must_fail_all)
-    kit.must_fail_all = lambda crate, paths, flags: try_edits(kit, crate, paths, flags)
-    return kit.main(words)
+    if all(hasattr(kit, name) for name in NAMES):
+        Gate(kit)
+    return kit.main(list(words))
 
 
 if __name__ == "__main__":
