@@ -50,6 +50,20 @@ pub fn opened_bytes(alloc: Global, bytes: Vec<u8>) -> Result<StoreReader<MemFile
     opened(alloc, MemFile::new(alloc, bytes)?)
 }
 
+/// How a get of this document is refused, if it is; `BadDocument` where another document is answered.
+pub fn refusal_of<H: FileHandle>(
+    alloc: Global,
+    reader: &mut StoreReader<H>,
+    doc_id: u32,
+    document: &[u8],
+) -> Option<StoreError> {
+    match reader.get_document_bytes(alloc, doc_id) {
+        Ok(bytes) if bytes.as_slice() == document => None,
+        Ok(_) => Some(StoreError::BadDocument),
+        Err(error) => Some(error),
+    }
+}
+
 /// Whether a document is answered, and is this one.
 pub fn is_found<H: FileHandle>(
     alloc: Global,
@@ -57,10 +71,21 @@ pub fn is_found<H: FileHandle>(
     doc_id: u32,
     document: &[u8],
 ) -> bool {
-    match reader.get_document_bytes(alloc, doc_id) {
-        Ok(bytes) => bytes.as_slice() == document,
-        Err(_) => false,
+    refusal_of(alloc, reader, doc_id, document).is_none()
+}
+
+/// Whether each of these documents is answered under its number.
+pub fn are_found<H: FileHandle>(
+    alloc: Global,
+    reader: &mut StoreReader<H>,
+    documents: &[(u32, &[u8])],
+) -> bool {
+    for (doc_id, document) in documents {
+        if !is_found(alloc, reader, *doc_id, document) {
+            return false;
+        }
     }
+    true
 }
 
 /// The items of an iteration over all documents: each document's bytes and a semicolon, or for a refusal `!`, its
@@ -81,4 +106,12 @@ pub fn listed<H: FileHandle>(
         text.push(b';')?;
     }
     Ok(text)
+}
+
+/// Whether an iteration over all documents is listed as this text.
+pub fn is_listed<H: FileHandle>(alloc: Global, reader: &mut StoreReader<H>, text: &[u8]) -> bool {
+    match listed(alloc, reader) {
+        Ok(listed) => listed.as_slice() == text,
+        Err(_) => false,
+    }
 }

@@ -1,8 +1,10 @@
 //! Inputs of merges.
 ghost use Rattle.std.specs.Prelude.{IfOk};
+ghost use Rattle.std.specs.List.{AllByRecursion};
 ghost use Rattle.store_merge.specs.Inputs.{HasWholeSet};
 
-use crate::making::{opened_bytes, written};
+use crate::failing_file::FailingFile;
+use crate::making::{opened, opened_bytes, written};
 use docstore::{StoreError, StoreReader};
 use std::alloc::Global;
 use store_base::{AliveBitSet, FileHandle, MemFile};
@@ -32,6 +34,46 @@ pub fn input(
         reader,
         alive: Some(alive),
     })
+}
+
+/// The stores of these files, each with the ids that are deleted in it.
+pub fn inputs(
+    alloc: Global,
+    files: &[(&[u8], &[u32])],
+) -> Result<Vec<MergeInput<MemFile>>, StoreError>
+    ensures { IfOk result (λ inputs. AllByRecursion HasWholeSet inputs.items) }
+{
+    let mut inputs = Vec::new(alloc);
+    for (file, deleted) in files {
+        inputs.push(input(alloc, Vec::from_slice(alloc, file)?, deleted)?)?;
+    }
+    Ok(inputs)
+}
+
+// A store in a file whose read of this number fails, with nothing deleted.
+fn failing_input(
+    alloc: Global,
+    file: &[u8],
+    failing_read: u64,
+) -> Result<MergeInput<FailingFile>, StoreError>
+    ensures { IfOk result HasWholeSet }
+{
+    let file = FailingFile::new(alloc, Vec::from_slice(alloc, file)?, failing_read)?;
+    Ok(whole(opened(alloc, file)?))
+}
+
+/// The stores of these files, each of which fails at the read of its number. Nothing is deleted in them.
+pub fn failing_inputs(
+    alloc: Global,
+    files: &[(&[u8], u64)],
+) -> Result<Vec<MergeInput<FailingFile>>, StoreError>
+    ensures { IfOk result (λ inputs. AllByRecursion HasWholeSet inputs.items) }
+{
+    let mut inputs = Vec::new(alloc);
+    for (file, failing_read) in files {
+        inputs.push(failing_input(alloc, file, *failing_read)?)?;
+    }
+    Ok(inputs)
 }
 
 /// Six blocks, of 99 bytes in all.

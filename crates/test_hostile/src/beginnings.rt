@@ -124,26 +124,15 @@ fn beginnings_of_version_three_files(rt: HostRuntime) -> Result<(), Fail> {
 #[test]
 fn files_are_written_in_version_three(rt: HostRuntime) -> Result<(), Fail> {
     let alloc = rt.alloc();
-    let one = written(alloc, 16384, &[b"abc"])?;
-    assert_eq!(rt;
-        one.as_slice(),
-        of_version_three(alloc, ONE_BLOCK)?.as_slice()
-    );
-    let none = written(alloc, 16384, &[])?;
-    assert_eq!(rt;
-        none.as_slice(),
-        of_version_three(alloc, NO_BLOCK)?.as_slice()
-    );
-    let empty = written(alloc, 16, &[b"", b"", b""])?;
-    assert_eq!(rt;
-        empty.as_slice(),
-        of_version_three(alloc, EMPTY_DOCUMENTS)?.as_slice()
-    );
-    let two = written(alloc, 0, &[b"a", b"b"])?;
-    assert_eq!(rt;
-        two.as_slice(),
-        of_version_three(alloc, TWO_BLOCKS)?.as_slice()
-    );
+    let cases: [(&[u8], usize, &[&[u8]]); 4] = [
+        (ONE_BLOCK, 16384, &[b"abc"]),
+        (NO_BLOCK, 16384, &[]),
+        (EMPTY_DOCUMENTS, 16, &[b"", b"", b""]),
+        (TWO_BLOCKS, 0, &[b"a", b"b"]),
+    ];
+    for (file, block_size, documents) in cases {
+        assert!(rt; written(alloc, block_size, documents)? == of_version_three(alloc, file)?);
+    }
     Ok(())
 }
 

@@ -4,7 +4,7 @@ use docstore::{BlockCompressor, Compressor, StoreError, StoreReader, StoreWriter
 use std::alloc::Global;
 use std::test::Fail;
 use store_base::{MemFile, MemSink, RecordDocument, Schema};
-use test_devices::making::{closed, is_found, opened_bytes, written};
+use test_devices::making::{closed, opened_bytes, refusal_of, written};
 
 // A store of one raw block `x`, which is said to have so many documents, one at least.
 fn said_to_have(alloc: Global, num_docs: u32) -> Result<StoreReader<MemFile>, StoreError> {
@@ -20,11 +20,25 @@ fn writer(alloc: Global) -> StoreWriter<MemSink> {
     StoreWriter::new(alloc, MemSink::new(alloc), Compressor::None, 0)
 }
 
+// What comes of a stacking of a store of so many documents.
+fn stack_many(
+    alloc: Global,
+    writer: &mut StoreWriter<MemSink>,
+    num_docs: u32,
+) -> Result<Result<(), StoreError>, StoreError> {
+    let mut store = said_to_have(alloc, num_docs)?;
+    Ok(writer.stack(&mut store))
+}
+
+fn fill(alloc: Global, writer: &mut StoreWriter<MemSink>) -> Result<(), StoreError> {
+    stack_many(alloc, writer, u32::MAX - 1)??;
+    writer.store_bytes(b"y")
+}
+
 // A writer of a stacked store that leaves one id, which `y` has.
 fn full(alloc: Global) -> Result<StoreWriter<MemSink>, StoreError> {
     let mut writer = writer(alloc);
-    writer.stack(&mut said_to_have(alloc, u32::MAX - 1)?)?;
-    writer.store_bytes(b"y")?;
+    fill(alloc, &mut writer)?;
     Ok(writer)
 }
 
@@ -41,44 +55,60 @@ fn takes_no_more(alloc: Global, writer: &mut StoreWriter<MemSink>) -> Result<boo
     )
 }
 
+// Whether a full writer takes no more, twice, and its file.
+fn full_file(alloc: Global) -> Result<(bool, Vec<u8>), StoreError> {
+    let mut writer = full(alloc)?;
+    let first = takes_no_more(alloc, &mut writer);
+    let second = takes_no_more(alloc, &mut writer);
+    let file = closed(writer)?.into_bytes();
+    Ok((first? && second?, file))
+}
+
 #[test]
 fn the_last_id_is_given_and_no_further_one(rt: HostRuntime) -> Result<(), Fail> {
-    let alloc = rt.alloc();
-    let mut writer = full(alloc)?;
-    assert!(rt; takes_no_more(alloc, &mut writer)?);
-    assert!(rt; takes_no_more(alloc, &mut writer)?);
-    let file = closed(writer)?.into_bytes();
-    assert_eq!(rt; file.len(), 51);
+    let (takes_no_more, file) = full_file(rt.alloc())?;
+    assert!(rt; takes_no_more && file.len() == 51);
     let beginning =
         b"xy\0\0\0\0\x01\0\0\0\x81\x8b\x82\x80\x80\x7e\x7f\x7f\x7f\x8f\x81\x81\x89\x03\0\0\0\x0a";
     assert!(rt; file.starts_with(beginning));
     Ok(())
 }
 
+// What comes of a stacking of a store of no documents.
+fn stack_none(
+    alloc: Global,
+    writer: &mut StoreWriter<MemSink>,
+) -> Result<Result<(), StoreError>, StoreError> {
+    let mut none = opened_bytes(alloc, written(alloc, 0, &[])?)?;
+    Ok(writer.stack(&mut none))
+}
+
 #[test]
 fn a_store_of_no_documents_is_stacked_behind_the_last(rt: HostRuntime) -> Result<(), Fail> {
     let alloc = rt.alloc();
     let mut writer = full(alloc)?;
-    let mut none = opened_bytes(alloc, written(alloc, 0, &[])?)?;
-    assert_eq!(rt; writer.stack(&mut none), Ok(()));
+    let stacked = stack_none(alloc, &mut writer);
+    drop(writer);
+    assert!(rt; stacked? == Ok(()));
     Ok(())
 }
 
 #[test]
 fn the_last_document_is_found_behind_damaged_ones(rt: HostRuntime) -> Result<(), Fail> {
     let alloc = rt.alloc();
-    let mut reader = opened_bytes(alloc, closed(full(alloc)?)?.into_bytes())?;
-    assert!(rt; is_found(alloc, &mut reader, u32::MAX - 1, b"y"));
+    let mut reader = opened_bytes(alloc, full_file(alloc)?.1)?;
     for (doc_id, refusal) in [
-        (0, StoreError::DamagedDocument(0)),
-        (u32::MAX - 2, StoreError::DamagedDocument(4294967293)),
-        (u32::MAX, StoreError::InvalidArgument(4294967295)),
+        (u32::MAX - 1, None),
+        (0, Some(StoreError::DamagedDocument(0))),
+        (u32::MAX - 2, Some(StoreError::DamagedDocument(4294967293))),
+        (u32::MAX, Some(StoreError::InvalidArgument(4294967295))),
     ] {
-        assert_eq!(rt;
-            reader.get_document_bytes(alloc, doc_id).err(),
-            Some(refusal)
+        assert!(rt;
+            refusal_of(alloc, &mut reader, doc_id, b"y") == refusal,
+            "{doc_id}"
         );
     }
+    drop(reader);
     Ok(())
 }
 
@@ -89,8 +119,11 @@ fn stacked_behind(
     num_docs: u32,
 ) -> Result<Result<(), StoreError>, StoreError> {
     let mut writer = writer(alloc);
-    writer.stack(&mut said_to_have(alloc, others)?)?;
-    Ok(writer.stack(&mut said_to_have(alloc, num_docs)?))
+    let first = stack_many(alloc, &mut writer, others);
+    let second = stack_many(alloc, &mut writer, num_docs);
+    drop(writer);
+    first??;
+    second
 }
 
 #[test]
@@ -104,9 +137,8 @@ fn stores_are_stacked_as_long_as_there_are_ids(rt: HostRuntime) -> Result<(), Fa
         (1, u32::MAX, too_many),
         (2147483648, 2147483648, too_many),
     ] {
-        assert_eq!(rt;
-            stacked_behind(rt.alloc(), others, num_docs)?,
-            stacked,
+        assert!(rt;
+            stacked_behind(rt.alloc(), others, num_docs)? == stacked,
             "{others}"
         );
     }

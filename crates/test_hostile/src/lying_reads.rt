@@ -7,7 +7,8 @@ use std::test::Fail;
 use store_base::MemSink;
 use test_devices::LyingFile;
 use test_devices::making::{
-    closed, is_found, listed, opened, opened_bytes, opened_with_cache, written,
+    are_found, closed, is_found, is_listed, opened, opened_bytes, opened_with_cache, refusal_of,
+    written,
 };
 
 // An open reads the footer and the index.
@@ -31,7 +32,8 @@ fn a_get_answers_from_the_bytes_that_came(rt: HostRuntime) -> Result<(), Fail> {
     for document in [b"`bc".as_slice(), b"cbc", b"bbc", b"ebc"] {
         assert!(rt; is_found(alloc, &mut reader, 0, document));
     }
-    assert_eq!(rt; reader.cache_stats().cache_misses, 4);
+    assert!(rt; reader.cache_stats().cache_misses == 4);
+    drop(reader);
     Ok(())
 }
 
@@ -43,10 +45,9 @@ fn a_start_that_came_wrong_is_used_where_it_fits(rt: HostRuntime) -> Result<(), 
     for document in [b"cb".as_slice(), b"a", b""] {
         assert!(rt; is_found(alloc, &mut reader, 0, document));
     }
-    assert_eq!(rt;
-        reader.get_document_bytes(alloc, 0).err(),
-        Some(StoreError::DamagedDocument(0))
-    );
+    let damaged = Some(StoreError::DamagedDocument(0));
+    assert!(rt; refusal_of(alloc, &mut reader, 0, b"") == damaged);
+    drop(reader);
     Ok(())
 }
 
@@ -55,15 +56,11 @@ fn a_block_that_came_wrong_is_damaged(rt: HostRuntime) -> Result<(), Fail> {
     let alloc = rt.alloc();
     let mut reader = lying(alloc, &[b"abc", b"def"], usize::MAX, 0)?;
     for doc_id in [0, 1, 0, 1] {
-        assert_eq!(rt;
-            reader.get_document_bytes(alloc, doc_id).err(),
-            Some(StoreError::DamagedDocument(doc_id))
-        );
+        let damaged = Some(StoreError::DamagedDocument(doc_id));
+        assert!(rt; refusal_of(alloc, &mut reader, doc_id, b"") == damaged);
     }
-    assert_eq!(rt;
-        listed(alloc, &mut reader)?.as_slice(),
-        b"!\x07;!\x07;".as_slice()
-    );
+    assert!(rt; is_listed(alloc, &mut reader, b"!\x07;!\x07;"));
+    drop(reader);
     Ok(())
 }
 
@@ -74,12 +71,12 @@ fn a_kept_block_answers_the_same_again(rt: HostRuntime) -> Result<(), Fail> {
     for _ in 0..3 {
         assert!(rt; is_found(alloc, &mut reader, 0, b"`bc"));
     }
-    assert!(rt; is_found(alloc, &mut reader, 1, b"fef"));
-    // The second block took the place of the first, which is read anew.
-    assert!(rt; is_found(alloc, &mut reader, 0, b"bbc"));
-    assert!(rt; is_found(alloc, &mut reader, 0, b"bbc"));
-    assert_eq!(rt; reader.cache_stats().cache_hits, 3);
-    assert_eq!(rt; reader.cache_stats().cache_misses, 3);
+    // The second block takes the place of the first, which is read anew.
+    let documents: [(u32, &[u8]); 3] = [(1, b"fef"), (0, b"bbc"), (0, b"bbc")];
+    assert!(rt; are_found(alloc, &mut reader, &documents));
+    let counts = reader.cache_stats();
+    assert!(rt; counts.cache_hits == 3 && counts.cache_misses == 3);
+    drop(reader);
     Ok(())
 }
 
@@ -88,13 +85,12 @@ fn a_kept_block_that_is_damaged_stays_damaged(rt: HostRuntime) -> Result<(), Fai
     let alloc = rt.alloc();
     let mut reader = lying(alloc, &[b"abc"], usize::MAX, 1)?;
     for _ in 0..2 {
-        assert_eq!(rt;
-            reader.get_document_bytes(alloc, 0).err(),
-            Some(StoreError::DamagedDocument(0))
-        );
+        let damaged = Some(StoreError::DamagedDocument(0));
+        assert!(rt; refusal_of(alloc, &mut reader, 0, b"") == damaged);
     }
-    assert_eq!(rt; reader.cache_stats().cache_hits, 1);
-    assert_eq!(rt; reader.cache_stats().cache_misses, 1);
+    let counts = reader.cache_stats();
+    assert!(rt; counts.cache_hits == 1 && counts.cache_misses == 1);
+    drop(reader);
     Ok(())
 }
 
@@ -102,14 +98,9 @@ fn a_kept_block_that_is_damaged_stays_damaged(rt: HostRuntime) -> Result<(), Fai
 fn an_iteration_gives_what_came(rt: HostRuntime) -> Result<(), Fail> {
     let alloc = rt.alloc();
     let mut reader = lying(alloc, &[b"abc", b"def"], 1, 0)?;
-    assert_eq!(rt;
-        listed(alloc, &mut reader)?.as_slice(),
-        b"`bc;fef;".as_slice()
-    );
-    assert_eq!(rt;
-        listed(alloc, &mut reader)?.as_slice(),
-        b"bbc;`ef;".as_slice()
-    );
+    assert!(rt; is_listed(alloc, &mut reader, b"`bc;fef;"));
+    assert!(rt; is_listed(alloc, &mut reader, b"bbc;`ef;"));
+    drop(reader);
     Ok(())
 }
 
@@ -118,24 +109,28 @@ fn an_iteration_and_gets_share_kept_blocks(rt: HostRuntime) -> Result<(), Fail> 
     let alloc = rt.alloc();
     let mut reader = lying(alloc, &[b"abc", b"def"], 1, 2)?;
     assert!(rt; is_found(alloc, &mut reader, 1, b"eef"));
-    assert_eq!(rt;
-        listed(alloc, &mut reader)?.as_slice(),
-        b"cbc;eef;".as_slice()
-    );
-    assert_eq!(rt;
-        listed(alloc, &mut reader)?.as_slice(),
-        b"cbc;eef;".as_slice()
-    );
-    assert_eq!(rt; reader.cache_stats().cache_misses, 2);
+    assert!(rt; is_listed(alloc, &mut reader, b"cbc;eef;"));
+    assert!(rt; is_listed(alloc, &mut reader, b"cbc;eef;"));
+    assert!(rt; reader.cache_stats().cache_misses == 2);
+    drop(reader);
     Ok(())
+}
+
+fn stack_twice(
+    writer: &mut StoreWriter<MemSink>,
+    reader: &mut StoreReader<LyingFile>,
+) -> Result<(), StoreError> {
+    writer.stack(reader)?;
+    writer.stack(reader)
 }
 
 // The file of a store that is stacked twice, each time behind a read that lies in so many bytes.
 fn stacked_twice(alloc: Global, lying_bytes: usize) -> Result<Vec<u8>, StoreError> {
     let mut reader = lying(alloc, &[b"abc", b"def"], lying_bytes, 0)?;
     let mut writer = StoreWriter::new(alloc, MemSink::new(alloc), Compressor::None, 0);
-    writer.stack(&mut reader)?;
-    writer.stack(&mut reader)?;
+    let stacked = stack_twice(&mut writer, &mut reader);
+    drop(reader);
+    stacked?;
     Ok(closed(writer)?.into_bytes())
 }
 
@@ -143,13 +138,11 @@ fn stacked_twice(alloc: Global, lying_bytes: usize) -> Result<Vec<u8>, StoreErro
 fn a_stacked_store_is_what_came(rt: HostRuntime) -> Result<(), Fail> {
     let alloc = rt.alloc();
     let came = written(alloc, 0, &[b"`bc", b"def", b"cbc", b"def"])?;
-    assert_eq!(rt; stacked_twice(alloc, 1)?.as_slice(), came.as_slice());
+    assert!(rt; stacked_twice(alloc, 1)? == came);
     let mut damaged = opened_bytes(alloc, stacked_twice(alloc, usize::MAX)?)?;
-    assert_eq!(rt; damaged.num_docs(), 4);
-    assert_eq!(rt;
-        listed(alloc, &mut damaged)?.as_slice(),
-        b"!\x07;!\x07;!\x07;!\x07;".as_slice()
-    );
+    assert!(rt; damaged.num_docs() == 4);
+    assert!(rt; is_listed(alloc, &mut damaged, b"!\x07;!\x07;!\x07;!\x07;"));
+    drop(damaged);
     Ok(())
 }
 

@@ -119,6 +119,15 @@ fn stacked_at_last<H: FileHandle>(
     writer.stack(reader)
 }
 
+fn store_and_stack<H: FileHandle>(
+    writer: &mut StoreWriter<MemSink>,
+    reader: &mut StoreReader<H>,
+    refused: &mut Refused,
+) -> Result<(), StoreError> {
+    writer.store_bytes(b"x")?;
+    stacked_at_last(writer, reader, refused)
+}
+
 // The file of a document and of the store behind it.
 fn file_behind<H: FileHandle>(
     alloc: Global,
@@ -126,9 +135,19 @@ fn file_behind<H: FileHandle>(
     refused: &mut Refused,
 ) -> Result<Vec<u8>, StoreError> {
     let mut writer = StoreWriter::new(alloc, MemSink::new(alloc), Compressor::None, 16384);
-    writer.store_bytes(b"x")?;
-    stacked_at_last(&mut writer, reader, refused)?;
+    store_and_stack(&mut writer, reader, refused)?;
     Ok(closed(writer)?.into_bytes())
+}
+
+// Makes every call on an opened store, and gives the file that it is stacked into.
+fn make_calls<H: FileHandle>(
+    alloc: Global,
+    reader: &mut StoreReader<H>,
+    refused: &mut Refused,
+) -> Result<Vec<u8>, StoreError> {
+    got_at_last(alloc, reader, refused)?;
+    listed_at_last(alloc, reader, refused)?;
+    file_behind(alloc, reader, refused)
 }
 
 // Makes every call on a store whose read of this number fails.
@@ -136,10 +155,9 @@ fn refused_calls(alloc: Global, failing_read: u64) -> Result<Refused, StoreError
     let mut refused = Vec::new(alloc);
     let file = FailingFile::new(alloc, written(alloc, 0, &DOCUMENTS)?, failing_read)?;
     let mut reader = opened_at_last(alloc, file, &mut refused)?;
-    got_at_last(alloc, &mut reader, &mut refused)?;
-    listed_at_last(alloc, &mut reader, &mut refused)?;
-    let stacked = file_behind(alloc, &mut reader, &mut refused)?;
-    if stacked != written(alloc, 0, &[b"x", b"a", b"bc", b""])? {
+    let stacked = make_calls(alloc, &mut reader, &mut refused);
+    drop(reader);
+    if stacked? != written(alloc, 0, &[b"x", b"a", b"bc", b""])? {
         return Err(StoreError::BadDocument);
     }
     Ok(refused)

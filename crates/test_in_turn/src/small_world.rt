@@ -133,34 +133,36 @@ fn is_read_as(alloc: Global, file: &[u8], documents: &[&[u8]]) -> Result<bool, S
     for capacity in CAPACITIES {
         let file = MemFile::new(alloc, Vec::from_slice(alloc, file)?)?;
         let mut reader = opened_with_cache(alloc, file, capacity)?;
-        if !has_exactly(alloc, &mut reader, documents)? {
+        let has_exactly = has_exactly(alloc, &mut reader, documents);
+        drop(reader);
+        if !has_exactly? {
             return Ok(false);
         }
     }
     agree(alloc, file)
 }
 
-// The first list of so many calls whose file has other documents.
-fn first_wrong(
+// Whether each list of so many calls has a file of its documents.
+fn are_right(
     alloc: Global,
     block_size: usize,
+    stores: &mut Stores,
     length: u32,
     lists: u32,
-) -> Result<Option<u32>, StoreError> {
-    let mut stores = stackable(alloc)?;
+) -> Result<bool, StoreError> {
     for number in 0..lists {
         let calls = calls_of(alloc, length, number)?;
-        let file = file_of(alloc, block_size, &mut stores, &calls)?;
+        let file = file_of(alloc, block_size, stores, &calls)?;
         if !is_read_as(alloc, &file, &plain_list(alloc, &calls)?)? {
-            return Ok(Some(number));
+            return Ok(false);
         }
     }
-    Ok(None)
+    Ok(true)
 }
 
-fn is_right(alloc: Global, block_size: usize) -> Result<bool, StoreError> {
+fn is_right(alloc: Global, block_size: usize, stores: &mut Stores) -> Result<bool, StoreError> {
     for (length, lists) in LISTS {
-        if first_wrong(alloc, block_size, length, lists)?.is_some() {
+        if !are_right(alloc, block_size, stores, length, lists)? {
             return Ok(false);
         }
     }
@@ -169,10 +171,22 @@ fn is_right(alloc: Global, block_size: usize) -> Result<bool, StoreError> {
 
 #[test]
 fn every_short_list_of_calls_is_read_again(rt: HostRuntime) -> Result<(), Fail> {
+    let alloc = rt.alloc();
     for block_size in BLOCK_SIZES {
-        assert!(rt; is_right(rt.alloc(), block_size)?, "{block_size}");
+        let mut stores = stackable(alloc)?;
+        let is_right = is_right(alloc, block_size, &mut stores);
+        drop(stores);
+        assert!(rt; is_right?, "{block_size}");
     }
     Ok(())
+}
+
+// The file of some calls.
+fn small_file(alloc: Global, calls: &[u32]) -> Result<Vec<u8>, StoreError> {
+    let mut stores = stackable(alloc)?;
+    let file = file_of(alloc, 9, &mut stores, calls);
+    drop(stores);
+    file
 }
 
 // So that a list that is read otherwise is told.
@@ -180,11 +194,16 @@ fn every_short_list_of_calls_is_read_again(rt: HostRuntime) -> Result<(), Fail> 
 fn lists_of_other_documents_are_told_apart(rt: HostRuntime) -> Result<(), Fail> {
     let alloc = rt.alloc();
     let calls = calls_of(alloc, 4, 3 + 4 * 25)?;
-    assert_eq!(rt; calls.as_slice(), [3, 0, 4, 0].as_slice());
-    let file = file_of(alloc, 9, &mut stackable(alloc)?, &calls)?;
-    assert!(rt; is_read_as(alloc, &file, &[b"", b"d", b"", b"e", b"fgh", b""])?);
-    assert!(rt; !is_read_as(alloc, &file, &[b"", b"d", b"", b"e", b"fgh"])?);
-    assert!(rt; !is_read_as(alloc, &file, &[b"", b"d", b"", b"e", b"fgi", b""])?);
-    assert!(rt; !is_read_as(alloc, &file, &[b"d", b"", b"", b"e", b"fgh", b""])?);
+    assert!(rt; calls.as_slice() == [3, 0, 4, 0].as_slice());
+    let file = small_file(alloc, &calls)?;
+    let cases: [(&[&[u8]], bool); 4] = [
+        (&[b"", b"d", b"", b"e", b"fgh", b""], true),
+        (&[b"", b"d", b"", b"e", b"fgh"], false),
+        (&[b"", b"d", b"", b"e", b"fgi", b""], false),
+        (&[b"d", b"", b"", b"e", b"fgh", b""], false),
+    ];
+    for (documents, expected) in cases {
+        assert!(rt; is_read_as(alloc, &file, documents)? == expected);
+    }
     Ok(())
 }

@@ -21,6 +21,8 @@ struct Outcome {
     has_failed: bool,
     closed: Result<(), StoreError>,
     output: FailingSink,
+    // Whether the store answers, whatever became of it in the writer.
+    answers: bool,
 }
 
 fn first_calls(
@@ -61,25 +63,34 @@ fn outcome_of(alloc: Global, block_size: usize, failing_call: u64) -> Result<Out
     let later = later_calls(&mut writer, &mut store);
     let has_failed = writer.has_failed();
     let (closed, output) = closing(writer);
-    // The store answers, whatever became of it in the writer.
-    if !is_found(alloc, &mut store, 0, b"abc") {
-        return Err(StoreError::BadDocument);
-    }
+    let answers = is_found(alloc, &mut store, 0, b"abc");
+    drop(store);
     Ok(Outcome {
         first,
         later,
         has_failed,
         closed,
         output,
+        answers,
     })
 }
 
-// The file of the calls where nothing fails.
+// Makes the calls where nothing fails.
+fn store_around(alloc: Global, writer: &mut StoreWriter<MemSink>) -> Result<(), StoreError> {
+    let mut store = abc(alloc)?;
+    let mut done = writer.store_bytes(b"x");
+    if done.is_ok() {
+        done = writer.stack(&mut store);
+    }
+    drop(store);
+    done?;
+    writer.store_bytes(b"")
+}
+
+// Their file.
 fn whole_file(alloc: Global) -> Result<Vec<u8>, StoreError> {
     let mut writer = StoreWriter::new(alloc, MemSink::new(alloc), Compressor::None, 16384);
-    writer.store_bytes(b"x")?;
-    writer.stack(&mut abc(alloc)?)?;
-    writer.store_bytes(b"")?;
+    store_around(alloc, &mut writer)?;
     Ok(closed(writer)?.into_bytes())
 }
 
@@ -95,6 +106,7 @@ fn is_told(outcome: &Outcome, failing_call: u64, file: &[u8]) -> bool {
         && outcome.later == later
         && outcome.has_failed == (failing_call < 3)
         && outcome.closed == FAILED
+        && outcome.answers
         && file.starts_with(outcome.output.as_slice())
         && !outcome.output.is_terminated()
         // Nothing is written behind what failed.
@@ -111,6 +123,7 @@ fn each_write_and_the_end_fail_in_turn(rt: HostRuntime) -> Result<(), Fail> {
     for failing_call in 1..calls.saturating_add(1) {
         let outcome = outcome_of(alloc, 16384, failing_call)?;
         assert!(rt; is_told(&outcome, failing_call, &file), "{failing_call}");
+        drop(outcome);
     }
     Ok(())
 }
@@ -119,6 +132,7 @@ fn each_write_and_the_end_fail_in_turn(rt: HostRuntime) -> Result<(), Fail> {
 fn is_whole(outcome: &Outcome, file: &[u8]) -> bool {
     outcome.first == [Ok(()); 3]
         && outcome.closed == Ok(())
+        && outcome.answers
         && outcome.output.as_slice() == file
         && outcome.output.is_terminated()
 }
@@ -129,19 +143,20 @@ fn an_output_whose_end_fails_holds_the_file(rt: HostRuntime) -> Result<(), Fail>
     let file = whole_file(alloc)?;
     let whole = outcome_of(alloc, 16384, 0)?;
     assert!(rt; is_whole(&whole, &file));
-    let unended = outcome_of(alloc, 16384, whole.output.calls())?;
-    assert_eq!(rt; unended.closed, FAILED);
-    assert_eq!(rt; unended.output.as_slice(), file.as_slice());
-    assert!(rt; !unended.output.is_terminated());
+    let calls = whole.output.calls();
+    drop(whole);
+    let unended = outcome_of(alloc, 16384, calls)?;
+    assert!(rt; unended.closed == FAILED && !unended.output.is_terminated());
+    assert!(rt; unended.output.as_slice() == file.as_slice());
+    drop(unended);
     Ok(())
 }
 
 #[test]
 fn the_first_write_fails_where_each_document_is_a_block(rt: HostRuntime) -> Result<(), Fail> {
     let outcome = outcome_of(rt.alloc(), 0, 1)?;
-    assert_eq!(rt; outcome.first, [FAILED; 3]);
-    assert_eq!(rt; outcome.later, [FAILED; 2]);
-    assert!(rt; outcome.has_failed);
-    assert_eq!(rt; outcome.closed, FAILED);
+    assert!(rt; outcome.first == [FAILED; 3] && outcome.later == [FAILED; 2]);
+    assert!(rt; outcome.has_failed && outcome.closed == FAILED && outcome.answers);
+    drop(outcome);
     Ok(())
 }

@@ -7,12 +7,15 @@ use std::alloc::Global;
 use std::test::Fail;
 use store_base::{FileHandle, MemSink};
 use store_merge::{MergeError, MergeInput, merge};
-use test_devices::making::{opened, opened_bytes, written};
-use test_devices::merge_inputs::{input, six_blocks, whole};
-use test_devices::{FailingFile, FailingSink};
+use test_devices::FailingSink;
+use test_devices::making::written;
+use test_devices::merge_inputs::{failing_inputs, inputs, six_blocks};
 
-// How a merge is refused, and how many documents it took.
-fn refused<H: FileHandle>(alloc: Global, inputs: &mut [MergeInput<H>]) -> (Option<MergeError>, u32)
+/// How a merge is refused, if it is, and how many documents it took.
+type Taken = (Option<MergeError>, u32);
+
+// What comes of a merge.
+fn taken<H: FileHandle>(alloc: Global, inputs: &mut [MergeInput<H>]) -> Taken
     requires { AllByRecursion HasWholeSet inputs.old }
 {
     let output = MemSink::new(alloc);
@@ -21,28 +24,33 @@ fn refused<H: FileHandle>(alloc: Global, inputs: &mut [MergeInput<H>]) -> (Optio
     (refusal, writer.num_docs())
 }
 
+// What comes of a merge of these files' stores, each without the documents that are deleted in it.
+fn taken_of(alloc: Global, files: &[(&[u8], &[u32])]) -> Result<Taken, StoreError> {
+    let mut inputs = inputs(alloc, files)?;
+    Ok(taken(alloc, &mut inputs))
+}
+
 // `abc` in one block, of 46 bytes.
 fn one_block(alloc: Global) -> Result<Vec<u8>, StoreError> {
     written(alloc, 16384, &[b"abc"])
 }
 
+// The same in a file of version 1.
+fn old_one_block(alloc: Global) -> Result<Vec<u8>, StoreError> {
+    let mut file = one_block(alloc)?;
+    if let Some(version) = file.get_mut(18) {
+        *version = 1;
+    }
+    Ok(file)
+}
+
 #[test]
 fn a_store_of_version_one_is_refused_first(rt: HostRuntime) -> Result<(), Fail> {
     let alloc = rt.alloc();
-    let mut old = one_block(alloc)?;
-    if let Some(version) = old.get_mut(18) {
-        *version = 1;
-    }
-    let mut inputs = [
-        input(alloc, one_block(alloc)?, &[])?,
-        input(alloc, old, &[])?,
-        input(alloc, six_blocks(alloc)?, &[])?,
-    ];
+    let (one, old, six) = (one_block(alloc)?, old_one_block(alloc)?, six_blocks(alloc)?);
+    let files: [(&[u8], &[u32]); 3] = [(&one, &[]), (&old, &[]), (&six, &[])];
     let error = StoreError::OldVersion;
-    assert_eq!(rt;
-        refused(alloc, &mut inputs),
-        (Some(MergeError { error, input: 1 }), 0)
-    );
+    assert!(rt; taken_of(alloc, &files)? == (Some(MergeError { error, input: 1 }), 0));
     Ok(())
 }
 
@@ -59,87 +67,81 @@ fn damaged(alloc: Global) -> Result<Vec<u8>, StoreError> {
 #[test]
 fn a_damaged_document_ends_a_merge(rt: HostRuntime) -> Result<(), Fail> {
     let alloc = rt.alloc();
-    let file = damaged(alloc)?;
+    let (one, file) = (one_block(alloc)?, damaged(alloc)?);
     assert_eq!(rt; file.len(), 45);
-    let mut inputs = [
-        input(alloc, one_block(alloc)?, &[])?,
-        input(alloc, file, &[])?,
-    ];
+    let files: [(&[u8], &[u32]); 2] = [(&one, &[]), (&file, &[])];
     let error = StoreError::DamagedDocument(0);
-    assert_eq!(rt;
-        refused(alloc, &mut inputs),
-        (Some(MergeError { error, input: 1 }), 1)
-    );
+    assert!(rt; taken_of(alloc, &files)? == (Some(MergeError { error, input: 1 }), 1));
     Ok(())
 }
 
-// How a merge of six blocks and one block is answered, in files that fail at these reads.
-fn merged_from(
-    alloc: Global,
-    first_read: u64,
-    second_read: u64,
-) -> Result<(Option<MergeError>, u32), StoreError> {
-    let first = FailingFile::new(alloc, six_blocks(alloc)?, first_read)?;
-    let second = FailingFile::new(alloc, one_block(alloc)?, second_read)?;
-    let first = whole(opened(alloc, first)?);
-    let second = whole(opened(alloc, second)?);
-    Ok(refused(alloc, &mut [first, second]))
+// What comes of a merge of six blocks and one block, in files that fail at these reads.
+fn taken_from(alloc: Global, first_read: u64, second_read: u64) -> Result<Taken, StoreError> {
+    let (six, one) = (six_blocks(alloc)?, one_block(alloc)?);
+    let mut inputs = failing_inputs(alloc, &[(&six, first_read), (&one, second_read)])?;
+    Ok(taken(alloc, &mut inputs))
 }
 
 #[test]
 fn a_failed_read_ends_a_merge(rt: HostRuntime) -> Result<(), Fail> {
-    let alloc = rt.alloc();
     let error = StoreError::Read;
-    assert_eq!(rt;
-        merged_from(alloc, 3, 0)?,
-        (Some(MergeError { error, input: 0 }), 0)
-    );
-    assert_eq!(rt;
-        merged_from(alloc, 0, 3)?,
-        (Some(MergeError { error, input: 1 }), 6)
-    );
-    assert_eq!(rt; merged_from(alloc, 0, 0)?, (None, 7));
+    let cases: [(u64, u64, Taken); 3] = [
+        (3, 0, (Some(MergeError { error, input: 0 }), 0)),
+        (0, 3, (Some(MergeError { error, input: 1 }), 6)),
+        (0, 0, (None, 7)),
+    ];
+    for (first_read, second_read, expected) in cases {
+        assert!(rt; taken_from(rt.alloc(), first_read, second_read)? == expected);
+    }
     Ok(())
 }
 
-// How a merge on an output whose call of this number fails is answered, each document a block.
-fn merged_on(alloc: Global, failing_call: u64) -> Result<Option<MergeError>, StoreError> {
+// How a merge on an output whose call of this number fails is refused, each document a block, and whether the writer
+// has failed.
+fn refused_on(alloc: Global, failing_call: u64) -> Result<(Option<MergeError>, bool), StoreError> {
+    let (six, one) = (six_blocks(alloc)?, one_block(alloc)?);
+    let mut inputs = inputs(alloc, &[(&six, &[]), (&one, &[])])?;
     let output = FailingSink::new(alloc, failing_call);
     let mut writer = StoreWriter::new(alloc, output, Compressor::None, 0);
-    let mut inputs = [
-        input(alloc, six_blocks(alloc)?, &[])?,
-        input(alloc, one_block(alloc)?, &[])?,
-    ];
     let refusal = merge(alloc, &mut writer, &mut inputs).err();
-    if writer.has_failed() != refusal.is_some() {
-        return Err(StoreError::BadIndex);
-    }
-    Ok(refusal)
+    Ok((refusal, writer.has_failed()))
 }
 
 #[test]
 fn a_failed_write_ends_a_merge(rt: HostRuntime) -> Result<(), Fail> {
-    let alloc = rt.alloc();
     let error = StoreError::Failed(Cause::Write);
-    assert_eq!(rt; merged_on(alloc, 1)?, Some(MergeError { error, input: 0 }));
-    assert_eq!(rt; merged_on(alloc, 2)?, Some(MergeError { error, input: 1 }));
-    assert_eq!(rt; merged_on(alloc, 100)?, None);
+    for (failing_call, input) in [(1, 0), (2, 1)] {
+        let refusal = Some(MergeError { error, input });
+        assert!(rt;
+            refused_on(rt.alloc(), failing_call)? == (refusal, true),
+            "{failing_call}"
+        );
+    }
+    assert!(rt; refused_on(rt.alloc(), 100)? == (None, false));
     Ok(())
+}
+
+// How a merge of this store is refused by a writer that has failed.
+fn refused_behind_failure(alloc: Global, file: &[u8]) -> Result<Option<MergeError>, StoreError> {
+    let mut inputs = inputs(alloc, &[(file, &[])])?;
+    let output = FailingSink::new(alloc, 1);
+    let mut writer = StoreWriter::new(alloc, output, Compressor::None, 0);
+    let stored = writer.store_bytes(b"x");
+    let refusal = merge(alloc, &mut writer, &mut inputs).err();
+    if stored == Err(StoreError::Failed(Cause::Write)) {
+        Ok(refusal)
+    } else {
+        Err(StoreError::BadIndex)
+    }
 }
 
 #[test]
 fn a_failed_writer_has_nothing_to_copy(rt: HostRuntime) -> Result<(), Fail> {
     let alloc = rt.alloc();
-    let output = FailingSink::new(alloc, 1);
-    let mut writer = StoreWriter::new(alloc, output, Compressor::None, 0);
+    let none = written(alloc, 0, &[])?;
+    assert!(rt; refused_behind_failure(alloc, &none)?.is_none());
     let error = StoreError::Failed(Cause::Write);
-    assert_eq!(rt; writer.store_bytes(b"x"), Err(error));
-    let empty = input(alloc, written(alloc, 0, &[])?, &[])?;
-    assert_eq!(rt; merge(alloc, &mut writer, &mut [empty]), Ok(()));
-    let reader = opened_bytes(alloc, one_block(alloc)?)?;
-    assert_eq!(rt;
-        merge(alloc, &mut writer, &mut [whole(reader)]),
-        Err(MergeError { error, input: 0 })
-    );
+    let refusal = Some(MergeError { error, input: 0 });
+    assert!(rt; refused_behind_failure(alloc, &one_block(alloc)?)? == refusal);
     Ok(())
 }

@@ -6,36 +6,56 @@ ghost use Rattle.store_merge.specs.Inputs.{HasWholeSet};
 use docstore::{Compressor, StoreError, StoreWriter};
 use std::alloc::Global;
 use std::test::Fail;
-use store_base::{FileHandle, MemFile, MemSink};
+use store_base::{MemFile, MemSink};
 use store_merge::{MergeInput, merge};
-use test_devices::making::{closed, is_found, opened_bytes, written};
-use test_devices::merge_inputs::{input, six_blocks};
+use test_devices::making::{are_found, closed, opened_bytes, written};
+use test_devices::merge_inputs::{input, inputs, six_blocks};
 
 // The file of a merge.
-fn merged<H: FileHandle>(
+fn merged_of(
     alloc: Global,
-    block_size: usize,
     period: u8,
-    inputs: &mut [MergeInput<H>],
+    inputs: &mut [MergeInput<MemFile>],
 ) -> Result<Vec<u8>, StoreError>
     requires least { 2 ≤ period }
     requires most { period ≤ 64 }
     requires sets { AllByRecursion HasWholeSet inputs.old }
 {
     let output = MemSink::new(alloc);
-    let mut writer = StoreWriter::with_period(alloc, output, Compressor::None, block_size, period);
+    let mut writer = StoreWriter::with_period(alloc, output, Compressor::None, 16384, period);
     if let Err(refusal) = merge(alloc, &mut writer, inputs) {
         return Err(refusal.error);
     }
     Ok(closed(writer)?.into_bytes())
 }
 
+// The file of a merge of these files' stores, each without the documents that are deleted in it.
+fn merged(alloc: Global, period: u8, files: &[(&[u8], &[u32])]) -> Result<Vec<u8>, StoreError>
+    requires least { 2 ≤ period }
+    requires most { period ≤ 64 }
+{
+    let mut inputs = inputs(alloc, files)?;
+    merged_of(alloc, period, &mut inputs)
+}
+
+// `abc` in one block, of 46 bytes.
+fn one_block(alloc: Global) -> Result<Vec<u8>, StoreError> {
+    written(alloc, 16384, &[b"abc"])
+}
+
+// Six blocks, without the documents that are deleted, and behind them `abc`.
+fn with_one_behind(alloc: Global, deleted: &[u32]) -> Result<Vec<u8>, StoreError> {
+    let (six, one) = (six_blocks(alloc)?, one_block(alloc)?);
+    merged(
+        alloc,
+        8,
+        &[(six.as_slice(), deleted), (one.as_slice(), &[])],
+    )
+}
+
 #[test]
 fn a_store_of_six_blocks_is_stacked(rt: HostRuntime) -> Result<(), Fail> {
-    let alloc = rt.alloc();
-    let first = input(alloc, six_blocks(alloc)?, &[])?;
-    let second = input(alloc, written(alloc, 16384, &[b"abc"])?, &[])?;
-    let file = merged(alloc, 16384, 8, &mut [first, second])?;
+    let file = with_one_behind(rt.alloc(), &[])?;
     assert_eq!(rt; file.len(), 112);
     assert_eq!(rt;
         &file[65..84],
@@ -47,16 +67,22 @@ fn a_store_of_six_blocks_is_stacked(rt: HostRuntime) -> Result<(), Fail> {
 #[test]
 fn a_store_with_a_deleted_document_is_copied(rt: HostRuntime) -> Result<(), Fail> {
     let alloc = rt.alloc();
-    let first = input(alloc, six_blocks(alloc)?, &[5])?;
-    let second = input(alloc, written(alloc, 16384, &[b"abc"])?, &[])?;
-    let file = merged(alloc, 16384, 8, &mut [first, second])?;
+    let file = with_one_behind(alloc, &[5])?;
     assert_eq!(rt; file.len(), 71);
     assert_eq!(rt; &file[36..43], b"\x81\x85\x81\x80\x80\x86\xa4".as_slice());
-    let mut reader = opened_bytes(alloc, file)?;
-    assert_eq!(rt; reader.num_docs(), 6);
-    assert!(rt; is_found(alloc, &mut reader, 4, b"e"));
-    assert!(rt; is_found(alloc, &mut reader, 5, b"abc"));
+    assert!(rt; has(alloc, file, 6, &[(4, b"e"), (5, b"abc")])?);
     Ok(())
+}
+
+// Whether the store has so many documents, and these under their numbers.
+fn has(
+    alloc: Global,
+    file: Vec<u8>,
+    num_docs: u32,
+    documents: &[(u32, &[u8])],
+) -> Result<bool, StoreError> {
+    let mut reader = opened_bytes(alloc, file)?;
+    Ok(reader.num_docs() == num_docs && are_found(alloc, &mut reader, documents))
 }
 
 // Stores of one document each.
@@ -74,7 +100,7 @@ fn small_inputs(alloc: Global, documents: &[&[u8]]) -> Result<Vec<MergeInput<Mem
 fn merge_of_small_segments(rt: HostRuntime) -> Result<(), Fail> {
     let alloc = rt.alloc();
     let mut inputs = small_inputs(alloc, &[b"1", b"2", b"3", b"4", b"5"])?;
-    let file = merged(alloc, 16384, 8, &mut inputs)?;
+    let file = merged_of(alloc, 8, &mut inputs)?;
     assert_eq!(rt; file.len(), 64);
     assert_eq!(rt; &file[29..36], b"\x81\x85\x81\x80\x80\x85\x9d".as_slice());
     Ok(())
@@ -82,30 +108,36 @@ fn merge_of_small_segments(rt: HostRuntime) -> Result<(), Fail> {
 
 #[test]
 fn no_inputs_change_nothing(rt: HostRuntime) -> Result<(), Fail> {
-    let alloc = rt.alloc();
-    let mut none: [MergeInput<MemFile>; 0] = [];
-    assert_eq!(rt; merged(alloc, 16384, 8, &mut none)?.len(), 29);
+    assert_eq!(rt; merged(rt.alloc(), 8, &[])?.len(), 29);
     Ok(())
 }
 
 // So many documents of 26000 bytes, and before them another if there is one.
-fn long_documents(alloc: Global, first: Option<&[u8]>, count: u32) -> Result<Vec<u8>, StoreError> {
+fn long_documents(
+    alloc: Global,
+    first: Option<&[u8]>,
+    count: usize,
+) -> Result<Vec<u8>, StoreError> {
     let long = vec![in alloc; b'x'; 26000]?;
-    let mut writer = StoreWriter::new(alloc, MemSink::new(alloc), Compressor::None, 16384);
+    let mut documents = Vec::new(alloc);
     if let Some(first) = first {
-        writer.store_bytes(first)?;
+        documents.push(first)?;
     }
     for _ in 0..count {
-        writer.store_bytes(&long)?;
+        documents.push(long.as_slice())?;
     }
-    Ok(closed(writer)?.into_bytes())
+    written(alloc, 16384, &documents)
 }
 
 // The first store whole, and the second without its first document.
 fn long_merged(alloc: Global) -> Result<Vec<u8>, StoreError> {
-    let first = input(alloc, long_documents(alloc, None, 20)?, &[])?;
-    let second = input(alloc, long_documents(alloc, Some(b"testb"), 10)?, &[0])?;
-    merged(alloc, 16384, 8, &mut [first, second])
+    let first = long_documents(alloc, None, 20)?;
+    let second = long_documents(alloc, Some(b"testb"), 10)?;
+    merged(
+        alloc,
+        8,
+        &[(first.as_slice(), &[]), (second.as_slice(), &[0])],
+    )
 }
 
 #[test]
@@ -120,21 +152,6 @@ fn merge_store_with_stacking_reproducing_issue969(rt: HostRuntime) -> Result<(),
     Ok(())
 }
 
-// Two stores in one, of this period.
-fn two_merged(
-    alloc: Global,
-    period: u8,
-    first: Vec<u8>,
-    second: Vec<u8>,
-) -> Result<Vec<u8>, StoreError>
-    requires least { 2 ≤ period }
-    requires most { period ≤ 64 }
-{
-    let first = input(alloc, first, &[])?;
-    let second = input(alloc, second, &[])?;
-    merged(alloc, 16384, period, &mut [first, second])
-}
-
 // The same six blocks in a file of version 2.
 fn old_six_blocks(alloc: Global) -> Result<Vec<u8>, StoreError> {
     let mut file = six_blocks(alloc)?;
@@ -144,17 +161,19 @@ fn old_six_blocks(alloc: Global) -> Result<Vec<u8>, StoreError> {
     Ok(file)
 }
 
+// A merge of the period 8, of a merge of the period 2 and six blocks more.
+fn of_two_periods(alloc: Global) -> Result<Vec<u8>, StoreError> {
+    let (small, old) = (written(alloc, 0, &[b"x", b"y"])?, old_six_blocks(alloc)?);
+    let of_two = merged(alloc, 2, &[(small.as_slice(), &[]), (old.as_slice(), &[])])?;
+    let six = six_blocks(alloc)?;
+    merged(alloc, 8, &[(of_two.as_slice(), &[]), (six.as_slice(), &[])])
+}
+
 #[test]
 fn stores_of_any_period_are_merged(rt: HostRuntime) -> Result<(), Fail> {
     let alloc = rt.alloc();
-    let small = written(alloc, 0, &[b"x", b"y"])?;
-    let of_two = two_merged(alloc, 2, small, old_six_blocks(alloc)?)?;
-    let of_eight = two_merged(alloc, 8, of_two, six_blocks(alloc)?)?;
-    let mut reader = opened_bytes(alloc, of_eight)?;
-    assert_eq!(rt; reader.num_docs(), 14);
-    assert_eq!(rt; reader.period(), 8);
-    assert!(rt; is_found(alloc, &mut reader, 1, b"y"));
-    assert!(rt; is_found(alloc, &mut reader, 7, b"f"));
-    assert!(rt; is_found(alloc, &mut reader, 13, b"f"));
+    let file = of_two_periods(alloc)?;
+    assert_eq!(rt; file.get(file.len().saturating_sub(15)).copied(), Some(8));
+    assert!(rt; has(alloc, file, 14, &[(1, b"y"), (7, b"f"), (13, b"f")])?);
     Ok(())
 }

@@ -3,7 +3,7 @@
 use docstore::{CacheStats, DOCSTORE_CACHE_CAPACITY, StoreError};
 use std::test::Fail;
 use test_devices::FailingFile;
-use test_devices::making::{is_found, opened_with_cache, written};
+use test_devices::making::{opened_with_cache, refusal_of, written};
 
 fn stats(num_entries: usize, cache_hits: usize, cache_misses: usize) -> CacheStats {
     CacheStats {
@@ -19,16 +19,16 @@ fn a_failed_read_is_a_miss_and_keeps_nothing(rt: HostRuntime) -> Result<(), Fail
     assert_eq!(rt; DOCSTORE_CACHE_CAPACITY, 100);
     let file = FailingFile::new(alloc, written(alloc, 16384, &[b"abc"])?, 3)?;
     let mut reader = opened_with_cache(alloc, file, DOCSTORE_CACHE_CAPACITY)?;
-    assert_eq!(rt;
-        reader.get_document_bytes(alloc, 0).err(),
-        Some(StoreError::Read)
-    );
-    assert_eq!(rt; reader.cache_stats(), stats(0, 0, 1));
-    assert!(rt; is_found(alloc, &mut reader, 0, b"abc"));
-    assert_eq!(rt; reader.cache_stats(), stats(1, 0, 2));
-    assert!(rt; is_found(alloc, &mut reader, 0, b"abc"));
-    assert_eq!(rt; reader.cache_stats(), stats(1, 1, 2));
-    assert_eq!(rt; reader.peek_lru(), Some(0));
+    for (refusal, counts) in [
+        (Some(StoreError::Read), stats(0, 0, 1)),
+        (None, stats(1, 0, 2)),
+        (None, stats(1, 1, 2)),
+    ] {
+        assert!(rt; refusal_of(alloc, &mut reader, 0, b"abc") == refusal);
+        assert!(rt; reader.cache_stats() == counts);
+    }
+    assert!(rt; reader.peek_lru() == Some(0));
+    drop(reader);
     Ok(())
 }
 

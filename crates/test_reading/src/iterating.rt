@@ -1,9 +1,13 @@
 //! Going over a store: documents as values, blocks whose read fails, and iterators that are dropped early.
+ghost use Rattle.std.specs.Prelude.{◌≤◌, length};
+ghost use Rattle.docstore.specs.Reading.{num_docs};
 
 use docstore::{Compressor, StoreError, StoreReader, StoreWriter};
 use std::alloc::Global;
 use std::test::Fail;
-use store_base::{AliveBitSet, Field, FileHandle, MemSink, NoMemory, RecordDocument, Schema};
+use store_base::{
+    AliveBitSet, Field, FileHandle, MemFile, MemSink, NoMemory, RecordDocument, Schema,
+};
 use test_devices::FailingFile;
 use test_devices::making::{closed, is_found, opened, opened_bytes, written};
 
@@ -46,17 +50,30 @@ fn records_are_stored(rt: HostRuntime) -> Result<(), Fail> {
     Ok(())
 }
 
-#[test]
-fn records_are_read(rt: HostRuntime) -> Result<(), Fail> {
-    let alloc = rt.alloc();
-    let mut reader = opened_bytes(alloc, two_records(alloc)?)?;
-    let second = reader.get::<RecordDocument>(alloc, 1)?;
-    assert!(rt; is_record(&second, 0, b"b"));
+// How many fields the last record of an iteration has.
+fn last_count(alloc: Global, reader: &mut StoreReader<MemFile>) -> Result<usize, StoreError> {
     let mut count = 0;
     for item in reader.iter::<RecordDocument>(alloc, None) {
         count = item?.fields().len();
     }
-    assert_eq!(rt; count, 1);
+    Ok(count)
+}
+
+// Whether the second record is got, and each record of an iteration is one.
+fn are_read(alloc: Global, reader: &mut StoreReader<MemFile>) -> Result<bool, StoreError> {
+    let second = reader.get::<RecordDocument>(alloc, 1)?;
+    let is_second = is_record(&second, 0, b"b");
+    drop(second);
+    Ok(is_second && last_count(alloc, reader)? == 1)
+}
+
+#[test]
+fn records_are_read(rt: HostRuntime) -> Result<(), Fail> {
+    let alloc = rt.alloc();
+    let mut reader = opened_bytes(alloc, two_records(alloc)?)?;
+    let read = are_read(alloc, &mut reader);
+    drop(reader);
+    assert!(rt; read?);
     Ok(())
 }
 
@@ -80,23 +97,32 @@ fn two_blocks(alloc: Global) -> Result<Vec<u8>, StoreError> {
     written(alloc, 17, &[b"a", b"b", b"c"])
 }
 
+// The items of an iteration, whether the last document is found then, and the items of another iteration.
+fn iterated_twice(
+    alloc: Global,
+    reader: &mut StoreReader<FailingFile>,
+) -> Result<(Vec<u32>, bool, Vec<u32>), StoreError> {
+    let first = items(alloc, reader)?;
+    let is_last_found = is_found(alloc, reader, 2, b"c");
+    Ok((first, is_last_found, items(alloc, reader)?))
+}
+
 #[test]
 fn a_block_whose_read_fails_answers_each_of_its_documents(rt: HostRuntime) -> Result<(), Fail> {
     let alloc = rt.alloc();
     let expected: [(u64, [u32; 3]); 3] = [(3, [9, 9, 99]), (4, [97, 98, 9]), (5, [97, 98, 99])];
     for (failing_read, expected) in expected {
-        let mut reader = opened(
-            alloc,
-            FailingFile::new(alloc, two_blocks(alloc)?, failing_read)?,
-        )?;
-        assert_eq!(rt; items(alloc, &mut reader)?.as_slice(), expected.as_slice());
-        assert_eq!(rt; reader.cache_stats().cache_misses, 2);
+        let file = FailingFile::new(alloc, two_blocks(alloc)?, failing_read)?;
+        let mut reader = opened(alloc, file)?;
+        let iterated = iterated_twice(alloc, &mut reader);
+        let misses = reader.cache_stats().cache_misses;
+        drop(reader);
+        let (first, is_last_found, second) = iterated?;
+        assert!(rt; first.as_slice() == expected.as_slice());
         // The read that would fail next is that of the first block where none failed yet.
-        assert!(rt; is_found(alloc, &mut reader, 2, b"c") == (failing_read != 5));
-        assert_eq!(rt;
-            items(alloc, &mut reader)?.as_slice(),
-            [97, 98, 99].as_slice()
-        );
+        assert!(rt; is_last_found == (failing_read != 5));
+        assert!(rt; second.as_slice() == [97, 98, 99].as_slice());
+        assert!(rt; misses == 5);
     }
     Ok(())
 }
@@ -104,30 +130,48 @@ fn a_block_whose_read_fails_answers_each_of_its_documents(rt: HostRuntime) -> Re
 #[test]
 fn an_iterator_looks_up_as_far_as_it_came(rt: HostRuntime) -> Result<(), Fail> {
     let alloc = rt.alloc();
+    let alive = AliveBitSet::for_test_from_deleted_docs(alloc, &[], 3)?;
     let misses: [usize; 5] = [1, 1, 1, 2, 2];
     for (taken, misses) in misses.into_iter().enumerate() {
         let mut reader = opened_bytes(alloc, two_blocks(alloc)?)?;
-        let alive = AliveBitSet::for_test_from_deleted_docs(alloc, &[], reader.num_docs())?;
+        assert!(rt; reader.num_docs() == 3);
         let given = reader.iter_raw(alloc, Some(&alive)).take(taken).count();
-        assert_eq!(rt; given, taken.min(3));
-        assert_eq!(rt; reader.cache_stats().cache_misses, misses, "{taken}");
+        assert!(rt;
+            given == taken.min(3) && reader.cache_stats().cache_misses == misses,
+            "{taken}"
+        );
+        drop(reader);
     }
     Ok(())
+}
+
+// Whether an iteration gives `c` alone.
+fn gives_only_c(
+    alloc: Global,
+    reader: &mut StoreReader<MemFile>,
+    alive: &AliveBitSet,
+) -> Result<bool, StoreError>
+    requires { num_docs reader.old ≤ length alive.now }
+{
+    let mut text = Vec::new(alloc);
+    for document in reader.iter_raw(alloc, Some(alive)) {
+        text.extend_from_slice(document?.as_slice())?;
+        text.push(b';')?;
+    }
+    Ok(text.as_slice() == b"c;".as_slice())
 }
 
 #[test]
 fn dead_documents_are_passed_over(rt: HostRuntime) -> Result<(), Fail> {
     let alloc = rt.alloc();
+    let alive = AliveBitSet::for_test_from_deleted_docs(alloc, &[0, 1], 3)?;
     let mut reader = opened_bytes(alloc, written(alloc, 0, &[b"a", b"b", b"c"])?)?;
-    let alive = AliveBitSet::for_test_from_deleted_docs(alloc, &[0, 1], reader.num_docs())?;
+    assert!(rt; reader.num_docs() == 3);
     drop(reader.iter_raw(alloc, Some(&alive)));
-    assert_eq!(rt; reader.cache_stats().cache_misses, 1);
-    let mut only = None;
-    for document in reader.iter_raw(alloc, Some(&alive)) {
-        assert!(rt; only.is_none());
-        only = Some(document?);
-    }
-    assert_eq!(rt; reader.cache_stats().cache_misses, 4);
-    assert!(rt; only.is_some_and(|bytes| bytes.as_slice() == b"c".as_slice()));
+    assert!(rt; reader.cache_stats().cache_misses == 1);
+    let gives_only_c = gives_only_c(alloc, &mut reader, &alive);
+    let misses = reader.cache_stats().cache_misses;
+    drop(reader);
+    assert!(rt; gives_only_c? && misses == 4);
     Ok(())
 }

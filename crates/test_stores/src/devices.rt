@@ -3,8 +3,8 @@
 use docstore::{Cause, Compressor, StoreError, StoreReader, StoreWriter};
 use std::alloc::Global;
 use std::test::Fail;
-use store_base::FileSlice;
-use test_devices::making::{closed, is_found, opened, written};
+use store_base::{FileSlice, MemSink, TerminatingWrite};
+use test_devices::making::{closed, is_found, opened, refusal_of, written};
 use test_devices::{FailingFile, FailingSink, LyingFile};
 
 #[test]
@@ -12,11 +12,10 @@ fn a_failed_read_of_a_get_is_repeated(rt: HostRuntime) -> Result<(), Fail> {
     let alloc = rt.alloc();
     let file = FailingFile::new(alloc, written(alloc, 16384, &[b"abc"])?, 3)?;
     let mut reader = opened(alloc, file)?;
-    assert_eq!(rt;
-        reader.get_document_bytes(alloc, 0).err(),
-        Some(StoreError::Read)
-    );
-    assert!(rt; is_found(alloc, &mut reader, 0, b"abc"));
+    let refusal = refusal_of(alloc, &mut reader, 0, b"abc");
+    let is_found = is_found(alloc, &mut reader, 0, b"abc");
+    drop(reader);
+    assert!(rt; refusal == Some(StoreError::Read) && is_found);
     Ok(())
 }
 
@@ -89,16 +88,12 @@ const FAILED: Result<(), StoreError> = Err(StoreError::Failed(Cause::Write));
 
 #[test]
 fn the_first_write_fails(rt: HostRuntime) -> Result<(), Fail> {
-    let of_blocks = outcome_of(rt.alloc(), 0, 1)?;
-    assert_eq!(rt; of_blocks.first, FAILED);
-    assert_eq!(rt; of_blocks.second, FAILED);
-    assert!(rt; of_blocks.had_failed);
-    assert_eq!(rt; of_blocks.closed, FAILED);
-    let of_one = outcome_of(rt.alloc(), 16384, 1)?;
-    assert_eq!(rt; of_one.first, Ok(()));
-    assert_eq!(rt; of_one.second, Ok(()));
-    assert!(rt; !of_one.had_failed);
-    assert_eq!(rt; of_one.closed, FAILED);
+    for (block_size, stored) in [(0, FAILED), (16384, Ok(()))] {
+        let outcome = outcome_of(rt.alloc(), block_size, 1)?;
+        assert!(rt; outcome.first == stored && outcome.second == stored);
+        assert!(rt; outcome.had_failed == stored.is_err() && outcome.closed == FAILED);
+        drop(outcome);
+    }
     Ok(())
 }
 
@@ -124,25 +119,30 @@ fn each_write_fails_in_turn(rt: HostRuntime) -> Result<(), Fail> {
         }
         failures = failing_call;
         assert!(rt; is_told(&outcome, &file), "{failing_call}");
+        drop(outcome);
     }
     // Those of two blocks, of the index and the footer, and the end.
     assert!(rt; failures > 4);
     let whole = outcome_of(alloc, 0, 0)?;
-    assert_eq!(rt; whole.closed, Ok(()));
-    assert!(rt; whole.is_terminated);
-    assert_eq!(rt; whole.bytes.as_slice(), file.as_slice());
+    assert!(rt; whole.closed == Ok(()) && whole.is_terminated && whole.bytes == file);
+    drop(whole);
     Ok(())
+}
+
+// The file of `a` on an output that has bytes already.
+fn written_behind(alloc: Global, output: MemSink) -> Result<Vec<u8>, StoreError> {
+    let mut writer = StoreWriter::new(alloc, output, Compressor::None, 0);
+    writer.store_bytes(b"a")?;
+    Ok(closed(writer)?.into_bytes())
 }
 
 #[test]
 fn an_output_that_held_bytes_keeps_them(rt: HostRuntime) -> Result<(), Fail> {
     let alloc = rt.alloc();
     let first = written(alloc, 0, &[b"a"])?;
-    let mut output = store_base::MemSink::new(alloc);
-    store_base::TerminatingWrite::write_all(&mut output, b"front")?;
-    let mut writer = StoreWriter::new(alloc, output, Compressor::None, 0);
-    writer.store_bytes(b"a")?;
-    let bytes = closed(writer)?.into_bytes();
+    let mut output = MemSink::new(alloc);
+    output.write_all(b"front")?;
+    let bytes = written_behind(alloc, output)?;
     assert_eq!(rt; bytes.strip_prefix(b"front"), Some(first.as_slice()));
     Ok(())
 }

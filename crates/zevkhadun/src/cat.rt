@@ -5,7 +5,7 @@ use crate::block_walk::write_documents;
 use crate::document_output::standard_output;
 use crate::failure::{Cause, Failure, at, printed};
 use crate::framing::Framing;
-use crate::store_file::{StorePath, store_path};
+use crate::store_file::{DiskReader, StoreFile, StorePath, store_path};
 use clap::{Arg, ArgAction, ArgMatches, Command};
 use std::alloc::{AllocError, Global};
 use std::io::Write;
@@ -15,23 +15,48 @@ const EXAMPLE: &str = "\
 Example:
   zevkhadun cat words.store --without 0,3..9     all but document 0 and those from 3 to 8";
 
-/// The words of `cat`.
-pub fn command<'a>(alloc: Global) -> Result<Command<'a>, AllocError> {
-    let without = Arg::new(alloc, "without")
+// Documents to leave out.
+fn without<'a>(alloc: Global) -> Arg<'a> {
+    Arg::new(alloc, "without")
         .long("without")
         .value_name("IDS")
         .action(ArgAction::Set)
-        .help("Documents to leave out: numbers and ranges between commas, as 0,3..9");
+        .help("Documents to leave out: numbers and ranges between commas, as 0,3..9")
+}
+
+/// The words of `cat`.
+pub fn command<'a>(alloc: Global) -> Result<Command<'a>, AllocError> {
     Command::new(alloc, "cat")
         .about("Prints all documents in order")
         .after_help(EXAMPLE)
         .arg(arguments::file(alloc, "FILE", "The store"))?
-        .arg(without)?
+        .arg(without(alloc))?
         .arg(arguments::framing(alloc))?
         .arg(arguments::tantivy(alloc))
 }
 
-// Prints the documents.
+// Prints the documents of an opened store whose file this is.
+fn print_documents(
+    rt: &HostRuntime,
+    reader: &DiskReader,
+    file: &mut StoreFile,
+    framing: Framing,
+    without: Option<&str>,
+) -> Result<(), Cause> {
+    let kept = kept_of(rt.alloc(), reader.num_docs(), without)?;
+    let mut output = standard_output(rt)?;
+    write_documents(
+        rt.alloc(),
+        reader,
+        file,
+        &mut output,
+        framing,
+        kept.as_ref(),
+    )?;
+    printed(output.flush())
+}
+
+// Prints the documents of a store.
 fn print(
     rt: &HostRuntime,
     store: StorePath<'_>,
@@ -40,17 +65,7 @@ fn print(
 ) -> Result<(), Cause> {
     let reader = store.reader(rt)?;
     let mut file = store.file(rt)?;
-    let kept = kept_of(rt.alloc(), reader.num_docs(), without)?;
-    let mut output = standard_output(rt)?;
-    write_documents(
-        rt.alloc(),
-        &reader,
-        &mut file,
-        &mut output,
-        framing,
-        kept.as_ref(),
-    )?;
-    printed(output.flush())
+    print_documents(rt, &reader, &mut file, framing, without)
 }
 
 /// Prints the documents.

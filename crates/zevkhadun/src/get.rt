@@ -48,6 +48,21 @@ fn print_range(
 
 // Prints the documents of each range.
 fn print_ranges(
+    alloc: Global,
+    reader: &mut DiskReader,
+    output: &mut DocumentOutput<'_>,
+    framing: Framing,
+    ranges: &[IdRange],
+) -> Result<(), Cause> {
+    for range in ranges {
+        let ids = range.among(reader.num_docs())?;
+        print_range(alloc, reader, output, framing, ids)?;
+    }
+    printed(output.flush())
+}
+
+// Prints the documents of each range of a store.
+fn print(
     rt: &HostRuntime,
     store: StorePath<'_>,
     framing: Framing,
@@ -55,11 +70,7 @@ fn print_ranges(
 ) -> Result<(), Cause> {
     let mut reader = store.reader(rt)?;
     let mut output = standard_output(rt)?;
-    for range in ranges {
-        let ids = range.among(reader.num_docs())?;
-        print_range(rt.alloc(), &mut reader, &mut output, framing, ids)?;
-    }
-    printed(output.flush())
+    print_ranges(rt.alloc(), &mut reader, &mut output, framing, ranges)
 }
 
 /// Prints the documents.
@@ -68,6 +79,6 @@ pub fn run(rt: &HostRuntime, matches: &ArgMatches<'_>) -> Result<(), Failure> {
     let words = matches.get_strs("ID").unwrap_or(&[]);
     let alloc = rt.alloc();
     let ranges = at(alloc, store.path, ranges_of(alloc, words))?;
-    let printed = print_ranges(rt, store, framing_of(matches), &ranges);
+    let printed = print(rt, store, framing_of(matches), &ranges);
     at(alloc, store.path, printed)
 }

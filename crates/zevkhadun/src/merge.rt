@@ -31,21 +31,25 @@ A store of six blocks or more that keeps all documents is taken block by block, 
 Example:
   zevkhadun merge all.store a.store b.store --without a.store=0,3..9";
 
-/// The words of `merge`.
-pub fn command<'a>(alloc: Global) -> Result<Command<'a>, AllocError> {
-    let without = Arg::new(alloc, "without")
+// Documents of an input to leave out.
+fn without<'a>(alloc: Global) -> Arg<'a> {
+    Arg::new(alloc, "without")
         .long("without")
         .value_name("INPUT=IDS")
         .action(ArgAction::Append)
         .help(
             "Documents of an input to leave out: numbers and ranges between commas, as a.store=0,3..9",
-        );
+        )
+}
+
+/// The words of `merge`.
+pub fn command<'a>(alloc: Global) -> Result<Command<'a>, AllocError> {
     Command::new(alloc, "merge")
         .about("Writes a store of the documents of others, in order")
         .after_help(EXAMPLE)
         .arg(arguments::output(alloc))?
         .arg(arguments::several(alloc, "INPUT", "The stores to merge"))?
-        .arg(without)?
+        .arg(without(alloc))?
         .arg(arguments::block_size(alloc))?
         .arg(arguments::period(alloc))?
         .arg(arguments::tantivy(alloc))?

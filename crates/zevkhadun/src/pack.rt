@@ -21,17 +21,21 @@ Example:
   zevkhadun pack words.store words.txt     a document for each line
   zevkhadun pack --framing files notes.store notes/*.txt     a document for each file";
 
-/// The words of `pack`.
-pub fn command<'a>(alloc: Global) -> Result<Command<'a>, AllocError> {
-    let inputs = Arg::new(alloc, "INPUT")
+// What is packed.
+fn inputs<'a>(alloc: Global) -> Arg<'a> {
+    Arg::new(alloc, "INPUT")
         .num_args(0..)
         .action(ArgAction::Append)
-        .help("The files of documents; '-' or none is the standard input");
+        .help("The files of documents; '-' or none is the standard input")
+}
+
+/// The words of `pack`.
+pub fn command<'a>(alloc: Global) -> Result<Command<'a>, AllocError> {
     Command::new(alloc, "pack")
         .about("Writes a store of documents")
         .after_help(EXAMPLE)
         .arg(arguments::output(alloc))?
-        .arg(inputs)?
+        .arg(inputs(alloc))?
         .arg(arguments::framing(alloc))?
         .arg(arguments::block_size(alloc))?
         .arg(arguments::period(alloc))?

@@ -13,22 +13,36 @@ that was there. The status is 0, 1 where something failed or a store is broken, 
 Example:
   zevkhadun pack words.store words.txt && zevkhadun get words.store 7";
 
+// The program's command, without its subcommands.
+fn bare_command<'a>(alloc: Global) -> Result<Command<'a>, AllocError> {
+    Ok(
+        Command::new(alloc, "zevkhadun")
+            .bin_name("zevkhadun")?
+            .version("0.1.0")
+            .about("Keeps documents behind numbers, in files that are written once")
+            .after_help(AFTER_HELP)
+            .subcommand_required(true)
+            .arg_required_else_help(true),
+    )
+}
+
+// A command with one more subcommand.
+fn with<'a>(
+    command: Result<Command<'a>, AllocError>,
+    subcommand: Result<Command<'a>, AllocError>,
+) -> Result<Command<'a>, AllocError> {
+    command?.subcommand(subcommand?)
+}
+
 // The program's command, with its subcommands.
 fn command<'a>(alloc: Global) -> Result<Command<'a>, AllocError> {
-    Command::new(alloc, "zevkhadun")
-        .bin_name("zevkhadun")?
-        .version("0.1.0")
-        .about("Keeps documents behind numbers, in files that are written once")
-        .after_help(AFTER_HELP)
-        .subcommand_required(true)
-        .arg_required_else_help(true)
-        .subcommand(pack::command(alloc)?)?
-        .subcommand(get::command(alloc)?)?
-        .subcommand(cat::command(alloc)?)?
-        .subcommand(stat::command(alloc)?)?
-        .subcommand(verify::command(alloc)?)?
-        .subcommand(merge::command(alloc)?)?
-        .subcommand(inspect::command(alloc)?)
+    let writing = with(bare_command(alloc), pack::command(alloc));
+    let reading = with(with(writing, get::command(alloc)), cat::command(alloc));
+    let telling = with(with(reading, stat::command(alloc)), verify::command(alloc));
+    with(
+        with(telling, merge::command(alloc)),
+        inspect::command(alloc),
+    )
 }
 
 // What keeps the words from being read.

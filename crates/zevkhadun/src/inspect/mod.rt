@@ -24,19 +24,23 @@ const EXAMPLE: &str = "\
 Example:
   zevkhadun inspect words.store --html words.html     one file, for any browser";
 
-/// The words of `inspect`.
-pub fn command<'a>(alloc: Global) -> Result<Command<'a>, AllocError> {
-    let html = Arg::new(alloc, "html")
+// The page to write.
+fn html<'a>(alloc: Global) -> Arg<'a> {
+    Arg::new(alloc, "html")
         .long("html")
         .value_name("OUT")
         .required(true)
         .action(ArgAction::Set)
-        .help("The page to write; one that is there is replaced, any other file is kept");
+        .help("The page to write; one that is there is replaced, any other file is kept")
+}
+
+/// The words of `inspect`.
+pub fn command<'a>(alloc: Global) -> Result<Command<'a>, AllocError> {
     Command::new(alloc, "inspect")
         .about("Draws what a store has on a page of HTML")
         .after_help(EXAMPLE)
         .arg(arguments::file(alloc, "FILE", "The store"))?
-        .arg(html)?
+        .arg(html(alloc))?
         .arg(arguments::tantivy(alloc))
 }
 
@@ -86,19 +90,22 @@ fn spread_of(sizes: &[usize]) -> Histogram {
     spread
 }
 
-// The page on a store.
-fn page_of(rt: &HostRuntime, store: StorePath<'_>) -> Result<String, Cause> {
-    let alloc = rt.alloc();
-    let reader = store.reader(rt)?;
-    let mut file = store.file(rt)?;
-    let sizes = block_sizes(alloc, &reader)?;
+// The page on an opened store of this name, whose file this is.
+fn page_on(
+    alloc: Global,
+    name: &str,
+    reader: &DiskReader,
+    file: &mut StoreFile,
+) -> Result<String, Cause> {
+    let documents = document_sizes(alloc, reader, file)?;
+    let sizes = block_sizes(alloc, reader)?;
     let spread = spread_of(&sizes);
-    let starts = BlockStarts::of(alloc, &reader)?;
-    let documents = document_sizes(alloc, &reader, &mut file)?;
+    let numbers = numbers_of(reader, sizes);
+    let starts = BlockStarts::of(alloc, reader)?;
     let mut page = String::new(alloc);
     Page {
-        name: store.path,
-        numbers: numbers_of(&reader, sizes),
+        name,
+        numbers,
         starts: &starts,
         block_sizes: &spread,
         document_sizes: &documents.spread,
@@ -106,6 +113,13 @@ fn page_of(rt: &HostRuntime, store: StorePath<'_>) -> Result<String, Cause> {
     }
     .push_to(&mut page)?;
     Ok(page)
+}
+
+// The page on a store.
+fn page_of(rt: &HostRuntime, store: StorePath<'_>) -> Result<String, Cause> {
+    let reader = store.reader(rt)?;
+    let mut file = store.file(rt)?;
+    page_on(rt.alloc(), store.path, &reader, &mut file)
 }
 
 // Why an output refused a call.
