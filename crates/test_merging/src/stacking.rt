@@ -113,8 +113,8 @@ fn a_stack_that_is_given_up_leaves_the_documents(rt: HostRuntime) -> Result<(), 
     Ok(())
 }
 
-// What a stack on an output whose call of this number fails is answered with, whether the writer has failed, and whether
-// the store still answers.
+// What a stack on an output whose call of this number fails is answered with, whether the writer has failed, and
+// whether the store still answers.
 fn stacked_on(
     alloc: Global,
     failing_call: u64,
