@@ -1,6 +1,4 @@
 //! Going over a store: documents as values, blocks whose read fails, and iterators that are dropped early.
-ghost use Rattle.std.specs.Prelude.{◌≤◌, length};
-ghost use Rattle.docstore.specs.Reading.{num_docs};
 
 use docstore::{Compressor, StoreError, StoreReader, StoreWriter};
 use std::alloc::Global;
@@ -127,51 +125,58 @@ fn a_block_whose_read_fails_answers_each_of_its_documents(rt: HostRuntime) -> Re
     Ok(())
 }
 
+// How many items an iteration over all documents gives, if it is dropped behind so many.
+fn taken_of(
+    alloc: Global,
+    reader: &mut StoreReader<MemFile>,
+    taken: usize,
+) -> Result<usize, StoreError> {
+    let alive = AliveBitSet::for_test_from_deleted_docs(alloc, &[], reader.num_docs())?;
+    Ok(reader.iter_raw(alloc, Some(&alive)).take(taken).count())
+}
+
 #[test]
 fn an_iterator_looks_up_as_far_as_it_came(rt: HostRuntime) -> Result<(), Fail> {
     let alloc = rt.alloc();
-    let alive = AliveBitSet::for_test_from_deleted_docs(alloc, &[], 3)?;
-    let misses: [usize; 5] = [1, 1, 1, 2, 2];
-    for (taken, misses) in misses.into_iter().enumerate() {
+    let expected: [usize; 5] = [1, 1, 1, 2, 2];
+    for (taken, misses) in expected.into_iter().enumerate() {
         let mut reader = opened_bytes(alloc, two_blocks(alloc)?)?;
-        assert!(rt; reader.num_docs() == 3);
-        let given = reader.iter_raw(alloc, Some(&alive)).take(taken).count();
+        let given = taken_of(alloc, &mut reader, taken);
+        let counts = reader.cache_stats();
+        drop(reader);
         assert!(rt;
-            given == taken.min(3) && reader.cache_stats().cache_misses == misses,
+            given? == taken.min(3) && counts.cache_misses == misses,
             "{taken}"
         );
-        drop(reader);
     }
     Ok(())
 }
 
-// Whether an iteration gives `c` alone.
-fn gives_only_c(
+// The misses of an iteration over the third document alone that is dropped at once, and the documents of another.
+fn third_alone(
     alloc: Global,
     reader: &mut StoreReader<MemFile>,
-    alive: &AliveBitSet,
-) -> Result<bool, StoreError>
-    requires { num_docs reader.old ≤ length alive.now }
-{
+) -> Result<(usize, Vec<u8>), StoreError> {
+    let alive = AliveBitSet::for_test_from_deleted_docs(alloc, &[0, 1], reader.num_docs())?;
+    drop(reader.iter_raw(alloc, Some(&alive)));
+    let misses = reader.cache_stats().cache_misses;
     let mut text = Vec::new(alloc);
-    for document in reader.iter_raw(alloc, Some(alive)) {
+    for document in reader.iter_raw(alloc, Some(&alive)) {
         text.extend_from_slice(document?.as_slice())?;
         text.push(b';')?;
     }
-    Ok(text.as_slice() == b"c;".as_slice())
+    Ok((misses, text))
 }
 
 #[test]
 fn dead_documents_are_passed_over(rt: HostRuntime) -> Result<(), Fail> {
     let alloc = rt.alloc();
-    let alive = AliveBitSet::for_test_from_deleted_docs(alloc, &[0, 1], 3)?;
     let mut reader = opened_bytes(alloc, written(alloc, 0, &[b"a", b"b", b"c"])?)?;
-    assert!(rt; reader.num_docs() == 3);
-    drop(reader.iter_raw(alloc, Some(&alive)));
-    assert!(rt; reader.cache_stats().cache_misses == 1);
-    let gives_only_c = gives_only_c(alloc, &mut reader, &alive);
-    let misses = reader.cache_stats().cache_misses;
+    let third = third_alone(alloc, &mut reader);
+    let counts = reader.cache_stats();
     drop(reader);
-    assert!(rt; gives_only_c? && misses == 4);
+    let (misses, text) = third?;
+    assert!(rt; misses == 1 && counts.cache_misses == 4);
+    assert_eq!(rt; text.as_slice(), b"c;".as_slice());
     Ok(())
 }
