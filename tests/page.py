@@ -166,6 +166,7 @@ def stores(program, folder):
 
 def keep(browser, folder, name):
     """Leaves the page as pictures and as printed."""
+    os.makedirs(folder, exist_ok=True)
     for width in (WIDE, NARROW):
         for scheme in ("light", "dark"):
             browser.measure(width, scheme, "screen")

@@ -13,20 +13,11 @@ fn closed(compressor: BlockCompressor<MemSink>) -> Result<Vec<u8>, StoreError> {
     }
 }
 
-// Writes two blocks of one document each.
-fn write_two(
-    blocks: &mut BlockCompressor<MemSink>,
-    first: &[u8],
-    second: &[u8],
-) -> Result<(), StoreError> {
-    blocks.compress_block_and_write(first, 1)?;
-    blocks.compress_block_and_write(second, 1)
-}
-
 // The file of blocks whose numbers tell no document.
 fn hello_happy(alloc: Global) -> Result<Vec<u8>, StoreError> {
     let mut blocks = BlockCompressor::new(alloc, Compressor::None, MemSink::new(alloc));
-    write_two(&mut blocks, b"hello", b"happy")?;
+    blocks.compress_block_and_write(b"hello", 1)?;
+    blocks.compress_block_and_write(b"happy", 1)?;
     closed(blocks)
 }
 
@@ -86,7 +77,8 @@ fn a_block_may_have_every_document(rt: HostRuntime) -> Result<(), Fail> {
 // The file of two blocks by the period 2.
 fn by_period_two(alloc: Global) -> Result<Vec<u8>, StoreError> {
     let mut blocks = BlockCompressor::with_period(alloc, Compressor::None, MemSink::new(alloc), 2);
-    write_two(&mut blocks, b"a", b"b")?;
+    blocks.compress_block_and_write(b"a", 1)?;
+    blocks.compress_block_and_write(b"b", 1)?;
     closed(blocks)
 }
 
