@@ -5,9 +5,10 @@ usage, at the top of the repository: gate.py ci [CRATE..]
                                      gate.py must-fail [CRATE..]
 
 `rt` gives each edit of must-fail a check of its own, most of which goes into reading the libraries. Here a check has an
-edit in each of many functions. That decides the same, since a function is checked against the contracts of those that it
-calls, whatever their bodies. An edit is refused where the check finds no proof of the function itself. What it doesn't
-say so of is left to the kit, alone. All else is the kit's, and a kit that is made otherwise does all of it.
+edit in each of many functions. That decides the same, since a function is checked against the contracts of those that
+it calls, whatever their bodies. An edit is refused where the check finds no proof of the function itself. Of a function
+that calls one without a proof it doesn't say so; such edits are tried together again, without those that were refused.
+What is left then is left to the kit, alone. All else is the kit's, and a kit that is made otherwise does all of it.
 """
 import collections
 import importlib.machinery
@@ -79,7 +80,7 @@ def rounds_of(crate, edits):
 
 
 def edited(crate, edits):
-    """Returns the texts of the files that these edits change, as they are then, or nothing where one can't be applied."""
+    """Returns the texts of the files that these edits change, as they are then; nothing where one can't be applied."""
     texts = {}
     for edit in edits:
         path = edit.files[0]
@@ -120,17 +121,23 @@ class Gate:
             told.update(names)
         return refused if told == set(unproved) else []
 
+    def refused_in(self, crate, those, flags, room):
+        """Returns the paths of the edits of a round that are refused, over a copy of what was proved of the crate."""
+        kept = f"{room}/round"
+        self.kit.linked(f"{room}/seed", kept)
+        refused = self.refused_together(crate, those, flags, kept)
+        shutil.rmtree(kept, ignore_errors=True)
+        self.kit.say(f"{crate.name}: {len(refused)} of {len(those)} must-fail edits are refused in one check")
+        return {edit.path for edit in refused}
+
     def seeded(self, crate, flags, start=None):
-        """As the kit's: makes what the edits of a crate are tried over. Then it tries them, each round over a copy."""
+        """As the kit's: makes what a crate's edits are tried over. Then it tries them, as long as some are refused."""
         room = self.begin(crate, flags, start)
-        edits = [Edit(path) for path in self.kit.edits_of(crate)[0]]
-        for number, those in enumerate(rounds_of(crate, edits) if room else []):
-            kept = f"{room}/round-{number}"
-            self.kit.linked(f"{room}/seed", kept)
-            refused = self.refused_together(crate, those, flags, kept)
-            shutil.rmtree(kept, ignore_errors=True)
-            self.refused.update(edit.path for edit in refused)
-            self.kit.say(f"{crate.name}: {len(refused)} of {len(those)} must-fail edits are refused in one check")
+        left = [Edit(path) for path in self.kit.edits_of(crate)[0]] if room else []
+        while left:
+            refused = set().union(*(self.refused_in(crate, those, flags, room) for those in rounds_of(crate, left)))
+            self.refused |= refused
+            left = [edit for edit in left if edit.path not in refused] if refused else []
         return room
 
     def must_fail(self, crate, path, flags, kept=None):
