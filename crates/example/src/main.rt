@@ -23,10 +23,10 @@ fn opened(alloc: Global, bytes: Vec<u8>) -> Result<Reader, StoreError> {
     StoreReader::open(alloc, file, 100).map_err(|refusal| refusal.error)
 }
 
-fn stacked(alloc: Global, front: &str, mut store: Reader) -> Result<Vec<u8>, StoreError> {
+fn stacked(alloc: Global, front: &str, store: &mut Reader) -> Result<Vec<u8>, StoreError> {
     let mut writer = StoreWriter::new(alloc, MemSink::new(alloc), Compressor::None, 16384);
     writer.store_bytes(front.as_bytes())?;
-    writer.stack(&mut store)?;
+    writer.stack(store)?;
     Ok(writer.close()?.into_bytes())
 }
 
@@ -38,15 +38,18 @@ fn print_live<R: Print>(rt: &R, alloc: Global, store: &mut Reader) -> anyhow::Re
     Ok(())
 }
 
+fn print_store<R: Print>(rt: &R, alloc: Global, store: &mut Reader) -> anyhow::Result<()> {
+    let banana = store.get_document_bytes(alloc, 2)?;
+    println!(rt; "document 2: {}", str::from_utf8(banana.as_slice())?)?;
+    print_live(rt, alloc, store)
+}
+
 fn main(rt: HostRuntime) -> anyhow::Result<()> {
     let alloc = rt.alloc();
     let fruits = written(alloc, &["apple", "banana", "cherry"])?;
     println!(rt; "a file of {} bytes", fruits.len())?;
 
-    let all = stacked(alloc, "almond", opened(alloc, fruits)?)?;
-    let mut store = opened(alloc, all)?;
-    let banana = store.get_document_bytes(alloc, 2)?;
-    println!(rt; "document 2: {}", str::from_utf8(banana.as_slice())?)?;
-    print_live(&rt, alloc, &mut store)?;
+    let all = stacked(alloc, "almond", &mut opened(alloc, fruits)?)?;
+    print_store(&rt, alloc, &mut opened(alloc, all)?)?;
     on_disk::write_and_read(&rt)
 }
