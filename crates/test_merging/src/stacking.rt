@@ -114,7 +114,7 @@ fn a_stack_that_is_given_up_leaves_the_documents(rt: HostRuntime) -> Result<(), 
 }
 
 // What a stack on an output whose call of this number fails is answered with, whether the writer has failed, and
-// whether the store still answers.
+// whether the document before it was stored and the store still answers.
 fn stacked_on(
     alloc: Global,
     failing_call: u64,
@@ -123,12 +123,8 @@ fn stacked_on(
     let output = FailingSink::new(alloc, failing_call);
     let mut writer = StoreWriter::new(alloc, output, Compressor::None, 16384);
     let stored = writer.store_bytes(b"x");
-    let stacked = if stored.is_ok() {
-        writer.stack(&mut reader)
-    } else {
-        stored
-    };
-    let answers = is_found(alloc, &mut reader, 1, b"b");
+    let stacked = writer.stack(&mut reader);
+    let answers = stored.is_ok() && is_found(alloc, &mut reader, 1, b"b");
     Ok((stacked, writer.has_failed(), answers))
 }
 

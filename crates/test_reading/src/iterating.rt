@@ -95,12 +95,15 @@ fn two_blocks(alloc: Global) -> Result<Vec<u8>, StoreError> {
     written(alloc, 17, &[b"a", b"b", b"c"])
 }
 
-// The items of an iteration, whether the last document is found then, and the items of another iteration.
+// The items of an iteration behind two misses, whether the last document is found then, and the items of another one.
 fn iterated_twice(
     alloc: Global,
     reader: &mut StoreReader<FailingFile>,
 ) -> Result<(Vec<u32>, bool, Vec<u32>), StoreError> {
     let first = items(alloc, reader)?;
+    if reader.cache_stats().cache_misses != 2 {
+        return Err(StoreError::BadDocument);
+    }
     let is_last_found = is_found(alloc, reader, 2, b"c");
     Ok((first, is_last_found, items(alloc, reader)?))
 }
