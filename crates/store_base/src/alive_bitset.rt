@@ -35,7 +35,8 @@ impl Model for AliveBitSet {
 }
 
 impl AliveBitSet {
-    fn all(alloc: Global, max_doc: u32) -> Result<AliveBitSet, NoMemory>
+    /// Each document below `max_doc` is alive.
+    pub fn all(alloc: Global, max_doc: u32) -> Result<AliveBitSet, NoMemory>
         ensures { IfOk result (λ set. set ≡ replicate max_doc true) }
     {
         let num_words = (max_doc as usize).div_ceil(WORD_BITS);
@@ -46,7 +47,8 @@ impl AliveBitSet {
         })
     }
 
-    fn delete(&mut self, id: DocId)
+    /// Deletes a document. A number at or past the end is ignored.
+    pub fn delete(&mut self, id: DocId)
         ensures len { length self.new ≡ length self.old }
         ensures each { (k : ℕ) → is_alive_at self.new k
             ≡ (if k == id then false else is_alive_at self.old k) }
