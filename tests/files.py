@@ -323,7 +323,15 @@ class Large(InFolder):
         self.end(subprocess.Popen([PROGRAM, "verify", merged], stdout=subprocess.DEVNULL))
 
 
+class Result(unittest.TextTestResult):
+    """Names each test that this machine can't run."""
+
+    def addSkip(self, test, reason):
+        super().addSkip(test, reason)
+        print(f"skipped: tests/files.py: {test.id()}: {reason}", flush=True)
+
+
 if __name__ == "__main__":
     if not PROGRAM:
         sys.exit(__doc__)
-    unittest.main()
+    unittest.main(testRunner=unittest.TextTestRunner(resultclass=Result))

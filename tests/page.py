@@ -197,7 +197,7 @@ def looked_at(browser, path, kept):
 def main(program, kept=None):
     path = shutil.which("chromium") or shutil.which("chromium-browser") or shutil.which("google-chrome")
     if path is None:
-        print("no Chromium: the pages of inspect were not opened")
+        print("skipped: tests/page.py: there is no Chromium, so the pages of inspect were not opened")
         return 0
     failed = 0
     with tempfile.TemporaryDirectory(prefix="zevkhadun-", ignore_cleanup_errors=True) as folder:
