@@ -94,6 +94,14 @@ example() {
 }
 check "example" example
 
+# The example at the head of the header.
+check "first: build" gcc -std=c11 $warnings -o "$work/first" "$source/first.c" $flags
+first() {
+    LD_LIBRARY_PATH="$work/prefix/lib" "$work/first" 1 <"$work/two" >"$work/told"
+    printf 'de' | diff - "$work/told"
+}
+check "first" first
+
 # The other example packs lines, which the first one prints.
 check "pack: build" gcc -std=c11 $warnings -o "$work/pack" "$source/pack.c" $flags
 pack() {

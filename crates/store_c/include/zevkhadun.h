@@ -1,24 +1,43 @@
-/* Document stores for C and C++: read from bytes at hand by a table of their blocks, and written by such a table too.
+/* zevkhadun.h: document stores for C and C++.
  *
- * The library is proved: each call does what is said here of it, for every argument that keeps to the rules below,
- * and reads and writes no byte beyond what it is given. The contracts stand in crates/store_c/src. This header is
- * written by hand beside them.
+ * A store is one file of byte strings, its documents, numbered from 0. This library reads a store from bytes in
+ * memory, loaded or mapped, and makes the bytes that a program writes to its own file to create one. It keeps nothing
+ * between calls, so there is nothing to close. This prints a document of a file whose bytes are in memory
+ * (examples/c/first.c):
  *
- * A call answers ZEVK_DONE, which is 0, or the number of a refusal. A call that is refused leaves what its pointers
- * point at as it was, where nothing else is said. Nothing is kept between calls: there is nothing to close.
+ *     uint32_t print_document(const uint8_t *file, size_t len, uint32_t id) {
+ *         size_t blocks = 0;
+ *         uint32_t documents;
+ *         zevk_place place;
+ *         zevk_open(file, len, NULL, 0, &blocks, &documents);
+ *         zevk_block *table = (zevk_block *)malloc((blocks + 1) * sizeof *table);
+ *         if (table == NULL) return ZEVK_NO_MEMORY;
+ *         uint32_t error = zevk_open(file, len, table, blocks, &blocks, &documents);
+ *         if (error == ZEVK_DONE) error = zevk_locate(file, len, table, blocks, id, &place);
+ *         if (error == ZEVK_DONE) fwrite(file + place.start, 1, place.len, stdout);
+ *         free(table);
+ *         return error;
+ *     }
  *
- * What the caller owes, since no call can see it:
+ * A call returns ZEVK_DONE, which is 0, or the number of an error. A call that fails leaves everything that its
+ * pointers point to unchanged, unless its comment says otherwise. If several errors apply, any of them may come,
+ * unless an order is given.
  *
- * - Pointers are not null, at a length of 0 too, and are aligned for their type. A length counts what is there, and is
- *   below 2^63 bytes.
- * - What a call writes to lies apart from all else that it is given. What it reads does not change meanwhile; a
- *   mapped file that another process cuts ends the program by SIGBUS.
- * - `malloc`, `realloc` and `free` are of one allocator, and give blocks that are aligned for any type. The calls
- *   that take memory, zevk_open, zevk_writer_stack and zevk_writer_close, are not called by a signal handler, or in the
- *   child of a fork of a process with threads. They give back all that they take.
+ * The library is proved: for every argument that keeps the rules below, a call reads and writes no byte outside what
+ * it is given, and meets its contract in crates/store_c/src. This header says the same in words, by hand; it marks
+ * what is tested and not proved.
  *
- * Any number of threads may read by one table of one file at once, as long as no one writes to either. A writer is one
- * thread's at a time.
+ * Rules for callers, which no call can check:
+ *
+ * - A pointer is aligned for its type, and is not null; with a length of 0 it may be null. A length counts elements
+ *   that are there, and they take less than 2^63 bytes.
+ * - Memory that a call writes to overlaps nothing else that the call is given. What a call reads doesn't change during
+ *   the call. A mapped file that another process cuts ends the program with SIGBUS.
+ * - malloc, realloc and free belong to one allocator, whose blocks are aligned for any type. zevk_open,
+ *   zevk_writer_stack and zevk_writer_close take memory and free it before they return: don't call them in a signal
+ *   handler, or in the child after a fork of a process with threads.
+ * - Any number of threads may read with one table of one file at once, while none writes to either. One thread at a
+ *   time uses a writer.
  */
 #ifndef ZEVKHADUN_H
 #define ZEVKHADUN_H
@@ -30,84 +49,86 @@
 extern "C" {
 #endif
 
-/* ---- refusals */
+/* ---- errors */
 
-/* Up to 16 these are those of the store, whoever asks it; the others are of this border. */
+/* The numbers up to 16 are the store's own in every language, the others are this library's. They never change. */
 enum zevk_refusal {
     ZEVK_DONE = 0,
     ZEVK_SHORT_FILE = 1,        /* the file has fewer bytes than a footer */
-    ZEVK_BAD_VERSION = 2,       /* the footer has a version that isn't known */
-    ZEVK_BAD_BLOCK_KIND = 3,    /* the footer names a kind of block that isn't read here */
-    ZEVK_BAD_OFFSET = 4,        /* the footer's offset lies behind the bytes before it */
-    ZEVK_BAD_INDEX = 5,         /* the index is not that of blocks that cover the data */
+    ZEVK_BAD_VERSION = 2,       /* the footer has an unknown version */
+    ZEVK_BAD_BLOCK_KIND = 3,    /* the blocks are compressed */
+    ZEVK_BAD_OFFSET = 4,        /* the index would begin after the footer's first byte */
+    ZEVK_BAD_INDEX = 5,         /* the index is not one of blocks that cover the data */
     ZEVK_NO_DOCUMENT = 6,       /* the store has no document of this number */
-    ZEVK_DAMAGED_DOCUMENT = 7,  /* the document's block doesn't say where it lies */
-    ZEVK_NO_MEMORY = 10,        /* a growth was refused */
-    ZEVK_OLD_VERSION = 11,      /* the documents of a store to be stacked may be in an older form */
+    ZEVK_DAMAGED_DOCUMENT = 7,  /* the block's table doesn't say where the document is */
+    ZEVK_NO_MEMORY = 10,        /* out of memory */
+    ZEVK_OLD_VERSION = 11,      /* a store of version 1 can't be stacked */
     ZEVK_BLOCK_TOO_LARGE = 13,  /* a block would have 2^32 bytes or more */
     ZEVK_TOO_MANY_DOCS = 14,    /* there would be 2^32 documents or more */
     ZEVK_BAD_PERIOD = 16,       /* a period below 2 or above 64 */
-    ZEVK_NO_ROOM = 32,          /* an array of the caller's is too short for what is to be written to it */
-    ZEVK_OTHER_TABLE = 33,      /* the table is not that of the file */
-    ZEVK_OPEN_BLOCK = 34,       /* the open block has documents, and must be ended first */
-    ZEVK_OTHER_WRITER = 35      /* the writer and its table are not as these calls left them */
+    ZEVK_NO_ROOM = 32,          /* an array of the caller's is too short */
+    ZEVK_OTHER_TABLE = 33,      /* the table is not the one of the file */
+    ZEVK_OPEN_BLOCK = 34,       /* the open block has documents; end it first */
+    ZEVK_OTHER_WRITER = 35      /* the writer or its table is not as these calls left it */
 };
 
-/* How many bytes hold each refusal's text and the zero behind it. */
+/* How many bytes hold the text of any error and the zero byte after it. */
 #define ZEVK_TEXT_LEN 64
 
-/* Writes the text of a refusal's number and a zero byte behind it, and answers how many bytes stand before the zero:
- * fewer than ZEVK_TEXT_LEN. Where `text_len` is not enough nothing is written. */
+/* Writes the text of an error's number and a zero byte, and returns the length of the text: less than ZEVK_TEXT_LEN.
+ * If `text_len` is too short it writes nothing. */
 size_t zevk_refusal_text(uint32_t number, uint8_t *text, size_t text_len);
 
 /* ---- reading */
 
-/* A row of a table: where a block of documents ends. It begins where the block before it ends. */
+/* A row of a table: where a block of documents ends. A block begins where the one before it ends. */
 typedef struct zevk_block {
-    uint32_t end_doc;  /* the number behind that of its last document */
-    size_t end_byte;   /* how many bytes of the file stand before its end */
+    uint32_t end_doc;  /* one more than the number of its last document */
+    size_t end_byte;   /* the offset in the file at which it ends */
 } zevk_block;
 
-/* Where a document lies in its file: how many bytes stand before it, and how many it has. */
+/* Where a document lies in its file. */
 typedef struct zevk_place {
-    size_t start;
-    size_t len;
+    size_t start;  /* the offset of its first byte */
+    size_t len;    /* its length in bytes */
 } zevk_place;
 
-/* Opens the store whose file these bytes are: fills the front of the table, a row for each block, and tells how many
- * blocks (`count`) and how many documents (`num_docs`) there are. The other calls take the first `count` rows. The
- * bytes and the table stay the caller's, who may move them in memory.
+/* Opens the store whose file these bytes are. It checks the footer and the whole index, fills a row of the table for
+ * each block, and sets `count` to the number of blocks and `num_docs` to the number of documents. Other calls take the
+ * first `count` rows. The caller keeps the bytes and the table, and may move them in memory.
  *
- * Refusals: NO_ROOM, after which the table has the rows that it has room for, and both numbers are told: so a first
- * call with no rows asks how many are needed. NO_MEMORY, as the index is copied while it is read. Of bytes that are no
- * store's file, the first of SHORT_FILE, BAD_VERSION, BAD_BLOCK_KIND, BAD_PERIOD, BAD_OFFSET and BAD_INDEX that holds.
- * Every store's file is opened, if there is room and memory. */
+ * Errors: NO_ROOM if the table has fewer than `count` rows; the rows that it has are filled, and both numbers are set,
+ * so a first call with 0 rows finds how many are needed. NO_MEMORY: the call copies the index while it reads. If the
+ * bytes are not a store's file: the first of SHORT_FILE, BAD_VERSION, BAD_BLOCK_KIND, BAD_PERIOD, BAD_OFFSET and
+ * BAD_INDEX that applies. */
 uint32_t zevk_open(const uint8_t *file, size_t file_len, zevk_block *table, size_t table_len, size_t *count,
                    uint32_t *num_docs);
 
-/* Tells where a document lies in the file: its bytes are file[place->start] and those behind it. It takes no memory.
+/* Sets `place` to where a document lies in the file: its bytes begin at file[place->start]. It takes no memory.
  *
- * The table is the one that zevk_open filled for these bytes. By any other the bytes are read within their bounds too,
- * and what is told then lies within them, but is the place of anything.
+ * The table is the one that zevk_open filled for these bytes. With another table the call is safe: a place lies within
+ * the bytes, but it may be that of anything.
  *
- * Refusals: NO_DOCUMENT exactly at or past the count of documents, DAMAGED_DOCUMENT; OTHER_TABLE only where the table
- * is not that of the file. */
+ * Errors: NO_DOCUMENT if and only if `doc_id` is not below the number of documents; DAMAGED_DOCUMENT; OTHER_TABLE,
+ * only if the table is not the one of the file. */
 uint32_t zevk_locate(const uint8_t *file, size_t file_len, const zevk_block *table, size_t table_len, uint32_t doc_id,
                      zevk_place *place);
 
-/* Tells where the documents from `first` on lie, up to `places_len` of them, and in `count` how many were told. It
- * stops before the first that is refused, the one of number first + *count, and answers its refusal; the places before
- * it are told all the same, and those behind stay as they were. So DONE means that all were told.
+/* Finds the places of the documents from `first` on, up to `places_len` of them, and sets `count` to how many it
+ * found. It stops before the first document that fails, number first + *count, and returns the error of that one; the
+ * places before it are set all the same. So DONE means that all `places_len` were found, and the last part of a store
+ * ends with NO_DOCUMENT, and mostly a count above 0.
  *
- * Refusals: as zevk_locate. `count` is written in any case. */
+ * Errors: those of zevk_locate. `count` is set in any case. */
 uint32_t zevk_locate_run(const uint8_t *file, size_t file_len, const zevk_block *table, size_t table_len,
                          uint32_t first, zevk_place *places, size_t places_len, size_t *count);
 
 /* ---- writing
  *
- * A store is written document by document: its bytes go to the caller's file, and these calls tell what goes behind
- * them. What they keep is the caller's: the numbers of a writer; `starts`, where the documents of the open block begin;
- * and `table`, a row for each block that was ended, the same table by which the file is read afterwards.
+ * A store is written document by document. The caller writes the bytes of a document to its file, and after them what
+ * these calls return. The caller keeps all state: the numbers of a writer; `starts`, where the documents of the open
+ * block begin; and `table`, a row for each block that was ended, the same table with which the file is read
+ * afterwards.
  *
  *     zevk_writer_begin(&writer, 16384);
  *     for each document:
@@ -118,52 +139,54 @@ uint32_t zevk_locate_run(const uint8_t *file, size_t file_len, const zevk_block 
  *     zevk_writer_close(&writer, table, .., 8, end, .., &len);
  *     write len bytes of end
  *
- * The caller may move the arrays in memory between calls, and make them longer after NO_ROOM: the call changed nothing,
- * and is made again. Numbers of `starts` are written as they stand in memory, lowest byte first. Once all is written,
- * the file is that of tantivy's own writer, and of the Rust and the Rattle one, byte for byte. */
+ * The caller may move the arrays between calls. After NO_ROOM nothing has changed: make the arrays longer and call
+ * again. Numbers of `starts` are written as they are in memory, lowest byte first. The finished file is the one that
+ * StoreWriter of crate docstore writes for the same calls, block size and period, byte for byte: version 3. */
 
 /* The numbers of a writer. The caller doesn't change them. */
 typedef struct zevk_writer {
-    size_t block_size;  /* a block is ended once its documents weigh more: their bytes and eight for each */
-    size_t blocks;      /* how many blocks were ended: so many rows of the table count */
-    size_t docs;        /* how many documents the open block has: so many of the starts count */
-    size_t bytes;       /* how many bytes they have */
+    size_t block_size;  /* a block ends once its documents exceed this: their bytes, and eight for each */
+    size_t blocks;      /* the number of blocks that were ended: this many rows of the table count */
+    size_t docs;        /* the number of documents in the open block: this many of the starts count */
+    size_t bytes;       /* the number of bytes that these documents have */
 } zevk_writer;
 
-/* Begins a store that has nothing yet. It is never refused. tantivy's block size is 16384. */
+/* Begins a store without documents. It never fails. tantivy's block size is 16384. */
 void zevk_writer_begin(zevk_writer *writer, size_t block_size);
 
-/* Puts a document of `len` bytes. The caller writes its bytes behind what was written, and behind them `count`
- * numbers of `starts`, its first ones: none, or the table of the block that this document ends.
+/* Adds a document of `len` bytes. The caller writes its bytes to the file, and after them the first `count` numbers of
+ * `starts`: none, or the table of the block that this document ends.
  *
- * Refusals: NO_ROOM where `starts` has no room for two numbers behind those of the open block, or `table` for one more
- * row; TOO_MANY_DOCS where 2^32 - 1 documents were put; BLOCK_TOO_LARGE where the open block with this document and its
- * table would have 2^32 bytes. */
+ * Errors: NO_ROOM if `starts` has no room for two numbers after those of the open block, or `table` for one more row;
+ * TOO_MANY_DOCS if the store has 2^32 - 1 documents; BLOCK_TOO_LARGE if the open block with this document and its
+ * table would have 2^32 bytes or more. */
 uint32_t zevk_writer_put(zevk_writer *writer, uint32_t *starts, size_t starts_len, zevk_block *table, size_t table_len,
                          size_t len, size_t *count);
 
-/* Ends the open block, if it has documents. The caller writes the first `count` numbers of `starts` behind what was
- * written: none, or the table of the block. It comes before zevk_writer_stack and zevk_writer_close.
+/* Ends the open block, if it has documents. The caller writes the first `count` numbers of `starts` to the file: none,
+ * or the table of the block. Call it before zevk_writer_stack and zevk_writer_close.
  *
- * Refusals: NO_ROOM where the open block has documents, and there is no room for one more number or one more row, which
- * does not come if the arrays are as long as for the last zevk_writer_put; OTHER_WRITER. */
+ * Errors: NO_ROOM if the open block has documents and there is no room for one more number or one more row (tested:
+ * not if the arrays are as long as for the last zevk_writer_put); OTHER_WRITER. */
 uint32_t zevk_writer_end_block(zevk_writer *writer, uint32_t *starts, size_t starts_len, zevk_block *table,
                                size_t table_len, size_t *count);
 
-/* Puts the store whose file these bytes are behind what was written, its blocks as they are, damaged ones too. The
- * caller writes the first `len` bytes of the file behind what was written. The store has `count` blocks.
+/* Adds all documents of the store whose file these bytes are. Its blocks are taken as they are, damaged ones too. The
+ * caller writes the first `len` bytes of that file to its own. `count` is set to the number of blocks of the store.
  *
- * Refusals: those of zevk_open for the bytes of the file, and NO_MEMORY; OLD_VERSION for a store of version 1;
- * OPEN_BLOCK; TOO_MANY_DOCS where both have 2^32 documents or more; NO_ROOM where the table has no room for `count`
- * more rows, which is told, and the rows behind those that count are anything then; OTHER_WRITER. */
+ * Errors: those of zevk_open for the bytes of the file, and NO_MEMORY; OLD_VERSION for a store of version 1;
+ * OPEN_BLOCK; TOO_MANY_DOCS if both together have 2^32 documents or more; NO_ROOM if the table has no room for `count`
+ * more rows, where `count` is set and the rows after those that count may be overwritten; OTHER_WRITER. */
 uint32_t zevk_writer_stack(zevk_writer *writer, zevk_block *table, size_t table_len, const uint8_t *file,
                            size_t file_len, size_t *count, size_t *len);
 
-/* Gives what goes behind what was written, and the file is whole: `len` bytes of `end`, the index, by so many blocks in
- * a block of it, and the footer. tantivy's period is 8. The writer stays as it is.
+/* Writes the end of the file into `end`, the index and the footer, and sets `len` to its length. The caller writes
+ * these bytes to the file, which is then whole. `period` is how many entries a run of the index has: 2 to 64,
+ * tantivy's is 8. The writer is unchanged, and may go on.
  *
- * Refusals: BAD_PERIOD; OPEN_BLOCK; OTHER_WRITER; NO_MEMORY; NO_ROOM where `end` is shorter than `len`, which is told:
- * so a first call with no room asks how much is needed. */
+ * Errors: BAD_PERIOD; OPEN_BLOCK; OTHER_WRITER; NO_MEMORY; NO_ROOM if `end` has fewer than `len` bytes. After NO_ROOM
+ * `len` is the length that is needed, so a first call with 0 bytes finds it; the contract says that `end_len` is below
+ * `len`, and tests say that `len` bytes are enough and the least. */
 uint32_t zevk_writer_close(const zevk_writer *writer, const zevk_block *table, size_t table_len, uint8_t period,
                            uint8_t *end, size_t end_len, size_t *len);
 

@@ -1,0 +1,38 @@
+"""Runs the pieces of Python that the documents show."""
+
+import contextlib
+import io
+import os
+import pathlib
+import re
+import tempfile
+import unittest
+
+TOP = pathlib.Path(__file__).resolve().parents[3]
+MARKER = "<!-- run by: examples/python/tests/test_documents.py -->"
+PIECE = re.compile(re.escape(MARKER) + r"\n```python\n(.*?)^```$", re.S | re.M)
+
+
+class Documents(unittest.TestCase):
+    """Each page's pieces run in order, in a folder of their own."""
+
+    def test_each_piece_of_the_documents_runs(self):
+        pages = [TOP / "README.md", TOP / "docs/GUIDE.md", TOP / "examples/README.md"]
+        count = 0
+        for page in pages:
+            for piece in PIECE.findall(page.read_text()):
+                count += 1
+                with self.subTest(page=page.name, piece=piece):
+                    self.run_piece(piece)
+        self.assertGreaterEqual(count, 2)
+
+    def run_piece(self, piece):
+        """Runs a piece of code, which has to print something."""
+        before, told = os.getcwd(), io.StringIO()
+        with tempfile.TemporaryDirectory() as folder, contextlib.redirect_stdout(told):
+            os.chdir(folder)
+            try:
+                exec(compile(piece, "piece", "exec"), {})
+            finally:
+                os.chdir(before)
+        self.assertTrue(told.getvalue())
