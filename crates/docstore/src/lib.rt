@@ -29,7 +29,8 @@ pub use store_format::{
     block_read_index,
 };
 pub use store_reader::{
-    AliveDocuments, Answer, CacheStats, DOCSTORE_CACHE_CAPACITY, DocIter, DocWalk, Documents,
-    Items, RawIter, ReadCall, StoreReader, StoreView, Walk, answer_all, any_lacks_memory,
+    AliveDocuments, Answer, CacheStats, DOCSTORE_CACHE_CAPACITY, DataPart, DocIter, DocWalk,
+    Documents, Items, RawIter, ReadCall, StoreReader, StoreView, Walk, answer_all,
+    any_lacks_memory,
 };
 pub use writer::StoreWriter;

@@ -16,3 +16,4 @@ pub mod Viewing
 pub mod ViewLaws
 pub mod CallList
 pub mod CallAnswers
+pub mod Parts

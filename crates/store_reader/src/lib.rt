@@ -4,6 +4,7 @@
 pub mod answers;
 mod cache;
 pub mod cache_stats;
+pub mod data_part;
 mod documents;
 pub mod iter;
 pub mod laws;
@@ -20,6 +21,7 @@ pub mod walk;
 
 pub use answers::{Answer, ReadCall, answer_all, any_lacks_memory};
 pub use cache_stats::CacheStats;
+pub use data_part::DataPart;
 pub use iter::{DocIter, Items, RawIter};
 pub use reader::{DOCSTORE_CACHE_CAPACITY, StoreReader};
 pub use view::StoreView;
