@@ -1,13 +1,17 @@
 """A store that is read by the package."""
 
 import os
+import re
 import tempfile
 import threading
 import unittest
 
+import zevkhadun
 from zevkhadun import REFUSALS, Refused, Store
 from zevkhadun import refusals
 
+TOP = os.path.join(os.path.dirname(__file__), "..", "..", "..")
+HEADER = os.path.join(TOP, "crates", "store_c", "include", "zevkhadun.h")
 HEX = os.path.join(os.path.dirname(__file__), "..", "..", "words.hex")
 # A store of no documents: an index of no layers, and the footer.
 EMPTY = bytes.fromhex("8003000000000000000000000000080000000000000000000000000000")
@@ -134,10 +138,30 @@ class InFolder(unittest.TestCase):
             thread.join()
         self.assertEqual(wrong, [])
 
-    def test_each_refusal_has_its_number(self):
+    def test_a_store_is_closed_in_the_middle_of_an_iteration(self):
+        store = Store(self.written())
+        documents = iter(store)
+        self.assertEqual([next(documents), next(documents)], DOCUMENTS[:2])
+        store.close()
+        with self.assertRaises(refusals.Closed):
+            next(documents)
+
+    def test_each_refusal_has_the_name_and_the_number_of_the_header(self):
+        with open(HEADER, encoding="utf-8") as header:
+            pairs = re.findall(r"^ +ZEVK_([A-Z_]+) = (\d+)", header.read(), re.M)
+        named = {int(number): name.title().replace("_", "") for name, number in pairs}
+        self.assertEqual(named.pop(0), "Done")
+        self.assertEqual({number: refusal.__name__ for number, refusal in REFUSALS.items()}, named)
         for number, refusal in REFUSALS.items():
             self.assertEqual(refusal.number, number)
             self.assertTrue(issubclass(refusal, Refused))
+
+    def test_the_package_has_each_exception(self):
+        classes = [value for value in vars(refusals).values() if isinstance(value, type) and issubclass(value, Refused)]
+        self.assertTrue(set(REFUSALS.values()) < set(classes))
+        for refusal in classes:
+            self.assertIs(getattr(zevkhadun, refusal.__name__), refusal)
+            self.assertIn(refusal.__name__, zevkhadun.__all__)
 
 
 if __name__ == "__main__":

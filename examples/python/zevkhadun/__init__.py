@@ -9,8 +9,58 @@
         print(len(store), store[0], store[-1], store[0:2])
 """
 
-from .refusals import REFUSALS, Refused
+from .refusals import (
+    REFUSALS,
+    BadBlockKind,
+    BadIndex,
+    BadOffset,
+    BadPeriod,
+    BadVersion,
+    BlockTooLarge,
+    Busy,
+    Closed,
+    DamagedDocument,
+    Failed,
+    NoDocument,
+    NoMemory,
+    NoRoom,
+    NotPlainFile,
+    OldVersion,
+    OpenBlock,
+    OtherTable,
+    OtherWriter,
+    Refused,
+    ShortFile,
+    TooManyDocs,
+)
 from .store import Store
 from .writer import Writer
 
-__all__ = ["REFUSALS", "Refused", "Store", "Writer"]
+__version__ = "0.2.0"
+
+__all__ = [
+    "REFUSALS",
+    "BadBlockKind",
+    "BadIndex",
+    "BadOffset",
+    "BadPeriod",
+    "BadVersion",
+    "BlockTooLarge",
+    "Busy",
+    "Closed",
+    "DamagedDocument",
+    "Failed",
+    "NoDocument",
+    "NoMemory",
+    "NoRoom",
+    "NotPlainFile",
+    "OldVersion",
+    "OpenBlock",
+    "OtherTable",
+    "OtherWriter",
+    "Refused",
+    "ShortFile",
+    "Store",
+    "TooManyDocs",
+    "Writer",
+]

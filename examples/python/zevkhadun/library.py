@@ -6,7 +6,9 @@ The library is the file that ZEVKHADUN_LIBRARY names, or libzevkhadun.so.1 where
 from __future__ import annotations
 
 import ctypes
+import mmap
 import os
+from typing import Union
 
 
 class Block(ctypes.Structure):
@@ -50,6 +52,41 @@ _PARAMETERS = {
     "zevk_writer_stack": (_WRITER, *_TABLE, *_BYTES, _SIZE, _SIZE),
     "zevk_writer_close": (_WRITER, *_TABLE, ctypes.c_uint8, *_BYTES, _SIZE),
 }
+
+class _Buffer(ctypes.Structure):
+    """The interpreter's `Py_buffer`."""
+
+    _fields_ = [
+        ("buf", ctypes.c_void_p),
+        ("obj", ctypes.c_void_p),
+        ("len", ctypes.c_ssize_t),
+        ("itemsize", ctypes.c_ssize_t),
+        ("readonly", ctypes.c_int),
+        ("ndim", ctypes.c_int),
+        ("format", ctypes.c_void_p),
+        ("shape", ctypes.c_void_p),
+        ("strides", ctypes.c_void_p),
+        ("suboffsets", ctypes.c_void_p),
+        ("internal", ctypes.c_void_p),
+    ]
+
+
+# By index, as an attribute of `pythonapi` would be shared with everyone who uses it.
+_get_buffer = ctypes.pythonapi["PyObject_GetBuffer"]
+_get_buffer.argtypes = (ctypes.py_object, ctypes.POINTER(_Buffer), ctypes.c_int)
+_release_buffer = ctypes.pythonapi["PyBuffer_Release"]
+_release_buffer.argtypes = (ctypes.POINTER(_Buffer),)
+_release_buffer.restype = None
+
+
+def address_of(content: Union[bytes, mmap.mmap]) -> int:
+    """Where these bytes are in memory: ctypes itself tells it only of those that can be written."""
+    buffer = _Buffer()
+    _get_buffer(content, ctypes.byref(buffer), 0)
+    address: int = buffer.buf
+    _release_buffer(ctypes.byref(buffer))
+    return address
+
 
 calls = ctypes.CDLL(os.environ.get("ZEVKHADUN_LIBRARY", "libzevkhadun.so.1"))
 for _name, _parameters in _PARAMETERS.items():

@@ -6,9 +6,9 @@ import ctypes
 import mmap
 import os
 from types import TracebackType
-from typing import Iterator, List, Optional, Type, Union, overload
+from typing import Iterator, List, Optional, Tuple, Type, Union, overload
 
-from .library import Block, Place, calls
+from .library import Block, Place, address_of, calls
 from .refusals import Closed, NoDocument, NoRoom, check
 
 #: how many places an iteration asks for at once
@@ -24,12 +24,11 @@ class _Opened:
     def __init__(self, path: Union[str, "os.PathLike[str]"]) -> None:
         with open(path, "rb") as file:
             self.len = os.fstat(file.fileno()).st_size
-            # A private map: ctypes wants a buffer that could be written. No byte of it is.
-            held = mmap.mmap(file.fileno(), self.len, access=mmap.ACCESS_COPY) if self.len else bytearray(1)
-        self._map = held
-        # This keeps the map where it is.
-        self._first = ctypes.c_uint8.from_buffer(held)
-        self.at = ctypes.addressof(self._first)
+            # A map that is only read takes no memory of the process, however large the file is. No file of 0 bytes
+            # can be mapped.
+            self.bytes = mmap.mmap(file.fileno(), self.len, access=mmap.ACCESS_READ) if self.len else b""
+        # Only this object has the map, and never closes or moves it.
+        self.at = address_of(self.bytes)
         rows = self._fill(0)
         if rows:
             self._fill(rows)
@@ -37,8 +36,8 @@ class _Opened:
         self._rows = rows
 
     def _fill(self, rows: int) -> int:
-        """Makes a table of so many rows, and answers how many there should be."""
-        self._table = (Block * max(rows, 1))()
+        """Makes a table of this many rows, fills it, and returns how many rows it needs."""
+        self._table = (Block * rows)()
         blocks = ctypes.c_size_t()
         count = ctypes.c_uint32()
         answer = calls.zevk_open(
@@ -55,10 +54,10 @@ class _Opened:
         if answer:
             check(answer)
         start = place.start
-        return self._map[start : start + place.len]
+        return self.bytes[start : start + place.len]
 
-    def run(self, first: int) -> List[bytes]:
-        """The next documents, one at least."""
+    def places(self, first: int) -> Iterator[Tuple[int, int]]:
+        """Where the next documents start and how long they are: one document at least."""
         places = (Place * RUN)()
         count = ctypes.c_size_t()
         answer = calls.zevk_locate_run(
@@ -66,10 +65,8 @@ class _Opened:
         )
         if not count.value:
             check(answer)
-        # A start and a length of each.
         numbers = memoryview(places).cast("B").cast("N").tolist()[: 2 * count.value]
-        held = self._map
-        return [held[start : start + length] for start, length in zip(numbers[::2], numbers[1::2])]
+        return zip(numbers[::2], numbers[1::2])
 
 
 class Store:
@@ -109,15 +106,19 @@ class Store:
         return self._held().document(at)
 
     def __iter__(self) -> Iterator[bytes]:
-        """The documents in order.
+        """The documents in order. Each is copied out of the file only when it is asked for.
 
         Raises DamagedDocument where one is, and Closed.
         """
-        first = 0
-        while first < self._count:
-            documents = self._held().run(first)
-            yield from documents
-            first += len(documents)
+        number = 0
+        while number < self._count:
+            opened = self._held()
+            content = opened.bytes
+            for start, length in opened.places(number):
+                if self._opened is not opened:
+                    raise Closed("the store is closed")
+                yield content[start : start + length]
+                number += 1
 
     def close(self) -> None:
         """Lets the file go. A second time it does nothing. A read that runs meanwhile goes on to its end."""

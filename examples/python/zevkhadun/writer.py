@@ -206,21 +206,22 @@ class Writer:
     def _asked_end(self) -> bytes:
         """The index and the footer."""
         length = ctypes.c_size_t()
-        answer = self._ask_close(bytearray(1), 0, length)
+        answer = self._ask_close(None, 0, length)
         if answer != NoRoom.number:
             check(answer)
-        end = bytearray(length.value)
+        end = ctypes.create_string_buffer(length.value)
         check(self._ask_close(end, len(end), length))
-        return bytes(end)
+        return end.raw
 
-    def _ask_close(self, end: bytearray, end_len: int, length: ctypes.c_size_t) -> int:
-        first = ctypes.c_uint8.from_buffer(end)
+    def _ask_close(
+        self, end: Optional["ctypes.Array[ctypes.c_char]"], end_len: int, length: ctypes.c_size_t
+    ) -> int:
         answer: int = calls.zevk_writer_close(
             self._numbers_at,
             self._table,
             len(self._table),
             self._period,
-            ctypes.addressof(first),
+            end,
             end_len,
             ctypes.byref(length),
         )
