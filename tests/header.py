@@ -1,9 +1,10 @@
 #!/usr/bin/env python3
-"""Compares the header of the library for C with the crate that it declares.
+"""Compares the header of the library for C with the crate that it declares, and with the calls before the proved ones.
 
-The exported functions by name, and each parameter by name and type; the fields of the structs; the numbers of refusals.
+The exported functions by name, and each parameter by name and type; the fields of the structs; the numbers of refusals;
+and the functions that take an array with those that CALLS makes.
 
-usage: header.py HEADER SOURCE_FOLDER
+usage: header.py HEADER SOURCE_FOLDER CALLS
 """
 
 import pathlib
@@ -44,6 +45,13 @@ def declared(text):
         yield f"{result} {name}({' '.join(parameters.split())})"
 
 
+def proved(text):
+    """The proved calls that a file in C declares, under the names by which users call them."""
+    for declaration in declared(text):
+        if "zevk_proved_" in declaration:
+            yield declaration.replace("zevk_proved_", "zevk_")
+
+
 def structs(text):
     """The structs of the crate that C sees, as the header has them."""
     for name, body in re.findall(r"#\[repr\(C\)\]\n#\[derive[^\n]*\npub struct (\w+) \{\n(.*?)\n\}", text, re.S):
@@ -67,9 +75,10 @@ def refusals(text):
         yield "ZEVK_" + re.sub(r"(?<=[a-z])(?=[A-Z])", "_", name).upper(), int(number)
 
 
-def main(header, folder):
+def main(header, folder, calls):
     """Prints what differs, and how much agrees."""
     header = pathlib.Path(header).read_text()
+    arrays = {function for function in declared(header) if "_len" in function}
     source = "\n".join(path.read_text() for path in sorted(pathlib.Path(folder).glob("*.rt")))
     errors = (pathlib.Path(folder) / "../../store_base/src/error.rt").read_text()
     told = {name: int(number) for name, number in re.findall(r"(ZEVK_\w+) = (\d+)", header)}
@@ -79,6 +88,7 @@ def main(header, folder):
         ("structs", set(declared_structs(header)), set(structs(source))),
         ("refusals", set(told.items()), {(name, known[name]) for name in told if name in known}),
         ("refusals of the crate", set(), {name for name, _ in refusals(source)} - set(told)),
+        ("calls with arrays", arrays, set(proved(pathlib.Path(calls).read_text()))),
     ]
     bad = False
     for what, in_header, in_crate in compared:

@@ -41,9 +41,8 @@ static void print_document(const uint8_t *file, size_t len, const zevk_block *ta
 static void print_file(const char *path) {
     size_t len = 0, count = 0;
     uint32_t num_docs = 0;
-    zevk_block none;
     uint8_t *file = bytes_of(path, &len);
-    uint32_t refusal = zevk_open(file, len, &none, 0, &count, &num_docs);
+    uint32_t refusal = zevk_open(file, len, NULL, 0, &count, &num_docs);
     zevk_block *table = (zevk_block *)malloc((count + 1) * sizeof *table);
     WANT(table != NULL);
     if (refusal == ZEVK_NO_ROOM) {

@@ -4,7 +4,7 @@
 # usage: build.sh PREFIX [LIBRARY]
 #
 # The crate is proved and compiled by `rt lib`, unless LIBRARY is its static library already. Its three functions of the
-# heap are the kit's, over malloc.
+# heap are the kit's, over malloc. The calls that take arrays are those of null_arrays.c, over the proved ones.
 set -eu
 if [ $# -lt 1 ] || [ $# -gt 2 ]; then
     echo "usage: $0 PREFIX [LIBRARY]" >&2
@@ -12,25 +12,39 @@ if [ $# -lt 1 ] || [ $# -gt 2 ]; then
 fi
 top=$(cd "$(dirname "$0")/../.." && pwd)
 crate=$top/crates/store_c
+calls=$top/examples/c/null_arrays.c
 heap=$(dirname "$(rt doc | head -n 1)")/c/liblibc_c.a
 mkdir -p "$1/include" "$1/lib/pkgconfig"
 prefix=$(cd "$1" && pwd)
+work=$(mktemp -d)
+trap 'rm -rf "$work"' EXIT
 
 library=${2:-$crate/out/libstore_c.a}
 if [ $# -eq 1 ]; then
     (cd "$crate" && rt lib --jobs 2 >/dev/null)
 fi
 
+# Each proved call that null_arrays.c makes gets the name by which it is made there.
+names=()
+for name in $(grep -oE 'zevk_proved_[a-z_]+' "$calls" | sort -u); do
+    names+=(--redefine-sym "zevk_${name#zevk_proved_}=$name")
+done
+"${OBJCOPY:-objcopy}" "${names[@]}" "$library" "$work/proved.a"
+"${CC:-cc}" -std=c11 -O2 -fPIC -I"$crate/include" -c -o "$work/null_arrays.o" "$calls"
+
 ar -M <<MRI
-create $prefix/lib/libzevkhadun.a
-addlib $library
+create $work/libzevkhadun.a
+addlib $work/proved.a
 addlib $heap
+addmod $work/null_arrays.o
 save
 end
 MRI
-"${CC:-cc}" -shared -o "$prefix/lib/libzevkhadun.so.1" -Wl,-soname,libzevkhadun.so.1 \
-    -Wl,--whole-archive "$prefix/lib/libzevkhadun.a" -Wl,--no-whole-archive \
+"${CC:-cc}" -shared -o "$work/libzevkhadun.so.1" -Wl,-soname,libzevkhadun.so.1 \
+    -Wl,--whole-archive "$work/libzevkhadun.a" -Wl,--no-whole-archive \
     -Wl,--version-script="$crate/zevkhadun.map" -Wl,-z,defs -Wl,-z,relro,-z,now
+install -m 644 "$work/libzevkhadun.a" "$prefix/lib/libzevkhadun.a"
+install -m 755 "$work/libzevkhadun.so.1" "$prefix/lib/libzevkhadun.so.1"
 ln -sf libzevkhadun.so.1 "$prefix/lib/libzevkhadun.so"
 install -m 644 "$crate/include/zevkhadun.h" "$prefix/include/zevkhadun.h"
 cat >"$prefix/lib/pkgconfig/zevkhadun.pc" <<PC
@@ -39,8 +53,8 @@ libdir=\${prefix}/lib
 includedir=\${prefix}/include
 
 Name: zevkhadun
-Description: Document stores: documents by number, read from bytes at hand
-Version: 1.0.0
+Description: Document stores: documents by number, read from bytes in memory, and written
+Version: $(cat "$top/VERSION")
 Libs: -L\${libdir} -lzevkhadun
 Cflags: -I\${includedir}
 PC

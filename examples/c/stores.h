@@ -52,9 +52,8 @@ static inline uint8_t *loaded(const char *path, size_t *len) {
 
 /* The table of a store's file: asked for its size first, and as large as that. */
 static inline zevk_block *table_of(const uint8_t *file, size_t file_len, size_t *count) {
-    zevk_block none;
     uint32_t num_docs = 0;
-    WANT(zevk_open(file, file_len, &none, 0, count, &num_docs) == ZEVK_NO_ROOM);
+    WANT(zevk_open(file, file_len, NULL, 0, count, &num_docs) == ZEVK_NO_ROOM);
     zevk_block *table = (zevk_block *)malloc(*count * sizeof *table);
     WANT(table != NULL);
     WANT(zevk_open(file, file_len, table, *count, count, &num_docs) == ZEVK_DONE);

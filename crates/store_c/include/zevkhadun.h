@@ -25,7 +25,8 @@
  *
  * The library is proved: for every argument that keeps the rules below, a call reads and writes no byte outside what
  * it is given, and meets its contract in crates/store_c/src. This header says the same in words, by hand; it marks
- * what is tested and not proved.
+ * what is tested and not proved. A few lines of C are only tested: they replace the address of an array of length 0
+ * before each proved call (examples/c/null_arrays.c).
  *
  * Rules for callers, which no call can check:
  *
