@@ -1,13 +1,14 @@
 #!/usr/bin/env python3
 """Every file of the outside vectors through C, Rust and Python, with the answers of storetool.
 
-usage: answers.py STORETOOL C_PROGRAM RUST_PROGRAM
+usage: answers.py STORETOOL C_PROGRAM [RUST_PROGRAM]
 
 The programs are the built crate storetool, and `answers` of examples/c and examples/rust. Python reads by the package
 in examples/python. Of each file the first 200 documents are asked for, the last one and the one behind it. storetool
 answers scripts, and its answers over the same vectors are those of tantivy's own code (crates/test_vectors).
 """
 
+import itertools
 import os
 import subprocess
 import sys
@@ -86,28 +87,27 @@ def told_by_package(path):
 
 
 def main():
-    if len(sys.argv) != 4:
+    if len(sys.argv) not in (3, 4):
         sys.exit(__doc__)
-    tool, c_program, rust_program = map(os.path.abspath, sys.argv[1:])
+    tool, *programs = map(os.path.abspath, sys.argv[1:])
     contents = files()
     with tempfile.TemporaryDirectory(prefix="zevkhadun-") as folder:
         paths = [os.path.join(folder, f"{place}.store") for place in range(len(contents))]
         for path, content in zip(paths, contents):
             with open(path, "wb") as store:
                 store.write(content)
-        by_c = told_by_program(c_program, paths)
-        by_rust = told_by_program(rust_program, paths)
-        by_python = [told_by_package(path) for path in paths]
-    counts = [int(told[0][5:]) if told[0].startswith("docs ") else None for told in by_c]
+        answers = {"Python": [told_by_package(path) for path in paths]}
+        for program in programs:
+            answers[program] = told_by_program(program, paths)
+    counts = [int(told[0][5:]) if told[0].startswith("docs ") else None for told in answers["Python"]]
     expected = told_by_tool(tool, contents, counts)
-    for place in range(len(contents)):
-        answers = {"C": by_c[place], "Rust": by_rust[place], "Python": by_python[place]}
-        for name, told in answers.items():
-            if told != expected[place]:
-                sys.exit(f"file {place}, {name}: {told[:9]}, and storetool {expected[place][:9]}")
+    for name, told in answers.items():
+        for place, (answer, wanted) in enumerate(itertools.zip_longest(told, expected)):
+            if answer != wanted:
+                sys.exit(f"file {place}, {name}: {(answer or [])[:9]}, and storetool {(wanted or [])[:9]}")
     opened = sum(num_docs is not None for num_docs in counts)
-    if not 0 < opened < len(contents) or not len(by_c) == len(by_rust) == len(contents):
-        sys.exit("some files should be opened, and some not, by all")
+    if not 0 < opened < len(contents):
+        sys.exit("some files should be opened, and some not")
     print(f"{len(contents)} files, {opened} of them stores, {sum(map(len, expected))} answers are the same")
 
 

@@ -1,128 +1,159 @@
-/* Packs the lines of standard input into a store, as documents without their ends.
+/* Packs the lines of standard input into a store, as documents without their line ends.
  *
  * usage: pack FILE
+ *
+ * The store is written to FILE.part, which gets the name FILE after the system has kept all its bytes. If anything
+ * fails before that, FILE stays as it was and FILE.part is removed. Only one pack at a time writes to a name: if there
+ * is a FILE.part already, it stays as it is.
  */
 #define _POSIX_C_SOURCE 200809L
+#include <fcntl.h>
+#include <libgen.h>
 #include <stdio.h>
 #include <stdlib.h>
+#include <string.h>
+#include <unistd.h>
 
 #include "zevkhadun.h"
 
-/* tantivy's block size, and its number of blocks in a block of the index. */
-enum { BLOCK_SIZE = 16384, PERIOD = 8 };
+/* The block size and the period are tantivy's. A document counts for at least 8 bytes of its block, so `starts` never
+ * has to grow. */
+enum { BLOCK_SIZE = 16384, PERIOD = 8, STARTS = BLOCK_SIZE / 8 + 2 };
 
-/* A store that is written to a file, with the arrays that belong to its writer. */
+/* A store that is written to a file, and the arrays of its writer. */
 typedef struct packing {
     FILE *file;
     zevk_writer writer;
-    uint32_t *starts;
-    size_t starts_len;
+    uint32_t starts[STARTS];
     zevk_block *table;
     size_t table_len;
 } packing;
 
-/* Makes the arrays twice as long. */
-static int grow(packing *p) {
-    size_t starts_len = 2 * p->starts_len, table_len = 2 * p->table_len;
-    uint32_t *starts = (uint32_t *)realloc(p->starts, starts_len * sizeof *starts);
-    if (starts == NULL) {
-        return 0;
+/* Returns whether a call of the library was done, and prints why it wasn't. */
+static int done(uint32_t refusal) {
+    uint8_t text[ZEVK_TEXT_LEN];
+    if (refusal != ZEVK_DONE) {
+        zevk_refusal_text(refusal, text, sizeof text);
+        fprintf(stderr, "%s\n", (const char *)text);
     }
-    p->starts = starts;
-    p->starts_len = starts_len;
+    return refusal == ZEVK_DONE;
+}
+
+/* Prints why a call of the system failed, and returns 0. */
+static int failed(const char *what) {
+    perror(what);
+    return 0;
+}
+
+/* Writes bytes after those that were written. */
+static int append(packing *p, const void *bytes, size_t len) {
+    return fwrite(bytes, 1, len, p->file) == len || failed("cannot write");
+}
+
+/* Makes room in the table for more blocks. */
+static int grow(packing *p) {
+    size_t table_len = 2 * p->table_len + 64;
     zevk_block *table = (zevk_block *)realloc(p->table, table_len * sizeof *table);
     if (table == NULL) {
-        return 0;
+        return done(ZEVK_NO_MEMORY);
     }
     p->table = table;
     p->table_len = table_len;
     return 1;
 }
 
-/* Writes bytes behind what was written. */
-static int wrote(packing *p, const void *bytes, size_t len) {
-    return fwrite(bytes, 1, len, p->file) == len;
-}
-
-/* Puts a document, and tells by 0, a refusal's number, or 10 where there is no memory, whether that went well. */
-static uint32_t put(packing *p, const char *document, size_t len, int *written) {
+/* Puts a document: writes its bytes, and after them the table of its block if that is full. */
+static int put(packing *p, const char *document, size_t len) {
     size_t count = 0;
-    uint32_t refusal;
-    for (;;) {
-        refusal = zevk_writer_put(&p->writer, p->starts, p->starts_len, p->table, p->table_len, len, &count);
-        if (refusal != ZEVK_NO_ROOM) {
-            break;
-        }
-        if (!grow(p)) {
-            return ZEVK_NO_MEMORY;
-        }
+    if (p->writer.blocks == p->table_len && !grow(p)) {
+        return 0;
     }
-    if (refusal == ZEVK_DONE) {
-        *written = wrote(p, document, len) && wrote(p, p->starts, count * sizeof *p->starts);
-    }
-    return refusal;
+    return done(zevk_writer_put(&p->writer, p->starts, STARTS, p->table, p->table_len, len, &count))
+        && append(p, document, len)
+        && append(p, p->starts, count * sizeof *p->starts);
 }
 
-/* Ends the open block, and writes the index and the footer. */
-static uint32_t finish(packing *p, int *written) {
-    size_t count = 0, len = 0;
-    uint8_t none;
-    uint32_t refusal =
-        zevk_writer_end_block(&p->writer, p->starts, p->starts_len, p->table, p->table_len, &count);
-    if (refusal != ZEVK_DONE) {
-        return refusal;
+/* Writes the table of the last block. */
+static int end_block(packing *p) {
+    size_t count = 0;
+    return done(zevk_writer_end_block(&p->writer, p->starts, STARTS, p->table, p->table_len, &count))
+        && append(p, p->starts, count * sizeof *p->starts);
+}
+
+/* Writes the index and the footer: asks how long they are, and then for their bytes. */
+static int end_file(packing *p) {
+    size_t len = 0;
+    uint32_t refusal = zevk_writer_close(&p->writer, p->table, p->table_len, PERIOD, NULL, 0, &len);
+    if (refusal != ZEVK_NO_ROOM) {
+        return done(refusal);
     }
-    *written = wrote(p, p->starts, count * sizeof *p->starts);
-    zevk_writer_close(&p->writer, p->table, p->table_len, PERIOD, &none, 0, &len);
-    uint8_t *end = (uint8_t *)malloc(len + 1);
+    uint8_t *end = (uint8_t *)malloc(len);
     if (end == NULL) {
-        return ZEVK_NO_MEMORY;
+        return done(ZEVK_NO_MEMORY);
     }
-    refusal = zevk_writer_close(&p->writer, p->table, p->table_len, PERIOD, end, len, &len);
-    if (refusal == ZEVK_DONE) {
-        *written = *written && wrote(p, end, len);
-    }
+    int ended = done(zevk_writer_close(&p->writer, p->table, p->table_len, PERIOD, end, len, &len))
+        && append(p, end, len);
     free(end);
-    return refusal;
+    return ended;
 }
 
-/* Packs all lines. */
-static uint32_t pack(packing *p, int *written) {
+/* Puts each line of standard input. */
+static int put_lines(packing *p) {
     char *line = NULL;
     size_t room = 0;
-    uint32_t refusal = ZEVK_DONE;
-    *written = 1;
-    for (ssize_t len; refusal == ZEVK_DONE && *written && (len = getline(&line, &room, stdin)) > 0;) {
-        refusal = put(p, line, (size_t)len - (line[len - 1] == '\n'), written);
+    int going = 1;
+    for (ssize_t len; going && (len = getline(&line, &room, stdin)) > 0;) {
+        going = put(p, line, (size_t)len - (line[len - 1] == '\n'));
     }
     free(line);
-    return refusal == ZEVK_DONE && *written ? finish(p, written) : refusal;
+    return going && (feof(stdin) || failed("cannot read standard input"));
+}
+
+/* Writes the store, asks the system to keep it, and closes the file. */
+static int write_store(FILE *file) {
+    packing p = {.file = file};
+    zevk_writer_begin(&p.writer, BLOCK_SIZE);
+    int written = put_lines(&p) && end_block(&p) && end_file(&p)
+        && ((fflush(file) == 0 && fsync(fileno(file)) == 0) || failed("cannot write"));
+    free(p.table);
+    return (fclose(file) == 0 || failed("cannot write")) && written;
+}
+
+/* Asks the system to keep the names in a folder. */
+static int keep_names(const char *path) {
+    int folder = open(path, O_RDONLY | O_DIRECTORY | O_CLOEXEC);
+    if (folder < 0) {
+        return failed(path);
+    }
+    int kept = fsync(folder) == 0 || failed(path);
+    return (close(folder) == 0 || failed(path)) && kept;
+}
+
+/* Writes the store to the file `part`, gives it the name `path`, and cuts `part` to the name of the folder. */
+static int pack(char *part, const char *path) {
+    FILE *file = fopen(part, "wbx");
+    if (file == NULL) {
+        return failed(part);
+    }
+    if (!write_store(file) || !(rename(part, path) == 0 || failed(path))) {
+        return remove(part) == 0 ? 0 : failed(part);
+    }
+    return keep_names(dirname(part));
 }
 
 int main(int argc, char **argv) {
-    int written = 0;
-    uint32_t refusal = ZEVK_NO_MEMORY;
-    packing p = {.starts_len = 1024, .table_len = 1024};
     if (argc != 2) {
         fprintf(stderr, "usage: %s FILE\n", argv[0]);
         return 2;
     }
-    p.file = fopen(argv[1], "wb");
-    p.starts = (uint32_t *)malloc(p.starts_len * sizeof *p.starts);
-    p.table = (zevk_block *)malloc(p.table_len * sizeof *p.table);
-    zevk_writer_begin(&p.writer, BLOCK_SIZE);
-    if (p.file != NULL && p.starts != NULL && p.table != NULL) {
-        refusal = pack(&p, &written);
+    size_t len = strlen(argv[1]);
+    char *part = (char *)malloc(len + sizeof ".part");
+    if (part == NULL) {
+        return !done(ZEVK_NO_MEMORY);
     }
-    if (p.file != NULL && fclose(p.file) != 0) {
-        written = 0;
-    }
-    if (refusal != ZEVK_DONE || !written) {
-        uint8_t text[ZEVK_TEXT_LEN];
-        zevk_refusal_text(refusal, text, sizeof text);
-        fprintf(stderr, "%s\n", refusal != ZEVK_DONE ? (const char *)text : "the file could not be written");
-    }
-    free(p.starts);
-    free(p.table);
-    return refusal != ZEVK_DONE || !written;
+    memcpy(part, argv[1], len);
+    memcpy(part + len, ".part", sizeof ".part");
+    int packed = pack(part, argv[1]);
+    free(part);
+    return !packed;
 }

@@ -1,0 +1,46 @@
+/* Makes one call of a program fail: the one whose number FAIL_AT says, counted from 1.
+ *
+ * The program is linked with --wrap for each of these calls.
+ */
+#define _POSIX_C_SOURCE 200809L
+#include <errno.h>
+#include <fcntl.h>
+#include <stdio.h>
+#include <stdlib.h>
+#include <unistd.h>
+
+/* Whether this call fails. */
+static int fails(void) {
+    static long calls = 0;
+    const char *at = getenv("FAIL_AT");
+    if (at == NULL || ++calls != strtol(at, NULL, 10)) {
+        return 0;
+    }
+    errno = ENOSPC;
+    return 1;
+}
+
+#define WRAPPED(result, name, parameters, arguments, failure) \
+    result __real_##name parameters;                          \
+    result __wrap_##name parameters;                          \
+    result __wrap_##name parameters {                         \
+        return fails() ? failure : __real_##name arguments;   \
+    }
+
+WRAPPED(void *, malloc, (size_t size), (size), NULL)
+WRAPPED(void *, realloc, (void *block, size_t size), (block, size), NULL)
+WRAPPED(FILE *, fopen, (const char *path, const char *mode), (path, mode), NULL)
+WRAPPED(ssize_t, getline, (char **line, size_t *room, FILE *file), (line, room, file), -1)
+WRAPPED(int, fflush, (FILE *file), (file), EOF)
+WRAPPED(int, fsync, (int descriptor), (descriptor), -1)
+WRAPPED(int, fclose, (FILE *file), (file), EOF)
+WRAPPED(int, rename, (const char *from, const char *to), (from, to), -1)
+WRAPPED(int, open, (const char *path, int flags), (path, flags), -1)
+WRAPPED(int, close, (int descriptor), (descriptor), -1)
+
+/* Nothing can fail where nothing is written. */
+size_t __real_fwrite(const void *bytes, size_t size, size_t count, FILE *file);
+size_t __wrap_fwrite(const void *bytes, size_t size, size_t count, FILE *file);
+size_t __wrap_fwrite(const void *bytes, size_t size, size_t count, FILE *file) {
+    return count > 0 && fails() ? 0 : __real_fwrite(bytes, size, count, file);
+}
