@@ -6,7 +6,7 @@ use store_files::{DiskFile, DiskSink, OsFile};
 
 type Reader = StoreReader<DiskFile<OsFile>>;
 
-// The file has its name only once it is whole, and the system was asked to keep it.
+// The file has its name only once it is whole, and after the system was asked to keep it.
 fn write(rt: &HostRuntime, path: &str, documents: &[&str]) -> anyhow::Result<()> {
     let output = DiskSink::create(rt.alloc(), rt.clone()?, path)?;
     let mut writer = StoreWriter::new(rt.alloc(), output, Compressor::None, 16384);
@@ -17,7 +17,7 @@ fn write(rt: &HostRuntime, path: &str, documents: &[&str]) -> anyhow::Result<()>
     Ok(())
 }
 
-// This reads the footer and the index. A get reads one block.
+// This reads the footer and the index. A get makes one read, of one block.
 fn open(rt: &HostRuntime, path: &str) -> anyhow::Result<Reader> {
     let file = FileSlice::new(DiskFile::new(OsFile::open(rt, path)?)?);
     let opened = StoreReader::open(rt.alloc(), file, 100);

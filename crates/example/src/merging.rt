@@ -1,0 +1,50 @@
+//! Merges two stores, one of them without some documents.
+ghost use Rattle.std.specs.Prelude.{IfOk};
+ghost use Rattle.std.specs.List.{AllByRecursion};
+ghost use Rattle.store_merge.specs.Inputs.{HasWholeSet};
+
+use crate::in_memory::{opened, written};
+use docstore::{AliveBitSet, Compressor, MemFile, MemSink, StoreError, StoreWriter};
+use std::alloc::Global;
+use store_merge::{MergeInput, merge};
+
+/// A store, and which of its documents are deleted.
+fn input(alloc: Global, file: Vec<u8>, deleted: &[u32]) -> Result<MergeInput<MemFile>, StoreError>
+    ensures { IfOk result HasWholeSet }
+{
+    let reader = opened(alloc, file)?;
+    let alive = AliveBitSet::from_deleted_docs(alloc, deleted, reader.num_docs())?;
+    Ok(MergeInput {
+        reader,
+        alive: Some(alive),
+    })
+}
+
+/// The file of a merge.
+fn merged(alloc: Global, inputs: &mut [MergeInput<MemFile>]) -> Result<Vec<u8>, StoreError>
+    requires sets { AllByRecursion HasWholeSet inputs.old }
+{
+    let mut writer = StoreWriter::new(alloc, MemSink::new(alloc), Compressor::None, 16384);
+    merge(alloc, &mut writer, inputs).map_err(|refusal| refusal.error)?;
+    Ok(writer.close()?.into_bytes())
+}
+
+// Two stores, and no banana.
+fn inputs(alloc: Global) -> Result<Vec<MergeInput<MemFile>>, StoreError>
+    ensures { IfOk result (λ inputs. AllByRecursion HasWholeSet inputs.items) }
+{
+    let mut inputs = Vec::new(alloc);
+    inputs.push(input(alloc, written(alloc, &["apple", "banana"])?, &[1])?)?;
+    inputs.push(input(alloc, written(alloc, &["cherry"])?, &[])?)?;
+    Ok(inputs)
+}
+
+/// Prints how many documents a merge has, and the last one.
+pub fn print_merged(rt: &HostRuntime) -> anyhow::Result<()> {
+    let mut inputs = inputs(rt.alloc())?;
+    let file = merged(rt.alloc(), &mut inputs)?;
+    drop(inputs);
+    let cherry = opened(rt.alloc(), file)?.get_document_bytes(rt.alloc(), 1)?;
+    println!(rt; "merged: {}", str::from_utf8(cherry.as_slice())?)?;
+    Ok(())
+}

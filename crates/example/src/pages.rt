@@ -1,0 +1,29 @@
+//! A page of results: some documents, in the order of a search.
+
+use crate::in_memory::{opened, written};
+use docstore::{DocId, FileHandle, OwnedBytes, StoreError, StoreReader};
+use std::alloc::Global;
+
+/// The documents of these ids, in this order.
+fn page<H: FileHandle>(
+    alloc: Global,
+    reader: &mut StoreReader<H>,
+    ids: &[DocId],
+) -> Result<Vec<OwnedBytes>, StoreError> {
+    let mut documents = Vec::new(alloc);
+    for doc_id in ids {
+        let document = reader.get_document_bytes(alloc, *doc_id)?;
+        documents.push(document)?;
+    }
+    Ok(documents)
+}
+
+/// Prints a page of two documents.
+pub fn print_page(rt: &HostRuntime) -> anyhow::Result<()> {
+    let file = written(rt.alloc(), &["apple", "banana", "cherry"])?;
+    let documents = page(rt.alloc(), &mut opened(rt.alloc(), file)?, &[2, 0])?;
+    for document in documents.iter() {
+        println!(rt; "on the page: {}", str::from_utf8(document.as_slice())?)?;
+    }
+    Ok(())
+}
