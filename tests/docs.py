@@ -9,15 +9,16 @@ A block of code, fenced or indented, needs one of these markers on the line befo
     <!-- in: PATH -->       its lines stand in this file, which the gate runs; indentation aside
     <!-- run by: PATH -->   this script, which the gate runs, runs the block
     <!-- by hand: WHY -->   commands that the gate doesn't run
-    <!-- shown: WHAT -->    no code: a drawing, a grammar, a part of a declaration
+    <!-- shown: WHAT -->    no code: a drawing, a grammar, what a command prints
 """
 
 import itertools
-import pathlib
 import re
 import sys
 
-TOP = pathlib.Path(__file__).resolve().parent.parent
+import markdown
+from markdown import TOP, at, documents, prose, text_of
+
 ENDINGS = "rt|antt|edit|py|sh|c|h|rs|md|json|svg|toml|hex"
 # Words that this house no longer uses where users begin to read.
 OLD_WORDS = [
@@ -27,97 +28,33 @@ OLD_WORDS = [
 # Names of tantivy, of the C library and of the kit, which the documents speak of.
 FOREIGN = set("split_from_end deserialize_u64 src/store src/store/reader.rs start_io start_lib".split())
 FOREIGN |= {f"MALLOC_{name}_" for name in ("TRIM_THRESHOLD", "MMAP_THRESHOLD", "TOP_PAD")}
-counts = {"blocks": 0, "links": 0, "names": 0, "words": 0, "lines": 0, "versions": 0, "theorems": 0}
-
-
-def documents():
-    """All pages, without what is built."""
-    pages = (path for path in TOP.rglob("*.md") if not {"out", "target", ".git"} & set(path.parts))
-    return sorted(pages)
-
-
-def at(path, line, text):
-    """A message about a line, the first being 1."""
-    return f"{path.relative_to(TOP)}:{line}: {text}"
-
-
-def sources():
-    """The files that names may stand in: code, definitions, tests and tools."""
-    for folder in ("crates", "tests", "examples", "bench", ".ci"):
-        for path in (TOP / folder).rglob("*"):
-            if path.is_file() and not {"out", "target", "__pycache__"} & set(path.relative_to(TOP).parts):
-                yield path
-
-
-SOURCES = list(sources())
+HEADER = TOP / "crates/store_c/include/zevkhadun.h"
+VERSIONS = {
+    "crates/zevkhadun/src/*.rt": r'\.version\("([^"]*)"\)',
+    "examples/rust/Cargo.toml": r'^version = "([^"]*)"',
+    "examples/rust/Cargo.lock": r'name = "zevkhadun"\nversion = "([^"]*)"',
+    "examples/python/zevkhadun/__init__.py": r'^__version__ = "([^"]*)"',
+    "CHANGELOG.md": r"\A.*?^## (\S+)",
+}
+SOURCES = list(markdown.files("crates", "tests", "examples", "bench", ".ci"))
 PATHS = [str(path.relative_to(TOP)) for path in SOURCES]
-
-
-def text_of(path):
-    """The text of a file; none of one that is missing or no text."""
-    try:
-        return path.read_text()
-    except (OSError, UnicodeDecodeError):
-        return ""
-
-
-def known_words():
-    """Each word of the sources, and each part of a path."""
-    words = set()
-    for path in SOURCES:
-        words.update(re.split(r"[/.]", str(path.relative_to(TOP))))
-        if path.suffix not in {".md", ".edit", ".svg", ".hex"} and "proofs" not in path.parts:
-            words.update(re.findall(r"\w+", text_of(path)))
-    return words | FOREIGN | set(re.findall(r"\w+", text_of(TOP / "crates.txt")))
-
-
-def split(path):
-    """The lines of a page, each with its number and whether it is of a block of code; and the blocks."""
-    lines, blocks, fence, before = [], [], None, ""
-    for number, line in enumerate(path.read_text().splitlines(), 1):
-        is_fence = line.lstrip().startswith("```")
-        indented = fence is None and re.match(r" {4,}\S", line) and (in_code(lines) or not before.strip())
-        if fence is None and is_fence:
-            fence = (number, line.strip("` "), [])
-        elif is_fence:
-            blocks.append(fence)
-            fence = None
-        elif fence is not None:
-            fence[2].append(line)
-        elif indented and in_code(lines):
-            blocks[-1][2].extend([""] * (number - blocks[-1][0] - len(blocks[-1][2])) + [line])
-        elif indented:
-            blocks.append((number, "", [line]))
-        lines.append((number, line, is_fence or fence is not None or bool(indented)))
-        before = line
-    return lines, blocks
-
-
-def in_code(lines):
-    """Whether the last line that is not empty is of a block that is indented."""
-    full = (code for _, line, code in reversed(lines) if line.strip())
-    return next(full, False) and lines[-1][1].lstrip()[:3] != "```"
-
-
-def prose(path):
-    """The lines of a page that are no code."""
-    return [(number, line) for number, line, code in split(path)[0] if not code]
+CRATES = set(re.findall(r"^(\w+)(?: \w+)?:", text_of(TOP / "crates.txt"), re.M))
+counts = dict.fromkeys(("blocks", "links", "names", "theorems", "versions", "words", "lines"), 0)
 
 
 def gate_text():
-    """The gate's script, and all scripts that it runs."""
-    text, names = "", {".ci/run"}
+    """The gate's script, and all scripts that it runs, with their names."""
+    text, names, seen = "", {".ci/run"}, set()
     while names:
         name = names.pop()
-        text += text_of(TOP / name) + name + "\n"
-        found = re.findall(r"(?:tests|\.ci|examples/\w+)/[\w.]+", text)
-        found += re.findall(r"examples/c/build\.sh", text)
-        names |= {one for one in found if (TOP / one).is_file() and f"{one}\n" not in text}
+        seen.add(name)
+        text += f"{name}\n{text_of(TOP / name)}\n"
+        found = set(re.findall(r"(?:tests|\.ci|examples/\w+)/[\w.]+", text)) | {"examples/c/build.sh"}
+        names = {one for one in found if (TOP / one).is_file()} - seen
     return text
 
 
 GATE = gate_text()
-CRATES = set(re.findall(r"^(\w+)(?: \w+)?:", text_of(TOP / "crates.txt"), re.M))
 
 
 def is_run(path):
@@ -125,9 +62,8 @@ def is_run(path):
     parts = path.split("/")
     if parts[0] == "crates":
         return parts[1] in CRATES
-    stem = parts[-1].split(".")[0]
     if parts[:2] == ["examples", "c"]:
-        return re.search(rf"\b{stem}\b", GATE) is not None
+        return re.search(rf"\b{parts[-1].split('.')[0]}\b", GATE) is not None
     return path in GATE or (parts[0] == "examples" and "/".join(parts[:2]) in GATE)
 
 
@@ -140,46 +76,36 @@ def bare(lines):
 def stands(block, path):
     """Whether the lines of a block stand in a file, one after the other."""
     wanted, found = bare(block), bare(text_of(TOP / path).splitlines())
-    return any(found[i : i + len(wanted)] == wanted for i in range(len(found) - len(wanted) + 1))
+    return bool(wanted) and any(found[i : i + len(wanted)] == wanted for i in range(len(found)))
 
 
-def marker_of(lines, first):
-    """The marker before a block that begins at this line."""
-    above = next((line for _, line, _ in reversed(lines[: first - 1]) if line.strip()), "")
-    found = re.fullmatch(r"<!-- (in|run by|by hand|shown): ([^;]+)(?:; .*)? -->", above.strip())
-    return found.groups() if found else (None, "")
-
-
-def block_fault(kind, word, language, block):
-    """What is wrong with a block of this marker; nothing if all is well."""
-    if kind is None:
+def block_fault(block):
+    """What is wrong with a block and its marker; nothing if all is well."""
+    marker = re.fullmatch(r"<!-- (in|run by|by hand|shown): ([^;]+)(?:; .*)? -->", block.marker)
+    if not marker:
         return "a block without a marker"
+    kind, word = marker.groups()
     if kind == "shown":
-        return f"a block of {language} is code" if language not in ("", "text") else ""
+        return f"a block of {block.language} is code" if block.language not in ("", "text") else ""
     if kind == "by hand":
         return ""
     if not (TOP / word).is_file():
         return f"no file {word}"
     if not is_run(word):
         return f"the gate doesn't run {word}"
-    if kind == "in" and not stands(block, word):
-        return f"the block doesn't stand in {word}"
-    return ""
+    return "" if kind == "run by" or stands(block.lines, word) else f"the block doesn't stand in {word}"
 
 
 def blocks():
-    """Each block of code has a marker that holds."""
+    """Each block of code has a marker that holds, and the header's example stands in its program."""
     for path in documents():
-        lines, found = split(path)
-        for first, language, block in found:
+        for block in markdown.blocks(path):
             counts["blocks"] += 1
-            fault = block_fault(*marker_of(lines, first), language, block)
-            if fault:
-                yield at(path, first, fault)
-    header, page = list(front())[1]
-    example = re.findall(r"^ \*     .*", page, re.M)
-    if not example or not stands(example, "examples/c/first.c"):
-        yield at(header, 1, "the example doesn't stand in examples/c/first.c")
+            if fault := block_fault(block):
+                yield at(path, block.line, fault)
+    example = re.findall(r"^ \*     .*", text_of(HEADER).partition("#ifndef")[0], re.M)
+    if not stands(example, "examples/c/first.c"):
+        yield at(HEADER, 1, "the example doesn't stand in examples/c/first.c")
 
 
 def anchors(path):
@@ -193,9 +119,7 @@ def links():
     """Each relative link leads to a file, and to a heading of it."""
     for path in documents():
         for number, line in prose(path):
-            for target in re.findall(r"\]\(([^)\s]+)\)", line):
-                if re.match(r"\w+:", target):
-                    continue
+            for target in re.findall(r"\]\((?!\w+:)([^)\s]+)\)", line):
                 counts["links"] += 1
                 name, _, anchor = target.partition("#")
                 page = (path.parent / name).resolve() if name else path
@@ -205,13 +129,18 @@ def links():
                     yield at(path, number, f"no heading {target}")
 
 
-def path_exists(page, name):
-    """Whether a path of a page exists: from the top, from the page, or the end of some path; stars are names."""
-    if "*" in name:
-        return any(TOP.glob(name)) or any(page.parent.glob(name))
-    if (TOP / name).exists() or (page.parent / name).exists():
-        return True
-    return any(f"/{name}" in f"/{path}/" for path in PATHS)
+def known_words():
+    """Each word of the sources, proofs aside, and each part of a path; and those that are declared."""
+    words = set(re.findall(r"\w+", text_of(TOP / "crates.txt")))
+    declared = CRATES | FOREIGN | {"std", "io"}
+    for path, name in zip(SOURCES, PATHS):
+        declared.update(re.split(r"[/.]", name))
+        if path.suffix in {".rt", ".rs"}:
+            declared.update(re.findall(r"\b(?:fn|struct|enum|trait|mod|type|const|ghost) (\w+)", text_of(path)))
+            declared.update(re.findall(r"^ +([A-Z]\w*)(?:,| = |\(| \{)", text_of(path), re.M))
+        if path.suffix not in {".md", ".edit", ".svg", ".hex"} and "proofs" not in path.parts:
+            words.update(re.findall(r"\w+", text_of(path)))
+    return words | declared, declared
 
 
 def is_path(name):
@@ -222,12 +151,21 @@ def is_path(name):
     return bool(own or re.search(rf"\w\.(?:{ENDINGS})$", name))
 
 
+def path_exists(page, name):
+    """Whether a path of a page exists: from the top, from the page, or as a part of some path; stars are names."""
+    if "*" in name:
+        return any(TOP.glob(name)) or any(page.parent.glob(name))
+    if (TOP / name).exists() or (page.parent / name).exists():
+        return True
+    return any(f"/{name}" in f"/{path}/" for path in PATHS)
+
+
 def is_known(word, words):
-    """Whether something has this name, or begins with it where it ends in an underscore."""
+    """Whether something has this name, or begins with it if it ends in an underscore."""
     return word in words or (word.endswith("_") and any(one.startswith(word) for one in words))
 
 
-def name_fault(page, name, words):
+def name_fault(page, name, words, declared):
     """What is wrong with a name between backticks; nothing if it exists, or is no name of ours."""
     if name in FOREIGN:
         return ""
@@ -236,57 +174,42 @@ def name_fault(page, name, words):
     if not re.fullmatch(r"\w+(?:::\w+)*(?:\(\))?", name):
         return ""
     parts = re.findall(r"[A-Za-z_]\w*", name)
-    missing = [part for part in parts if ("_" in part or "::" in name) and not is_known(part, words)]
+    is_call = "::" in name or name.endswith("()")
+    missing = [part for part in parts if (is_call or "_" in part) and not is_known(part, declared if is_call else words)]
     return f"nothing is named {missing[0]}" if missing else ""
 
 
 def names():
-    """Each file, crate, call, test and edit that is named between backticks or as a long name exists."""
-    words = known_words()
+    """Each file, crate, call, test and edit that is named between backticks, or by a long name, exists."""
+    known = known_words()
     for path in documents():
-        if path.name == "CHANGELOG.md":
-            continue
         for number, line in prose(path):
             found = re.findall(r"`([^`]+)`", line)
             found += re.findall(r"(?<![\w`/.])[a-z0-9]+(?:_[a-z0-9]+){2,}(?![\w`/.])", re.sub(r"`[^`]*`", "", line))
-            for name in found:
-                counts["names"] += 1
-                fault = name_fault(path, name, words)
-                if fault:
-                    yield at(path, number, fault)
+            counts["names"] += len(found)
+            faults = (name_fault(path, name, *known) for name in found)
+            yield from (at(path, number, fault) for fault in faults if fault)
 
 
-def theorem_of(path):
-    """The texts between the markers of the theorem in a page, with the line where each begins."""
-    text = path.read_text()
-    for found in re.finditer(r"<!-- theorem -->\n(.*?)<!-- end of theorem -->", text, re.S):
-        words = re.sub(r"^> ?", "", found[1], flags=re.M).split()
-        yield text[: found.start()].count("\n") + 1, " ".join(words)
+def theorems_of(text):
+    """The texts between the markers of the theorem, each as its words."""
+    found = re.findall(r"<!-- theorem -->\n(.*?)<!-- end of theorem -->", text, re.S)
+    return [re.sub(r"^> ?", "", one, flags=re.M).split() for one in found]
 
 
 def theorem():
     """The main theorem stands in README, and has one text wherever it stands."""
-    home = TOP / "README.md"
-    told = [text for _, text in theorem_of(home)]
-    if len(told) != 1:
-        yield at(home, 1, f"the theorem stands here {len(told)} times")
+    home = theorems_of(text_of(TOP / "README.md"))
+    if len(home) != 1:
+        yield at(TOP / "README.md", 1, f"the theorem stands here {len(home)} times")
     for path in documents():
-        for line, text in theorem_of(path):
-            counts["theorems"] += 1
-            if [text] != told:
-                yield at(path, line, "another text of the theorem")
-        free = re.sub(r"<!-- theorem -->.*?<!-- end of theorem -->", "", path.read_text(), flags=re.S)
-        if re.search(r"For\s+every\s+list\s+of", free):
+        text = text_of(path)
+        found = theorems_of(text)
+        counts["theorems"] += len(found)
+        if any([one] != home for one in found):
+            yield at(path, 1, "another text of the theorem")
+        if len(re.findall(r"For\s+every\s+list\s+of", text)) != len(found):
             yield at(path, 1, "a theorem without its markers")
-
-
-VERSIONS = {
-    "crates/zevkhadun/src/*.rt": r'\.version\("([^"]*)"\)',
-    "examples/rust/Cargo.toml": r'^version = "([^"]*)"',
-    "examples/rust/Cargo.lock": r'name = "zevkhadun"\nversion = "([^"]*)"',
-    "examples/python/zevkhadun/__init__.py": r'^__version__ = "([^"]*)"',
-    "CHANGELOG.md": r"\A.*?^## (\S+)",
-}
 
 
 def versions():
@@ -305,11 +228,9 @@ def versions():
 
 def front():
     """What users read first: README, the help texts, and the header up to its first declaration."""
-    header = TOP / "crates/store_c/include/zevkhadun.h"
-    yield TOP / "README.md", (TOP / "README.md").read_text()
-    yield header, header.read_text().partition("#ifndef")[0]
-    for path in sorted((TOP / "tests/help").glob("*.txt")):
-        yield path, path.read_text()
+    yield TOP / "README.md", text_of(TOP / "README.md")
+    yield HEADER, text_of(HEADER).partition("#ifndef")[0]
+    yield from ((path, text_of(path)) for path in sorted((TOP / "tests/help").glob("*.txt")))
 
 
 def words():
@@ -322,11 +243,11 @@ def words():
 
 
 def widths():
-    """No line is longer than 120 columns, rows of tables aside."""
+    """No line is longer than 120 columns, rows of tables and the page that bench/plot.py writes aside."""
     for path in documents():
-        for number, line in enumerate(path.read_text().splitlines(), 1):
+        for number, line in enumerate(text_of(path).splitlines(), 1):
             counts["lines"] += 1
-            if len(line) > 120 and not line.startswith(("|", "![")) and path.parent.name != "plots":
+            if len(line) > 120 and not line.startswith("|") and path.parent.name != "plots":
                 yield at(path, number, f"{len(line)} columns")
 
 
@@ -335,8 +256,8 @@ def main():
     rules = [blocks, links, names, theorem, versions, words, widths]
     messages = list(itertools.chain.from_iterable(rule() for rule in rules))
     print(*messages, sep="\n", end="\n" if messages else "")
-    told = ", ".join(f"{count} {what}" for what, count in counts.items())
-    print(f"docs: {len(documents())} pages, {told}; {len(messages)} faults")
+    looked = ", ".join(f"{count} {what}" for what, count in counts.items())
+    print(f"docs: {len(documents())} pages, {looked}; {len(messages)} faults")
     return 1 if messages else 0
 
 

@@ -15,9 +15,10 @@ import subprocess
 import sys
 import tempfile
 
-import docs
+import markdown
 
 MARKER = re.compile(r"<!-- run by: tests/sessions\.py(?:; prints: (.*?))? -->")
+commands = []
 
 
 def steps(block, prints):
@@ -33,12 +34,10 @@ def steps(block, prints):
 
 def blocks(path):
     """The blocks of a page that are run: the line of each, its lines without indentation, and what it prints."""
-    lines, found = docs.split(path)
-    for first, _, block in found:
-        above = next((line for _, line, _ in reversed(lines[: first - 1]) if line.strip()), "")
-        if marker := MARKER.fullmatch(above.strip()):
-            depth = min(len(line) - len(line.lstrip()) for line in block if line.strip())
-            yield first, [line[depth:] for line in block], marker[1]
+    for block in markdown.blocks(path):
+        if marker := MARKER.fullmatch(block.marker):
+            depth = min(len(line) - len(line.lstrip()) for line in block.lines if line.strip())
+            yield block.line, [line[depth:] for line in block.lines], marker[1]
 
 
 def run(command, folder):
@@ -63,21 +62,21 @@ def page(path, program):
     """Runs the blocks of a page, and yields a message for each that prints something else."""
     with tempfile.TemporaryDirectory() as folder:
         os.symlink(program, f"{folder}/zevkhadun")
-        os.symlink(docs.TOP / "crates", f"{folder}/crates")
+        os.symlink(markdown.TOP / "crates", f"{folder}/crates")
         for first, block, prints in blocks(path):
             for command, wanted in steps(block, prints):
-                docs.counts["steps"] = docs.counts.get("steps", 0) + 1
+                commands.append(command)
                 if wrong := fault(command, wanted, folder):
-                    yield docs.at(path, first, f"{command}\n{wrong}")
+                    yield markdown.at(path, first, f"{command}\n{wrong}")
 
 
 def main(program):
     """Runs all pages."""
     program = str(pathlib.Path(program).resolve())
-    messages = [message for path in docs.documents() for message in page(path, program)]
+    messages = [message for path in markdown.documents() for message in page(path, program)]
     print(*messages, sep="\n", end="\n" if messages else "")
-    print(f"sessions: {docs.counts.get('steps', 0)} commands of the documents run, {len(messages)} failed")
-    return 1 if messages or not docs.counts.get("steps") else 0
+    print(f"sessions: {len(commands)} commands of the documents run, {len(messages)} failed")
+    return 1 if messages or not commands else 0
 
 
 if __name__ == "__main__":
