@@ -167,8 +167,8 @@ uint32_t zevk_writer_put(zevk_writer *writer, uint32_t *starts, size_t starts_le
 /* Ends the open block, if it has documents. The caller writes the first `count` numbers of `starts` to the file: none,
  * or the table of the block. Call it before zevk_writer_stack and zevk_writer_close.
  *
- * Errors: NO_ROOM if the open block has documents and there is no room for one more number or one more row (tested:
- * not if the arrays are as long as for the last zevk_writer_put); OTHER_WRITER. */
+ * Errors: NO_ROOM if the open block has documents and `starts` has no room for one more number, or `table` for one more
+ * row; OTHER_WRITER. */
 uint32_t zevk_writer_end_block(zevk_writer *writer, uint32_t *starts, size_t starts_len, zevk_block *table,
                                size_t table_len, size_t *count);
 
