@@ -1,4 +1,4 @@
-//! What the commands of the program find out about stores, apart from words, files and terminals.
+//! What the commands of the program find out about stores, and how ranges of ids are read from arguments.
 #![tactic(auto)]
 
 pub mod block_documents;

@@ -28,10 +28,11 @@ pub(crate) enum Stage {
     Failed,
 }
 
-/// An output on disk. Its bytes go to a file beside the one of its name. A `terminate` that answers Ok has asked the
-/// system to keep them, and to give them the name: so a crash leaves the file of that name as it was, or whole. Once
-/// it has ended, or a call of the system failed, it refuses every call. An output that is dropped before it has the
-/// name removes the file beside.
+/// An output on disk. Its bytes go to a file beside the one of its name. A `terminate` that returns Ok has synced them
+/// and renamed the file beside to the name: so a crash leaves the file of that name as it was, or whole. After its
+/// end, and after a failed call of the system, it refuses every call. If it is dropped before it has the name, it
+/// removes the file beside. All of this is tested (`test_files`); the contracts speak of the bytes that the code says
+/// it handed over.
 pub struct DiskSink<R: Files + Drop>
 where
     R::File: LockFile,
@@ -79,8 +80,8 @@ impl<R: Files + Drop> DiskSink<R>
 where
     R::File: LockFile,
 {
-    /// An output of nothing yet, for a file of this name; links are followed. The file beside has `.part` behind the
-    /// name: what a crash left there is taken over, and one that another writes is refused. Only a plain file is
+    /// An output of nothing yet, for a file of this name; links are followed. The file beside has `.part` after the
+    /// name: one that a crash left is taken over, and one that another writes is refused. Only a plain file is
     /// replaced; its mode is kept, and its owner where the system lets us.
     pub fn create(alloc: Global, rt: R, path: &str) -> Result<DiskSink<R>, CreateError>
         ensures content { IfOk result (λ s. s.content ≡ []) }

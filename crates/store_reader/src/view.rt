@@ -150,7 +150,7 @@ impl<'a> StoreView<'a> {
     }
 
     /// The documents that are alive, in the order of their ids, each with its id. Those at or past the end of
-    /// the set are not. No byte of the others is read.
+    /// the set are not. (That no byte of the others is read is seen in the code; no clause says it.)
     pub fn iter_alive<'v>(&'v self, alive: &'v AliveBitSet) -> AliveDocuments<'v, 'a>
         ensures alive { result.alive.now ≡ alive.entry.now }
         ensures view { result.documents.view.now ≡ self.now }

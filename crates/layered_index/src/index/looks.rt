@@ -159,8 +159,8 @@ fn halve<S: Looks>(source: &mut S, target: DocId, between: Range<usize>) -> usiz
 ///
 /// It looks where the guess is, or at the last if that is past the end, and from there on in growing
 /// steps, until the target lies between two looks; it halves what is left, and looks at the answer. A guess
-/// near the answer takes few looks. However far off it is, they are no more than the length has binary
-/// digits and half as many again, or two.
+/// near the answer takes few looks. For every guess they are at most p for each base-p digit of the length,
+/// for every p from 2 on.
 pub fn seek_near<S: Looks>(source: &mut S, target: DocId, guess: usize) -> Option<Checkpoint>
     ensures list { S.list source.new ≡ S.list source.old }
     ensures answer { result ≡ first_past (S.list source.old) target }
