@@ -63,7 +63,7 @@ def is_run(path):
     if parts[0] == "crates":
         return parts[1] in CRATES
     if parts[:2] == ["examples", "c"]:
-        return re.search(rf"\b{parts[-1].split('.')[0]}\b", GATE) is not None
+        return re.search(rf"/{parts[-1]}\b|for \w+ in [\w ]*\b{parts[-1].split('.')[0]}\b", GATE) is not None
     return path in GATE or (parts[0] == "examples" and "/".join(parts[:2]) in GATE)
 
 
