@@ -156,11 +156,12 @@ first() {
     printf 'de' | diff - "$work/told"
 }
 check "first" first
-# What can't be printed is told: a full disk, a file that is no store, a file that isn't there.
+# They report what can't be printed: to a full disk, of a file that is no store or isn't there, of no such document.
 example_fails() {
-    ! "$work/example" "$work/two" >/dev/full && ! "$work/example" "$hex" && ! "$work/example" "$work/none"
+    ! "$work/example" "$work/two" >/dev/full && ! "$work/example" "$hex" && ! "$work/example" "$work/none" &&
+        ! "$work/first" 1 <"$work/two" >/dev/full && ! "$work/first" 2 <"$work/two"
 }
-check "example that fails" example_fails
+check "examples that fail" example_fails
 check "pack" bash "$top/tests/packing.sh" "$work/pack"
 
 # Each call of the system that the example makes fails in turn: the store that was there stays until the new one has its

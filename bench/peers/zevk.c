@@ -57,10 +57,9 @@ static void put_document(struct writing *to, struct bytes document) {
 
 static void put_end(struct writing *to) {
     size_t count = 0, length = 0;
-    uint8_t none;
     expect(zevk_writer_end_block(&to->writer, to->starts, to->room, to->table, to->room, &count));
     append(to, to->starts, count * sizeof *to->starts);
-    uint32_t asked = zevk_writer_close(&to->writer, to->table, to->room, PERIOD, &none, 0, &length);
+    uint32_t asked = zevk_writer_close(&to->writer, to->table, to->room, PERIOD, NULL, 0, &length);
     expect(asked == ZEVK_NO_ROOM ? ZEVK_DONE : asked);
     uint8_t *end = malloc(length);
     require(end != NULL, "zevk", "no memory");

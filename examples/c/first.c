@@ -26,5 +26,9 @@ uint32_t print_document(const uint8_t *file, size_t len, uint32_t id) {
 int main(int argc, char **argv) {
     static uint8_t file[1 << 20];
     size_t len = fread(file, 1, sizeof file, stdin);
-    return argc == 2 && len < sizeof file ? (int)print_document(file, len, (uint32_t)atoi(argv[1])) : 2;
+    if (argc != 2 || len == sizeof file || ferror(stdin)) {
+        return 2;
+    }
+    uint32_t error = print_document(file, len, (uint32_t)strtoul(argv[1], NULL, 10));
+    return fflush(stdout) == 0 && !ferror(stdout) ? (int)error : 1;
 }

@@ -50,7 +50,7 @@ static void empty_store(void) {
     WANT(zevk_writer_stack(&writer, NULL, 0, end, sizeof end, &count, &len) == ZEVK_DONE && count == 0 && len == 0);
 }
 
-/* Arrays that are too short are told as such, and change nothing. */
+/* Arrays that are too short are reported, and nothing is changed. */
 static void writing(const uint8_t *file, size_t file_len) {
     zevk_writer writer, before;
     uint32_t starts[2];

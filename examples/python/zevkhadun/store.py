@@ -24,9 +24,10 @@ class _Opened:
     def __init__(self, path: Union[str, "os.PathLike[str]"]) -> None:
         with open(path, "rb") as file:
             self.len = os.fstat(file.fileno()).st_size
-            # A map that is only read takes no memory of the process, however large the file is. No file of 0 bytes
-            # can be mapped.
-            self.bytes = mmap.mmap(file.fileno(), self.len, access=mmap.ACCESS_READ) if self.len else b""
+            # A map that is only read takes no memory of the process, however large the file is.
+            self.bytes: Union[mmap.mmap, bytes] = b""
+            if self.len:
+                self.bytes = mmap.mmap(file.fileno(), self.len, access=mmap.ACCESS_READ)
         # Only this object has the map, and never closes or moves it.
         self.at = address_of(self.bytes)
         rows = self._fill(0)

@@ -29,7 +29,7 @@ fn keep_name(path: &Path) -> io::Result<()> {
     File::open(folder.unwrap_or(Path::new(".")))?.sync_all()
 }
 
-/// Writes the store to a new file beside, and gives it the name.
+/// Writes the store to a second file, and then gives it the name.
 fn pack(path: &Path) -> Result<(), Box<dyn Error>> {
     let mut part = path.as_os_str().to_owned();
     part.push(".part");
