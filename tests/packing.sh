@@ -52,5 +52,17 @@ fails "a file beside" another
 [ "$(cat store.part)" = "another's" ]
 rm store.part
 
+# A pack that is killed: the next one leaves what it wrote, and says so.
+status=0
+"$program" store < <(seq 100000; exec sleep 9) 2>told &
+while kill -0 $! && ! [ -s store.part ]; do
+    sleep 0.1
+done
+kill -KILL $!
+wait $! || status=$?
+[ $status -eq 137 ] && [ -s store.part ] && cmp store old
+fails "after a kill" another
+rm store.part
+
 seq 100000 | "$program" store
 [ "$(echo *)" = "old store told" ] && [ "$(stat -c %s store)" -gt 588895 ]

@@ -6,6 +6,7 @@ import fcntl
 import io
 import mmap
 import os
+import resource
 import stat
 import tempfile
 import unittest
@@ -336,6 +337,21 @@ class Ends(InFolder):
         self.failing(at_write, lambda writer: writer.close())
         self.failing(mock.patch("os.fsync", side_effect=full), lambda writer: writer.close())
         self.failing(mock.patch("os.replace", side_effect=full), lambda writer: writer.close())
+
+    def test_a_file_that_may_not_grow_leaves_the_old_one(self):
+        soft, hard = resource.getrlimit(resource.RLIMIT_FSIZE)
+        self.written([b"old"])
+        writer = Writer(self.path)
+        resource.setrlimit(resource.RLIMIT_FSIZE, (1 << 16, hard))
+        try:
+            with self.assertRaises(OSError):
+                writer.put(b"x" * (2 << 20))
+        finally:
+            resource.setrlimit(resource.RLIMIT_FSIZE, (soft, hard))
+        with self.assertRaises(refusals.Failed):
+            writer.close()
+        self.assertEqual(self.documents(), [b"old"])
+        self.assertEqual(os.listdir(self.folder), ["a.store"])
 
     def test_a_failure_that_is_caught_in_a_with_is_told_at_its_end(self):
         with self.assertRaises(refusals.Failed):

@@ -78,7 +78,7 @@ def _opener(path: str, _flags: int) -> int:
 
 
 class Output:
-    """The file beside, which has `.part` behind the name, until it is published or removed."""
+    """The file beside, whose name ends in `.part`, until it is published or removed."""
 
     def __init__(self, path: Union[str, "os.PathLike[str]"]) -> None:
         """Begins the file beside: locked, empty, and with the access that the replaced file has.
@@ -103,7 +103,7 @@ class Output:
             raise
 
     def write(self, content: Union[bytes, memoryview]) -> None:
-        """Puts bytes behind the others. Raises OSError."""
+        """Writes bytes after the others. Raises OSError."""
         if len(self._buffer) + len(content) < BUFFER_SIZE:
             self._buffer += content
             return

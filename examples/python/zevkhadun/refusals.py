@@ -1,4 +1,4 @@
-"""Why a call was refused."""
+"""Errors of the package: a class for each."""
 
 from __future__ import annotations
 
@@ -6,9 +6,9 @@ from typing import Dict, Type
 
 
 class Refused(Exception):
-    """A call was refused. Each reason is a class of its own."""
+    """An error of the package. Each kind has a class of its own."""
 
-    #: the number by which the library tells the reason, or 0 where this package alone refuses
+    #: the number that the library returns for it, or 0 for an error of this package alone
     number = 0
 
 
@@ -17,19 +17,19 @@ class ShortFile(Refused):
 
 
 class BadVersion(Refused):
-    """The footer has a version that isn't known."""
+    """The footer has an unknown version."""
 
 
 class BadBlockKind(Refused):
-    """The footer names a kind of block that isn't read here."""
+    """The blocks are compressed."""
 
 
 class BadOffset(Refused):
-    """The footer's offset lies behind the bytes before it."""
+    """The index would begin after the footer's first byte."""
 
 
 class BadIndex(Refused):
-    """The index is not that of blocks that cover the data."""
+    """The index is not one of blocks that cover the data."""
 
 
 class NoDocument(Refused, IndexError):
@@ -37,15 +37,15 @@ class NoDocument(Refused, IndexError):
 
 
 class DamagedDocument(Refused):
-    """The document's block doesn't say where it lies."""
+    """The block's table doesn't say where the document is."""
 
 
 class NoMemory(Refused, MemoryError):
-    """A growth was refused."""
+    """Out of memory."""
 
 
 class OldVersion(Refused):
-    """The documents of a store to be stacked may be in an older form."""
+    """A store of version 1 can't be stacked."""
 
 
 class BlockTooLarge(Refused):
@@ -61,19 +61,19 @@ class BadPeriod(Refused):
 
 
 class NoRoom(Refused):
-    """An array is too short for what is to be written to it."""
+    """An array is too short for what the library writes to it."""
 
 
 class OtherTable(Refused):
-    """The table is not that of the file, which was changed since it was opened."""
+    """The file was changed after it was opened."""
 
 
 class OpenBlock(Refused):
-    """The open block has documents, and must be ended first."""
+    """The open block has documents, and has to be ended first."""
 
 
 class OtherWriter(Refused):
-    """The writer and its table are not as the library left them."""
+    """The writer or its table is not as the library left it."""
 
 
 class Closed(Refused, ValueError):
@@ -81,15 +81,15 @@ class Closed(Refused, ValueError):
 
 
 class Failed(Refused, ValueError):
-    """The writer failed before, and its file beside was removed."""
+    """The writer failed before, and its second file was removed."""
 
 
 class Busy(Refused):
-    """Another writes to the file of this name."""
+    """Another writer writes to the file of this name."""
 
 
 class NotPlainFile(Refused):
-    """The name is that of a folder, a device or another thing that is no plain file."""
+    """The name is one of a folder, a device or something else that is no plain file."""
 
 
 #: the class of each number
@@ -117,7 +117,7 @@ for _number, _class in REFUSALS.items():
 
 
 def check(answer: int) -> None:
-    """Raises the refusal of an answer, if it is one."""
+    """Raises the error of a number that the library returned, if it is one."""
     if answer:
         refusal = REFUSALS.get(answer, Refused)
         raise refusal(refusal.__doc__)

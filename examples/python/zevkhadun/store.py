@@ -19,7 +19,7 @@ _address = ctypes.addressof
 
 
 class _Opened:
-    """A map of a file, and the table of its blocks. It is unmapped once nobody reads it any more."""
+    """A map of a file, and the table of its blocks. It is unmapped after the last read."""
 
     def __init__(self, path: Union[str, "os.PathLike[str]"]) -> None:
         with open(path, "rb") as file:
@@ -71,15 +71,16 @@ class _Opened:
 
 
 class Store:
-    """A store in a file, which is mapped: a document is copied out of it when it is asked for.
+    """A store in a file, which is mapped into memory and may be larger than memory.
 
-    It is a sequence of bytes. Any number of threads may use it at once.
+    It is a sequence of bytes: a get copies the document out of the file. Any number of threads may use it at once.
     """
 
     def __init__(self, path: Union[str, "os.PathLike[str]"]) -> None:
         """Maps the file and opens it.
 
-        Raises OSError, and the refusal of a file that is no store.
+        Raises OSError; and ShortFile, BadVersion, BadBlockKind, BadOffset, BadPeriod or BadIndex for a file that is no
+        store.
         """
         self._opened: Optional[_Opened] = _Opened(path)
         self._count = self._opened.count
@@ -95,7 +96,7 @@ class Store:
     def __getitem__(self, number: slice) -> List[bytes]: ...
 
     def __getitem__(self, number: Union[int, slice]) -> Union[bytes, List[bytes]]:
-        """A document by its number, from the end if that is negative; or a list of them by a slice.
+        """A document by its number, counted from the end if it is negative; or a list of documents by a slice.
 
         Raises NoDocument, which is an IndexError, DamagedDocument and Closed.
         """
@@ -107,9 +108,9 @@ class Store:
         return self._held().document(at)
 
     def __iter__(self) -> Iterator[bytes]:
-        """The documents in order. Each is copied out of the file only when it is asked for.
+        """The documents in order, one in memory at a time.
 
-        Raises DamagedDocument where one is, and Closed.
+        Raises DamagedDocument at a damaged document, and Closed.
         """
         number = 0
         while number < self._count:
@@ -122,7 +123,7 @@ class Store:
                 number += 1
 
     def close(self) -> None:
-        """Lets the file go. A second time it does nothing. A read that runs meanwhile goes on to its end."""
+        """Closes the file. A second call does nothing. A get that runs at the same time in another thread ends well."""
         self._opened = None
 
     def __enter__(self) -> "Store":

@@ -31,11 +31,11 @@ class _Stage(enum.Enum):
 class Writer:
     """A store that is written to a file, document by document.
 
-    The bytes go to a file beside, of the same name with `.part` behind it, which takes the name by `close`, or at the
-    end of a `with` without an exception. Until then, and after a crash, the file of the name is as it was. A writer
-    that is neither closed nor discarded leaves the file beside, which the next one takes over.
+    The bytes go to a second file, whose name ends in `.part`. `close`, or the end of a `with` without an exception,
+    gives it the name. Until then, and after a crash, the file of the name is as it was. A writer that is neither
+    closed nor discarded leaves the second file; the next writer of the name takes it over.
 
-    One thread may use it at a time.
+    One thread at a time may use it.
     """
 
     def __init__(
@@ -43,12 +43,11 @@ class Writer:
     ) -> None:
         """Begins a store of no documents.
 
-        A block is ended once its documents weigh more than `block_size`, their bytes and eight for each; `period` is
-        how many blocks a block of the index tells of, from 2 to 64. The mode of a file of this name is kept, and links
-        are followed.
+        A block ends when the bytes of its documents, and eight more for each, exceed `block_size`. `period` is the
+        period of the index, from 2 to 64. The mode of a file of this name is kept, and links are followed.
 
-        Raises BadPeriod, ValueError for a block size below 0 or above the greatest, Busy where another writes to this
-        name, NotPlainFile, and OSError.
+        Raises BadPeriod, ValueError for a block size below 0 or above the greatest, Busy if another writer writes to
+        this name, NotPlainFile, and OSError.
         """
         self._period = operator.index(period)
         if not 2 <= self._period <= 64:
@@ -71,9 +70,9 @@ class Writer:
         return self._documents
 
     def put(self, document: Union[bytes, bytearray, memoryview]) -> int:
-        """Puts a document behind the others, and answers its number.
+        """Adds a document, and returns its number.
 
-        Raises BlockTooLarge and TooManyDocs, after which the writer is as it was; OSError, after which it is Failed;
+        Raises BlockTooLarge and TooManyDocs, after which the writer is as it was; OSError, after which it has failed;
         Closed and Failed.
         """
         self._check_open()
@@ -95,10 +94,10 @@ class Writer:
         return number
 
     def stack(self, store: Store) -> None:
-        """Puts all documents of a store behind the others: its blocks are copied as they are.
+        """Adds all documents of a store: its blocks are copied as they are.
 
         Raises OldVersion, TooManyDocs and NoMemory, after which the writer has the documents that it had; OSError,
-        after which it is Failed; Closed, of the store too, and Failed.
+        after which it has failed; Closed, of the store too, and Failed.
         """
         self._check_open()
         opened = store._held()
@@ -116,10 +115,10 @@ class Writer:
         check(answer)
 
     def close(self) -> None:
-        """Ends the store and gives the file its name, once the system was asked to keep it.
+        """Ends the store, asks the system to keep the file, and gives it its name.
 
-        A second time, and behind `discard`, it does nothing. Raises NoMemory and OSError, after which it is Failed;
-        Failed.
+        A second call, and one after `discard`, does nothing. Raises NoMemory and OSError, after which the writer has
+        failed; Failed.
         """
         if self._stage is _Stage.CLOSED:
             return
@@ -135,7 +134,7 @@ class Writer:
         self._stage = _Stage.CLOSED
 
     def discard(self) -> None:
-        """Removes the file beside: the file of the name stays as it was. Behind `close` it does nothing."""
+        """Removes the second file: the file of the name stays as it was. After `close` it does nothing."""
         self._stage = _Stage.CLOSED
         self._output.remove()
 
@@ -157,12 +156,12 @@ class Writer:
             raise Failed(Failed.__doc__)
 
     def _fail(self) -> None:
-        """Gives up: what the file beside holds is not known any more."""
+        """Gives up: the content of the second file is unknown now."""
         self._stage = _Stage.FAILED
         self._output.remove()
 
     def _ask_put(self, length: int) -> int:
-        """Answers the library's number, with arrays that are long enough."""
+        """Returns the library's number, with arrays that are long enough."""
         while True:
             starts, table = self._starts, self._table
             answer: int = _put(self._numbers_at, starts, len(starts), table, len(table), length, self._count_at)
@@ -172,7 +171,7 @@ class Writer:
             self._grow_table(self._numbers.blocks + 1)
 
     def _ask_stack(self, file: int, file_len: int, length: ctypes.c_size_t) -> int:
-        """Answers the library's number, with a table that is long enough, and the open block ended if it must be."""
+        """Returns the library's number, with a table that is long enough, and the open block ended if it must be."""
         while True:
             answer: int = calls.zevk_writer_stack(
                 self._numbers_at,
@@ -228,7 +227,7 @@ class Writer:
         return answer
 
     def _write_starts(self) -> None:
-        """Writes as many of the starts as the last call told."""
+        """Writes as many of the starts as the last call reported."""
         count = self._count.value
         if count:
             self._output.write(ctypes.string_at(self._starts, count * ctypes.sizeof(ctypes.c_uint32)))

@@ -1,8 +1,8 @@
-//! Why a call was refused.
+//! Errors.
 
 use std::{error, fmt, io};
 
-/// Why a call was refused.
+/// An error of the library.
 #[derive(Clone, Copy, Debug, PartialEq, Eq)]
 pub enum Refusal {
     ShortFile,
@@ -43,14 +43,14 @@ impl Refusal {
     fn text(self) -> &'static str {
         match self {
             Refusal::ShortFile => "the file is shorter than a footer",
-            Refusal::BadVersion => "the store's version isn't known",
-            Refusal::BadBlockKind => "the kind of block isn't raw",
-            Refusal::BadOffset => "the index's offset is past the body",
-            Refusal::BadIndex => "the index is not that of blocks that cover the data",
+            Refusal::BadVersion => "the footer has an unknown version",
+            Refusal::BadBlockKind => "the blocks are compressed",
+            Refusal::BadOffset => "the index would begin after the footer's first byte",
+            Refusal::BadIndex => "the index is not one of blocks that cover the data",
             Refusal::NoDocument => "no document of this number",
-            Refusal::DamagedDocument => "the document is damaged",
-            Refusal::NoMemory => "no memory",
-            Refusal::OldVersion => "the store's documents may be in an older form",
+            Refusal::DamagedDocument => "the block's table doesn't say where the document is",
+            Refusal::NoMemory => "out of memory",
+            Refusal::OldVersion => "a store of version 1 can't be stacked",
             Refusal::BlockTooLarge => "a block would have 2^32 bytes or more",
             Refusal::TooManyDocs => "there would be 2^32 documents or more",
             Refusal::BadPeriod => "the period is below 2 or above 64",
@@ -67,14 +67,14 @@ impl fmt::Display for Refusal {
 
 impl error::Error for Refusal {}
 
-/// Why a writer did not do what it was asked.
+/// An error of a writer.
 #[derive(Debug)]
 pub enum Error {
-    /// The library refused the call. The writer has the documents that it had, and goes on.
+    /// An error of the library. The writer has the documents that it had, and goes on.
     Refused(Refusal),
     /// The output failed. The writer takes no more.
     Io(io::Error),
-    /// The output failed before, so what it holds is not known.
+    /// The output failed before, so its content is unknown.
     Failed,
 }
 
@@ -110,13 +110,13 @@ impl From<io::Error> for Error {
     }
 }
 
-/// What the library answers where an array has no room.
+/// What the library returns for an array that is too short.
 pub(crate) const NO_ROOM: u32 = 32;
 
-/// What it answers where the open block must be ended first.
+/// What it returns if the open block has to be ended first.
 pub(crate) const OPEN_BLOCK: u32 = 34;
 
-/// The refusal of an answer, if it is one.
+/// The error of a number that the library returned, if it is one.
 pub(crate) fn check(answer: u32) -> Result<(), Refusal> {
     match answer {
         0 => Ok(()),

@@ -1,4 +1,4 @@
-//! Document stores: documents by number, read from bytes at hand, and written to any output.
+//! Document stores: documents by number, read from bytes in memory, and written to any output.
 //!
 //! ```
 //! # fn main() -> Result<(), zevkhadun::Refusal> {

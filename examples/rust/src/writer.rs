@@ -8,9 +8,9 @@ use std::io::Write;
 /// How a store is laid out.
 #[derive(Clone, Copy, Debug, PartialEq, Eq)]
 pub struct Options {
-    /// A block is ended once its documents weigh more: their bytes and eight for each.
+    /// A block ends when the bytes of its documents, and eight more for each, exceed this.
     pub block_size: usize,
-    /// How many blocks a block of the index tells of, from 2 to 64.
+    /// The period of the index, from 2 to 64.
     pub period: u8,
 }
 
@@ -27,7 +27,7 @@ impl Default for Options {
 /// A store that is written document by document to an output. Each document is a write or two, so give a file in a
 /// `BufWriter`. Only `close` makes the output a store's file; a writer that is dropped before leaves a part of one.
 ///
-/// Once the output failed every call is refused by `Error::Failed`. A refusal of the library changes no document.
+/// After the output failed every call fails with `Error::Failed`. An error of the library changes no document.
 pub struct Writer<W: Write> {
     output: W,
     numbers: WriterNumbers,
@@ -43,7 +43,7 @@ impl<W: Write> Writer<W> {
         Writer::begun(output, Options::default())
     }
 
-    /// A store of no documents yet. Refused by `BadPeriod`.
+    /// A store of no documents yet. Fails with `BadPeriod`.
     pub fn with_options(output: W, options: Options) -> Result<Writer<W>, Refusal> {
         if !(2..=64).contains(&options.period) {
             return Err(Refusal::BadPeriod);
@@ -66,7 +66,7 @@ impl<W: Write> Writer<W> {
         self.len() == 0
     }
 
-    /// Puts a document behind the others, and answers its number. Refused by `BlockTooLarge` and `TooManyDocs`.
+    /// Adds a document, and returns its number. Fails with `BlockTooLarge` and `TooManyDocs`.
     pub fn put(&mut self, document: &[u8]) -> Result<u32, Error> {
         self.check_whole()?;
         let doc_id = self.len();
@@ -82,8 +82,8 @@ impl<W: Write> Writer<W> {
         Ok(doc_id)
     }
 
-    /// Puts all documents of a store behind the others: its blocks are copied as they are, damaged ones too. Refused
-    /// by `OldVersion`, `TooManyDocs` and `NoMemory`.
+    /// Adds all documents of a store: its blocks are copied as they are, damaged ones too. Fails with `OldVersion`,
+    /// `TooManyDocs` and `NoMemory`.
     pub fn stack(&mut self, store: &Store<'_>) -> Result<(), Error> {
         self.check_whole()?;
         let file = store.file();
@@ -100,7 +100,7 @@ impl<W: Write> Writer<W> {
         }
     }
 
-    /// Ends the store, flushes the output and gives it back, now a store's file. Refused by `NoMemory`.
+    /// Ends the store, flushes the output and returns it, now a store's file. Fails with `NoMemory`.
     pub fn close(mut self) -> Result<W, Error> {
         self.check_whole()?;
         self.end_block()?;
@@ -137,7 +137,7 @@ impl<W: Write> Writer<W> {
         Ok(())
     }
 
-    /// Writes bytes, and behind them the first starts. An output that fails or panics has failed for good.
+    /// Writes bytes, and after them the first starts. An output that fails or panics has failed for good.
     fn write(&mut self, bytes: &[u8], count: usize) -> Result<(), Error> {
         self.has_failed = true;
         self.output.write_all(bytes)?;
