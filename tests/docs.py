@@ -16,8 +16,8 @@ import itertools
 import re
 import sys
 
-import markdown
-from markdown import TOP, at, documents, prose, text_of
+import doc_pages
+from doc_pages import TOP, at, documents, prose, text_of
 
 ENDINGS = "rt|antt|edit|py|sh|c|h|rs|md|json|svg|toml|hex"
 # Words that this house no longer uses where users begin to read.
@@ -36,7 +36,7 @@ VERSIONS = {
     "examples/python/zevkhadun/__init__.py": r'^__version__ = "([^"]*)"',
     "CHANGELOG.md": r"\A.*?^## (\S+)",
 }
-SOURCES = list(markdown.files("crates", "tests", "examples", "bench", ".ci"))
+SOURCES = list(doc_pages.files("crates", "tests", "examples", "bench", ".ci"))
 PATHS = [str(path.relative_to(TOP)) for path in SOURCES]
 CRATES = set(re.findall(r"^(\w+)(?: \w+)?:", text_of(TOP / "crates.txt"), re.M))
 counts = dict.fromkeys(("blocks", "links", "names", "theorems", "versions", "words", "lines"), 0)
@@ -99,7 +99,7 @@ def block_fault(block):
 def blocks():
     """Each block of code has a marker that holds, and the header's example stands in its program."""
     for path in documents():
-        for block in markdown.blocks(path):
+        for block in doc_pages.blocks(path):
             counts["blocks"] += 1
             if fault := block_fault(block):
                 yield at(path, block.line, fault)
@@ -175,7 +175,8 @@ def name_fault(page, name, words, declared):
         return ""
     parts = re.findall(r"[A-Za-z_]\w*", name)
     is_call = "::" in name or name.endswith("()")
-    missing = [part for part in parts if (is_call or "_" in part) and not is_known(part, declared if is_call else words)]
+    known = declared if is_call else words
+    missing = [part for part in parts if (is_call or "_" in part) and not is_known(part, known)]
     return f"nothing is named {missing[0]}" if missing else ""
 
 

@@ -15,7 +15,7 @@ import subprocess
 import sys
 import tempfile
 
-import markdown
+import doc_pages
 
 MARKER = re.compile(r"<!-- run by: tests/sessions\.py(?:; prints: (.*?))? -->")
 commands = []
@@ -34,7 +34,7 @@ def steps(block, prints):
 
 def blocks(path):
     """The blocks of a page that are run: the line of each, its lines without indentation, and what it prints."""
-    for block in markdown.blocks(path):
+    for block in doc_pages.blocks(path):
         if marker := MARKER.fullmatch(block.marker):
             depth = min(len(line) - len(line.lstrip()) for line in block.lines if line.strip())
             yield block.line, [line[depth:] for line in block.lines], marker[1]
@@ -42,9 +42,9 @@ def blocks(path):
 
 def run(command, folder):
     """What a command prints, and what it prints with its errors. One whose output is not shown must succeed."""
-    path = f"{folder}:{os.environ['PATH']}"
+    names = os.environ | {"PATH": f"{folder}:{os.environ['PATH']}"}
     shell = ["bash", "-e", "-o", "pipefail", "-c", command]
-    done = subprocess.run(shell, cwd=folder, env=os.environ | {"PATH": path}, capture_output=True, text=True, timeout=900)
+    done = subprocess.run(shell, cwd=folder, env=names, capture_output=True, text=True, timeout=900)
     return done.returncode, done.stdout, done.stdout + done.stderr
 
 
@@ -62,18 +62,18 @@ def page(path, program):
     """Runs the blocks of a page, and yields a message for each that prints something else."""
     with tempfile.TemporaryDirectory() as folder:
         os.symlink(program, f"{folder}/zevkhadun")
-        os.symlink(markdown.TOP / "crates", f"{folder}/crates")
+        os.symlink(doc_pages.TOP / "crates", f"{folder}/crates")
         for first, block, prints in blocks(path):
             for command, wanted in steps(block, prints):
                 commands.append(command)
                 if wrong := fault(command, wanted, folder):
-                    yield markdown.at(path, first, f"{command}\n{wrong}")
+                    yield doc_pages.at(path, first, f"{command}\n{wrong}")
 
 
 def main(program):
     """Runs all pages."""
     program = str(pathlib.Path(program).resolve())
-    messages = [message for path in markdown.documents() for message in page(path, program)]
+    messages = [message for path in doc_pages.documents() for message in page(path, program)]
     print(*messages, sep="\n", end="\n" if messages else "")
     print(f"sessions: {len(commands)} commands of the documents run, {len(messages)} failed")
     return 1 if messages or not commands else 0
