@@ -12,8 +12,9 @@ use Rattle.store_format.proofs.StoreLemmas.{docs_in-cons, docs_in-append, data_o
 use Rattle.store_reader.specs.Reading.{Reading, part_of}
 use Rattle.store_reader.proofs.ReaderStoreLemmas.{blocks_of}
 use Rattle.docstore.specs.BlockOutput.{BlockOutput, with_blocks, with_risen, HasCause, FailsFor}
-use Rattle.docstore.specs.StackingInParts.{front_up_to, CameOf, AllCameOf, PutsBlocks, IsReadTimes}
-use Rattle.docstore.proofs.PartLemmas.{IsNextOf}
+use Rattle.store_reader.specs.Parts.{front_up_to}
+use Rattle.docstore.specs.StackingInParts.{CameOf, AllCameOf, PutsBlocks, IsReadTimes}
+use Rattle.store_reader.proofs.PartLemmas.{IsNextOf}
 
 -- ---- blocks that came
 

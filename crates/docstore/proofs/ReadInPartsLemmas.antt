@@ -1,5 +1,6 @@
 -- What the reading of a store in parts brings, and what a part that is refused leaves.
 use Rattle.std.proofs.Common.{◌≡◌, ℕ, zero, suc, ◌+◌, ◌<◌, ◌≤◌, IsTrue, List, [], ◌∷◌, ◌++◌, length, take, Option, Some, None, refl, sym, ◌∙◌, ap, subst, arith}
+use Rattle.std.specs.Prelude.{IfSome, IsSome, IsNone}
 use Rattle.std.proofs.Common.{length-append}
 use Rattle.std.proofs.lemmas.List.{append-nil, map-append}
 use Rattle.std.proofs.Math.Seq.{take-append_seam}
@@ -12,13 +13,17 @@ use Rattle.layered_index.specs.declared.index.Checkpoint.{Checkpoint}
 use Rattle.layered_index.specs.Checkpoint.{doc_count, docs_end, first_past, Covers}
 use Rattle.layered_index.specs.LineLemmas.{in_line-split}
 use Rattle.store_format.specs.StoreFile.{StoreBlock, checkpoints_of}
+use Rattle.store_reader.specs.declared.data_part.DataPart.{DataPart}
+use Rattle.store_reader.specs.Parts.{IsPartFrom}
 use Rattle.store_reader.specs.Reading.{Reading, num_docs as docs_of, IsReadOnce, store_of, part_of}
 use Rattle.store_reader.proofs.ReaderStoreLemmas.{blocks_of, store_is}
 use Rattle.store_reader.proofs.StoreSlotLemmas.{map_len}
 use Rattle.docstore.specs.BlockOutput.{BlockOutput, with_blocks, with_risen, FailsFor, AfterFailedBlock}
 use Rattle.docstore.specs.Stacking.{AreRead, AfterStacking}
-use Rattle.docstore.specs.StackingInParts.{front_up_to, rest_from, after_reads, number_of_parts, IsReadTimes, IsBetween, IsBlockOf, AreFirstRead, AfterStackingInParts, PutsBlocks, PutsPart}
-use Rattle.docstore.proofs.PartLemmas.{front_and_rest, before_all, next_of, is_block_of}
+use Rattle.store_reader.specs.Parts.{front_up_to, rest_from, number_of_parts, IsBetween, IsBlockOf}
+use Rattle.docstore.specs.StackingInParts.{after_reads, IsReadTimes, AreFirstRead, AfterStackingInParts, PutsBlocks, PutsPart}
+use Rattle.store_reader.proofs.PartLemmas.{front_and_rest, before_all, next_of, is_block_of}
+use Rattle.docstore.proofs.PartLemmas.{first_of_rest}
 use Rattle.docstore.proofs.PutLemmas.{came_places, came_own, fails_behind, puts_joined, puts_kept}
 
 -- ---- reads
@@ -134,6 +139,42 @@ part_put size times reader read id next first old mid new kept start before p =
       between = (p.between.0, subst (λ (xs : List Checkpoint). IsBetween xs next p.between.0) cs p.between.1);
       parts = rw (← start, ← cs) p.parts;
     }
+
+-- ---- a part that was read
+
+-- where a part lies that begins with this block
+pub record IsReadPart (size : ℕ) (reader read : Reading) (first : Checkpoint) (part : DataPart) : Type 0 where
+  pub doc_start : part.ids.start ≡ first.doc_range.start
+  pub byte_start : part.start ≡ first.byte_range.start
+  pub more : first.doc_range.start < part.ids.end
+  pub ends : IsBetween reader.checkpoints part.ids.end (part.start + length part.bytes)
+  pub parts : number_of_parts size (rest_from part.ids.start reader.checkpoints) ≡ 1 + number_of_parts size (rest_from part.ids.end reader.checkpoints)
+  pub kept : IsReadTimes 1 reader read
+  pub checkpoints : read.checkpoints ≡ reader.checkpoints
+
+pub part_read : (size : ℕ) (reader read : Reading) (first : Checkpoint) (found : Option DataPart) (part : DataPart) → IsBlockOf reader.checkpoints first → found ≡ Some part
+    → IfSome found (IsPartFrom size reader first.doc_range.start) → IsReadOnce reader read → IsReadPart size reader read first part
+part_read size reader read first found part block is came once =
+    let cs = reader.checkpoints in
+    let p : IsPartFrom size reader first.doc_range.start part = subst (λ (o : Option DataPart). IfSome o (IsPartFrom size reader first.doc_range.start)) is came in
+    let own = first_of_rest first.doc_range.start cs first (rest_from first.doc_range.end cs) block.rest in
+    let found = p.seeks in
+    let same : p.first ≡ first = cc in
+    let kept = read_more 0 reader reader read (not_read reader) once in
+    record {
+      doc_start = p.first_id ∙ ap (λ (c : Checkpoint). c.doc_range.start) same;
+      byte_start = p.first_byte ∙ ap (λ (c : Checkpoint). c.byte_range.start) same;
+      more = p.to;
+      ends = p.ends;
+      parts = p.parts;
+      kept = kept;
+      checkpoints = same_checkpoints 1 reader read kept;
+    }
+
+-- a document below the last one has a part
+pub has_part : (found : Option DataPart) (count id : ℕ) → (IsNone found → count ≤ id) → id < count → IsSome found
+has_part None count id none lt = absurd (let le = none refl in omega arith)
+has_part (Some part) count id none lt = refl
 
 -- ---- a part that is refused
 

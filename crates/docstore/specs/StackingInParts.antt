@@ -8,23 +8,11 @@ use Rattle.store_base.specs.declared.error.StoreError.TheVariants.{Read, Memory,
 use Rattle.layered_index.specs.declared.index.Checkpoint.{Checkpoint}
 use Rattle.layered_index.specs.Checkpoint.{doc_count, byte_len, docs_end, bytes_end}
 use Rattle.store_format.specs.StoreFile.{StoreBlock, checkpoints_of, docs_in}
+use Rattle.store_reader.specs.Parts.{number_of_parts, front_up_to, rest_from, IsBetween}
 use Rattle.store_reader.specs.Reading.{Reading, part_of, store_of, with_file}
 use Rattle.docstore.specs.BlockOutput.{BlockOutput, with_blocks, with_risen, AfterFailedBlock}
 use Rattle.docstore.specs.Stacking.{with_store}
 use Rattle.docstore.specs.Writer.{Writing, with_failures, AfterFailed}
-
--- ---- parts
-
--- how many parts begin at these blocks, where the part before holds those that end up to this byte: the first block
--- past it begins a part, which holds those that end so many bytes behind its beginning
-abbrev pub parts_beyond : ℕ → ℕ → List Checkpoint → ℕ
-parts_beyond size limit [] = 0
-parts_beyond size limit (c ∷ cs) = if nat_le c.byte_range.end limit then parts_beyond size limit cs
-    else 1 + parts_beyond size (c.byte_range.start + size) cs
-
--- how many parts of so many bytes these blocks are in; a longer block is a part of its own
-abbrev pub number_of_parts : ℕ → List Checkpoint → ℕ
-number_of_parts size cs = parts_beyond size 0 cs
 
 -- ---- the file
 
@@ -88,28 +76,6 @@ AfterStackInParts reader read old new (Failed cause) = AfterFailed old.output.fa
 AfterStackInParts reader read old new _ = ⊥
 
 -- ---- how far a stacking has come
-
--- the blocks up to the one that ends past an id, and those from it on
-abbrev pub front_up_to : ℕ → List Checkpoint → List Checkpoint
-front_up_to id [] = []
-front_up_to id (c ∷ cs) = if nat_lt id c.doc_range.end then [] else c ∷ front_up_to id cs
-
-abbrev pub rest_from : ℕ → List Checkpoint → List Checkpoint
-rest_from id [] = []
-rest_from id (c ∷ cs) = if nat_lt id c.doc_range.end then c ∷ cs else rest_from id cs
-
--- A block ends before this document and this byte, or none does and they are the first.
-pub record IsBetween (cs : List Checkpoint) (id byte : ℕ) : Type 0 where
-  pub docs : docs_end 0 (front_up_to id cs) ≡ id
-  pub bytes : bytes_end 0 (front_up_to id cs) ≡ byte
-
--- It is a block of these, and the others go on behind it.
-pub record IsBlockOf (cs : List Checkpoint) (c : Checkpoint) : Type 0 where
-  pub between : IsBetween cs c.doc_range.start c.byte_range.start
-  pub behind : IsBetween cs c.doc_range.end c.byte_range.end
-  pub rest : rest_from c.doc_range.start cs ≡ c ∷ rest_from c.doc_range.end cs
-  pub some_docs : c.doc_range.start < c.doc_range.end
-  pub some_bytes : c.byte_range.start < c.byte_range.end
 
 -- A block came of the place of a checkpoint.
 pub record CameOf (honest : Bool) (content : List ℕ) (c : Checkpoint) (b : StoreBlock) : Type 0 where

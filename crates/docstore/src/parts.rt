@@ -6,8 +6,10 @@ ghost use Rattle.store_format.specs.StoreFile.{StoreBlock, docs_in};
 ghost use Rattle.store_reader.specs.Reading.{num_docs as docs_of, IsReadOnce};
 ghost use Rattle.docstore.specs.BlockOutput.{with_blocks, with_risen, IsSound, FailsFor};
 ghost use Rattle.docstore.specs.Stacking.{AreRead, AfterStacking};
-ghost use Rattle.docstore.specs.StackingInParts.{parts_beyond, number_of_parts, IsReadTimes, IsReadAtMost};
-ghost use Rattle.docstore.specs.StackingInParts.{AfterStackingInParts, rest_from, IsBetween, IsBlockOf};
+ghost use Rattle.store_reader.specs.Parts.{parts_beyond, number_of_parts};
+ghost use Rattle.docstore.specs.StackingInParts.{IsReadTimes, IsReadAtMost};
+ghost use Rattle.store_reader.specs.Parts.{rest_from, IsBetween, IsBlockOf};
+ghost use Rattle.docstore.specs.StackingInParts.{AfterStackingInParts};
 ghost use Rattle.docstore.specs.StackingInParts.{PutsBlocks, PutsPart};
 
 use crate::store_compressor::BlockCompressor;
@@ -16,34 +18,6 @@ use std::alloc::Global;
 use std::ops::Range;
 use store_base::{Cause, DocId, FileHandle, StoreError, TerminatingWrite};
 use store_reader::StoreReader;
-
-// The last block of the part that begins with this one: as many whole blocks as so many bytes hold, at least one.
-fn last_of_part<H: FileHandle>(
-    reader: &StoreReader<H>,
-    first: Checkpoint,
-    part_bytes: usize,
-) -> Checkpoint
-    requires first { IsBlockOf reader.now.checkpoints first }
-    ensures between { IsBetween reader.now.checkpoints result.doc_range.end result.byte_range.end }
-    ensures later { first.doc_range.end ≤ result.doc_range.end }
-    ensures behind { first.byte_range.end ≤ result.byte_range.end }
-    ensures within { result.byte_range.end ≤ length reader.now.file.content }
-    ensures few_bytes { (result.byte_range.end ≡ first.byte_range.end)
-        ⊎ (result.byte_range.end ≤ first.byte_range.start + part_bytes) }
-    ensures parts { parts_beyond part_bytes (first.byte_range.start + part_bytes)
-        (rest_from first.doc_range.end reader.now.checkpoints)
-        ≡ number_of_parts part_bytes (rest_from result.doc_range.end reader.now.checkpoints) }
-{
-    let start = first.byte_range.start;
-    let mut last = first;
-    while let Some(block) = reader.block_of(last.doc_range.end) {
-        if block.byte_range.end - start > part_bytes {
-            break;
-        }
-        last = block;
-    }
-    last
-}
 
 // Puts the blocks of these documents behind the others. The bytes are theirs, from this one of the data on.
 fn write_part<W: TerminatingWrite, H: FileHandle>(
@@ -96,12 +70,11 @@ fn stack_part<W: TerminatingWrite, H: FileHandle>(
     ensures count { output.old.failures ≤ output.new.failures }
     ensures sound { IsSound output.new }
 {
-    let first_id = first.doc_range.start;
-    let start = first.byte_range.start;
-    let last = last_of_part(reader, first, part_bytes);
-    let data = reader.read_data(alloc, start..last.byte_range.end)?;
-    let next_id = last.doc_range.end;
-    write_part(output, reader, first_id..next_id, start, data.as_slice())?;
+    let part = reader
+        .read_part(alloc, first.doc_range.start, part_bytes)?
+        .unwrap();
+    let next_id = part.ids.end;
+    write_part(output, reader, part.ids, part.start, part.bytes.as_slice())?;
     Ok(next_id)
 }
 

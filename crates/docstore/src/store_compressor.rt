@@ -12,7 +12,8 @@ ghost use Rattle.docstore.specs.BlockOutput.{new_output, with_blocks, with_risen
 ghost use Rattle.docstore.specs.BlockOutput.{AfterClose, IsEndRefusal};
 ghost use Rattle.store_reader.specs.Reading.{num_docs as docs_of, IsReadOnce};
 ghost use Rattle.docstore.specs.Stacking.{AreRead, shifted, AfterStacking};
-ghost use Rattle.docstore.specs.StackingInParts.{number_of_parts, IsReadTimes, IsReadAtMost, AfterStackingInParts};
+ghost use Rattle.store_reader.specs.Parts.{number_of_parts};
+ghost use Rattle.docstore.specs.StackingInParts.{IsReadTimes, IsReadAtMost, AfterStackingInParts};
 ghost use Rattle.store_reader.specs.Viewing.{count_in};
 
 use crate::close_error::CloseError;

@@ -12,7 +12,8 @@ ghost use Rattle.docstore.specs.Writer.{Takes, AfterRefusal, AfterDocument};
 ghost use Rattle.store_reader.specs.Reading.{IsReadOnce, IsReadAtMostOnce};
 ghost use Rattle.docstore.specs.Stacking.{AreRead, with_store, IsOld, HasTooMany, AfterStack};
 ghost use Rattle.docstore.specs.Stacking.{HasRoomFor, HasNoIdsFor, HasNoRoomFor, AfterStackedView};
-ghost use Rattle.docstore.specs.StackingInParts.{number_of_parts, IsReadTimes, IsReadAtMost, AfterStackInParts};
+ghost use Rattle.store_reader.specs.Parts.{number_of_parts};
+ghost use Rattle.docstore.specs.StackingInParts.{IsReadTimes, IsReadAtMost, AfterStackInParts};
 ghost use Rattle.store_reader.specs.Viewing.{count_in};
 
 use crate::close_error::CloseError;

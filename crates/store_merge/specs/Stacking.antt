@@ -5,7 +5,8 @@ use Rattle.store_format.specs.Slots.{slots}
 use Rattle.docstore.specs.Laws.{taken}
 use Rattle.store_reader.specs.Reading.{Reading, IsReadOnce, store_of}
 use Rattle.docstore.specs.Stacking.{IsFlushed}
-use Rattle.docstore.specs.StackingInParts.{number_of_parts, IsReadTimes, BeginsStack}
+use Rattle.store_reader.specs.Parts.{number_of_parts}
+use Rattle.docstore.specs.StackingInParts.{IsReadTimes, BeginsStack}
 use Rattle.docstore.specs.Writer.{Writing}
 use Rattle.store_merge.specs.declared.input.MergeInput.{MergeInput}
 use Rattle.store_merge.specs.declared.stacking.Stacking.{Stacking}

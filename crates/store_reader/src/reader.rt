@@ -1,6 +1,6 @@
 //! The reader of a store.
 ghost use Rattle.std.specs.Prelude.{◌≡◌, ◌<◌, ◌≤◌, Err, IsTrue, IfOk, IfErr, IfSome, IsErrOf, MatchResult, ◌⊎◌, ◌↔◌};
-ghost use Rattle.std.specs.Prelude.{◌+◌, ◌-◌, length, slice_get, slice_range, take, IsNone, IsOkAnd};
+ghost use Rattle.std.specs.Prelude.{◌-◌, length, slice_get, slice_range, take};
 ghost use Rattle.store_base.specs.Counts.{HasRisen};
 ghost use Rattle.store_reader.specs.GetAnswer.{IsAnswered, AnswersTruly};
 ghost use Rattle.layered_index.specs.Checkpoint.{Covers, first_past};
@@ -8,8 +8,6 @@ ghost use Rattle.store_reader.specs.Documents.{document_version, IsGot, ReadsTru
 ghost use Rattle.store_format.specs.Footer.{version_number};
 ghost use Rattle.store_reader.specs.Kept.{last_key};
 ghost use Rattle.layered_index.specs.Layers.{index_part};
-ghost use Rattle.store_reader.specs.Parts.{place_of};
-ghost use Rattle.std.specs.Option.{option_map};
 ghost use Rattle.store_reader.specs.Opening.{IsOpened, IsRefused, RefusesNoStore};
 ghost use Rattle.store_reader.specs.Reading.{IsReadOnce, IsSameStore, IsSeen, num_docs, store_of};
 ghost use Rattle.store_format.specs.Slots.{slots};
@@ -18,7 +16,6 @@ ghost use Rattle.store_reader.specs.Walking.{set_of, set_in, IsEntered, IsWalk, 
 
 use crate::cache::BlockCache;
 use crate::cache_stats::CacheStats;
-use crate::data_part::DataPart;
 use crate::documents::read_document;
 use crate::iter::{DocIter, Items, RawIter, sets_of};
 use crate::look_up::{Entered, look_up};
@@ -342,36 +339,5 @@ impl<H: FileHandle> StoreReader<H> {
     {
         let range = range.start as u64..range.end as u64;
         Ok(self.file.read_range(alloc, range)?)
-    }
-
-    /// Reads the block that has this document, by one read of the file. The cache is neither asked nor filled.
-    /// Returns `None` if there is no such document, and then nothing is read.
-    ///
-    /// From document 0 on, each time with the end of the last block's ids, it gives all blocks in order.
-    pub fn read_block(
-        &mut self,
-        alloc: Global,
-        doc_id: DocId,
-    ) -> Result<Option<DataPart>, StoreError>
-        ensures place { IfOk result (λ block. option_map place_of block ≡ first_past self.old.checkpoints doc_id) }
-        ensures bytes { IsTrue self.old.file.honest → IfOk result (λ block. IfSome block (λ part.
-            part.bytes ≡ slice_range self.old.file.content part.start (part.start + length part.bytes))) }
-        ensures has { IfOk result (λ block. IfSome block (λ part. (part.ids.start ≤ doc_id) × (doc_id < part.ids.end))) }
-        ensures within { IfOk result (λ block. IfSome block (λ part. part.ids.end ≤ num_docs self.old)) }
-        ensures none { IsOkAnd result IsNone ↔ (num_docs self.old ≤ doc_id) }
-        ensures no_read { num_docs self.old ≤ doc_id → self.new ≡ self.old }
-        ensures once { doc_id < num_docs self.old → IsReadOnce self.old self.new }
-        ensures causes { IfErr result (λ e. (e ≡ StoreError.Read) ⊎ (e ≡ StoreError.Memory)) }
-        ensures failed { IsErrOf result StoreError.Read → HasRisen self.old.file.failures self.new.file.failures }
-    {
-        let Some(block) = self.block_of(doc_id) else {
-            return Ok(None);
-        };
-        let bytes = self.read_data(alloc, block.byte_range.start..block.byte_range.end)?;
-        Ok(Some(DataPart {
-            ids: block.doc_range,
-            start: block.byte_range.start,
-            bytes,
-        }))
     }
 }

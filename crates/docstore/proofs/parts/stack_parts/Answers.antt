@@ -6,8 +6,8 @@ use Rattle.store_reader.proofs.SeekLemmas.{some_below}
 use Rattle.store_format.specs.StoreFile.{docs_in}
 use Rattle.store_format.proofs.StoreLemmas.{docs_in-append}
 use Rattle.docstore.specs.BlockOutput.{BlockOutput}
-use Rattle.docstore.specs.StackingInParts.{number_of_parts, rest_from}
-use Rattle.docstore.proofs.PartLemmas.{before_all, is_inside, none_past, some_parts}
+use Rattle.store_reader.specs.Parts.{number_of_parts, rest_from}
+use Rattle.store_reader.proofs.PartLemmas.{before_all, is_inside, none_past, some_parts}
 use Rattle.docstore.proofs.PutLemmas.{nothing_put}
 use Rattle.docstore.proofs.ReadInPartsLemmas.{not_read, read_more, same_checkpoints, part_begins, all_read, first_read, part_put, refused_part}
 use Rattle.docstore.proofs.parts.stack_parts.Goals as goal

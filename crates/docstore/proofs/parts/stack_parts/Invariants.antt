@@ -1,7 +1,8 @@
 use Rattle.std.proofs.Common.{◌≡◌, ℕ, ◌+◌, ◌-◌, ◌≤◌, None}
 use Rattle.layered_index.specs.Checkpoint.{docs_end}
 use Rattle.docstore.specs.BlockOutput.{IsSound}
-use Rattle.docstore.specs.StackingInParts.{number_of_parts, rest_from, IsBetween, IsReadTimes, PutsBlocks}
+use Rattle.store_reader.specs.Parts.{number_of_parts, rest_from, IsBetween}
+use Rattle.docstore.specs.StackingInParts.{IsReadTimes, PutsBlocks}
 use Rattle.docstore.proofs.parts.stack_parts.Given as goal
 
 abbrev pub invariant-loop-next_id : goal.invariant-loop-next_id

@@ -1,6 +1,7 @@
 use Rattle.std.proofs.Common.{◌≡◌, ℕ, ◌-◌, ◌≤◌, None}
 use Rattle.docstore.specs.BlockOutput.{IsSound}
-use Rattle.docstore.specs.StackingInParts.{IsBetween, PutsBlocks}
+use Rattle.store_reader.specs.Parts.{IsBetween}
+use Rattle.docstore.specs.StackingInParts.{PutsBlocks}
 use Rattle.docstore.proofs.parts.write_part.Given as goal
 
 abbrev pub invariant-loop-next_id : goal.invariant-loop-next_id
