@@ -17,7 +17,7 @@ fn write(rt: &HostRuntime, path: &str, documents: &[&str]) -> anyhow::Result<()>
     Ok(())
 }
 
-// This reads the footer and the index. A get makes one read, of one block.
+// This reads the footer and the index. A get makes one read at most.
 fn open(rt: &HostRuntime, path: &str) -> anyhow::Result<Reader> {
     let file = FileSlice::new(DiskFile::new(OsFile::open(rt, path)?)?);
     let opened = StoreReader::open(rt.alloc(), file, 100);
