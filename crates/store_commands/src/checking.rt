@@ -2,9 +2,10 @@
 
 ghost use Rattle.std.specs.Prelude.{◌≡◌, ◌≤◌, ◌+◌, ◌*◌, length, IfSome, IsNone};
 ghost use Rattle.store_format.specs.Block.{slot, damaged, count_of, u32_at};
+ghost use Rattle.store_reader.specs.Parts.{place_of};
 ghost use Rattle.store_commands.specs.Blocks.{AreWhole, documents_of};
 
-use docstore::{Checkpoint, block_read_index};
+use docstore::{DataPart, block_read_index};
 use std::fmt;
 use store_base::DocId;
 
@@ -162,22 +163,22 @@ impl Verdict {
     }
 
     /// Takes one block more.
-    pub fn take(&mut self, checkpoint: &Checkpoint, block: &[u8])
+    pub fn take(&mut self, block: &DataPart)
         ensures kept { IsNone self.new.first → IsNone self.old.first }
-        ensures whole { IsNone self.new.first → AreWhole block.now (documents_of checkpoint.now) }
-        ensures counted { IsNone self.new.first → count_of block.now ≡ documents_of checkpoint.now }
+        ensures whole { IsNone self.new.first → AreWhole block.now.bytes (documents_of (place_of block.now)) }
+        ensures counted { IsNone self.new.first → count_of block.now.bytes ≡ documents_of (place_of block.now) }
     {
-        let ids = &checkpoint.doc_range;
-        let documents = ids.end.saturating_sub(ids.start);
-        if let Some(fault) = fault_in(block, ids.start, documents) {
+        let documents = block.ids.end.saturating_sub(block.ids.start);
+        let bytes = block.bytes.as_slice();
+        if let Some(fault) = fault_in(bytes, block.ids.start, documents) {
             self.broken_blocks = self.broken_blocks.saturating_add(1);
             self.first = self.first.or(Some(FaultPlace {
                 fault,
                 block: self.blocks,
-                byte: checkpoint.byte_range.start,
+                byte: block.start,
             }));
         }
-        self.damaged = self.damaged.saturating_add(damaged_in(block, documents));
+        self.damaged = self.damaged.saturating_add(damaged_in(bytes, documents));
         self.blocks = self.blocks.saturating_add(1);
     }
 }

@@ -5,7 +5,7 @@ use crate::block_walk::write_documents;
 use crate::document_output::standard_output;
 use crate::failure::{Cause, Failure, at, printed};
 use crate::framing::Framing;
-use crate::store_file::{DiskReader, StoreFile, StorePath, store_path};
+use crate::store_file::{DiskReader, StorePath, store_path};
 use clap::{Arg, ArgAction, ArgMatches, Command};
 use std::alloc::{AllocError, Global};
 use std::io::Write;
@@ -35,24 +35,16 @@ pub fn command<'a>(alloc: Global) -> Result<Command<'a>, AllocError> {
         .arg(arguments::tantivy(alloc))
 }
 
-// Prints the documents of an opened store whose file this is.
+// Prints the documents of an opened store.
 fn print_documents(
     rt: &HostRuntime,
-    reader: &DiskReader,
-    file: &mut StoreFile,
+    reader: &mut DiskReader,
     framing: Framing,
     without: Option<&str>,
 ) -> Result<(), Cause> {
     let kept = kept_of(rt.alloc(), reader.num_docs(), without)?;
     let mut output = standard_output(rt)?;
-    write_documents(
-        rt.alloc(),
-        reader,
-        file,
-        &mut output,
-        framing,
-        kept.as_ref(),
-    )?;
+    write_documents(rt.alloc(), reader, &mut output, framing, kept.as_ref())?;
     printed(output.flush())
 }
 
@@ -63,9 +55,8 @@ fn print(
     framing: Framing,
     without: Option<&str>,
 ) -> Result<(), Cause> {
-    let reader = store.reader(rt)?;
-    let mut file = store.file(rt)?;
-    print_documents(rt, &reader, &mut file, framing, without)
+    let mut reader = store.reader(rt)?;
+    print_documents(rt, &mut reader, framing, without)
 }
 
 /// Prints the documents.

@@ -23,6 +23,7 @@ mod store_output;
 mod verify;
 mod words;
 
+use arguments::wrong_words;
 use clap::ArgMatches;
 use failure::Failure;
 use std::process::ExitCode;
@@ -40,7 +41,8 @@ fn run(rt: &HostRuntime, matches: &ArgMatches<'_>) -> Result<(), Failure> {
         "stat" => stat::run(rt, matches),
         "verify" => verify::run(rt, matches),
         "merge" => merge::run(rt, matches),
-        _ => inspect::run(rt, matches),
+        "inspect" => inspect::run(rt, matches),
+        _ => Err(wrong_words(rt.alloc(), "unknown command", name)),
     }
 }
 

@@ -2,7 +2,7 @@
 
 use crate::failure::Cause;
 use clap::ArgMatches;
-use docstore::{DocStoreFooter, StoreReader};
+use docstore::{OpenError, StoreReader};
 use std::fs;
 use store_base::FileSlice;
 use store_commands::store_part::before_tail;
@@ -41,19 +41,19 @@ impl<'a> StorePath<'a> {
 
     /// A reader of the store.
     pub fn reader(&self, rt: &HostRuntime) -> Result<DiskReader, Cause> {
-        match StoreReader::open(rt.alloc(), self.file(rt)?, CACHED_BLOCKS) {
+        match reader_of(rt, self.file(rt)?) {
             Ok(reader) => Ok(reader),
             Err(refusal) => Err(Cause::Store(refusal.error)),
         }
     }
+}
 
-    /// What the last bytes of the store say, and the store before them.
-    pub fn footer(&self, rt: &HostRuntime) -> Result<(DocStoreFooter, StoreFile), Cause> {
-        match DocStoreFooter::extract_footer(rt.alloc(), self.file(rt)?) {
-            Ok(found) => Ok(found),
-            Err(refusal) => Err(Cause::Store(refusal.error)),
-        }
-    }
+/// A reader over an opened file, or the error with the file.
+pub fn reader_of(
+    rt: &HostRuntime,
+    file: StoreFile,
+) -> Result<DiskReader, OpenError<DiskFile<OsFile>>> {
+    StoreReader::open(rt.alloc(), file, CACHED_BLOCKS)
 }
 
 /// The store that the words of a command name.

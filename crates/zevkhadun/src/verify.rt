@@ -4,7 +4,7 @@ use crate::arguments;
 use crate::checking::{broken_part, check_blocks};
 use crate::failure::{Cause, Failure, printed};
 use crate::progress::Progress;
-use crate::store_file::StorePath;
+use crate::store_file::{DiskReader, StoreFile, StorePath, reader_of};
 use clap::{ArgMatches, Command};
 use std::alloc::{AllocError, Global};
 use store_base::StoreError;
@@ -32,12 +32,10 @@ pub fn command<'a>(alloc: Global) -> Result<Command<'a>, AllocError> {
         .arg(arguments::quiet(alloc))
 }
 
-// Reads a store's blocks.
-fn verdict_of(rt: &HostRuntime, store: StorePath<'_>, is_quiet: bool) -> Result<Verdict, Cause> {
-    let reader = store.reader(rt)?;
-    let mut file = store.file(rt)?;
+// Reads the blocks of an opened store.
+fn verdict_of(rt: &HostRuntime, reader: &mut DiskReader, is_quiet: bool) -> Result<Verdict, Cause> {
     let mut progress = Progress::begin(rt, is_quiet);
-    let verdict = check_blocks(rt, &reader, &mut file, &mut progress);
+    let verdict = check_blocks(rt, reader, &mut progress);
     progress.end();
     verdict
 }
@@ -69,15 +67,15 @@ fn print_verdict(rt: &HostRuntime, path: &str, verdict: &Verdict) -> Result<bool
 }
 
 // Tells why a store can't be opened.
-fn print_refusal(
+fn print_error(
     rt: &HostRuntime,
-    store: StorePath<'_>,
-    refusal: StoreError,
+    path: &str,
+    file: StoreFile,
+    error: StoreError,
 ) -> Result<bool, Cause> {
-    let path = store.path;
-    match broken_part(rt, store, refusal)? {
+    match broken_part(rt, file, error)? {
         BrokenPart::Footer => {
-            let cause = Cause::Store(refusal);
+            let cause = Cause::Store(error);
             printed(println!(rt; "{path}: broken: footer: {cause}"))?;
         }
         part => printed(println!(rt; "{path}: broken: {part}"))?,
@@ -87,10 +85,12 @@ fn print_refusal(
 
 // Tells of a store, and whether it is sound.
 fn verify_store(rt: &HostRuntime, store: StorePath<'_>, is_quiet: bool) -> Result<bool, Cause> {
-    match verdict_of(rt, store, is_quiet) {
-        Ok(verdict) => print_verdict(rt, store.path, &verdict),
-        Err(Cause::Store(refusal)) => print_refusal(rt, store, refusal),
-        Err(cause) => Err(cause),
+    match reader_of(rt, store.file(rt)?) {
+        Ok(mut reader) => {
+            let verdict = verdict_of(rt, &mut reader, is_quiet)?;
+            print_verdict(rt, store.path, &verdict)
+        }
+        Err(refusal) => print_error(rt, store.path, refusal.file, refusal.error),
     }
 }
 

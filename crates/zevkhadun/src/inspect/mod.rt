@@ -8,16 +8,15 @@ mod seek_drawing;
 use crate::arguments;
 use crate::failure::{Cause, Failure, at};
 use crate::replacing::check_page;
-use crate::store_file::{DiskReader, StoreFile, StorePath, store_path};
+use crate::store_file::{DiskReader, StorePath, store_path};
 use blocks::BlockStarts;
 use clap::{Arg, ArgAction, ArgMatches, Command};
-use docstore::block_read_index;
+use docstore::{DataPart, block_read_index};
 use histogram::Histogram;
 use page::Page;
 use std::alloc::{AllocError, Global};
 use store_base::{StoreError, TerminatingWrite};
 use store_commands::store_numbers::{block_sizes, numbers_of};
-use store_commands::store_part::part_of;
 use store_files::DiskSink;
 
 const EXAMPLE: &str = "\
@@ -53,9 +52,9 @@ struct DocumentSizes {
 
 impl DocumentSizes {
     // Counts the documents of a block.
-    fn add_block(&mut self, block: &[u8], documents: u32) {
-        for position in 0..documents {
-            match block_read_index(block, position) {
+    fn add_block(&mut self, block: &DataPart) {
+        for position in 0..block.ids.end.saturating_sub(block.ids.start) {
+            match block_read_index(block.bytes.as_slice(), position) {
                 Some(range) => self.spread.add(range.len() as u64),
                 None => self.damaged = self.damaged.saturating_add(1),
             }
@@ -63,20 +62,20 @@ impl DocumentSizes {
     }
 }
 
-// The sizes of the documents of an opened store whose file this is.
-fn document_sizes(
-    alloc: Global,
-    reader: &DiskReader,
-    file: &mut StoreFile,
-) -> Result<DocumentSizes, StoreError> {
+// The sizes of the documents of an opened store.
+fn document_sizes(alloc: Global, reader: &mut DiskReader) -> Result<DocumentSizes, StoreError> {
     let mut sizes = DocumentSizes {
         spread: Histogram::new(),
         damaged: 0,
     };
-    for checkpoint in reader.block_checkpoints() {
-        let (ids, bytes) = (&checkpoint.doc_range, &checkpoint.byte_range);
-        let block = part_of(alloc, file, bytes.start as u64, bytes.end as u64)?;
-        sizes.add_block(block.as_slice(), ids.end.saturating_sub(ids.start));
+    let mut next_id = 0;
+    // Each block has a document.
+    for _ in 0..reader.num_docs() {
+        let Some(block) = reader.read_block(alloc, next_id)? else {
+            break;
+        };
+        sizes.add_block(&block);
+        next_id = block.ids.end;
     }
     Ok(sizes)
 }
@@ -90,14 +89,9 @@ fn spread_of(sizes: &[usize]) -> Histogram {
     spread
 }
 
-// The page on an opened store of this name, whose file this is.
-fn page_on(
-    alloc: Global,
-    name: &str,
-    reader: &DiskReader,
-    file: &mut StoreFile,
-) -> Result<String, Cause> {
-    let documents = document_sizes(alloc, reader, file)?;
+// The page on an opened store of this name.
+fn page_on(alloc: Global, name: &str, reader: &mut DiskReader) -> Result<String, Cause> {
+    let documents = document_sizes(alloc, reader)?;
     let sizes = block_sizes(alloc, reader)?;
     let spread = spread_of(&sizes);
     let numbers = numbers_of(reader, sizes);
@@ -117,9 +111,8 @@ fn page_on(
 
 // The page on a store.
 fn page_of(rt: &HostRuntime, store: StorePath<'_>) -> Result<String, Cause> {
-    let reader = store.reader(rt)?;
-    let mut file = store.file(rt)?;
-    page_on(rt.alloc(), store.path, &reader, &mut file)
+    let mut reader = store.reader(rt)?;
+    page_on(rt.alloc(), store.path, &mut reader)
 }
 
 // Why an output refused a call.
