@@ -267,6 +267,64 @@ class Named(InFolder):
         self.assertTrue(done.stderr)
 
 
+class OpenedOnce(InFolder):
+    """A command reads one file from beginning to end, whatever takes its name meanwhile."""
+
+    WIDE = lines(200_000, b"an old line of some length")
+
+    def setUp(self):
+        super().setUp()
+        self.assertEqual(ran("pack", self.path, stdin=self.WIDE).returncode, 0)
+
+    def replace(self):
+        """Gives the name to a store whose blocks lie at the same places."""
+        new = self.WIDE.replace(b"old", b"new")
+        self.assertEqual(ran("pack", self.path, stdin=new).returncode, 0)
+        self.assertEqual(self.text(), new)
+
+    def test_replaced_between_two_blocks(self):
+        with subprocess.Popen([PROGRAM, "cat", self.path], stdout=subprocess.PIPE) as reading:
+            begun = reading.stdout.read(1)
+            self.replace()
+            self.assertEqual(begun + reading.stdout.read(), self.WIDE)
+        self.assertEqual(reading.returncode, 0)
+
+    def opened(self, *words, **how):
+        """How often a command opens the store by its name."""
+        if not shutil.which("strace"):
+            self.skipTest("there is no strace")
+        calls = self.path_of("calls")
+        words = ["strace", "-f", "-o", calls, "-e", "trace=open,openat", PROGRAM, *words]
+        subprocess.run(words, stdout=subprocess.DEVNULL, timeout=120, **how)
+        with open(calls, encoding="utf-8") as file:
+            return file.read().count(f'"{self.path}"')
+
+    def test_one_open(self):
+        page = self.path_of("page.html")
+        self.assertEqual(self.opened("cat", self.path), 1)
+        self.assertEqual(self.opened("verify", self.path), 1)
+        self.assertEqual(self.opened("inspect", self.path, "--html", page), 1)
+
+    def test_one_open_of_a_broken_index(self):
+        with open(self.path, "r+b") as file:
+            file.seek(-40, os.SEEK_END)
+            file.write(b"\xff" * 12)
+        self.assertEqual(ran("verify", self.path).returncode, 1)
+        self.assertEqual(self.opened("verify", self.path, stderr=subprocess.DEVNULL), 1)
+
+    def test_summary_without_an_open(self):
+        os.remove(self.path)
+        terminal, shown = os.openpty()
+        self.addCleanup(os.close, terminal)
+        self.addCleanup(os.close, shown)
+        source = self.path_of("lines")
+        with open(source, "wb") as file:
+            file.write(self.OLD)
+        self.assertEqual(self.opened("pack", self.path, source, stderr=shown), 0)
+        told = os.read(terminal, 1 << 16).decode()
+        self.assertRegex(told, f"2 documents, {os.path.getsize(self.path)} bytes, 1 blocks?, ")
+
+
 class Large(InFolder):
     """A store of more than 4 GiB, in less than 200 MB of memory."""
 
