@@ -1,13 +1,13 @@
 -- The output of a writer of blocks.
-use Rattle.std.proofs.Common.{◌≡◌, ℕ, ◌+◌, ◌-◌, ◌^◌, ◌<◌, ◌≤◌, List, [], ◌∷◌, ◌++◌, length, take, drop, Option, Some, None, refl, sym, ◌∙◌, ap, subst, arith, append_assoc, length-append}
+use Rattle.std.proofs.Common.{◌≡◌, ℕ, suc, ◌+◌, ◌-◌, ◌^◌, ◌<◌, ◌≤◌, List, [], ◌∷◌, ◌++◌, length, take, drop, Option, Some, None, refl, sym, ◌∙◌, ap, subst, arith, append_assoc, length-append}
 use Rattle.std.proofs.lemmas.List.{take_all, append-nil, drop-append-le, take-append-le, take-append-drop, length-drop}
 use Rattle.std.proofs.Math.ListN.{drop_of_length-le}
 use Rattle.std.specs.List.{AllByRecursion}
 use Rattle.store_base.specs.Outputs.{Termination}
 use Rattle.layered_index.specs.declared.index.Checkpoint.{Checkpoint}
 use Rattle.store_base.specs.declared.error.Cause.{Cause}
-use Rattle.layered_index.specs.Checkpoint.{IsInLineFrom, IsInLine}
-use Rattle.store_format.specs.StoreFile.{StoreBlock, IsStoreBlock, docs_in, AreBlocks, data_of, checkpoints_from, checkpoints_of, file, reserved_of}
+use Rattle.layered_index.specs.Checkpoint.{byte_len, IsInLineFrom, IsInLine}
+use Rattle.store_format.specs.StoreFile.{StoreBlock, IsStoreBlock, docs_in, AreBlocks, blocks_at, data_of, checkpoints_from, checkpoints_of, file, reserved_of}
 use Rattle.store_format.specs.declared.kinds.Compressor.{Compressor}
 use Rattle.store_format.specs.declared.kinds.Compressor.TheVariants as packed
 use Rattle.store_format.specs.Footer.{footer, kind_of, unpacks}
@@ -84,6 +84,12 @@ is_added period next_id cs content written b h one few =
     subst P count (subst (λ (x : List ℕ). AreAdded period next_id cs content written (b ∷ []) x (docs_in (b ∷ []))) (append-nil b.bytes) all)
 
 -- ---- what clauses see
+
+-- there is a block for each checkpoint
+pub length-blocks_at : (cs : List Checkpoint) (bytes : List ℕ) → length (blocks_at cs bytes) ≡ length cs
+unfolding blocks_at
+length-blocks_at [] bytes = refl
+length-blocks_at (c ∷ cs) bytes = ap suc (length-blocks_at cs (drop (byte_len c) bytes))
 
 pub docs_seen : (period next_id : ℕ) (cs : List Checkpoint) (content : List ℕ) (written : ℕ) (failure : Option Cause) → IsCompressing period next_id cs content written failure
     → docs_in (blocks_in cs content written) ≡ next_id

@@ -1,12 +1,12 @@
 -- Putting a store behind what a writer has, a part of its data at a time.
-use Rattle.std.specs.Prelude.{◌≡◌, ℕ, zero, suc, ◌+◌, ◌<◌, ◌≤◌, nat_lt, nat_le}
-use Rattle.std.specs.Prelude.{if◌then◌else◌, Bool, IsTrue}
+use Rattle.std.specs.Prelude.{◌≡◌, ℕ, zero, suc, ◌+◌, ◌<◌, ◌≤◌}
+use Rattle.std.specs.Prelude.{Bool, IsTrue}
 use Rattle.std.specs.Prelude.{List, [], ◌∷◌, ◌++◌, length, take, None}
 use Rattle.store_base.specs.Counts.{HasRisen, raised}
 use Rattle.store_base.specs.declared.error.StoreError.{StoreError}
 use Rattle.store_base.specs.declared.error.StoreError.TheVariants.{Read, Memory, OldVersion, TooManyDocs, Failed}
 use Rattle.layered_index.specs.declared.index.Checkpoint.{Checkpoint}
-use Rattle.layered_index.specs.Checkpoint.{doc_count, byte_len, docs_end, bytes_end}
+use Rattle.layered_index.specs.Checkpoint.{doc_count, byte_len}
 use Rattle.store_format.specs.StoreFile.{StoreBlock, checkpoints_of, docs_in}
 use Rattle.store_reader.specs.Parts.{number_of_parts, front_up_to, rest_from, IsBetween}
 use Rattle.store_reader.specs.Reading.{Reading, part_of, store_of, with_file}

@@ -2,6 +2,7 @@
 //! crates below.
 #![tactic(auto)]
 
+mod block_index;
 pub mod close_error;
 mod current_block;
 mod flushing;

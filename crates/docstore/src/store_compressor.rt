@@ -2,8 +2,8 @@
 
 ghost use Rattle.std.specs.Prelude.{◌≡◌, ◌≢◌, ◌+◌, ◌<◌, ◌≤◌, ◌^◌, List, [], ◌∷◌, ◌++◌, length, map, true, None, OnOk};
 ghost use Rattle.std.specs.Prelude.{OnErr, IfOk, IfErr, IfSome, IsErrOf};
-ghost use Rattle.std.specs.List.{sum_by};
-ghost use Rattle.layered_index.specs.Checkpoint.{doc_count, docs_end, IsInLineFrom, Covers};
+ghost use Rattle.std.specs.List.{sum_by, AllByRecursion};
+ghost use Rattle.layered_index.specs.Checkpoint.{doc_count, docs_end, IsFilled, IsInLineFrom, Covers};
 ghost use Rattle.store_format.specs.Footer.{footer, kind_of, unpacks};
 ghost use Rattle.layered_index.specs.Layers.{index_part};
 ghost use Rattle.store_format.specs.StoreFile.{StoreBlock, docs_in, file, reserved_of, IsStore, blocks_at};
@@ -16,9 +16,10 @@ ghost use Rattle.store_reader.specs.Parts.{number_of_parts};
 ghost use Rattle.docstore.specs.StackingInParts.{IsReadTimes, IsReadAtMost, AfterStackingInParts};
 ghost use Rattle.store_reader.specs.Viewing.{count_in};
 
+use crate::block_index::BlockIndex;
 use crate::close_error::CloseError;
 use crate::parts::stack_parts;
-use layered_index::{CHECKPOINT_PERIOD, Checkpoint, LayerCursor, SkipIndexBuilder};
+use layered_index::{CHECKPOINT_PERIOD, Checkpoint, LayerCursor};
 use std::alloc::Global;
 use std::marker::Model;
 use store_base::{
@@ -33,7 +34,7 @@ pub struct BlockCompressor<W: TerminatingWrite> {
     alloc: Global,
     compressor: Compressor,
     first_doc_in_block: u32,
-    index: SkipIndexBuilder,
+    index: BlockIndex,
     writer: CountingWriter<W>,
     failure: Option<Cause>,
 }
@@ -78,7 +79,7 @@ impl<W: TerminatingWrite> BlockCompressor<W> {
             alloc,
             compressor,
             first_doc_in_block: 0,
-            index: SkipIndexBuilder::with_period(alloc, period),
+            index: BlockIndex::with_period(alloc, period),
             writer: CountingWriter::wrap(output),
             failure: None,
         }
@@ -103,6 +104,14 @@ impl<W: TerminatingWrite> BlockCompressor<W> {
         ensures { result ≡ docs_in self.now.finished }
     {
         self.first_doc_in_block
+    }
+
+    /// How many blocks were written.
+    pub fn num_blocks(&self) -> u32
+        ensures count { result ≡ length self.now.finished }
+        ensures few { result ≤ docs_in self.now.finished }
+    {
+        self.index.num_blocks() as u32
     }
 
     /// Writes a block, and then registers its checkpoint.
@@ -315,7 +324,7 @@ impl<W: TerminatingWrite> BlockCompressor<W> {
 
 // Writes the index and the footer, and ends the output.
 fn write_end<W: TerminatingWrite>(
-    index: SkipIndexBuilder,
+    index: BlockIndex,
     compressor: Compressor,
     writer: &mut CountingWriter<W>,
 ) -> Result<(), StoreError>
@@ -336,7 +345,7 @@ fn write_end<W: TerminatingWrite>(
         DOC_STORE_VERSION,
         index.period(),
     );
-    index.serialize_into(writer)?;
+    index.into_builder().serialize_into(writer)?;
     footer.serialize(writer)?;
     writer.terminate()?;
     Ok(())
@@ -344,7 +353,7 @@ fn write_end<W: TerminatingWrite>(
 
 // Adds the checkpoints, so many documents and bytes further on. A refusal leaves those before it added.
 fn register_all(
-    index: &mut SkipIndexBuilder,
+    index: &mut BlockIndex,
     next_id: &mut u32,
     checkpoints: LayerCursor<'_>,
     docs: u32,
@@ -353,6 +362,7 @@ fn register_all(
     requires ids { next_id.old ≡ sum_by doc_count index.old.checkpoints }
     requires few { next_id.old < 2 ^ 32 }
     requires in_line { IsInLineFrom 0 0 (index.old.checkpoints ++ map (shifted docs bytes) checkpoints) }
+    requires filled { AllByRecursion IsFilled checkpoints }
     ensures ok { OnOk result (index.new
         ≡ record index.old { checkpoints = index.old.checkpoints ++ map (shifted docs bytes) checkpoints.entry }) }
     ensures period { index.new.period ≡ index.old.period }

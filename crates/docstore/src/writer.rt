@@ -106,6 +106,17 @@ impl<W: TerminatingWrite> StoreWriter<W> {
         self.block_compressor.num_docs() + self.current_block.len()
     }
 
+    /// How many blocks the store has once it is closed: those that are finished, and one more if documents are pending.
+    pub fn num_blocks(&self) -> u32
+        ensures { result ≡ length (flushed self.now).output.finished }
+    {
+        let finished = self.block_compressor.num_blocks();
+        if self.current_block.len() == 0 {
+            return finished;
+        }
+        finished + 1
+    }
+
     /// Whether a call has failed for good.
     pub fn has_failed(&self) -> bool
         ensures { result ≡ is_some self.now.output.failure }

@@ -1,10 +1,7 @@
-use Rattle.std.proofs.Common.{◌≡◌, ◌+◌, ◌<◌, ◌≤◌, length, refl, sym, ◌∙◌, ap, subst, arith}
+use Rattle.std.proofs.Common.{◌+◌, length, ap, arith}
 use Rattle.layered_index.specs.Checkpoint.{docs_end}
-use Rattle.store_reader.specs.Parts.{IsBetween}
-use Rattle.store_reader.specs.Reading.{Reading, num_docs}
+use Rattle.store_reader.specs.Reading.{num_docs}
 use Rattle.store_reader.proofs.PartLemmas.{is_inside}
-use Rattle.docstore.specs.BlockOutput.{BlockOutput}
-use Rattle.docstore.specs.StackingInParts.{PutsBlocks}
 use Rattle.docstore.proofs.PutLemmas.{puts_kept}
 use Rattle.docstore.proofs.ReadInPartsLemmas.{part_read, has_part}
 use Rattle.docstore.proofs.parts.stack_part.Goals as goal

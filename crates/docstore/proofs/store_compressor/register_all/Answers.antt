@@ -1,7 +1,7 @@
-use Rattle.std.proofs.Common.{◌≡◌, List, [], ◌∷◌, ◌++◌, length, map, sym, ◌∙◌, ap, arith, append_assoc}
-use Rattle.std.specs.List.{sum_by}
+use Rattle.std.proofs.Common.{◌≡◌, List, [], ◌∷◌, ◌++◌, length, map, sym, ◌∙◌, ap, subst, arith, append_assoc}
+use Rattle.std.specs.List.{sum_by, AllByRecursion}
 use Rattle.layered_index.specs.declared.index.Checkpoint.{Checkpoint}
-use Rattle.layered_index.specs.Checkpoint.{doc_count}
+use Rattle.layered_index.specs.Checkpoint.{doc_count, IsFilled}
 use Rattle.layered_index.specs.Layers.{Index}
 use Rattle.docstore.specs.Stacking.{shifted}
 use Rattle.docstore.proofs.ShiftedCheckpointLemmas.{next_left}
@@ -27,8 +27,20 @@ overflow_add-checkpoint-in-loop-checkpoint-2 c =
     let next = next_left _ _ _ _ _ _ _ c.loop-checkpoint.invariant.all c.in-Some.ensures.steps c.requires.in_line in
     omega (arith, next.limits.byte_order, next.limits.byte_end)
 
-pub insert-requires : goal.insert-requires
-insert-requires c =
+-- the next one has a document and a byte, and so have those that are left
+filled : (left more : List Checkpoint) (c : Checkpoint) → left ≡ c ∷ more → AllByRecursion IsFilled left → IsFilled c × AllByRecursion IsFilled more
+filled left more c is h = subst (AllByRecursion IsFilled) is h
+
+pub insert-requires-clause-some : goal.insert-requires-clause-some
+insert-requires-clause-some c =
+    let some = (filled _ _ _ c.in-Some.ensures.steps c.loop-checkpoint.invariant.filled).0 in
+    omega (arith, some.0)
+
+pub insert-requires-clause-few : goal.insert-requires-clause-few
+insert-requires-clause-few c = omega (arith, c.loop-checkpoint.invariant.ids, c.loop-checkpoint.invariant.few)
+
+pub insert-requires-clause-in_line : goal.insert-requires-clause-in_line
+insert-requires-clause-in_line c =
     let next = next_left _ _ _ _ _ _ _ c.loop-checkpoint.invariant.all c.in-Some.ensures.steps c.requires.in_line in
     next.in_line
 
@@ -46,4 +58,5 @@ loop-checkpoint-preserved c =
       few = next.limits.doc_end;
       ids = sym next.ends ∙ ap (λ (xs : List Checkpoint). sum_by doc_count xs) (sym added);
       left = omega (arith, ap length left, c.loop-checkpoint.invariant.left);
+      filled = (filled _ _ _ left c.loop-checkpoint.invariant.filled).1;
     }

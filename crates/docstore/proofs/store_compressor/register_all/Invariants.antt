@@ -1,6 +1,6 @@
 use Rattle.std.proofs.Common.{◌≡◌, ◌++◌, ◌<◌, ◌≤◌, ◌^◌, length, map}
-use Rattle.std.specs.List.{sum_by}
-use Rattle.layered_index.specs.Checkpoint.{doc_count}
+use Rattle.std.specs.List.{sum_by, AllByRecursion}
+use Rattle.layered_index.specs.Checkpoint.{doc_count, IsFilled}
 use Rattle.docstore.specs.Stacking.{shifted}
 use Rattle.docstore.proofs.store_compressor.register_all.Given as goal
 
@@ -12,4 +12,5 @@ invariant-loop-checkpoint l = record {
   few : l.next_id < 2 ^ 32;
   ids : l.next_id ≡ sum_by doc_count l.index.checkpoints;
   left : length l.checkpoint-iterator ≤ length l.fn.checkpoints;
+  filled : AllByRecursion IsFilled l.checkpoint-iterator;
 }

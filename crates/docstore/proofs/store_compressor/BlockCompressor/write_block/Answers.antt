@@ -24,8 +24,8 @@ overflow_add-checkpoint-2 g c =
     let a = block_added _ _ _ _ _ _ _ _ _ _ _ _ c.self.view_is c.self.invariant c.requires.works c.requires.some_bytes c.requires.few_bytes c.requires.some_docs c.requires.few_docs in
     omega (arith, a.fits, c.written_bytes-start.ensures)
 
-pub insert-requires : goal.insert-requires
-insert-requires g c =
+pub insert-requires-clause-in_line : goal.insert-requires-clause-in_line
+insert-requires-clause-in_line g c =
     let a = block_added _ _ _ _ _ _ _ _ _ _ _ _ c.self.view_is c.self.invariant c.requires.works c.requires.some_bytes c.requires.few_bytes c.requires.some_docs c.requires.few_docs in
     rw c.written_bytes-start.ensures a.in_line
 
