@@ -1,6 +1,6 @@
 //! An output on disk that takes its name only once it is whole.
 
-ghost use Rattle.std.specs.Prelude.{◌≡◌, ◌++◌, ◌≤◌, [], IfOk, OnErr, IsErr};
+ghost use Rattle.std.specs.Prelude.{◌≡◌, ◌++◌, ◌≤◌, [], length, IfOk, OnErr, IsErr};
 ghost use Rattle.store_base.specs.Counts.{HasRisen};
 ghost use Rattle.store_base.specs.Outputs.{never_terminated};
 
@@ -45,6 +45,7 @@ where
     buffer: Vec<u8>,
     // What went to the system. It takes no memory: only clauses read it.
     handed_over: Vec<Snapshot<Vec<u8>>>,
+    num_bytes: u64,
     stage: Stage,
     ends: u64,
     failures: u64,
@@ -57,7 +58,7 @@ where
     R::File: LockFile,
 {
     ghost use Rattle.store_base.specs.Outputs.{Output};
-    ghost use Rattle.std.specs.Prelude.{◌++◌};
+    ghost use Rattle.std.specs.Prelude.{◌≡◌, ◌++◌, length};
     ghost use Rattle.std.specs.List.{flat_map};
     ghost use Rattle.store_files.specs.Held.{told};
 
@@ -65,6 +66,9 @@ where
 
     ghost view = { λ s. told (flat_map (λ part. part.value.items) s.handed_over.items ++ s.buffer.items)
         s.stage s.ends s.failures };
+
+    ghost invariant = { λ s. s.num_bytes
+        ≡ length (flat_map (λ part. part.value.items) s.handed_over.items ++ s.buffer.items) };
 }
 
 // The folder that a file of this name is in.
@@ -99,6 +103,7 @@ where
             is_beside: true,
             buffer: Vec::new(alloc),
             handed_over: Vec::new(alloc),
+            num_bytes: 0,
             stage: Stage::Open,
             ends: 0,
             failures: 0,
@@ -109,6 +114,13 @@ where
     /// What the system said at the call that failed.
     pub fn last_error(&self) -> Option<io::Error> {
         self.last_error
+    }
+
+    /// How many bytes it was given.
+    pub fn num_bytes(&self) -> u64
+        ensures { result ≡ length self.now.content }
+    {
+        self.num_bytes
     }
 
     // Counts a refusal.
@@ -178,9 +190,13 @@ where
         if self.stage != Stage::Open {
             return self.refuse();
         }
+        let Some(num_bytes) = self.num_bytes.checked_add(bytes.len() as u64) else {
+            return self.fail(io::ErrorKind::FileTooLarge.into());
+        };
         if self.buffer.extend_from_slice(bytes).is_err() {
             return self.fail(io::ErrorKind::OutOfMemory.into());
         }
+        self.num_bytes = num_bytes;
         if self.buffer.len() < BUFFER_SIZE {
             return Ok(());
         }
@@ -214,6 +230,7 @@ where
             is_beside,
             buffer: _buffer,
             handed_over: _handed_over,
+            num_bytes: _,
             stage: _,
             ends: _,
             failures: _,
