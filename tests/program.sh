@@ -106,8 +106,8 @@ prints "blocks are as small as asked" '"largest_block":76,' stat --json small.st
 "$program" pack --block-size 1K kilo.store numbers.txt
 "$program" pack --block-size 1024 kilo2.store numbers.txt
 same "1K is 1024" kilo.store kilo2.store
-refuses "a block size without digits" 2 "no block size" pack --block-size K x.store lines.txt
-refuses "a block size with another unit" 2 "no block size" pack --block-size 1X x.store lines.txt
+refuses "a block size without digits" 2 "invalid block size: 'K'" pack --block-size K x.store lines.txt
+refuses "a block size with another unit" 2 "invalid block size: '1X'" pack --block-size 1X x.store lines.txt
 status=0; "$program" pack --period 65 x.store lines.txt 2>err.txt || status=$?
 count "a period past 64 is refused" $((status != 2))
 status=0; "$program" pack --period 1 x.store lines.txt 2>err.txt || status=$?
@@ -319,8 +319,8 @@ keeps "a store that was cut is no store" beginning.store "no store" pack beginni
 same "an empty file is replaced" kept.store nothing.store
 "$program" inspect kept.store --html page.html && "$program" inspect small.store --html page.html
 count "a page is replaced" $?
-refuses "an output to the standard output" 2 "no name for a store: '-'" pack -
-refuses "a merge to the standard output" 2 "no name for a store: '-'" merge - numbers.store
+refuses "an output to the standard output" 2 "a store can't be written to standard output: '-'" pack -
+refuses "a merge to the standard output" 2 "a store can't be written to standard output: '-'" merge - numbers.store
 "$program" pack ./- lines.txt
 same "a file may have that name" kept.store ./-
 refuses "a folder that isn't there" 1 "gone/x.store: No such file" pack gone/x.store lines.txt
@@ -384,7 +384,7 @@ done
 status=0; "$program" cat $'\377' 2>err.txt || status=$?
 count "words that are no UTF-8 end with 2" \
     $([ "$status" = 2 ] && [ "$(wc -l <err.txt)" = 1 ] && grep -q 'have to be UTF-8' err.txt && echo 0 || echo 1)
-"$program" --version >out.txt; echo "zevkhadun 0.1.0" >wanted.txt
+"$program" --version >out.txt; echo "zevkhadun $(cat "$here/../VERSION")" >wanted.txt
 same "the version" wanted.txt out.txt
 for words in "" "pac x" "pack" "get x" "cat" "stat" "verify" "merge x" \
     "inspect x" "pack --framing bytes x y" "cat --jsn x"; do

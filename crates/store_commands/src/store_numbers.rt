@@ -16,9 +16,9 @@ pub struct StoreNumbers {
     pub layers: u32,
     pub data_bytes: u64,
     pub index_bytes: u64,
-    /// The bytes of the smallest block, of the one in the middle, and of the largest; 0 where there is none.
+    /// The bytes of the smallest, the median and the largest block; 0 if there is none.
     pub smallest_block: usize,
-    pub middle_block: usize,
+    pub median_block: usize,
     pub largest_block: usize,
 }
 
@@ -74,7 +74,7 @@ pub fn numbers_of<H: FileHandle>(reader: &StoreReader<H>, mut sizes: Vec<usize>)
         data_bytes: usage.data_usage(),
         index_bytes: usage.offsets_usage(),
         smallest_block: sizes.first().copied().unwrap_or(0),
-        middle_block: sizes.get(middle).copied().unwrap_or(0),
+        median_block: sizes.get(middle).copied().unwrap_or(0),
         largest_block: sizes.last().copied().unwrap_or(0),
     }
 }

@@ -20,7 +20,7 @@ pub fn output<'a>(alloc: Global) -> Arg<'a> {
     file(
         alloc,
         "OUT",
-        "The store to write; one that is there is replaced at the end, any other file is kept",
+        "Output file. It replaces an existing store or empty file when writing succeeds, never any other file",
     )
 }
 
@@ -46,7 +46,7 @@ pub fn tantivy<'a>(alloc: Global) -> Arg<'a> {
     flag(
         alloc,
         "tantivy",
-        "Takes a segment's .store file as tantivy's directory leaves it",
+        "Read .store files of tantivy segments, with the footer that tantivy's directory adds",
     )
 }
 
@@ -55,7 +55,7 @@ pub fn quiet<'a>(alloc: Global) -> Arg<'a> {
     flag(
         alloc,
         "quiet",
-        "Shows no progress and no summary on a terminal",
+        "Show no progress and no summary on standard error",
     )
     .short('q')
 }
@@ -67,7 +67,7 @@ pub fn framing<'a>(alloc: Global) -> Arg<'a> {
         .value_name("FRAMING")
         .value_parser(FRAMINGS.as_slice())
         .default_value("lines")
-        .help("How documents stand one behind the other")
+        .help("How documents are delimited")
         .long_help(FRAMING_HELP)
 }
 
@@ -77,7 +77,7 @@ pub fn block_size<'a>(alloc: Global) -> Arg<'a> {
         .long("block-size")
         .value_name("BYTES")
         .default_value("16K")
-        .help("A block goes out once its documents weigh more; K, M and G may stand behind")
+        .help("Write a block once its documents plus 8 bytes each exceed BYTES; suffixes K, M, G")
 }
 
 /// How many checkpoints a full block of the index has.
@@ -87,7 +87,7 @@ pub fn period<'a>(alloc: Global) -> Arg<'a> {
         .value_name("COUNT")
         .value_parser(value_parser!(u8).range(2..=64))
         .default_value("8")
-        .help("How many entries each run of the index has, 2 to 64")
+        .help("Entries per index run, 2 to 64; rarely worth changing, gets don't depend on it")
 }
 
 // The shape, or `None` where a word names none.
@@ -103,7 +103,7 @@ pub fn shape_of(alloc: Global, matches: &ArgMatches<'_>) -> Result<StoreShape, F
         Some(shape) => Ok(shape),
         None => Err(wrong_words(
             alloc,
-            "no block size",
+            "invalid block size",
             matches.get_str("block-size").unwrap_or(""),
         )),
     }

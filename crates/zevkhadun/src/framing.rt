@@ -25,12 +25,12 @@ pub const FRAMINGS: [&str; 5] = ["lines", "text", "nul", "lengths", "files"];
 
 /// What the framings are, for help.
 pub const FRAMING_HELP: &str = "\
-How documents stand one behind the other:
-lines: a document a line, without the line's end; a last line needs none, and gets one from 'get' and 'cat'
-text: a document a line, with the line's end as it stands; any text comes back byte for byte
-nul: a document up to each byte 0; the last one needs none, and gets one from 'get' and 'cat'
-lengths: before each document its length, as four bytes, the lowest first
-files: a document a file; 'get' and 'cat' put nothing between documents";
+How documents are delimited:
+lines: each line is a document, without its line end; 'get' and 'cat' add a line end after each document
+text: each line is a document, with its line end if it has one; 'get' and 'cat' add nothing
+nul: each document ends before a byte 0; 'get' and 'cat' add a byte 0 after each document
+lengths: each document follows its length, which is four bytes, the lowest first
+files: each file is a document; 'get' and 'cat' add nothing between documents";
 
 impl Framing {
     /// The framing of this name; lines where it is none.

@@ -14,18 +14,18 @@ use store_commands::{IdRange, ranges_of};
 
 const EXAMPLE: &str = "\
 Example:
-  zevkhadun get words.store 7 3..9 100..     document 7, those from 3 to 8, and those from 100 on";
+  zevkhadun get words.store 7 3..9 100..     documents 7, 3 to 8, and 100 to the last";
 
 /// The words of `get`.
 pub fn command<'a>(alloc: Global) -> Result<Command<'a>, AllocError> {
     Command::new(alloc, "get")
-        .about("Prints documents by their numbers")
+        .about("Print documents by their numbers")
         .after_help(EXAMPLE)
-        .arg(arguments::file(alloc, "FILE", "The store"))?
+        .arg(arguments::file(alloc, "FILE", "The store to read"))?
         .arg(arguments::several(
             alloc,
             "ID",
-            "Documents: a number, the first at 0, or a range without its end, as 3..9 or 5..",
+            "Documents to print: numbers from 0 on, or ranges that exclude their end: 3..9, 5.. or ..9",
         ))?
         .arg(arguments::framing(alloc))?
         .arg(arguments::tantivy(alloc))

@@ -18,21 +18,21 @@ const STANDARD_INPUT: &str = "standard input";
 
 const EXAMPLE: &str = "\
 Example:
-  zevkhadun pack words.store words.txt     a document for each line
-  zevkhadun pack --framing files notes.store notes/*.txt     a document for each file";
+  zevkhadun pack words.store words.txt     one document for each line
+  zevkhadun pack --framing files notes.store notes/*.txt     one document for each file";
 
 // What is packed.
 fn inputs<'a>(alloc: Global) -> Arg<'a> {
     Arg::new(alloc, "INPUT")
         .num_args(0..)
         .action(ArgAction::Append)
-        .help("The files of documents; '-' or none is the standard input")
+        .help("Input files; '-' or no file means standard input")
 }
 
 /// The words of `pack`.
 pub fn command<'a>(alloc: Global) -> Result<Command<'a>, AllocError> {
     Command::new(alloc, "pack")
-        .about("Writes a store of documents")
+        .about("Write a store of the documents in files or standard input")
         .after_help(EXAMPLE)
         .arg(arguments::output(alloc))?
         .arg(inputs(alloc))?

@@ -15,13 +15,13 @@ Example:
 /// The words of `stat`.
 pub fn command<'a>(alloc: Global) -> Result<Command<'a>, AllocError> {
     Command::new(alloc, "stat")
-        .about("Tells what stores have, as numbers")
+        .about("Print counts and sizes of stores")
         .after_help(EXAMPLE)
-        .arg(arguments::several(alloc, "FILE", "The stores"))?
+        .arg(arguments::several(alloc, "FILE", "The stores to read"))?
         .arg(arguments::flag(
             alloc,
             "json",
-            "Prints an object of JSON for each store, on a line",
+            "Print a JSON object for each store, one per line",
         ))?
         .arg(arguments::tantivy(alloc))
 }
@@ -45,7 +45,7 @@ fn print_object(rt: &HostRuntime, path: &str, numbers: &StoreNumbers) -> Result<
         "data_bytes": numbers.data_bytes,
         "index_bytes": numbers.index_bytes,
         "smallest_block": numbers.smallest_block,
-        "middle_block": numbers.middle_block,
+        "median_block": numbers.median_block,
         "largest_block": numbers.largest_block
     })?;
     printed(println!(rt; "{object}"))
@@ -62,7 +62,7 @@ fn print_lines(rt: &HostRuntime, path: &str, numbers: &StoreNumbers) -> Result<(
         data_bytes,
         index_bytes,
         smallest_block,
-        middle_block,
+        median_block,
         largest_block,
     } = *numbers;
     printed(println!(rt; "{path}"))?;
@@ -70,7 +70,7 @@ fn print_lines(rt: &HostRuntime, path: &str, numbers: &StoreNumbers) -> Result<(
     printed(println!(rt; "  documents       {documents}\n  blocks          {blocks}"))?;
     printed(println!(rt; "  layers          {layers}\n  data bytes      {data_bytes}"))?;
     printed(println!(rt; "  index bytes     {index_bytes}\n  smallest block  {smallest_block}"))?;
-    printed(println!(rt; "  middle block    {middle_block}\n  largest block   {largest_block}"))
+    printed(println!(rt; "  median block    {median_block}\n  largest block   {largest_block}"))
 }
 
 // Tells of one store.

@@ -17,7 +17,7 @@ pub type DiskWriter = StoreWriter<DiskSink<HostRuntime>>;
 pub fn create(rt: &HostRuntime, path: &str, shape: StoreShape) -> Result<DiskWriter, Failure> {
     let alloc = rt.alloc();
     if path == "-" {
-        return Err(wrong_words(alloc, "no name for a store", path));
+        return Err(wrong_words(alloc, "a store can't be written to standard output", path));
     }
     at(alloc, path, check_store(rt, path))?;
     let sink = at(alloc, path, DiskSink::create(alloc, *rt, path))?;

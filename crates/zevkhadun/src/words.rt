@@ -7,8 +7,9 @@ use std::alloc::{AllocError, Global};
 use std::{env, io};
 
 const AFTER_HELP: &str = "\
-Documents are bytes; file names and other words are UTF-8. A failed or interrupted 'pack' or 'merge' leaves the file
-that was there. The status is 0, 1 where something failed or a store is broken, and 2 where the words are wrong.
+Documents are any bytes; file names and other arguments are UTF-8. If 'pack' or 'merge' fails or is interrupted, the
+existing file is left untouched. The exit status is 0 for success, 1 for a failure or a broken store, and 2 for a usage
+error.
 
 Example:
   zevkhadun pack words.store words.txt && zevkhadun get words.store 7";
@@ -18,8 +19,8 @@ fn bare_command<'a>(alloc: Global) -> Result<Command<'a>, AllocError> {
     Ok(
         Command::new(alloc, "zevkhadun")
             .bin_name("zevkhadun")?
-            .version("0.1.0")
-            .about("Keeps documents behind numbers, in files that are written once")
+            .version("0.2.0")
+            .about("Write-once files of documents, read back by number")
             .after_help(AFTER_HELP)
             .subcommand_required(true)
             .arg_required_else_help(true),

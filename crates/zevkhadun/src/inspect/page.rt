@@ -103,8 +103,8 @@ impl<'a> Page<'a> {
         )?;
         push_row(
             page,
-            "bytes of the middle block",
-            numbers.middle_block as u64,
+            "bytes of the median block",
+            numbers.median_block as u64,
         )?;
         push_row(
             page,
@@ -117,7 +117,7 @@ impl<'a> Page<'a> {
     // The parts of the file, to scale.
     fn push_parts(&self, page: &mut String) -> Result<(), AllocError> {
         let (data, index) = (self.numbers.data_bytes, self.numbers.index_bytes);
-        page.push_str("<section><h2>The file's parts, to scale</h2>\n<div class=\"parts\">")?;
+        page.push_str("<section><h2>Parts of the file, to scale</h2>\n<div class=\"parts\">")?;
         write!(
             page,
             "<div class=\"data\" style=\"flex:{data} 0 0\" title=\"data\"></div>"
@@ -147,27 +147,25 @@ impl<'a> Page<'a> {
 
     // The layers of the index.
     fn push_layers(&self, page: &mut String) -> Result<(), AllocError> {
-        page.push_str("<section><h2>The index, and how a seek goes down</h2>\n")?;
+        page.push_str("<section><h2>The index, and the path of a seek</h2>\n")?;
         let document = self.starts.start(self.starts.len() / 2);
         write!(
             page,
-            "<p>Each entry of a layer stands for a run of the layer below. Here document {document} "
+            "<p>Each entry of a layer covers a run of the layer below. This seek looks for document {document}: "
         )?;
         page.push_str(
-            "is sought: in each layer the first entry whose documents end past it is taken. ",
+            "in each layer it takes the first entry whose documents end after that one. ",
         )?;
-        page.push_str(
-            "A reader that has opened the store goes straight to the bottom layer.</p>\n",
-        )?;
+        page.push_str("A reader of an opened store searches the bottom layer directly.</p>\n")?;
         SeekDrawing::new(self.starts, &self.numbers).draw(page)?;
         page.push_str("</section>\n")
     }
 
     // How the sizes spread.
     fn push_sizes(&self, page: &mut String) -> Result<(), AllocError> {
-        page.push_str("<section><h2>Blocks by their bytes</h2>\n")?;
+        page.push_str("<section><h2>Block sizes in bytes</h2>\n")?;
         self.block_sizes.draw(page)?;
-        page.push_str("</section>\n<section><h2>Documents by their bytes</h2>\n")?;
+        page.push_str("</section>\n<section><h2>Document sizes in bytes</h2>\n")?;
         self.document_sizes.draw(page)?;
         page.push_str("</section>\n")
     }

@@ -76,7 +76,7 @@ impl<'a> SeekDrawing<'a> {
             .start(entry.saturating_add(1).saturating_mul(run.span));
         write!(
             page,
-            "<g><title>documents {start} to {end}, without the last</title>"
+            "<g><title>documents {start} to {end}, the end excluded</title>"
         )?;
         write!(
             page,
@@ -114,7 +114,7 @@ impl<'a> SeekDrawing<'a> {
         )?;
         write!(
             page,
-            "here is the run that the seek reads, and entry {taken}, which it takes</text>\n"
+            "the seek reads this run and takes entry {taken}</text>\n"
         )
     }
 
