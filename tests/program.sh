@@ -35,7 +35,7 @@ refuses() {
     [ "$verdict" = 0 ] || { echo "  status $status, not $wanted; said: $(cat err.txt)"; }
 }
 
-# NAME PATTERN WORDS..: the program ends with 0, prints a line of this pattern, and says nothing beside.
+# NAME PATTERN WORDS..: the program ends with 0, prints a line of this pattern, and prints no errors.
 prints() {
     local name=$1 pattern=$2 status=0 verdict=0
     shift 2
@@ -124,14 +124,14 @@ same "a range from the beginning" wanted.txt back.txt
 same "an empty range gives nothing" empty.txt back.txt
 "$program" get --framing lengths numbers.store 0 >back.txt; printf '\1\0\0\0001' >wanted.txt
 same "a document is got with its length" wanted.txt back.txt
-refuses "no such document" 1 "numbers.store: no document 20000; there are 20000" get numbers.store 20000
+refuses "no such document" 1 "numbers.store: no document 20000; the store has 20000, numbered from 0" get numbers.store 20000
 refuses "no such range" 1 "no document 20000" get numbers.store 19999..20001
-refuses "no number" 2 "'seven' is no document or range" get numbers.store seven
-refuses "a negative range" 2 "is no document or range" get numbers.store 3..x
+refuses "no number" 2 "'seven' is not a document number or a range" get numbers.store seven
+refuses "a range without a number" 2 "is not a document number or a range" get numbers.store 3..x
 "$program" cat numbers.store --without 0,2..19998 >back.txt; printf '2\n19999\n20000\n' >wanted.txt
 same "documents are left out" wanted.txt back.txt
 refuses "documents that aren't there can't be left out" 1 "no document 20000" cat numbers.store --without 20000
-refuses "no number to leave out" 2 "'x' is no document" cat numbers.store --without 1,x
+refuses "no number to leave out" 2 "'x' is not a document number" cat numbers.store --without 1,x
 
 # --- stat, verify, inspect ---
 prints "stat in lines" "documents +20000" stat numbers.store
@@ -142,7 +142,7 @@ count "stat is JSON, a line for each store" "$status"
 "$program" pack none.store empty.txt
 prints "an empty store has no layer" '"blocks":0,.*"layers":0' stat --json none.store
 prints "verify of a sound store" "numbers.store: sound: 20000 documents in" verify numbers.store
-prints "verify tells what it can't see" "not seen: a byte changed within a document" verify numbers.store
+prints "verify tells what it can't see" "note: changes inside a document's bytes are not detected" verify numbers.store
 "$program" inspect small.store --html page.html
 status=0
 python3 - <<'P' || status=$?
@@ -240,7 +240,7 @@ changed numbers.store version.store $((size - 28)) '\11'
 each_command "another version" "unknown store version 9" version.store
 broken "another version" "footer: unknown store version 9" version.store
 changed numbers.store kind.store $((size - 16)) '\1'
-each_command "packed blocks" "blocks are packed by kind 1, not raw" kind.store
+each_command "packed blocks" "blocks are compressed .kind 1.; only uncompressed stores" kind.store
 broken "packed blocks" "footer: " kind.store
 changed numbers.store period.store $((size - 15)) '\1'
 each_command "another period" "bad checkpoint period 1" period.store
@@ -251,7 +251,7 @@ each_command "a broken index" "index is not the encoding" index.store
 broken "a broken index" "index: layer 0 at byte" index.store
 # Twenty blocks of 191 bytes together, and three layers, which begin at bytes 195, 204 and 227.
 seq 20 | "$program" pack --block-size 0 --period 3 layers.store
-for place in "191:the list of its layers at byte 191" "195:layer 2 at byte 195" "204:layer 1 at byte 204" \
+for place in "191:the list of layers at byte 191" "195:layer 2 at byte 195" "204:layer 1 at byte 204" \
     "213:layer 1 at byte 213" "227:layer 0 at byte 227" "282:layer 0 at byte 282"; do
     changed layers.store layer.store "${place%%:*}" '\370'
     broken "an index that is broken at ${place%%:*}" "index: ${place#*:}$" layer.store
@@ -261,10 +261,10 @@ printf 'abc' >doc.txt && "$program" pack --framing files doc.store doc.txt
 { head -c 11 doc.store; printf 'more'; tail -c +12 doc.store; } >cover.store
 changed cover.store cover2.store $((46 + 4 - 24)) '\17'
 each_command "an index that doesn't cover the data" "index is not the encoding" cover2.store
-broken "an index that doesn't cover the data" "coverage: blocks end at byte 11, the data at 15" cover2.store
+broken "an index that doesn't cover the data" "coverage: the blocks end at byte 11, the data ends at byte 15" cover2.store
 changed doc.store slot.store 3 '\11'
 broken "a damaged document" \
-    "block 0 at byte 0: its first document begins at byte 9, not at 0; broken are 1 of 1 documents, 1 of 1 blocks" \
+    "block 0 at byte 0: its first document begins at byte 9, not at 0; damaged: 1 of 1 documents, 1 of 1 blocks" \
     slot.store
 refuses "a damaged document: get" 1 "slot.store: document 0 is damaged" get slot.store 0
 refuses "a damaged document: cat" 1 "slot.store: document 0 is damaged" cat slot.store
@@ -272,10 +272,10 @@ prints "a damaged document: stat" '"documents":1' stat --json slot.store
 "$program" inspect slot.store --html page.html && grep -q 'damaged documents</th><td>1' page.html
 count "a damaged document: inspect" $?
 changed doc.store count.store 7 '\2'
-broken "a table with another count" "block 0 at byte 0: its table counts 2 documents, the index 1" count.store
+broken "a table with another count" "block 0 at byte 0: its table has 2 documents, the index says 1" count.store
 "$program" pack pair.store lines.txt
 changed pair.store pair2.store 12 '\377'
-broken "a damaged slot" "block 0 at byte 0: document 0 is damaged; broken are 2 of 3 documents" pair2.store
+broken "a damaged slot" "block 0 at byte 0: document 0 is damaged; damaged: 2 of 3 documents, 1 of 1 blocks" pair2.store
 refuses "no such file" 1 "gone: No such file" cat gone
 status=0; "$program" verify gone numbers.store >out.txt 2>err.txt || status=$?
 count "verify goes on behind a file that isn't there" \
@@ -294,7 +294,7 @@ status=0; (ulimit -f 1; trap '' XFSZ; "$program" merge kept.store numbers.store)
 count "a merge on a full disk ends with 1" $((status != 1))
 same "a merge on a full disk leaves the old file" old.store kept.store
 printf '\5\0\0\0ab' >cut.bin
-refuses "a refused input" 1 "cut.bin: the input ends within a document" pack --framing lengths kept.store cut.bin
+refuses "a refused input" 1 "cut.bin: the input ends inside a document" pack --framing lengths kept.store cut.bin
 refuses "an input that isn't there" 1 "gone: No such file" pack kept.store gone
 same "a refused input leaves the old file" old.store kept.store
 count "nothing is left beside" $([ -e kept.store.part ] && echo 1 || echo 0)
@@ -305,16 +305,16 @@ keeps() {
     same "$1: the file is kept" "$2.before" "$2"
     count "$1: nothing is left beside" $([ -e "$2.part" ] && echo 1 || echo 0)
 }
-keeps "a forgotten output of pack" lines.txt "lines.txt: a file stands there that is no store; give another name" \
+keeps "a forgotten output of pack" lines.txt "lines.txt: the file exists and is not a store; choose another name" \
     pack lines.txt
-keeps "a forgotten output before other inputs" lines.txt "no store" pack lines.txt nul.txt open.txt
-keeps "an output that is its input" lines.txt "no store" pack lines.txt lines.txt
-keeps "a merge into what is no store" numbers.txt "numbers.txt: a file stands there that is no store" \
+keeps "a forgotten output before other inputs" lines.txt "not a store" pack lines.txt nul.txt open.txt
+keeps "an output that is its input" lines.txt "not a store" pack lines.txt lines.txt
+keeps "a merge into what is no store" numbers.txt "numbers.txt: the file exists and is not a store" \
     merge numbers.txt numbers.store
-keeps "a page in the place of a store" numbers.store "numbers.store: a file stands there that is no page of HTML" \
+keeps "a page in the place of a store" numbers.store "numbers.store: the file exists and is not a page of HTML" \
     inspect small.store --html numbers.store
 head -c 1000 numbers.store >beginning.store
-keeps "a store that was cut is no store" beginning.store "no store" pack beginning.store lines.txt
+keeps "a store that was cut is no store" beginning.store "not a store" pack beginning.store lines.txt
 : >nothing.store && "$program" pack nothing.store lines.txt
 same "an empty file is replaced" kept.store nothing.store
 "$program" inspect kept.store --html page.html && "$program" inspect small.store --html page.html

@@ -27,13 +27,13 @@ impl fmt::Display for BrokenPart {
             } => {
                 write!(
                     f,
-                    "coverage: blocks end at byte {covered}, the data at {data}"
+                    "coverage: the blocks end at byte {covered}, the data ends at byte {data}"
                 )
             }
             BrokenPart::Coverage {
                 data: _,
                 covered: None,
-            } => { f.write_str("coverage: blocks don't begin at 0, or one is empty") }
+            } => { f.write_str("coverage: the blocks don't begin at byte 0, or one is empty") }
         }
     }
 }

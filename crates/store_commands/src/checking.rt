@@ -25,15 +25,18 @@ pub enum TableFault {
 impl fmt::Display for TableFault {
     fn fmt<W: fmt::Write>(&self, f: &mut fmt::Formatter<W>) -> fmt::Result {
         match self {
-            TableFault::Short => f.write_str("its table has no count"),
+            TableFault::Short => f.write_str("it has no room for the count of its documents"),
             TableFault::Count { counted, promised } => {
                 write!(
                     f,
-                    "its table counts {counted} documents, the index {promised}"
+                    "its table has {counted} documents, the index says {promised}"
                 )
             }
             TableFault::Large { counted } => {
-                write!(f, "its table of {counted} documents does not fit into it")
+                write!(
+                    f,
+                    "its table of {counted} documents does not fit into the block"
+                )
             }
             TableFault::Start { start } => {
                 write!(f, "its first document begins at byte {start}, not at 0")

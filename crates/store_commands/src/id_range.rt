@@ -52,7 +52,9 @@ impl IdRange {
 fn range_of(alloc: Global, word: &str) -> Result<IdRange, RequestError> {
     match IdRange::from_word(word) {
         Some(range) => Ok(range),
-        None => Err(RequestError::NoRange(format!(in alloc; "'{word}' is no document or range")?)),
+        None => Err(RequestError::NoRange(format!(in alloc;
+            "'{word}' is not a document number or a range"
+        )?)),
     }
 }
 

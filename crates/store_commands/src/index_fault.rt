@@ -23,7 +23,7 @@ impl fmt::Display for IndexFault {
         let byte = self.byte;
         match self.layer {
             Some(layer) => write!(f, "index: layer {layer} at byte {byte}"),
-            None => write!(f, "index: the list of its layers at byte {byte}"),
+            None => write!(f, "index: the list of layers at byte {byte}"),
         }
     }
 }

@@ -11,7 +11,7 @@ pub enum RequestError {
     #[error("{0}")]
     NoRange(String),
     /// The store has no document of this number, but so many others.
-    #[error("no document {doc_id}; there are {num_docs}, from 0 on")]
+    #[error("no document {doc_id}; the store has {num_docs}, numbered from 0")]
     NoDocument { doc_id: DocId, num_docs: DocId },
     /// The bytes behind the store are not those that tantivy's directory leaves.
     #[error("no footer of tantivy's directory at the end")]

@@ -27,7 +27,7 @@ fn without<'a>(alloc: Global) -> Arg<'a> {
 /// The words of `cat`.
 pub fn command<'a>(alloc: Global) -> Result<Command<'a>, AllocError> {
     Command::new(alloc, "cat")
-        .about("Prints all documents in order")
+        .about("Print all documents in order")
         .after_help(EXAMPLE)
         .arg(arguments::file(alloc, "FILE", "The store"))?
         .arg(without(alloc))?

@@ -39,10 +39,10 @@ impl Cause {
     fn advice(&self) -> &'static str {
         match self {
             Cause::Words(_) => "; try '--help'",
-            Cause::Create(CreateError::Busy(_)) => "; wait for it, or end it",
-            Cause::OtherFile(_) => "; give another name, or remove it",
-            Cause::CutInput => "; is it in another framing?",
-            Cause::NoTantivyTail => "; for a store that stands alone leave '--tantivy' out",
+            Cause::Create(CreateError::Busy(_)) => "; wait until it ends, or stop it",
+            Cause::OtherFile(_) => "; choose another name, or remove it",
+            Cause::CutInput => "; does it have another framing?",
+            Cause::NoTantivyTail => "; leave '--tantivy' out for a file that is only a store",
             Cause::Store(error) => advice_for(error),
             _ => "",
         }
@@ -52,12 +52,12 @@ impl Cause {
 // What to do where a store refuses a call.
 fn advice_for(error: &StoreError) -> &'static str {
     match error {
-        StoreError::ShortFile(_) | StoreError::BadOffset => "; it is no store, or it was cut",
-        StoreError::BadVersion(_) => "; it is no store, or it wants '--tantivy'",
-        StoreError::BadBlockKind(_) => "; write the store anew without compression",
-        StoreError::BadIndex | StoreError::DamagedDocument(_) => "; 'verify' tells where",
-        StoreError::OldVersion => "; pack what 'cat' gives of it",
-        StoreError::BlockTooLarge => "; give a smaller '--block-size', or split the document",
+        StoreError::ShortFile(_) | StoreError::BadOffset => "; not a store, or its end is missing",
+        StoreError::BadVersion(_) => "; not a store, or a segment's file, which needs '--tantivy'",
+        StoreError::BadBlockKind(_) => "; only uncompressed stores can be read",
+        StoreError::BadIndex | StoreError::DamagedDocument(_) => "; 'zevkhadun verify' says where",
+        StoreError::OldVersion => "; pack the output of 'cat' instead",
+        StoreError::BlockTooLarge => "; use a smaller '--block-size', or split the document",
         StoreError::TooManyDocs => "; write several stores",
         _ => "",
     }
@@ -67,19 +67,22 @@ impl fmt::Display for Cause {
     fn fmt<W: fmt::Write>(&self, f: &mut fmt::Formatter<W>) -> fmt::Result {
         match self {
             Cause::Words(text) => f.write_str(text.as_str()),
-            Cause::NoText => f.write_str("file names and other words have to be UTF-8"),
+            Cause::NoText => f.write_str("file names and other arguments have to be UTF-8"),
             Cause::System(error) => write!(f, "{error}"),
             Cause::Output(error) => write!(f, "standard output: {error}"),
             Cause::Create(error) => write!(f, "{error}"),
-            Cause::OtherFile(kind) => write!(f, "a file stands there that is no {kind}"),
+            Cause::OtherFile(kind) => write!(f, "the file exists and is not a {kind}"),
             Cause::Store(StoreError::BadBlockKind(kind)) => {
-                write!(f, "blocks are packed by kind {kind}, not raw")
+                write!(f, "blocks are compressed (kind {kind})")
             }
             Cause::Store(error) => write!(f, "{error}"),
             Cause::NoDocument { doc_id, num_docs } => {
-                write!(f, "no document {doc_id}; there are {num_docs}, from 0 on")
+                write!(
+                    f,
+                    "no document {doc_id}; the store has {num_docs}, numbered from 0"
+                )
             }
-            Cause::CutInput => f.write_str("the input ends within a document"),
+            Cause::CutInput => f.write_str("the input ends inside a document"),
             Cause::NoTantivyTail => f.write_str("no footer of tantivy's directory at the end"),
             Cause::Told => Ok(()),
         }

@@ -21,7 +21,7 @@ pub fn command<'a>(alloc: Global) -> Result<Command<'a>, AllocError> {
     Command::new(alloc, "get")
         .about("Print documents by their numbers")
         .after_help(EXAMPLE)
-        .arg(arguments::file(alloc, "FILE", "The store to read"))?
+        .arg(arguments::file(alloc, "FILE", "The store"))?
         .arg(arguments::several(
             alloc,
             "ID",

@@ -26,7 +26,7 @@ type DiskInput = MergeInput<DiskFile<OsFile>>;
 const PART_BYTES: usize = 1 << 22;
 
 const EXAMPLE: &str = "\
-A store of six blocks or more that keeps all documents is taken block by block, every other one document by document.
+Stores of at least six blocks that keep all documents are copied block by block; others document by document.
 
 Example:
   zevkhadun merge all.store a.store b.store --without a.store=0,3..9";
@@ -45,7 +45,7 @@ fn without<'a>(alloc: Global) -> Arg<'a> {
 /// The words of `merge`.
 pub fn command<'a>(alloc: Global) -> Result<Command<'a>, AllocError> {
     Command::new(alloc, "merge")
-        .about("Writes a store of the documents of others, in order")
+        .about("Write a store of the documents of other stores, in order")
         .after_help(EXAMPLE)
         .arg(arguments::output(alloc))?
         .arg(arguments::several(alloc, "INPUT", "The stores to merge"))?

@@ -17,7 +17,7 @@ pub fn command<'a>(alloc: Global) -> Result<Command<'a>, AllocError> {
     Command::new(alloc, "stat")
         .about("Print counts and sizes of stores")
         .after_help(EXAMPLE)
-        .arg(arguments::several(alloc, "FILE", "The stores to read"))?
+        .arg(arguments::several(alloc, "FILE", "The stores"))?
         .arg(arguments::flag(
             alloc,
             "json",

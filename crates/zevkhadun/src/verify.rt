@@ -13,19 +13,19 @@ use store_commands::checking::Verdict;
 
 // What a sound file may still hide.
 const BLIND_SPOT: &str =
-    "not seen: a byte changed within a document, since the format has no checksums";
+    "note: changes inside a document's bytes are not detected (the format has no checksums)";
 
 const EXAMPLE: &str = "\
-Reads the footer, the index, whether its blocks cover the data, the table of each block, and the place of each document.
-The status is 1 where a store is broken.
+Checks the footer, the index, that the blocks cover the data, the table of each block, and the place of each document.
+The exit status is 1 if a store is broken.
 
 Example:
-  zevkhadun verify *.store     a line for each store, with its first fault";
+  zevkhadun verify *.store     one line for each store, with its first fault";
 
 /// The words of `verify`.
 pub fn command<'a>(alloc: Global) -> Result<Command<'a>, AllocError> {
     Command::new(alloc, "verify")
-        .about("Reads stores whole, and tells what breaks a promise of the format")
+        .about("Check stores completely and report the first violation of the format")
         .after_help(EXAMPLE)
         .arg(arguments::several(alloc, "FILE", "The stores"))?
         .arg(arguments::tantivy(alloc))?
@@ -62,7 +62,7 @@ fn print_verdict(rt: &HostRuntime, path: &str, verdict: &Verdict) -> Result<bool
     let extent = format_args!(
         "{damaged} of {documents} documents, {broken_blocks} of {blocks} blocks"
     );
-    printed(println!(rt; "{path}: broken: {place}; broken are {extent}"))?;
+    printed(println!(rt; "{path}: broken: {place}; damaged: {extent}"))?;
     Ok(false)
 }
 

@@ -21,7 +21,7 @@ use store_files::DiskSink;
 
 const EXAMPLE: &str = "\
 Example:
-  zevkhadun inspect words.store --html words.html     one file, for any browser";
+  zevkhadun inspect words.store --html words.html     one self-contained file, for any browser";
 
 // The page to write.
 fn html<'a>(alloc: Global) -> Arg<'a> {
@@ -30,13 +30,15 @@ fn html<'a>(alloc: Global) -> Arg<'a> {
         .value_name("OUT")
         .required(true)
         .action(ArgAction::Set)
-        .help("The page to write; one that is there is replaced, any other file is kept")
+        .help(
+            "Output file. It replaces an existing page of HTML or empty file, never any other file",
+        )
 }
 
 /// The words of `inspect`.
 pub fn command<'a>(alloc: Global) -> Result<Command<'a>, AllocError> {
     Command::new(alloc, "inspect")
-        .about("Draws what a store has on a page of HTML")
+        .about("Draw a store on a page of HTML")
         .after_help(EXAMPLE)
         .arg(arguments::file(alloc, "FILE", "The store"))?
         .arg(html(alloc))?
