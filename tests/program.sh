@@ -124,7 +124,8 @@ same "a range from the beginning" wanted.txt back.txt
 same "an empty range gives nothing" empty.txt back.txt
 "$program" get --framing lengths numbers.store 0 >back.txt; printf '\1\0\0\0001' >wanted.txt
 same "a document is got with its length" wanted.txt back.txt
-refuses "no such document" 1 "numbers.store: no document 20000; the store has 20000, numbered from 0" get numbers.store 20000
+refuses "no such document" \
+    1 "numbers.store: no document 20000; the store has 20000, numbered from 0" get numbers.store 20000
 refuses "no such range" 1 "no document 20000" get numbers.store 19999..20001
 refuses "no number" 2 "'seven' is not a document number or a range" get numbers.store seven
 refuses "a range without a number" 2 "is not a document number or a range" get numbers.store 3..x
@@ -261,7 +262,8 @@ printf 'abc' >doc.txt && "$program" pack --framing files doc.store doc.txt
 { head -c 11 doc.store; printf 'more'; tail -c +12 doc.store; } >cover.store
 changed cover.store cover2.store $((46 + 4 - 24)) '\17'
 each_command "an index that doesn't cover the data" "index is not the encoding" cover2.store
-broken "an index that doesn't cover the data" "coverage: the blocks end at byte 11, the data ends at byte 15" cover2.store
+broken "an index that doesn't cover the data" \
+    "coverage: the blocks end at byte 11, the data ends at byte 15" cover2.store
 changed doc.store slot.store 3 '\11'
 broken "a damaged document" \
     "block 0 at byte 0: its first document begins at byte 9, not at 0; damaged: 1 of 1 documents, 1 of 1 blocks" \
