@@ -180,8 +180,8 @@ fn merge_stores(
     let mut writer = create(rt, out, shape)?;
     let merged = merging.merge_inputs(rt, &mut writer, progress);
     progress.end();
-    finish(rt, out, writer, merged)?;
-    summarize(rt, out, progress)
+    let written = finish(rt, out, writer, merged)?;
+    summarize(rt, out, written, progress)
 }
 
 /// Writes the store.

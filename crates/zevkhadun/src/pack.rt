@@ -176,6 +176,6 @@ pub fn run(rt: &HostRuntime, matches: &ArgMatches<'_>) -> Result<(), Failure> {
         None => packing.store_standard_input(&mut writer, &mut progress),
     };
     progress.end();
-    finish(rt, out, writer, stored)?;
-    summarize(rt, out, &progress)
+    let written = finish(rt, out, writer, stored)?;
+    summarize(rt, out, written, &progress)
 }

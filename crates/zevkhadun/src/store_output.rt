@@ -4,7 +4,6 @@ use crate::arguments::wrong_words;
 use crate::failure::{Cause, Failure, at};
 use crate::progress::Progress;
 use crate::replacing::check_store;
-use crate::store_file::StorePath;
 use docstore::{Compressor, StoreWriter};
 use std::io;
 use store_commands::StoreShape;
@@ -12,6 +11,14 @@ use store_files::DiskSink;
 
 /// A writer to a file on disk.
 pub type DiskWriter = StoreWriter<DiskSink<HostRuntime>>;
+
+/// What a store has that was written.
+#[derive(Clone, Copy)]
+pub struct Written {
+    documents: u32,
+    blocks: u32,
+    bytes: u64,
+}
 
 /// A writer to a file of this name. A store that has it is replaced at the end; any other file is kept.
 pub fn create(rt: &HostRuntime, path: &str, shape: StoreShape) -> Result<DiskWriter, Failure> {
@@ -31,9 +38,14 @@ pub fn create(rt: &HostRuntime, path: &str, shape: StoreShape) -> Result<DiskWri
 }
 
 // Ends a writer. Where the output failed, the cause is the system's.
-fn close(writer: DiskWriter) -> Result<(), Cause> {
+fn close(writer: DiskWriter) -> Result<Written, Cause> {
+    let (documents, blocks) = (writer.num_docs(), writer.num_blocks());
     match writer.close() {
-        Ok(_) => Ok(()),
+        Ok(output) => Ok(Written {
+            documents,
+            blocks,
+            bytes: output.num_bytes(),
+        }),
         Err(refusal) => Err(match refusal.output.last_error() {
             Some(error) => Cause::System(error),
             None => Cause::Store(refusal.error),
@@ -48,37 +60,37 @@ pub fn finish(
     path: &str,
     writer: DiskWriter,
     stored: Result<(), Failure>,
-) -> Result<(), Failure> {
-    if stored.is_err() && !writer.has_failed() {
-        return stored;
+) -> Result<Written, Failure> {
+    match stored {
+        Err(failure) if !writer.has_failed() => Err(failure),
+        _ => at(rt.alloc(), path, close(writer)),
     }
-    at(rt.alloc(), path, close(writer))
 }
 
-// Tells what the store of this name has.
-fn print_summary(rt: &HostRuntime, path: &str, seconds: f64) -> Result<(), Cause> {
-    let store = StorePath {
-        path,
-        is_tantivy: false,
-    };
-    let reader = store.reader(rt)?;
-    let mut blocks = 0u64;
-    for _ in reader.block_checkpoints() {
-        blocks = blocks.saturating_add(1);
-    }
-    let (documents, bytes) = (reader.num_docs(), reader.space_usage().total());
+// Prints what a store has.
+fn print_summary(rt: &HostRuntime, written: Written, seconds: f64) -> Result<(), Cause> {
+    let Written {
+        documents,
+        blocks,
+        bytes,
+    } = written;
     eprintln!(rt; "{documents} documents, {bytes} bytes, {blocks} blocks, {seconds:.3} seconds")?;
     Ok(())
 }
 
 /// Prints a line on what a store that was written has, where progress is shown.
-pub fn summarize(rt: &HostRuntime, path: &str, progress: &Progress<'_>) -> Result<(), Failure> {
+pub fn summarize(
+    rt: &HostRuntime,
+    path: &str,
+    written: Written,
+    progress: &Progress<'_>,
+) -> Result<(), Failure> {
     if !progress.is_shown() {
         return Ok(());
     }
     at(
         rt.alloc(),
         path,
-        print_summary(rt, path, progress.elapsed().as_secs_f64()),
+        print_summary(rt, written, progress.elapsed().as_secs_f64()),
     )
 }
