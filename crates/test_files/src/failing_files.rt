@@ -1,4 +1,4 @@
-//! The system's files, of whose calls one fails.
+//! The files of the system, of whose calls one fails.
 
 use std::alloc::Allocator;
 use std::cell::Cell;

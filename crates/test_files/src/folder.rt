@@ -1,19 +1,11 @@
 //! A folder of a test's own, and what lies in it.
 
-use std::test::Fail;
 use std::{fs, io};
 
-/// A folder for one test, which is empty.
-pub fn folder(rt: &HostRuntime, name: &str) -> io::Result<String> {
-    let path = format!(in rt.alloc(); "test_files_{name}")?;
-    let _ = fs::remove_dir_all(rt, path.as_str());
-    fs::create_dir(rt, path.as_str())?;
-    Ok(path)
-}
-
-/// The path of a file in a folder.
-pub fn path_in(rt: &HostRuntime, folder: &str, name: &str) -> io::Result<String> {
-    Ok(format!(in rt.alloc(); "{folder}/{name}")?)
+/// Makes a folder for one test, which is empty.
+pub fn make(rt: &HostRuntime, folder: &str) -> io::Result<()> {
+    let _ = fs::remove_dir_all(rt, folder);
+    fs::create_dir(rt, folder)
 }
 
 /// How many files a folder has.
@@ -27,7 +19,6 @@ pub fn holds(rt: &HostRuntime, path: &str, bytes: &[u8]) -> io::Result<bool> {
 }
 
 /// Removes a folder with all that is in it.
-pub fn removed(rt: &HostRuntime, folder: &str) -> Result<(), Fail> {
-    fs::remove_dir_all(rt, folder)?;
-    Ok(())
+pub fn remove(rt: &HostRuntime, folder: &str) -> io::Result<()> {
+    fs::remove_dir_all(rt, folder)
 }

@@ -1,4 +1,4 @@
-//! Tests of files on disk, in folders of their own, which the tests make and remove.
+//! Are stores kept in real files? The tests make folders of their own, and remove them.
 #![tactic(auto)]
 
 #[cfg(test)]

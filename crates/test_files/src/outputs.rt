@@ -1,7 +1,8 @@
 //! Outputs on disk: when they take their names, and what is left where a call of the system fails.
 
 use crate::failing_files::FailingFiles;
-use crate::folder::{count, folder, holds, path_in, removed};
+use crate::folder::{count, holds, make, remove};
+use std::alloc::Global;
 use std::cell::Cell;
 use std::fs;
 use std::fs::Files;
@@ -13,9 +14,12 @@ const OLD: &[u8] = b"old";
 
 const WHOLE: &[u8] = b"0123456789";
 
-// Writes to an output, looks whether the old file is there, ends it, and answers whether it was.
-fn written_beside(rt: &HostRuntime, path: &str) -> Result<bool, Fail> {
-    let mut sink = DiskSink::create(rt.alloc(), rt.clone()?, path)?;
+// Writes to an output and ends it. Returns whether the old file was there until then.
+fn written_beside(
+    rt: &HostRuntime,
+    sink: &mut DiskSink<HostRuntime>,
+    path: &str,
+) -> Result<bool, Fail> {
     sink.write_all(WHOLE)?;
     let was_old = holds(rt, path, OLD)?;
     sink.terminate()?;
@@ -24,32 +28,27 @@ fn written_beside(rt: &HostRuntime, path: &str) -> Result<bool, Fail> {
 
 #[test]
 fn an_output_takes_its_name_at_the_end(rt: HostRuntime) -> Result<(), Fail> {
-    let folder = folder(&rt, "named")?;
-    let path = path_in(&rt, folder.as_str(), "a.store")?;
-    fs::write(&rt, path.as_str(), OLD)?;
-    assert!(rt; written_beside(&rt, path.as_str())?);
-    assert!(rt; holds(&rt, path.as_str(), WHOLE)?);
-    assert_eq!(rt; count(&rt, folder.as_str())?, 1);
-    removed(&rt, folder.as_str())
-}
-
-// Begins an output, writes some of it and drops it. Answers how many files there were before.
-fn dropped_in_the_middle(rt: &HostRuntime, folder: &str, path: &str) -> Result<usize, Fail> {
+    let path = "test_files_named/a.store";
+    make(&rt, "test_files_named")?;
+    fs::write(&rt, path, OLD)?;
     let mut sink = DiskSink::create(rt.alloc(), rt.clone()?, path)?;
-    sink.write_all(WHOLE)?;
-    Ok(count(rt, folder)?)
+    let was_old = written_beside(&rt, &mut sink, path);
+    drop(sink);
+    assert!(rt; was_old?);
+    assert!(rt; holds(&rt, path, WHOLE)? && count(&rt, "test_files_named")? == 1);
+    Ok(remove(&rt, "test_files_named")?)
 }
 
 #[test]
 fn an_output_that_is_dropped_removes_what_it_began(rt: HostRuntime) -> Result<(), Fail> {
-    let folder = folder(&rt, "dropped")?;
-    let path = path_in(&rt, folder.as_str(), "a.store")?;
-    assert_eq!(rt;
-        dropped_in_the_middle(&rt, folder.as_str(), path.as_str())?,
-        1
-    );
-    assert_eq!(rt; count(&rt, folder.as_str())?, 0);
-    removed(&rt, folder.as_str())
+    make(&rt, "test_files_dropped")?;
+    let mut sink = DiskSink::create(rt.alloc(), rt.clone()?, "test_files_dropped/a.store")?;
+    let written = sink.write_all(WHOLE);
+    let begun = count(&rt, "test_files_dropped");
+    drop(sink);
+    assert!(rt; written.is_ok() && begun? == 1);
+    assert_eq!(rt; count(&rt, "test_files_dropped")?, 0);
+    Ok(remove(&rt, "test_files_dropped")?)
 }
 
 // How an output stands after the call of the system of this number failed.
@@ -60,7 +59,7 @@ enum End {
     Ended,
 }
 
-// Writes to an output and ends it. One that was refused takes no more, and tells why.
+// Writes to an output and ends it. One that failed takes no more, and keeps what the system said.
 fn ended<R: Files + Drop>(sink: &mut DiskSink<R>) -> End
 where
     R::File: LockFile,
@@ -93,47 +92,47 @@ fn write_failing(
 
 #[test]
 fn eight_calls_of_the_system_write_a_small_file(rt: HostRuntime) -> Result<(), Fail> {
-    let folder = folder(&rt, "calls")?;
-    let path = path_in(&rt, folder.as_str(), "a.store")?;
+    make(&rt, "test_files_calls")?;
     let calls = Cell::new(0);
-    assert_eq!(rt; write_failing(&rt, path.as_str(), &calls, 0)?, End::Ended);
+    let end = write_failing(&rt, "test_files_calls/a.store", &calls, 0)?;
     // It is opened, locked, cut, written, synced and renamed; its folder is opened and synced.
-    assert_eq!(rt; calls.get(), 8);
-    removed(&rt, folder.as_str())
-}
-
-// What is left where the call of this number fails: the old file alone, or the whole new one alone.
-fn is_old_or_whole(
-    rt: &HostRuntime,
-    folder: &str,
-    path: &str,
-    failing_call: u32,
-) -> Result<bool, Fail> {
-    fs::write(rt, path, OLD)?;
-    let calls = Cell::new(0);
-    let end = write_failing(rt, path, &calls, failing_call)?;
-    let left = if failing_call <= 6 { OLD } else { WHOLE };
-    let begins = failing_call <= 3;
-    Ok(
-        (end == End::NotBegun) == begins
-            && end != End::Ended
-            && holds(rt, path, left)?
-            && count(rt, folder)? == 1,
-    )
+    assert_eq!(rt; (end, calls.get()), (End::Ended, 8));
+    Ok(remove(&rt, "test_files_calls")?)
 }
 
 #[test]
 fn each_failing_call_leaves_the_old_file_or_the_whole_one(rt: HostRuntime) -> Result<(), Fail> {
-    let folder = folder(&rt, "failing")?;
-    let path = path_in(&rt, folder.as_str(), "a.store")?;
+    let path = "test_files_failing/a.store";
+    make(&rt, "test_files_failing")?;
     for failing_call in 1..=8 {
-        assert!(rt; is_old_or_whole(&rt, folder.as_str(), path.as_str(), failing_call)?);
+        fs::write(&rt, path, OLD)?;
+        let end = write_failing(&rt, path, &Cell::new(0), failing_call)?;
+        let expected = if failing_call <= 3 {
+            End::NotBegun
+        } else {
+            End::NotWritten
+        };
+        assert_eq!(rt; end, expected, "{failing_call}");
+        let left = if failing_call <= 6 { OLD } else { WHOLE };
+        assert!(rt; holds(&rt, path, left)?, "{failing_call}");
+        assert_eq!(rt; count(&rt, "test_files_failing")?, 1, "{failing_call}");
     }
-    removed(&rt, folder.as_str())
+    Ok(remove(&rt, "test_files_failing")?)
 }
 
-// What the system said where the call of this number fails.
-fn reason(rt: &HostRuntime, path: &str, failing_call: u32) -> Result<String, Fail> {
+// Whether this is what the system said to an output; an empty text where it said nothing.
+fn said<R: Files + Drop>(alloc: Global, sink: &DiskSink<R>, reason: &str) -> Result<bool, Fail>
+where
+    R::File: LockFile,
+{
+    match sink.last_error() {
+        Some(error) => Ok(format!(in alloc; "{error}")?.as_str() == reason),
+        None => Ok(reason.is_empty()),
+    }
+}
+
+// Whether the system says so where the call of this number fails.
+fn is_said(rt: &HostRuntime, path: &str, failing_call: u32, reason: &str) -> Result<bool, Fail> {
     let calls = Cell::new(0);
     let files = FailingFiles {
         rt: rt.clone()?,
@@ -142,18 +141,15 @@ fn reason(rt: &HostRuntime, path: &str, failing_call: u32) -> Result<String, Fai
     };
     let mut sink = DiskSink::create(rt.alloc(), files, path)?;
     ended(&mut sink);
-    Ok(match sink.last_error() {
-        Some(error) => format!(in rt.alloc(); "{error}")?,
-        None => String::new(rt.alloc()),
-    })
+    said(rt.alloc(), &sink, reason)
 }
 
 #[test]
 fn an_output_tells_what_the_system_said(rt: HostRuntime) -> Result<(), Fail> {
-    let folder = folder(&rt, "reason")?;
-    let path = path_in(&rt, folder.as_str(), "a.store")?;
-    assert_eq!(rt; reason(&rt, path.as_str(), 4)?.as_str(), "no storage space");
-    assert_eq!(rt; reason(&rt, path.as_str(), 6)?.as_str(), "no storage space");
-    assert_eq!(rt; reason(&rt, path.as_str(), 0)?.as_str(), "");
-    removed(&rt, folder.as_str())
+    make(&rt, "test_files_reason")?;
+    for (failing_call, reason) in [(4, "no storage space"), (6, "no storage space"), (0, "")] {
+        let is_said = is_said(&rt, "test_files_reason/a.store", failing_call, reason);
+        assert!(rt; is_said?, "{failing_call}");
+    }
+    Ok(remove(&rt, "test_files_reason")?)
 }

@@ -1,6 +1,6 @@
 //! What an output may replace, and what it keeps of that.
 
-use crate::folder::{count, folder, holds, path_in, removed};
+use crate::folder::{count, holds, make, remove};
 use std::fs;
 use std::fs::Permissions;
 use std::os::unix::fs::{MetadataExt, PermissionsExt};
@@ -8,125 +8,117 @@ use std::test::Fail;
 use store_base::TerminatingWrite;
 use store_files::DiskSink;
 
-// Why an output of this name can't be begun; nothing if it can.
-fn refusal(rt: &HostRuntime, path: &str) -> Result<String, Fail> {
+// Whether an output of this name can't be begun, for this reason.
+fn is_refused(rt: &HostRuntime, path: &str, reason: &str) -> Result<bool, Fail> {
     match DiskSink::create(rt.alloc(), rt.clone()?, path) {
-        Ok(_) => Ok(String::new(rt.alloc())),
-        Err(error) => Ok(format!(in rt.alloc(); "{error}")?),
+        Ok(_) => Ok(false),
+        Err(error) => Ok(format!(in rt.alloc(); "{error}")?.as_str() == reason),
     }
 }
 
-// Writes a whole file.
-fn write_whole(rt: &HostRuntime, path: &str, bytes: &[u8]) -> Result<(), Fail> {
+// Writes a file of three bytes.
+fn write_new(rt: &HostRuntime, path: &str) -> Result<(), Fail> {
     let mut sink = DiskSink::create(rt.alloc(), rt.clone()?, path)?;
-    sink.write_all(bytes)?;
+    sink.write_all(b"new")?;
     sink.terminate()?;
     Ok(())
 }
 
-// Why a second output of this name can't be begun while a first is being written.
-fn second_refusal(rt: &HostRuntime, path: &str) -> Result<String, Fail> {
-    let mut first = DiskSink::create(rt.alloc(), rt.clone()?, path)?;
+// Writes to a first output and ends it. Returns whether a second one was refused until then.
+fn second_is_refused(
+    rt: &HostRuntime,
+    first: &mut DiskSink<HostRuntime>,
+    path: &str,
+) -> Result<bool, Fail> {
+    let reason = "test_files_second/a.store.part is being written by another";
     first.write_all(b"first")?;
-    let second = refusal(rt, path)?;
+    let is_refused = is_refused(rt, path, reason)?;
     first.terminate()?;
-    Ok(second)
+    Ok(is_refused)
 }
 
 #[test]
 fn a_second_output_of_a_name_is_refused(rt: HostRuntime) -> Result<(), Fail> {
-    let folder = folder(&rt, "second")?;
-    let path = path_in(&rt, folder.as_str(), "a.store")?;
-    assert_eq!(rt;
-        second_refusal(&rt, path.as_str())?.as_str(),
-        "test_files_second/a.store.part is being written by another"
-    );
-    assert!(rt; holds(&rt, path.as_str(), b"first")?);
-    // Once the first has ended, there is room for one more.
-    assert_eq!(rt; refusal(&rt, path.as_str())?.as_str(), "");
-    removed(&rt, folder.as_str())
+    let path = "test_files_second/a.store";
+    make(&rt, "test_files_second")?;
+    let mut first = DiskSink::create(rt.alloc(), rt.clone()?, path)?;
+    let is_refused = second_is_refused(&rt, &mut first, path);
+    drop(first);
+    assert!(rt; is_refused? && holds(&rt, path, b"first")?);
+    // Once the first has ended, another can be written.
+    write_new(&rt, path)?;
+    assert!(rt; holds(&rt, path, b"new")?);
+    Ok(remove(&rt, "test_files_second")?)
 }
 
 #[test]
 fn what_a_crash_left_is_taken_over(rt: HostRuntime) -> Result<(), Fail> {
-    let folder = folder(&rt, "crashed")?;
-    let path = path_in(&rt, folder.as_str(), "a.store")?;
-    let beside = path_in(&rt, folder.as_str(), "a.store.part")?;
-    fs::write(
-        &rt,
-        beside.as_str(),
-        b"longer than what is written".as_slice(),
-    )?;
-    write_whole(&rt, path.as_str(), b"new")?;
-    assert!(rt; holds(&rt, path.as_str(), b"new")?);
-    assert_eq!(rt; count(&rt, folder.as_str())?, 1);
-    removed(&rt, folder.as_str())
+    make(&rt, "test_files_crashed")?;
+    let longer = b"longer than what is written".as_slice();
+    fs::write(&rt, "test_files_crashed/a.store.part", longer)?;
+    write_new(&rt, "test_files_crashed/a.store")?;
+    assert!(rt; holds(&rt, "test_files_crashed/a.store", b"new")?);
+    assert_eq!(rt; count(&rt, "test_files_crashed")?, 1);
+    Ok(remove(&rt, "test_files_crashed")?)
 }
 
 #[test]
 fn folders_devices_and_missing_folders_are_refused(rt: HostRuntime) -> Result<(), Fail> {
-    let folder = folder(&rt, "refused")?;
-    let missing = path_in(&rt, folder.as_str(), "none/a.store")?;
-    assert_eq!(rt; refusal(&rt, folder.as_str())?.as_str(), "not a plain file");
-    assert_eq!(rt; refusal(&rt, "/dev/null")?.as_str(), "not a plain file");
-    assert_eq!(rt;
-        refusal(&rt, missing.as_str())?.as_str(),
-        "No such file or directory (os error 2)"
-    );
-    assert_eq!(rt; count(&rt, folder.as_str())?, 0);
-    removed(&rt, folder.as_str())
+    make(&rt, "test_files_refused")?;
+    for (path, reason) in [
+        ("test_files_refused", "not a plain file"),
+        ("/dev/null", "not a plain file"),
+        (
+            "test_files_refused/none/a.store",
+            "No such file or directory (os error 2)",
+        ),
+    ] {
+        assert!(rt; is_refused(&rt, path, reason)?, "{path}");
+    }
+    assert_eq!(rt; count(&rt, "test_files_refused")?, 0);
+    Ok(remove(&rt, "test_files_refused")?)
 }
 
 #[test]
 fn links_are_followed(rt: HostRuntime) -> Result<(), Fail> {
-    let folder = folder(&rt, "links")?;
-    let path = path_in(&rt, folder.as_str(), "a.store")?;
-    let link = path_in(&rt, folder.as_str(), "link.store")?;
-    fs::write(&rt, path.as_str(), b"old".as_slice())?;
-    std::os::unix::fs::symlink(&rt, "a.store", link.as_str())?;
-    write_whole(&rt, link.as_str(), b"new")?;
-    assert!(rt; holds(&rt, path.as_str(), b"new")?);
-    assert!(rt;
-        fs::symlink_metadata(&rt, link.as_str())?
-            .file_type()
-            .is_symlink()
-    );
-    assert_eq!(rt; count(&rt, folder.as_str())?, 2);
-    removed(&rt, folder.as_str())
+    let link = "test_files_links/link.store";
+    make(&rt, "test_files_links")?;
+    fs::write(&rt, "test_files_links/a.store", b"old".as_slice())?;
+    std::os::unix::fs::symlink(&rt, "a.store", link)?;
+    write_new(&rt, link)?;
+    assert!(rt; holds(&rt, "test_files_links/a.store", b"new")?);
+    assert!(rt; fs::symlink_metadata(&rt, link)?.file_type().is_symlink());
+    assert_eq!(rt; count(&rt, "test_files_links")?, 2);
+    Ok(remove(&rt, "test_files_links")?)
 }
 
 #[test]
 fn a_link_to_nothing_is_refused(rt: HostRuntime) -> Result<(), Fail> {
-    let folder = folder(&rt, "dangling")?;
-    let link = path_in(&rt, folder.as_str(), "link.store")?;
-    std::os::unix::fs::symlink(&rt, "none.store", link.as_str())?;
-    assert_eq!(rt;
-        refusal(&rt, link.as_str())?.as_str(),
-        "No such file or directory (os error 2)"
-    );
-    assert_eq!(rt; count(&rt, folder.as_str())?, 1);
-    removed(&rt, folder.as_str())
+    let link = "test_files_dangling/link.store";
+    make(&rt, "test_files_dangling")?;
+    std::os::unix::fs::symlink(&rt, "none.store", link)?;
+    assert!(rt; is_refused(&rt, link, "No such file or directory (os error 2)")?);
+    assert_eq!(rt; count(&rt, "test_files_dangling")?, 1);
+    Ok(remove(&rt, "test_files_dangling")?)
 }
 
 #[test]
 fn the_mode_is_kept(rt: HostRuntime) -> Result<(), Fail> {
-    let folder = folder(&rt, "mode")?;
-    let path = path_in(&rt, folder.as_str(), "a.store")?;
-    fs::write(&rt, path.as_str(), b"old".as_slice())?;
-    fs::set_permissions(&rt, path.as_str(), Permissions::from_mode(0o640))?;
-    write_whole(&rt, path.as_str(), b"new")?;
-    assert!(rt; holds(&rt, path.as_str(), b"new")?);
-    let mode = fs::metadata(&rt, path.as_str())?.mode();
-    assert_eq!(rt; mode & 0o777, 0o640);
-    removed(&rt, folder.as_str())
+    let path = "test_files_mode/a.store";
+    make(&rt, "test_files_mode")?;
+    fs::write(&rt, path, b"old".as_slice())?;
+    fs::set_permissions(&rt, path, Permissions::from_mode(0o640))?;
+    write_new(&rt, path)?;
+    assert!(rt; holds(&rt, path, b"new")?);
+    assert_eq!(rt; fs::metadata(&rt, path)?.mode() & 0o777, 0o640);
+    Ok(remove(&rt, "test_files_mode")?)
 }
 
 #[test]
 fn names_have_spaces_and_letters_of_every_script(rt: HostRuntime) -> Result<(), Fail> {
-    let folder = folder(&rt, "names")?;
-    let path = path_in(&rt, folder.as_str(), "ein Wörterbuch 書.store")?;
-    write_whole(&rt, path.as_str(), b"new")?;
-    assert!(rt; holds(&rt, path.as_str(), b"new")?);
-    assert_eq!(rt; count(&rt, folder.as_str())?, 1);
-    removed(&rt, folder.as_str())
+    make(&rt, "test_files_names")?;
+    write_new(&rt, "test_files_names/ein Wörterbuch 書.store")?;
+    assert!(rt; holds(&rt, "test_files_names/ein Wörterbuch 書.store", b"new")?);
+    assert_eq!(rt; count(&rt, "test_files_names")?, 1);
+    Ok(remove(&rt, "test_files_names")?)
 }

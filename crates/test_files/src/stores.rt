@@ -1,78 +1,77 @@
 //! Stores that are written and read by path.
 
-use crate::folder::{folder, path_in, removed};
+use crate::folder::{make, remove};
 use docstore::{Compressor, StoreError, StoreReader, StoreView, StoreWriter};
+use std::fs;
 use std::test::Fail;
 use store_base::FileSlice;
 use store_files::{DiskFile, DiskSink, OsFile, load};
 
-// Writes a store of a hundred documents of two bytes, eight blocks and more.
-fn write_store(rt: &HostRuntime, path: &str) -> Result<(), Fail> {
-    let sink = DiskSink::create(rt.alloc(), rt.clone()?, path)?;
-    let mut writer = StoreWriter::new(rt.alloc(), sink, Compressor::None, 100);
+type Reader = StoreReader<DiskFile<OsFile>>;
+
+type Writer = StoreWriter<DiskSink<HostRuntime>>;
+
+fn store_hundred(writer: &mut Writer) -> Result<(), StoreError> {
     for i in 0..100u8 {
         writer.store_bytes(&[b'd', i])?;
     }
-    writer.close().map_err(|refusal| refusal.error)?;
     Ok(())
 }
 
-// Opens a file, with a cache of two blocks.
-fn open_store(rt: &HostRuntime, path: &str) -> Result<StoreReader<DiskFile<OsFile>>, Fail> {
+// Writes a store of a hundred documents of two bytes, in more than eight blocks.
+fn write_store(rt: &HostRuntime, path: &str) -> Result<(), Fail> {
+    let sink = DiskSink::create(rt.alloc(), rt.clone()?, path)?;
+    let mut writer = StoreWriter::new(rt.alloc(), sink, Compressor::None, 100);
+    store_hundred(&mut writer)?;
+    match writer.close() {
+        Ok(_) => Ok(()),
+        Err(refusal) => Err(refusal.error)?,
+    }
+}
+
+// Writes the store, and opens it with a cache of two blocks.
+fn opened(rt: &HostRuntime, path: &str) -> Result<Reader, Fail> {
+    write_store(rt, path)?;
     let file = DiskFile::new(OsFile::open(rt, path)?)?;
-    let opened = StoreReader::open(rt.alloc(), FileSlice::new(file), 2);
-    Ok(opened.map_err(|refusal| refusal.error)?)
+    match StoreReader::open(rt.alloc(), FileSlice::new(file), 2) {
+        Ok(reader) => Ok(reader),
+        Err(refusal) => Err(refusal.error)?,
+    }
 }
 
 // Whether the documents from the last to the first are those that were written.
-fn are_found(rt: &HostRuntime, path: &str) -> Result<bool, Fail> {
-    let mut reader = open_store(rt, path)?;
+fn are_found(rt: &HostRuntime, reader: &mut Reader) -> bool {
     for i in (0..100u8).rev() {
-        let document = reader.get_document_bytes(rt.alloc(), i as u32)?;
-        if document.as_slice() != [b'd', i].as_slice() {
-            return Ok(false);
+        match reader.get_document_bytes(rt.alloc(), i as u32) {
+            Ok(bytes) if bytes.as_slice() == [b'd', i].as_slice() => {}
+            _ => return false,
         }
     }
-    Ok(reader.num_docs() == 100)
+    true
 }
 
+// A store is written and read by path. Then the file is cut off while it is open.
 #[test]
-fn a_store_is_written_and_read_by_path(rt: HostRuntime) -> Result<(), Fail> {
-    let folder = folder(&rt, "store")?;
-    let path = path_in(&rt, folder.as_str(), "a.store")?;
-    write_store(&rt, path.as_str())?;
-    assert!(rt; are_found(&rt, path.as_str())?);
-    removed(&rt, folder.as_str())
-}
-
-// What a get behind the last document answers, and one of a document whose block was cut off since.
-fn errors(rt: &HostRuntime, path: &str) -> Result<[Option<StoreError>; 2], Fail> {
-    let mut reader = open_store(rt, path)?;
-    std::fs::write(rt, path, b"cut".as_slice())?;
-    let behind = reader.get_document_bytes(rt.alloc(), 100).err();
+fn a_store_is_read_until_its_file_is_cut(rt: HostRuntime) -> Result<(), Fail> {
+    make(&rt, "test_files_store")?;
+    let mut reader = opened(&rt, "test_files_store/a.store")?;
+    assert!(rt; reader.num_docs() == 100 && are_found(&rt, &mut reader));
+    fs::write(&rt, "test_files_store/a.store", b"cut".as_slice())?;
+    let past = reader.get_document_bytes(rt.alloc(), 100).err();
+    assert_eq!(rt; past, Some(StoreError::InvalidArgument(100)));
     let cut_off = reader.get_document_bytes(rt.alloc(), 50).err();
-    Ok([behind, cut_off])
-}
-
-#[test]
-fn a_store_that_was_cut_fails_its_reads(rt: HostRuntime) -> Result<(), Fail> {
-    let folder = folder(&rt, "cut_store")?;
-    let path = path_in(&rt, folder.as_str(), "a.store")?;
-    write_store(&rt, path.as_str())?;
-    let [behind, cut_off] = errors(&rt, path.as_str())?;
-    assert_eq!(rt; behind, Some(StoreError::InvalidArgument(100)));
     assert_eq!(rt; cut_off, Some(StoreError::Read));
-    removed(&rt, folder.as_str())
+    drop(reader);
+    Ok(remove(&rt, "test_files_store")?)
 }
 
 #[test]
 fn a_store_is_loaded_for_a_view(rt: HostRuntime) -> Result<(), Fail> {
-    let folder = folder(&rt, "loaded")?;
-    let path = path_in(&rt, folder.as_str(), "a.store")?;
-    write_store(&rt, path.as_str())?;
-    let file = load(&rt, path.as_str())?;
+    make(&rt, "test_files_loaded")?;
+    write_store(&rt, "test_files_loaded/a.store")?;
+    let file = load(&rt, "test_files_loaded/a.store")?;
     let view = StoreView::open(rt.alloc(), file.as_slice())?;
-    assert_eq!(rt; view.num_docs(), 100);
-    assert_eq!(rt; view.get(99)?, [b'd', 99].as_slice());
-    removed(&rt, folder.as_str())
+    assert!(rt; view.num_docs() == 100 && view.get(99) == Ok([b'd', 99].as_slice()));
+    drop(view);
+    Ok(remove(&rt, "test_files_loaded")?)
 }

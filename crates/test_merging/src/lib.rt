@@ -1,9 +1,7 @@
-//! Tests of stacking and of mergers through the public calls: what no contract says of them.
+//! Are stores stacked and merged whole?
 #![tactic(auto)]
 
 #[cfg(test)]
-mod merge_refusals;
-#[cfg(test)]
 mod merging;
 #[cfg(test)]
-mod stacking;
+mod parts;

@@ -1,4 +1,4 @@
-//! Tests of scripts: the dump of a file, and streams that fail or give a byte at a time.
+//! What happens where a stream of a script fails, or gives a byte at a time?
 #![tactic(auto)]
 
 #[cfg(test)]

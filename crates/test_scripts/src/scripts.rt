@@ -5,7 +5,7 @@ use std::io;
 use std::io::{Read, Write};
 use std::test::Fail;
 use store_script::{ToolFault, dump, run};
-use test_devices::making::written;
+use test_support::making::written;
 
 const SCRIPT: &[u8] = b"new 16384\nput 616263\nclose\nget 0 0\nget 0 1";
 

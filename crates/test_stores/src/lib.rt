@@ -1,11 +1,11 @@
-//! Tests of stores through the public calls: what no contract says of them.
+//! Does a store give back what was written, and what does it tell of itself?
 #![tactic(auto)]
 
 #[cfg(test)]
-mod devices;
+mod lists;
 #[cfg(test)]
-mod footers;
+mod records;
 #[cfg(test)]
-mod questions;
+mod telling;
 #[cfg(test)]
-mod raw_blocks;
+mod viewing;

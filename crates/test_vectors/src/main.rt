@@ -1,6 +1,6 @@
-//! Answers each script that `names` lists, and tells whether the answers are those that are expected, byte for byte.
-//! Then it reads each file that a script or its answers have at hand, from memory and from disk, and tells how many it
-//! were.
+//! Are scripts answered as tantivy's own code and the format's rows answer them? Answers each script that `names` lists,
+//! and prints whether the answers are those that are expected, byte for byte. Then it reads each file that stands in a
+//! script or in its answers, from memory and from disk, and prints how many there were.
 #![tactic(auto)]
 
 use std::alloc::{Alloc, Global};
@@ -8,7 +8,7 @@ use std::fs;
 use std::rt::Files;
 use store_files::{DiskFile, OsFile};
 use store_script::ToolFault;
-use test_devices::agreeing::{agree, agree_with};
+use test_support::agreeing::{agree, agree_with};
 
 // Whether a script is answered as expected.
 fn is_as_expected(

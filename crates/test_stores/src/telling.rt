@@ -1,0 +1,102 @@
+//! What a writer, a reader and a view tell of themselves.
+
+use docstore::{
+    CacheStats, Checkpoint, Compressor, Decompressor, DocStoreVersion, LayerCursor, StoreReader,
+    StoreView, StoreWriter,
+};
+use std::alloc::Global;
+use std::test::Fail;
+use store_base::{AliveBitSet, MemFile, MemSink};
+use test_support::making::{opened_bytes, written};
+
+#[test]
+fn a_writer_tells_of_itself(rt: HostRuntime) -> Result<(), Fail> {
+    let alloc = rt.alloc();
+    let mut writer = StoreWriter::new(alloc, MemSink::new(alloc), Compressor::None, 16384);
+    assert!(rt; writer.mem_usage() < 1048576 && writer.compressor() == Compressor::None);
+    writer.store_bytes(b"abc")?;
+    assert!(rt; writer.num_docs() == 1 && writer.mem_usage() >= 7 && !writer.has_failed());
+    Ok(())
+}
+
+// Whether these are two blocks, of one document and nine bytes each.
+fn are_two_blocks(mut blocks: LayerCursor<'_>) -> bool {
+    let first = Checkpoint {
+        doc_range: 0..1,
+        byte_range: 0..9,
+    };
+    let second = Checkpoint {
+        doc_range: 1..2,
+        byte_range: 9..18,
+    };
+    blocks.next() == Some(first) && blocks.next() == Some(second) && blocks.next().is_none()
+}
+
+fn two_blocks(alloc: Global) -> Result<Vec<u8>, Fail> {
+    Ok(written(alloc, 0, &[b"a", b"b"])?)
+}
+
+#[test]
+fn a_reader_tells_of_its_store(rt: HostRuntime) -> Result<(), Fail> {
+    let reader = opened_bytes(rt.alloc(), two_blocks(rt.alloc())?)?;
+    assert!(rt; reader.num_docs() == 2 && reader.period() == 8);
+    assert!(rt;
+        reader.version() == DocStoreVersion::V3 && reader.decompressor() == Decompressor::None
+    );
+    assert!(rt; reader.space_usage().total() == 27 && reader.peek_lru().is_none());
+    assert!(rt; are_two_blocks(reader.block_checkpoints()));
+    Ok(())
+}
+
+#[test]
+fn a_view_tells_of_its_store(rt: HostRuntime) -> Result<(), Fail> {
+    let file = two_blocks(rt.alloc())?;
+    let view = StoreView::open(rt.alloc(), file.as_slice())?;
+    assert!(rt; view.version() == DocStoreVersion::V3 && view.period() == 8);
+    assert!(rt; view.space_usage().data_usage() == 18 && view.space_usage().offsets_usage() == 9);
+    assert!(rt; are_two_blocks(view.block_checkpoints()));
+    Ok(())
+}
+
+// How many documents an iteration gives that is dropped after so many, and how many blocks it looks up.
+fn given_and_looked_up(
+    alloc: Global,
+    reader: &mut StoreReader<MemFile>,
+    taken: usize,
+) -> Result<(usize, usize), Fail> {
+    let before = reader.cache_stats().cache_misses;
+    let alive = AliveBitSet::from_deleted_docs(alloc, &[], reader.num_docs())?;
+    let given = reader.iter_raw(alloc, Some(&alive)).take(taken).count();
+    let after = reader.cache_stats().cache_misses;
+    Ok((given, after.saturating_sub(before)))
+}
+
+#[test]
+fn an_iteration_looks_up_the_blocks_that_it_came_to(rt: HostRuntime) -> Result<(), Fail> {
+    // The first block has two documents, and is looked up when the iteration begins.
+    let file = written(rt.alloc(), 17, &[b"a", b"b", b"c"])?;
+    let mut reader = opened_bytes(rt.alloc(), file)?;
+    for (taken, blocks) in [(0, 1), (1, 1), (2, 1), (3, 2), (4, 2)] {
+        let counts = given_and_looked_up(rt.alloc(), &mut reader, taken)?;
+        assert_eq!(rt; counts, (taken.min(3), blocks), "{taken}");
+    }
+    Ok(())
+}
+
+fn stats(num_entries: usize, cache_hits: usize, cache_misses: usize) -> CacheStats {
+    CacheStats {
+        num_entries,
+        cache_hits,
+        cache_misses,
+    }
+}
+
+#[test]
+fn counts_of_caches_are_summed_up_to_the_greatest(rt: HostRuntime) {
+    let mut sum = CacheStats::default();
+    sum += stats(1, 2, 3);
+    sum += stats(usize::MAX, 4, usize::MAX - 3);
+    assert!(rt; sum == stats(usize::MAX, 6, usize::MAX));
+    let all = [stats(1, 2, 3), stats(4, 5, 6)];
+    assert!(rt; all.into_iter().sum::<CacheStats>() == stats(5, 7, 9));
+}
