@@ -289,6 +289,26 @@ class OpenedOnce(InFolder):
             self.assertEqual(begun + reading.stdout.read(), self.WIDE)
         self.assertEqual(reading.returncode, 0)
 
+    def test_replaced_after_its_first_open(self):
+        """A second open by name would meet another file: it is held up until the file is replaced."""
+        if not shutil.which("strace"):
+            self.skipTest("there is no strace")
+        calls = self.path_of("calls")
+        hold = ["-P", self.path, "-e", "trace=openat", "-e", "inject=openat:delay_enter=2000000:when=2+"]
+        reader = subprocess.Popen(
+            ["strace", "-f", *hold, "-o", calls, PROGRAM, "cat", self.path],
+            stdout=subprocess.PIPE,
+            stderr=subprocess.DEVNULL,
+        )
+        for _ in range(500):
+            if os.path.exists(calls) and os.path.getsize(calls):
+                break
+            time.sleep(0.01)
+        self.assertEqual(ran("pack", self.path, stdin=self.WIDE.upper()).returncode, 0)
+        given, _ = reader.communicate(timeout=60)
+        self.assertEqual(reader.returncode, 0)
+        self.assertTrue(given == self.WIDE, "what came is not of the old file")
+
     def opened(self, *words, **how):
         """How often a command opens the store by its name."""
         if not shutil.which("strace"):
@@ -323,6 +343,74 @@ class OpenedOnce(InFolder):
         self.assertEqual(self.opened("pack", self.path, source, stderr=shown), 0)
         told = os.read(terminal, 1 << 16).decode()
         self.assertRegex(told, f"2 documents, {os.path.getsize(self.path)} bytes, 1 blocks?, ")
+
+
+class Claimed(InFolder):
+    """Small stores that claim 4,294,967,295 documents: time and memory depend on the size of the file."""
+
+    CLAIM = (1 << 32) - 1
+    # A byte that is no block, and a block of three documents.
+    BLOCKS = (b"x", b"onetwothree" + bytes.fromhex("00000000" "03000000" "06000000" "03000000"))
+
+    def setUp(self):
+        super().setUp()
+        self.claims = [self.claim(block) for block in self.BLOCKS]
+        self.assertEqual(os.path.getsize(self.claims[0]), 40)
+
+    def claim(self, block):
+        """A store of one block, whose index has one layer of one checkpoint of all ids."""
+        path = self.path_of(f"claim{len(block)}.store")
+        index = bytes.fromhex("8189" "818080" "7f7f7f7f8f") + bytes([128 + len(block)])
+        footer = bytes.fromhex("03000000") + len(block).to_bytes(8, "little") + bytes.fromhex("0008") + bytes(14)
+        with open(path, "wb") as file:
+            file.write(block + index + footer)
+        return path
+
+    def limited(self, *words):
+        """Runs the program in 256 MiB of memory and one second."""
+
+        def limit():
+            resource.setrlimit(resource.RLIMIT_AS, (256 * MIB, 256 * MIB))
+            resource.setrlimit(resource.RLIMIT_CPU, (1, 1))
+
+        return ran(*words, preexec_fn=limit)
+
+    def test_verify(self):
+        for path, sound in zip(self.claims, (0, 3)):
+            done = self.limited("verify", path)
+            said = f"damaged: {self.CLAIM - sound} of {self.CLAIM} documents, 1 of 1 blocks"
+            self.assertEqual((done.returncode, done.stderr), (1, b""))
+            self.assertIn(said.encode(), done.stdout)
+
+    def test_stat(self):
+        for path in self.claims:
+            done = self.limited("stat", "--json", path)
+            self.assertEqual((done.returncode, done.stderr), (0, b""))
+            self.assertIn(b'"documents":%d' % self.CLAIM, done.stdout)
+
+    def test_inspect(self):
+        page = self.path_of("claim.html")
+        for path, sound in zip(self.claims, (0, 3)):
+            done = self.limited("inspect", path, "--html", page)
+            self.assertEqual((done.returncode, done.stderr), (0, b""))
+            with open(page) as file:
+                self.assertIn(f"damaged documents</th><td>{self.CLAIM - sound}<", file.read())
+
+    def test_cat_without(self):
+        for path, damaged in zip(self.claims, (1, 3)):
+            done = self.limited("cat", path, "--without", "0")
+            self.assertEqual(done.returncode, 1)
+            self.assertIn(b"document %d is damaged" % damaged, done.stderr)
+            done = self.limited("cat", path, "--without", f"0..{self.CLAIM}")
+            self.assertEqual((done.returncode, done.stdout, done.stderr), (0, b"", b""))
+
+    def test_merge_without(self):
+        out = self.path_of("out.store")
+        for path in self.claims:
+            done = self.limited("merge", out, path, "--without", f"{path}=0")
+            self.assertEqual(done.returncode, 2)
+            self.assertIn(b"--without: a store claims %d documents in" % self.CLAIM, done.stderr)
+            self.assertFalse(os.path.exists(out))
 
 
 class Large(InFolder):

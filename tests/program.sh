@@ -131,6 +131,10 @@ refuses "no number" 2 "'seven' is not a document number or a range" get numbers.
 refuses "a range without a number" 2 "is not a document number or a range" get numbers.store 3..x
 "$program" cat numbers.store --without 0,2..19998 >back.txt; printf '2\n19999\n20000\n' >wanted.txt
 same "documents are left out" wanted.txt back.txt
+"$program" cat numbers.store --without 0 --without 2..19998 >back.txt
+same "documents are left out by two options" wanted.txt back.txt
+"$program" cat numbers.store --without 9..19998,0 --without 1..3,2..9 --without 5 >back.txt; seq 19999 20000 >wanted.txt
+same "documents are left out in any order, some twice" wanted.txt back.txt
 refuses "documents that aren't there can't be left out" 1 "no document 20000" cat numbers.store --without 20000
 refuses "no number to leave out" 2 "'x' is not a document number" cat numbers.store --without 1,x
 
@@ -177,6 +181,12 @@ same "merged stores come in order" wanted.txt back.txt
 "$program" merge less.store a.store numbers.store --without a.store=0 --without numbers.store=1..20000
 "$program" cat less.store >back.txt; printf '\nthree\n1\n' >wanted.txt
 same "merged stores leave documents out" wanted.txt back.txt
+"$program" merge less.store numbers.store --without numbers.store=0 --without numbers.store=2..19998,1
+"$program" cat less.store >back.txt; seq 19999 20000 >wanted.txt
+same "two options for one input leave both out" wanted.txt back.txt
+"$program" merge less.store a.store numbers.store --without a.store=0 --without numbers.store=1.. --without a.store=2
+"$program" cat less.store >back.txt; printf '\n1\n' >wanted.txt
+same "options for two inputs, two of them for one" wanted.txt back.txt
 "$program" merge a.store a.store a.store && "$program" cat a.store >back.txt
 same "a store may be merged into its own name" twice.txt back.txt
 mkdir many
@@ -184,8 +194,12 @@ for number in $(seq 100 140); do printf '%s\n' "$number" | "$program" pack "many
 (ulimit -n 20; "$program" merge all.store many/*.store) && "$program" cat all.store >back.txt
 seq 100 140 >wanted.txt
 same "more stores are merged than files may be open" wanted.txt back.txt
-refuses "leaves out of no input" 2 "no input and documents: 'c.store=1'" merge x.store a.store --without c.store=1
-refuses "a word without documents" 2 "no input and documents" merge x.store a.store --without a.store
+refuses "leaves out of no input" 2 "--without 'c.store=1': none of the inputs is named 'c.store'" \
+    merge x.store a.store --without c.store=1
+refuses "leaves out of no input beside one" 2 "--without 'c.store=1': none of the inputs is named" \
+    merge x.store a.store --without a.store=1 --without c.store=1
+count "nothing is written of a merge without an input" $([ -e x.store ] && echo 1 || echo 0)
+refuses "a word without documents" 2 "--without 'a.store': it must have the form INPUT=IDS" merge x.store a.store --without a.store
 refuses "leaves out what isn't there" 1 "a.store: no document 9" merge x.store a.store --without a.store=9
 refuses "merges what isn't there" 1 "gone.store: No such file" merge x.store a.store gone.store
 

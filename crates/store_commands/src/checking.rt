@@ -5,6 +5,7 @@ ghost use Rattle.store_format.specs.Block.{slot, damaged, count_of, u32_at};
 ghost use Rattle.store_reader.specs.Parts.{place_of};
 ghost use Rattle.store_commands.specs.Blocks.{AreWhole, documents_of};
 
+use crate::block_documents::documents_with_room;
 use docstore::{DataPart, block_read_index};
 use std::fmt;
 use store_base::DocId;
@@ -129,10 +130,11 @@ fn first_damaged(block: &[u8], documents: u32) -> Option<u32>
     None
 }
 
-// How many documents of a block are damaged.
+// How many documents of a block are damaged. Those that its table has no room for are counted without a look.
 fn damaged_in(block: &[u8], documents: u32) -> u64 {
-    let mut damaged = 0u64;
-    for position in 0..documents {
+    let with_room = documents_with_room(block, documents);
+    let mut damaged = u64::from(documents - with_room);
+    for position in 0..with_room {
         let is_damaged = block_read_index(block, position).is_none();
         damaged = damaged.saturating_add(u64::from(is_damaged));
     }

@@ -1,13 +1,13 @@
-//! Ranges of documents as words.
+//! Ranges of documents, as arguments give them.
 
-ghost use Rattle.std.specs.Prelude.{◌<◌, ◌≤◌, IfOk};
+ghost use Rattle.std.specs.Prelude.{◌≡◌, ◌<◌, ◌≤◌, IfOk};
 
 use crate::request_error::RequestError;
 use std::alloc::Global;
 use std::ops::Range;
 use store_base::DocId;
 
-/// A range of documents by their numbers. Without an end it goes up to the last one.
+/// A range of documents by their ids. Without an end it reaches to the last one.
 #[derive(Clone, Copy)]
 pub struct IdRange {
     start: DocId,
@@ -15,7 +15,7 @@ pub struct IdRange {
 }
 
 impl IdRange {
-    /// The range that a word like `7`, `3..9`, `5..` or `..9` names; the end is left out.
+    /// The range that a word like `7`, `3..9`, `5..` or `..9` names. The end is excluded.
     pub fn from_word(word: &str) -> Option<IdRange> {
         let Some((start, end)) = word.split_once("..") else {
             let start = word.parse::<DocId>().ok()?;
@@ -33,7 +33,7 @@ impl IdRange {
         Some(IdRange { start, end })
     }
 
-    /// The numbers, among those of so many documents. The first that is none of them is refused.
+    /// The ids in a store of `num_docs` documents. An id that the store does not have is an error.
     pub fn among(self, num_docs: DocId) -> Result<Range<DocId>, RequestError>
         ensures within { IfOk result (λ ids. ids.start < ids.end → ids.end ≤ num_docs) }
     {
@@ -48,8 +48,8 @@ impl IdRange {
     }
 }
 
-// The range that a word names, or the refusal of the word.
-fn range_of(alloc: Global, word: &str) -> Result<IdRange, RequestError> {
+/// The range that a word names.
+pub fn range_of(alloc: Global, word: &str) -> Result<IdRange, RequestError> {
     match IdRange::from_word(word) {
         Some(range) => Ok(range),
         None => Err(RequestError::NoRange(format!(in alloc;
@@ -65,21 +65,4 @@ pub fn ranges_of(alloc: Global, words: &[&str]) -> Result<Vec<IdRange>, RequestE
         ranges.push(range_of(alloc, word)?)?;
     }
     Ok(ranges)
-}
-
-// Adds the numbers of a range.
-fn add_ids(ids: &mut Vec<DocId>, range: Range<DocId>) -> Result<(), RequestError> {
-    for doc_id in range {
-        ids.push(doc_id)?;
-    }
-    Ok(())
-}
-
-/// The numbers that ranges between commas name, among those of so many documents.
-pub fn ids_of(alloc: Global, words: &str, num_docs: DocId) -> Result<Vec<DocId>, RequestError> {
-    let mut ids = Vec::new(alloc);
-    for word in words.split(',') {
-        add_ids(&mut ids, range_of(alloc, word)?.among(num_docs)?)?;
-    }
-    Ok(ids)
 }

@@ -1,51 +1,53 @@
-//! Which documents of a store are kept, where words leave some out.
+//! Which documents of a store are merged, where `--without` leaves some out.
 
-ghost use Rattle.std.specs.Prelude.{◌≡◌, IfOk, IfSome, IsNone, length, true};
-ghost use Rattle.store_base.specs.AliveBitSet.{is_alive_at};
+ghost use Rattle.std.specs.Prelude.{◌≡◌, ◌≤◌, ◌*◌, IfOk, IfSome, length};
 ghost use Rattle.store_merge.specs.Inputs.{HasWholeSet};
 
-use crate::id_range::ids_of;
+use crate::left_out::{alive_without, left_out};
 use crate::request_error::RequestError;
 use docstore::StoreReader;
-use std::alloc::Global;
+use std::alloc::{AllocError, Global};
 use store_base::{AliveBitSet, DocId, FileHandle};
 use store_merge::MergeInput;
 
-/// Which of so many documents are kept, where words leave some out; no set where there are no words, and each is kept.
+// The error of a store that claims more documents than its bytes can hold.
+fn too_many(alloc: Global, num_docs: DocId, bytes: u64) -> Result<RequestError, AllocError> {
+    let text = format!(in alloc;
+        "--without: a store claims {num_docs} documents in {bytes} bytes, so some of them are damaged"
+    )?;
+    Ok(RequestError::NoRange(text))
+}
+
+/// The documents that are kept where words leave some out, in a store of `num_docs` documents and so many bytes.
+/// Returns `None` if there are no words, and all are kept. No set is made for more documents than eight a byte.
 pub fn kept_of(
     alloc: Global,
     num_docs: DocId,
-    without: Option<&str>,
+    bytes: u64,
+    words: &[&str],
 ) -> Result<Option<AliveBitSet>, RequestError>
-    ensures { IfOk result (λ kept. IfSome kept (λ set. length set ≡ num_docs)) }
+    ensures length { IfOk result (λ kept. IfSome kept (λ set. length set ≡ num_docs)) }
+    ensures few { IfOk result (λ kept. IfSome kept (λ _. num_docs ≤ 8 * bytes)) }
 {
-    let Some(words) = without else {
+    if words.is_empty() {
         return Ok(None);
-    };
-    let deleted = ids_of(alloc, words, num_docs)?;
-    Ok(Some(AliveBitSet::from_deleted_docs(alloc, &deleted, num_docs)?))
-}
-
-/// Whether a document is kept; without a set each is.
-#[inline(always)]
-pub fn is_kept(kept: Option<&AliveBitSet>, doc_id: DocId) -> bool
-    ensures set { IfSome kept.entry (λ set. result ≡ is_alive_at set.now doc_id) }
-    ensures all { IsNone kept.entry → result ≡ true }
-{
-    match kept {
-        Some(set) => set.is_alive(doc_id),
-        None => true,
     }
+    let spans = left_out(alloc, words, num_docs)?;
+    if u64::from(num_docs) / 8 >= bytes && num_docs > 0 {
+        return Err(too_many(alloc, num_docs, bytes)?);
+    }
+    Ok(Some(alive_without(alloc, &spans, num_docs)?))
 }
 
 /// A store as one that is merged, without the documents that words leave out.
 pub fn input_without<H: FileHandle>(
     alloc: Global,
     reader: StoreReader<H>,
-    without: Option<&str>,
+    words: &[&str],
 ) -> Result<MergeInput<H>, RequestError>
     ensures { IfOk result HasWholeSet }
 {
-    let alive = kept_of(alloc, reader.num_docs(), without)?;
+    let bytes = reader.space_usage().total();
+    let alive = kept_of(alloc, reader.num_docs(), bytes, words)?;
     Ok(MergeInput { reader, alive })
 }

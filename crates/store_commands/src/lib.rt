@@ -7,11 +7,12 @@ pub mod checking;
 pub mod id_range;
 pub mod index_fault;
 pub mod kept_documents;
+pub mod left_out;
 pub mod request_error;
 pub mod store_numbers;
 pub mod store_part;
 pub mod store_shape;
 
-pub use id_range::{IdRange, ids_of, ranges_of};
+pub use id_range::{IdRange, ranges_of};
 pub use request_error::RequestError;
 pub use store_shape::StoreShape;

@@ -1,13 +1,13 @@
-//! Why a store does not give what is asked of it.
+//! Errors of requests to a store.
 
 use std::alloc::{AllocError, AllocFailed};
 use store_base::{DocId, NoMemory, ReadFault, StoreError};
 use thiserror::Error;
 
-/// Why a store does not give what is asked of it.
+/// Why a request to a store failed.
 #[derive(Debug, Drop, Error)]
 pub enum RequestError {
-    /// A word names no documents; it carries what is wrong with the word.
+    /// Words name no documents, or can't be used on the store; it carries why.
     #[error("{0}")]
     NoRange(String),
     /// The store has no document of this number, but so many others.

@@ -6,34 +6,48 @@ use crate::store_file::DiskReader;
 use docstore::DataPart;
 use std::alloc::Global;
 use std::io::Write;
-use store_base::AliveBitSet;
+use std::ops::Range;
+use store_base::DocId;
 use store_commands::block_documents::document_at;
-use store_commands::kept_documents::is_kept;
+use store_commands::left_out::{IdSpan, spans_within};
 
-// Writes the documents of a block that are kept.
-fn write_block<W: Write>(
+// Writes the documents of a block that have these ids.
+fn write_run<W: Write>(
     output: &mut W,
     framing: Framing,
     block: &DataPart,
-    kept: Option<&AliveBitSet>,
+    ids: Range<DocId>,
 ) -> Result<(), Cause> {
-    let first = block.ids.start;
-    for doc_id in first..block.ids.end {
-        if is_kept(kept, doc_id) {
-            let document = document_at(block.bytes.as_slice(), doc_id, doc_id - first)?;
-            printed(framing.write(output, document))?;
-        }
+    let (first, bytes) = (block.ids.start, block.bytes.as_slice());
+    for doc_id in ids {
+        let document = document_at(bytes, doc_id, doc_id.saturating_sub(first))?;
+        printed(framing.write(output, document))?;
     }
     Ok(())
 }
 
-/// Writes the documents of an opened store, in order. Those that a set has for dead are left out.
+// Writes the documents of a block, except those of the ranges.
+fn write_block<W: Write>(
+    output: &mut W,
+    framing: Framing,
+    block: &DataPart,
+    left_out: &[IdSpan],
+) -> Result<(), Cause> {
+    let mut next_id = block.ids.start;
+    for span in spans_within(left_out, block.ids.start, block.ids.end) {
+        write_run(output, framing, block, next_id..span.start)?;
+        next_id = span.end;
+    }
+    write_run(output, framing, block, next_id..block.ids.end)
+}
+
+/// Writes the documents of an opened store in order, except those of the ranges, which are in order and do not touch.
 pub fn write_documents<W: Write>(
     alloc: Global,
     reader: &mut DiskReader,
     output: &mut W,
     framing: Framing,
-    kept: Option<&AliveBitSet>,
+    left_out: &[IdSpan],
 ) -> Result<(), Cause> {
     let mut next_id = 0;
     // Each block has a document.
@@ -41,7 +55,7 @@ pub fn write_documents<W: Write>(
         let Some(block) = reader.read_block(alloc, next_id)? else {
             break;
         };
-        write_block(output, framing, &block, kept)?;
+        write_block(output, framing, &block, left_out)?;
         next_id = block.ids.end;
     }
     Ok(())

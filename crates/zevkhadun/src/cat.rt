@@ -9,19 +9,19 @@ use crate::store_file::{DiskReader, StorePath, store_path};
 use clap::{Arg, ArgAction, ArgMatches, Command};
 use std::alloc::{AllocError, Global};
 use std::io::Write;
-use store_commands::kept_documents::kept_of;
+use store_commands::left_out::left_out;
 
 const EXAMPLE: &str = "\
 Example:
-  zevkhadun cat words.store --without 0,3..9     all but document 0 and those from 3 to 8";
+  zevkhadun cat words.store --without 0,3..9     all but documents 0 and 3 to 8";
 
 // Documents to leave out.
 fn without<'a>(alloc: Global) -> Arg<'a> {
     Arg::new(alloc, "without")
         .long("without")
         .value_name("IDS")
-        .action(ArgAction::Set)
-        .help("Documents to leave out: numbers and ranges between commas, as 0,3..9")
+        .action(ArgAction::Append)
+        .help("Documents to leave out, as 0,3..9; may be given several times")
 }
 
 /// The words of `cat`.
@@ -40,11 +40,11 @@ fn print_documents(
     rt: &HostRuntime,
     reader: &mut DiskReader,
     framing: Framing,
-    without: Option<&str>,
+    without: &[&str],
 ) -> Result<(), Cause> {
-    let kept = kept_of(rt.alloc(), reader.num_docs(), without)?;
+    let left_out = left_out(rt.alloc(), without, reader.num_docs())?;
     let mut output = standard_output(rt)?;
-    write_documents(rt.alloc(), reader, &mut output, framing, kept.as_ref())?;
+    write_documents(rt.alloc(), reader, &mut output, framing, &left_out)?;
     printed(output.flush())
 }
 
@@ -53,7 +53,7 @@ fn print(
     rt: &HostRuntime,
     store: StorePath<'_>,
     framing: Framing,
-    without: Option<&str>,
+    without: &[&str],
 ) -> Result<(), Cause> {
     let mut reader = store.reader(rt)?;
     print_documents(rt, &mut reader, framing, without)
@@ -62,6 +62,7 @@ fn print(
 /// Prints the documents.
 pub fn run(rt: &HostRuntime, matches: &ArgMatches<'_>) -> Result<(), Failure> {
     let store = store_path(matches);
-    let printed = print(rt, store, framing_of(matches), matches.get_str("without"));
+    let without = matches.get_strs("without").unwrap_or(&[]);
+    let printed = print(rt, store, framing_of(matches), without);
     at(rt.alloc(), store.path, printed)
 }

@@ -5,7 +5,7 @@ ghost use Rattle.std.specs.List.{AllByRecursion};
 ghost use Rattle.store_merge.specs.Inputs.{HasWholeSet};
 ghost use Rattle.store_merge.specs.Merge.{IsMerged};
 
-use crate::arguments::{self, shape_of, wrong_words};
+use crate::arguments::{self, shape_of};
 use crate::failure::{Cause, Failure, at};
 use crate::progress::Progress;
 use crate::store_file::StorePath;
@@ -37,9 +37,7 @@ fn without<'a>(alloc: Global) -> Arg<'a> {
         .long("without")
         .value_name("INPUT=IDS")
         .action(ArgAction::Append)
-        .help(
-            "Documents of an input to leave out: numbers and ranges between commas, as a.store=0,3..9",
-        )
+        .help("Documents of an input to leave out, as a.store=0,3..9; may be given several times")
 }
 
 /// The words of `merge`.
@@ -88,9 +86,15 @@ fn merge_opened(
 }
 
 impl<'m, 'w> Merging<'m, 'w> {
-    // What the words leave out of an input.
-    fn ids_without(&self, path: &str) -> Option<&'w str> {
-        self.without.iter().find_map(|word| ids_for(word, path))
+    // The words that leave documents out of an input.
+    fn words_for(&self, alloc: Global, path: &str) -> Result<Vec<&'w str>, Cause> {
+        let mut words = Vec::new(alloc);
+        for word in self.without {
+            if let Some(ids) = ids_for(word, path) {
+                words.push(ids)?;
+            }
+        }
+        Ok(words)
     }
 
     // The input of this name.
@@ -101,8 +105,9 @@ impl<'m, 'w> Merging<'m, 'w> {
             path,
             is_tantivy: self.is_tantivy,
         };
+        let words = self.words_for(rt.alloc(), path)?;
         let reader = store.reader(rt)?;
-        Ok(input_without(rt.alloc(), reader, self.ids_without(path))?)
+        Ok(input_without(rt.alloc(), reader, &words)?)
     }
 
     // Opens each input once, so that nothing is written where one of them can't be merged. None stays open: there may
@@ -165,6 +170,24 @@ impl<'m, 'w> Merging<'m, 'w> {
     }
 }
 
+// What is wrong with a word of `--without` that names none of the inputs.
+fn stray_text(alloc: Global, word: &str) -> Result<String, AllocError> {
+    match word.rsplit_once('=') {
+        Some((input, _)) => {
+            format!(in alloc; "--without '{word}': none of the inputs is named '{input}'")
+        }
+        None => format!(in alloc; "--without '{word}': it must have the form INPUT=IDS"),
+    }
+}
+
+// The usage error of a word of `--without` that names none of the inputs.
+fn stray_failure(alloc: Global, word: &str) -> Failure {
+    Failure::from(match stray_text(alloc, word) {
+        Ok(text) => Cause::Words(text),
+        Err(error) => Cause::from(error),
+    })
+}
+
 // Merges as the words say.
 fn merge_stores(
     rt: &HostRuntime,
@@ -174,7 +197,7 @@ fn merge_stores(
     progress: &mut Progress<'_>,
 ) -> Result<(), Failure> {
     if let Some(word) = merging.stray_word() {
-        return Err(wrong_words(rt.alloc(), "no input and documents", word));
+        return Err(stray_failure(rt.alloc(), word));
     }
     merging.check_inputs(rt)?;
     let mut writer = create(rt, out, shape)?;

@@ -16,6 +16,7 @@ use histogram::Histogram;
 use page::Page;
 use std::alloc::{AllocError, Global};
 use store_base::{StoreError, TerminatingWrite};
+use store_commands::block_documents::documents_with_room;
 use store_commands::store_numbers::{block_sizes, numbers_of};
 use store_files::DiskSink;
 
@@ -53,9 +54,13 @@ struct DocumentSizes {
 }
 
 impl DocumentSizes {
-    // Counts the documents of a block.
+    // Counts the documents of a block. Those that its table has no room for are damaged.
     fn add_block(&mut self, block: &DataPart) {
-        for position in 0..block.ids.end.saturating_sub(block.ids.start) {
+        let documents = block.ids.end.saturating_sub(block.ids.start);
+        let with_room = documents_with_room(block.bytes.as_slice(), documents);
+        let without_room = u64::from(documents.saturating_sub(with_room));
+        self.damaged = self.damaged.saturating_add(without_room);
+        for position in 0..with_room {
             match block_read_index(block.bytes.as_slice(), position) {
                 Some(range) => self.spread.add(range.len() as u64),
                 None => self.damaged = self.damaged.saturating_add(1),
