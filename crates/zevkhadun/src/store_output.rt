@@ -61,10 +61,10 @@ pub fn finish(
     writer: DiskWriter,
     stored: Result<(), Failure>,
 ) -> Result<Written, Failure> {
-    match stored {
-        Err(failure) if !writer.has_failed() => Err(failure),
-        _ => at(rt.alloc(), path, close(writer)),
+    if !writer.has_failed() {
+        stored?;
     }
+    at(rt.alloc(), path, close(writer))
 }
 
 // Prints what a store has.
