@@ -71,6 +71,18 @@ pub fn spans_within(spans: &[IdSpan], start: DocId, end: DocId) -> &[IdSpan] {
     spans.get(first..last).unwrap_or(&[])
 }
 
+/// Whether none of the ranges has this id.
+pub fn is_kept(spans: &[IdSpan], doc_id: DocId) -> bool
+    ensures { result ≡ not (is_among spans.now doc_id) }
+{
+    for span in spans {
+        if span.start <= doc_id && doc_id < span.end {
+            return false;
+        }
+    }
+    true
+}
+
 // Deletes the documents of a range.
 fn delete_span(set: &mut AliveBitSet, span: IdSpan)
     ensures len { length set.new ≡ length set.old }

@@ -9,19 +9,22 @@ use std::io::Write;
 use std::ops::Range;
 use store_base::DocId;
 use store_commands::block_documents::document_at;
-use store_commands::left_out::{IdSpan, spans_within};
+use store_commands::left_out::{IdSpan, is_kept, spans_within};
 
-// Writes the documents of a block that have these ids.
+// Writes the documents of a block that have these ids, except those of the ranges.
 fn write_run<W: Write>(
     output: &mut W,
     framing: Framing,
     block: &DataPart,
     ids: Range<DocId>,
+    left_out: &[IdSpan],
 ) -> Result<(), Cause> {
     let (first, bytes) = (block.ids.start, block.bytes.as_slice());
     for doc_id in ids {
-        let document = document_at(bytes, doc_id, doc_id.saturating_sub(first))?;
-        printed(framing.write(output, document))?;
+        if is_kept(left_out, doc_id) {
+            let document = document_at(bytes, doc_id, doc_id.saturating_sub(first))?;
+            printed(framing.write(output, document))?;
+        }
     }
     Ok(())
 }
@@ -33,12 +36,13 @@ fn write_block<W: Write>(
     block: &DataPart,
     left_out: &[IdSpan],
 ) -> Result<(), Cause> {
+    let spans = spans_within(left_out, block.ids.start, block.ids.end);
     let mut next_id = block.ids.start;
-    for span in spans_within(left_out, block.ids.start, block.ids.end) {
-        write_run(output, framing, block, next_id..span.start)?;
+    for span in spans {
+        write_run(output, framing, block, next_id..span.start, spans)?;
         next_id = span.end;
     }
-    write_run(output, framing, block, next_id..block.ids.end)
+    write_run(output, framing, block, next_id..block.ids.end, spans)
 }
 
 /// Writes the documents of an opened store in order, except those of the ranges, which are in order and do not touch.
