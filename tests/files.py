@@ -408,8 +408,9 @@ class Claimed(InFolder):
         out = self.path_of("out.store")
         for path in self.claims:
             done = self.limited("merge", out, path, "--without", f"{path}=0")
-            self.assertEqual(done.returncode, 2)
-            self.assertIn(b"--without: a store claims %d documents in" % self.CLAIM, done.stderr)
+            said = f"zevkhadun: {path}: it claims {self.CLAIM} documents in {os.path.getsize(path)} bytes, so some of them"
+            self.assertEqual(done.returncode, 1)
+            self.assertEqual(done.stderr.decode(), f"{said} are damaged; 'zevkhadun verify' says where\n")
             self.assertFalse(os.path.exists(out))
 
 

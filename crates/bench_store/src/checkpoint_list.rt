@@ -2,10 +2,10 @@
 ghost use Rattle.std.specs.Prelude.{◌≡◌, ◌≤◌, take, length, IfOk};
 
 use crate::generator::{CHECKPOINTS_SEED, Generator, TARGETS_SEED};
-use docstore::{Checkpoint, CheckpointBlock, SkipIndexBuilder, StoreError};
+use docstore::{Checkpoint, CheckpointBlock, SkipIndex, SkipIndexBuilder, StoreError};
 use std::alloc::{AllocError, Global};
 use std::marker::Model;
-use store_base::{DocId, MemSink};
+use store_base::{DocId, MemSink, OwnedBytes};
 
 /// Checkpoints of up to 200 documents and some 16400 bytes, from the first id and the first byte on.
 #[derive(Drop)]
@@ -76,9 +76,21 @@ impl CheckpointList {
         builder.serialize_into(&mut output)?;
         Ok(output)
     }
+
+    /// The index of copies that are inserted one by one.
+    pub fn index(&self, alloc: Global) -> Result<SkipIndex, StoreError> {
+        let part = self.index_part(alloc)?;
+        SkipIndex::open(alloc, OwnedBytes::new(alloc, part.into_bytes())?)
+    }
 }
 
-/// So many documents below an end, to be sought.
+/// The index part of `count` checkpoints.
+pub fn index_part(alloc: Global, count: u64) -> Result<OwnedBytes, StoreError> {
+    let part = CheckpointList::of_count(alloc, count)?.index_part(alloc)?;
+    Ok(OwnedBytes::new(alloc, part.into_bytes())?)
+}
+
+/// `count` documents below an end, to be sought.
 pub fn targets(alloc: Global, count: u64, end: u32) -> Result<Vec<DocId>, AllocError> {
     let mut generator = Generator::new(TARGETS_SEED);
     let mut targets = Vec::new(alloc);

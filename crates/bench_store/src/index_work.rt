@@ -1,5 +1,5 @@
 //! Workloads over indexes without a store.
-use crate::checkpoint_list::CheckpointList;
+use crate::checkpoint_list::{CheckpointList, index_part, targets};
 use crate::checks::{chained, hash};
 use crate::measure::{Run, Workload};
 use anyhow::Result;
@@ -27,6 +27,16 @@ fn seek_all(index: &SkipIndex, targets: &[DocId]) -> u64 {
         check = chained(check, start);
     }
     check
+}
+
+impl Seek {
+    /// In an index of `count` checkpoints, for `questions` of its documents.
+    pub fn of_count(alloc: Global, count: u64, questions: u64) -> Result<Seek, StoreError> {
+        let list = CheckpointList::of_count(alloc, count)?;
+        let targets = targets(alloc, questions, list.num_docs())?;
+        let index = list.index(alloc)?;
+        Ok(Seek { index, targets })
+    }
 }
 
 impl Workload for Seek {
@@ -110,6 +120,16 @@ fn walk_all(index: &SkipIndex) -> (u64, u64) {
         count = count.wrapping_add(1);
     }
     (check, count)
+}
+
+impl Walk {
+    /// Over `count` checkpoints.
+    pub fn of_count(alloc: Global, count: u64) -> Result<Walk, StoreError> {
+        let part = index_part(alloc, count)?;
+        let len = part.len() as u64;
+        let index = SkipIndex::open(alloc, part)?;
+        Ok(Walk { index, len })
+    }
 }
 
 impl Workload for Walk {

@@ -170,12 +170,12 @@ fn open_many(source: &Source, times: u64) -> Result<Vec<StoreReader<SharedFile>>
 
 fn stacked(
     alloc: Global,
-    readers: Vec<StoreReader<SharedFile>>,
+    readers: &mut [StoreReader<SharedFile>],
     block_size: usize,
 ) -> Result<MemSink, StoreError> {
     let mut writer = StoreWriter::new(alloc, MemSink::new(alloc), Compressor::None, block_size);
-    for mut reader in readers {
-        writer.stack(&mut reader)?;
+    for reader in readers {
+        writer.stack(reader)?;
     }
     closed(writer)
 }
@@ -184,9 +184,9 @@ impl Workload for Stack {
     fn run<C: Clock>(&mut self, clock: &C) -> Result<Run> {
         let alloc = self.source.alloc;
         let data = self.source.open()?.space_usage().data_usage();
-        let readers = open_many(&self.source, self.times)?;
+        let mut readers = open_many(&self.source, self.times)?;
         let start = Instant::now(clock)?;
-        let output = stacked(alloc, readers, self.block_size)?;
+        let output = stacked(alloc, &mut readers, self.block_size)?;
         let time = start.elapsed(clock)?;
         Ok(Run {
             time,

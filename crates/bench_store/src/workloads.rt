@@ -2,7 +2,7 @@
 ghost use Rattle.std.specs.Prelude.{◌<◌, IfSome};
 
 use crate::arguments::Numbers;
-use crate::checkpoint_list::{CheckpointList, targets};
+use crate::checkpoint_list::{CheckpointList, index_part};
 use crate::disk_work::{GetDisk, IterateDisk, PATH, WriteDisk, write_disk};
 use crate::documents::Documents;
 use crate::ids::{Order, deleted, ids};
@@ -12,7 +12,6 @@ use crate::store_work::{Get, Iterate, Open, Source, Stack, Write};
 use crate::stores::written;
 use crate::view_work::{GetView, IterateView, OpenView};
 use anyhow::{Result, bail};
-use docstore::SkipIndex;
 use std::alloc::Global;
 use std::fs;
 use store_base::{MemSink, OwnedBytes};
@@ -281,13 +280,8 @@ impl<'a> Bench<'a> {
         let alloc = self.alloc;
         let count = numbers.documents(1_000_000);
         let questions = numbers.questions(1_000_000);
+        let mut work = Seek::of_count(alloc, count, questions)?;
         let name = format!(in alloc; "seek/n={count}/q={questions}")?;
-        let list = CheckpointList::of_count(alloc, count)?;
-        let part = OwnedBytes::new(alloc, list.index_part(alloc)?.into_bytes())?;
-        let mut work = Seek {
-            index: SkipIndex::open(alloc, part)?,
-            targets: targets(alloc, questions, list.num_docs())?,
-        };
         self.measure(name.as_str(), numbers, &mut work)
     }
 
@@ -307,26 +301,17 @@ impl<'a> Bench<'a> {
         let alloc = self.alloc;
         let count = numbers.documents(1_000_000);
         let times = numbers.questions(1000);
+        let part = index_part(alloc, count)?;
+        let mut work = OpenIndex { alloc, part, times };
         let name = format!(in alloc; "index_open/n={count}/q={times}")?;
-        let part = CheckpointList::of_count(alloc, count)?.index_part(alloc)?;
-        let mut work = OpenIndex {
-            alloc,
-            part: OwnedBytes::new(alloc, part.into_bytes())?,
-            times,
-        };
         self.measure(name.as_str(), numbers, &mut work)
     }
 
     fn walk_index(&self, numbers: &Numbers) -> Result<()> {
         let alloc = self.alloc;
         let count = numbers.documents(1_000_000);
+        let mut work = Walk::of_count(alloc, count)?;
         let name = format!(in alloc; "index_walk/n={count}")?;
-        let part = CheckpointList::of_count(alloc, count)?.index_part(alloc)?;
-        let len = part.as_slice().len() as u64;
-        let mut work = Walk {
-            index: SkipIndex::open(alloc, OwnedBytes::new(alloc, part.into_bytes())?)?,
-            len,
-        };
         self.measure(name.as_str(), numbers, &mut work)
     }
 }

@@ -6,20 +6,13 @@ ghost use Rattle.store_merge.specs.Inputs.{HasWholeSet};
 use crate::left_out::{alive_without, left_out};
 use crate::request_error::RequestError;
 use docstore::StoreReader;
-use std::alloc::{AllocError, Global};
+use std::alloc::Global;
 use store_base::{AliveBitSet, DocId, FileHandle};
 use store_merge::MergeInput;
 
-// The error of a store that claims more documents than its bytes can hold.
-fn too_many(alloc: Global, num_docs: DocId, bytes: u64) -> Result<RequestError, AllocError> {
-    let text = format!(in alloc;
-        "--without: a store claims {num_docs} documents in {bytes} bytes, so some of them are damaged"
-    )?;
-    Ok(RequestError::NoRange(text))
-}
-
-/// The documents that are kept where words leave some out, in a store of `num_docs` documents and so many bytes.
-/// Returns `None` if there are no words, and all are kept. No set is made for more documents than eight a byte.
+/// The documents that are kept where words leave some out, in a store of `num_docs` documents and `bytes` bytes.
+/// Returns `None` if there are no words, and all are kept. A store with eight documents for each byte, or more, is
+/// refused before a set is made.
 pub fn kept_of(
     alloc: Global,
     num_docs: DocId,
@@ -34,7 +27,7 @@ pub fn kept_of(
     }
     let spans = left_out(alloc, words, num_docs)?;
     if u64::from(num_docs) / 8 >= bytes && num_docs > 0 {
-        return Err(too_many(alloc, num_docs, bytes)?);
+        return Err(RequestError::TooManyDocuments { num_docs, bytes });
     }
     Ok(Some(alive_without(alloc, &spans, num_docs)?))
 }

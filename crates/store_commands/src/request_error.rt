@@ -7,12 +7,16 @@ use thiserror::Error;
 /// Why a request to a store failed.
 #[derive(Debug, Drop, Error)]
 pub enum RequestError {
-    /// Words name no documents, or can't be used on the store; it carries why.
+    /// Words name no documents; it carries why.
     #[error("{0}")]
     NoRange(String),
-    /// The store has no document of this number, but so many others.
+    /// The store has `num_docs` documents, and none of the number `doc_id`.
     #[error("no document {doc_id}; the store has {num_docs}, numbered from 0")]
     NoDocument { doc_id: DocId, num_docs: DocId },
+    /// The store claims at least eight documents for each of its bytes, so some of them are damaged, and a set of those
+    /// that are kept would take more memory than the file.
+    #[error("it claims {num_docs} documents in {bytes} bytes, so some of them are damaged")]
+    TooManyDocuments { num_docs: DocId, bytes: u64 },
     /// The bytes behind the store are not those that tantivy's directory leaves.
     #[error("no footer of tantivy's directory at the end")]
     NoTantivyTail,

@@ -24,8 +24,10 @@ pub enum Cause {
     OtherFile(&'static str),
     /// A call on a store was refused.
     Store(StoreError),
-    /// The store has no document of this number, but so many others.
+    /// The store has `num_docs` documents, and none of the number `doc_id`.
     NoDocument { doc_id: DocId, num_docs: DocId },
+    /// The store claims more documents than its bytes can hold.
+    TooManyDocuments { num_docs: DocId, bytes: u64 },
     /// The input of lengths and documents ends within one.
     CutInput,
     /// The bytes behind the store are not those that tantivy's directory leaves.
@@ -42,6 +44,7 @@ impl Cause {
             Cause::Create(CreateError::Busy(_)) => "; wait until it ends, or stop it",
             Cause::OtherFile(_) => "; choose another name, or remove it",
             Cause::CutInput => "; does it have another framing?",
+            Cause::TooManyDocuments { .. } => "; 'zevkhadun verify' says where",
             Cause::NoTantivyTail => "; leave '--tantivy' out for a file that is only a store",
             Cause::Store(error) => advice_for(error),
             _ => "",
@@ -82,6 +85,12 @@ impl fmt::Display for Cause {
                     "no document {doc_id}; the store has {num_docs}, numbered from 0"
                 )
             }
+            Cause::TooManyDocuments { num_docs, bytes } => {
+                write!(
+                    f,
+                    "it claims {num_docs} documents in {bytes} bytes, so some of them are damaged"
+                )
+            }
             Cause::CutInput => f.write_str("the input ends inside a document"),
             Cause::NoTantivyTail => f.write_str("no footer of tantivy's directory at the end"),
             Cause::Told => Ok(()),
@@ -112,6 +121,9 @@ impl From<RequestError> for Cause {
         match error {
             RequestError::NoRange(text) => Cause::Words(text),
             RequestError::NoDocument { doc_id, num_docs } => Cause::NoDocument { doc_id, num_docs },
+            RequestError::TooManyDocuments { num_docs, bytes } => {
+                Cause::TooManyDocuments { num_docs, bytes }
+            }
             RequestError::NoTantivyTail => Cause::NoTantivyTail,
             RequestError::Store(error) => Cause::Store(error),
         }
