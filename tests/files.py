@@ -408,9 +408,10 @@ class Claimed(InFolder):
         out = self.path_of("out.store")
         for path in self.claims:
             done = self.limited("merge", out, path, "--without", f"{path}=0")
-            said = f"zevkhadun: {path}: it claims {self.CLAIM} documents in {os.path.getsize(path)} bytes, so some of them"
+            said = f"it claims {self.CLAIM} documents in {os.path.getsize(path) - 28} bytes of blocks and index"
+            advice = "so some of them are damaged; 'zevkhadun verify' says where"
             self.assertEqual(done.returncode, 1)
-            self.assertEqual(done.stderr.decode(), f"{said} are damaged; 'zevkhadun verify' says where\n")
+            self.assertEqual(done.stderr.decode(), f"zevkhadun: {path}: {said}, {advice}\n")
             self.assertFalse(os.path.exists(out))
 
 

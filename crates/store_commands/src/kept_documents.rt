@@ -10,9 +10,9 @@ use std::alloc::Global;
 use store_base::{AliveBitSet, DocId, FileHandle};
 use store_merge::MergeInput;
 
-/// The documents that are kept where words leave some out, in a store of `num_docs` documents and `bytes` bytes.
-/// Returns `None` if there are no words, and all are kept. A store with eight documents for each byte, or more, is
-/// refused before a set is made.
+/// The documents that are kept where words leave some out, in a store of `num_docs` documents whose blocks and index
+/// have `bytes` bytes. Returns `None` if there are no words, and all are kept. A store with eight documents for each
+/// byte, or more, is refused before a set is made.
 pub fn kept_of(
     alloc: Global,
     num_docs: DocId,

@@ -15,7 +15,7 @@ pub enum RequestError {
     NoDocument { doc_id: DocId, num_docs: DocId },
     /// The store claims at least eight documents for each of its bytes, so some of them are damaged, and a set of those
     /// that are kept would take more memory than the file.
-    #[error("it claims {num_docs} documents in {bytes} bytes, so some of them are damaged")]
+    #[error("it claims {num_docs} documents in {bytes} bytes of blocks and index, so some of them are damaged")]
     TooManyDocuments { num_docs: DocId, bytes: u64 },
     /// The bytes behind the store are not those that tantivy's directory leaves.
     #[error("no footer of tantivy's directory at the end")]

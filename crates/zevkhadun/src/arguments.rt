@@ -2,8 +2,9 @@
 
 use crate::byte_size::parse_size;
 use crate::failure::{Cause, Failure};
-use crate::framing::{FRAMING_HELP, FRAMINGS, Framing};
 use clap::{Arg, ArgAction, ArgMatches, value_parser};
+use document_framing::Framing;
+use document_framing::framing::{FRAMING_HELP, FRAMINGS};
 use std::alloc::{AllocError, Global};
 use store_commands::StoreShape;
 
@@ -50,7 +51,7 @@ pub fn tantivy<'a>(alloc: Global) -> Arg<'a> {
     )
 }
 
-/// That nothing but errors is told on the standard error.
+/// That nothing but errors is printed on the standard error.
 pub fn quiet<'a>(alloc: Global) -> Arg<'a> {
     flag(
         alloc,
@@ -60,34 +61,40 @@ pub fn quiet<'a>(alloc: Global) -> Arg<'a> {
     .short('q')
 }
 
-/// How documents stand one behind the other.
+/// An option `--id VALUE`.
+pub fn option<'a>(alloc: Global, id: &'a str, value: &'a str, help: &'a str) -> Arg<'a> {
+    Arg::new(alloc, id).long(id).value_name(value).help(help)
+}
+
+/// How documents are delimited.
 pub fn framing<'a>(alloc: Global) -> Arg<'a> {
-    Arg::new(alloc, "framing")
-        .long("framing")
-        .value_name("FRAMING")
+    option(alloc, "framing", "FRAMING", "How documents are delimited")
         .value_parser(FRAMINGS.as_slice())
         .default_value("lines")
-        .help("How documents are delimited")
         .long_help(FRAMING_HELP)
 }
 
-/// How much a block takes.
+/// The block size.
 pub fn block_size<'a>(alloc: Global) -> Arg<'a> {
-    Arg::new(alloc, "block-size")
-        .long("block-size")
-        .value_name("BYTES")
-        .default_value("16K")
-        .help("Write a block once its documents plus 8 bytes each exceed BYTES; suffixes K, M, G")
+    option(
+        alloc,
+        "block-size",
+        "BYTES",
+        "Write a block once its documents plus 8 bytes each exceed BYTES; suffixes K, M, G",
+    )
+    .default_value("16K")
 }
 
 /// How many checkpoints a full block of the index has.
 pub fn period<'a>(alloc: Global) -> Arg<'a> {
-    Arg::new(alloc, "period")
-        .long("period")
-        .value_name("COUNT")
-        .value_parser(value_parser!(u8).range(2..=64))
-        .default_value("8")
-        .help("Entries per index run, 2 to 64; rarely worth changing, gets don't depend on it")
+    option(
+        alloc,
+        "period",
+        "COUNT",
+        "Entries per index run, 2 to 64; rarely worth changing, gets don't depend on it",
+    )
+    .value_parser(value_parser!(u8).range(2..=64))
+    .default_value("8")
 }
 
 // The shape, or `None` where a word names none.
@@ -109,7 +116,7 @@ pub fn shape_of(alloc: Global, matches: &ArgMatches<'_>) -> Result<StoreShape, F
     }
 }
 
-/// How documents stand one behind the other.
+/// How documents are delimited.
 pub fn framing_of(matches: &ArgMatches<'_>) -> Framing {
     Framing::from_name(matches.get_str("framing").unwrap_or("lines"))
 }

@@ -1,9 +1,9 @@
 //! Goes over the documents of a store block by block. Each block is read once, and no document is copied.
 
 use crate::failure::{Cause, printed};
-use crate::framing::Framing;
 use crate::store_file::DiskReader;
 use docstore::DataPart;
+use document_framing::Framing;
 use std::alloc::Global;
 use std::io::Write;
 use std::ops::Range;

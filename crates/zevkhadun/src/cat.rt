@@ -1,12 +1,12 @@
 //! `cat`: prints all documents in order.
 
-use crate::arguments::{self, framing_of};
+use crate::arguments::{self, framing_of, option};
 use crate::block_walk::write_documents;
 use crate::document_output::standard_output;
 use crate::failure::{Cause, Failure, at, printed};
-use crate::framing::Framing;
 use crate::store_file::{DiskReader, StorePath, store_path};
 use clap::{Arg, ArgAction, ArgMatches, Command};
+use document_framing::Framing;
 use std::alloc::{AllocError, Global};
 use std::io::Write;
 use store_commands::left_out::left_out;
@@ -17,11 +17,13 @@ Example:
 
 // Documents to leave out.
 fn without<'a>(alloc: Global) -> Arg<'a> {
-    Arg::new(alloc, "without")
-        .long("without")
-        .value_name("IDS")
-        .action(ArgAction::Append)
-        .help("Documents to leave out, as 0,3..9; may be given several times")
+    option(
+        alloc,
+        "without",
+        "IDS",
+        "Documents to leave out, as 0,3..9; may be given several times",
+    )
+    .action(ArgAction::Append)
 }
 
 /// The words of `cat`.

@@ -1,5 +1,6 @@
 //! Why a command failed, and what is told of it.
 
+use document_framing::FramingFault;
 use std::alloc::{AllocError, AllocFailed, Global};
 use std::process::ExitCode;
 use std::{fmt, io};
@@ -88,7 +89,7 @@ impl fmt::Display for Cause {
             Cause::TooManyDocuments { num_docs, bytes } => {
                 write!(
                     f,
-                    "it claims {num_docs} documents in {bytes} bytes, so some of them are damaged"
+                    "it claims {num_docs} documents in {bytes} bytes of blocks and index, so some of them are damaged"
                 )
             }
             Cause::CutInput => f.write_str("the input ends inside a document"),
@@ -101,6 +102,15 @@ impl fmt::Display for Cause {
 impl From<io::Error> for Cause {
     fn from(error: io::Error) -> Cause {
         Cause::System(error)
+    }
+}
+
+impl From<FramingFault> for Cause {
+    fn from(fault: FramingFault) -> Cause {
+        match fault {
+            FramingFault::Io(error) => Cause::System(error),
+            FramingFault::Cut => Cause::CutInput,
+        }
     }
 }
 

@@ -3,9 +3,9 @@
 use crate::arguments::{self, framing_of};
 use crate::document_output::{DocumentOutput, standard_output};
 use crate::failure::{Cause, Failure, at, printed};
-use crate::framing::Framing;
 use crate::store_file::{DiskReader, StorePath, store_path};
 use clap::{ArgMatches, Command};
+use document_framing::Framing;
 use std::alloc::{AllocError, Global};
 use std::io::Write;
 use std::ops::Range;

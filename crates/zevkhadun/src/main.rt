@@ -10,7 +10,6 @@ mod cat;
 mod checking;
 mod document_output;
 mod failure;
-mod framing;
 mod get;
 mod inspect;
 mod merge;

@@ -5,7 +5,7 @@ ghost use Rattle.std.specs.List.{AllByRecursion};
 ghost use Rattle.store_merge.specs.Inputs.{HasWholeSet};
 ghost use Rattle.store_merge.specs.Merge.{IsMerged};
 
-use crate::arguments::{self, shape_of};
+use crate::arguments::{self, option, shape_of};
 use crate::failure::{Cause, Failure, at};
 use crate::progress::Progress;
 use crate::store_file::StorePath;
@@ -33,11 +33,13 @@ Example:
 
 // Documents of an input to leave out.
 fn without<'a>(alloc: Global) -> Arg<'a> {
-    Arg::new(alloc, "without")
-        .long("without")
-        .value_name("INPUT=IDS")
-        .action(ArgAction::Append)
-        .help("Documents of an input to leave out, as a.store=0,3..9; may be given several times")
+    option(
+        alloc,
+        "without",
+        "INPUT=IDS",
+        "Documents of an input to leave out, as a.store=0,3..9; may be given several times",
+    )
+    .action(ArgAction::Append)
 }
 
 /// The words of `merge`.

@@ -2,10 +2,10 @@
 
 use crate::arguments::{self, framing_of, shape_of};
 use crate::failure::{Failure, at};
-use crate::framing::{Framing, split_behind};
 use crate::progress::Progress;
 use crate::store_output::{DiskWriter, create, finish, summarize};
 use clap::{Arg, ArgAction, ArgMatches, Command};
+use document_framing::{Framing, split_after};
 use std::alloc::{AllocError, Global};
 use std::fs::File;
 use std::io::{BufRead, BufReader};
@@ -64,14 +64,14 @@ impl<'a> Packing<'a> {
         };
         let mut taken = 0usize;
         for _ in 0..usize::MAX {
-            let Some((piece, behind)) = split_behind(rest, end) else {
+            let Some((piece, after)) = split_after(rest, end) else {
                 break;
             };
             let document = self.framing.document_in(piece);
             at(self.rt.alloc(), self.out, writer.store_bytes(document))?;
             progress.add(1, document.len() as u64);
             taken = taken.saturating_add(piece.len());
-            rest = behind;
+            rest = after;
         }
         input.consume(taken);
         Ok(())

@@ -2,7 +2,7 @@
 
 use crate::arguments;
 use crate::failure::{Cause, Failure, at, printed};
-use crate::store_file::StorePath;
+use crate::store_file::{DiskReader, StorePath};
 use clap::{ArgMatches, Command};
 use serde_json::json;
 use std::alloc::{AllocError, Global};
@@ -26,11 +26,16 @@ pub fn command<'a>(alloc: Global) -> Result<Command<'a>, AllocError> {
         .arg(arguments::tantivy(alloc))
 }
 
+// The numbers of an opened store.
+fn numbers_in(alloc: Global, reader: &DiskReader) -> Result<StoreNumbers, Cause> {
+    let sizes = block_sizes(alloc, reader)?;
+    Ok(numbers_of(reader, sizes))
+}
+
 // The numbers of a store.
 fn read_numbers(rt: &HostRuntime, store: StorePath<'_>) -> Result<StoreNumbers, Cause> {
     let reader = store.reader(rt)?;
-    let sizes = block_sizes(rt.alloc(), &reader)?;
-    Ok(numbers_of(&reader, sizes))
+    numbers_in(rt.alloc(), &reader)
 }
 
 // Prints the numbers as an object of JSON.

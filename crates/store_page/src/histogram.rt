@@ -35,7 +35,7 @@ impl Histogram {
         peak
     }
 
-    /// Draws a bar for each bin that has sizes, the longest over the whole width, and says so where there is none.
+    /// Draws a bar for each bin that has sizes, the longest over the whole width, or the word none.
     pub fn draw(&self, page: &mut String) -> Result<(), AllocError> {
         let peak = self.peak();
         if peak == 0 {
@@ -51,7 +51,7 @@ impl Histogram {
     }
 }
 
-// Adds the sizes that a bin takes.
+// Adds the range of a bin.
 fn push_range(page: &mut String, least: u64, most: u64) -> Result<(), AllocError> {
     if least == most {
         write!(page, "{least}")
@@ -60,7 +60,7 @@ fn push_range(page: &mut String, least: u64, most: u64) -> Result<(), AllocError
     }
 }
 
-// Draws a bar for so many sizes of so many bits.
+// Draws the bar of `count` sizes of `bits` bits.
 fn draw_bar(page: &mut String, bits: u32, count: u64, peak: u64) -> Result<(), AllocError> {
     let most = u64::MAX
         .checked_shr(u64::BITS.saturating_sub(bits))

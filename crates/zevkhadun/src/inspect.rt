@@ -1,24 +1,17 @@
 //! `inspect`: draws what a store has on a page of HTML.
 
-mod blocks;
-mod histogram;
-mod page;
-mod seek_drawing;
-
-use crate::arguments;
+use crate::arguments::{self, option};
 use crate::failure::{Cause, Failure, at};
 use crate::replacing::check_page;
 use crate::store_file::{DiskReader, StorePath, store_path};
-use blocks::BlockStarts;
 use clap::{Arg, ArgAction, ArgMatches, Command};
 use docstore::{DataPart, block_read_index};
-use histogram::Histogram;
-use page::Page;
 use std::alloc::{AllocError, Global};
 use store_base::{StoreError, TerminatingWrite};
 use store_commands::block_documents::documents_with_room;
-use store_commands::store_numbers::{block_sizes, numbers_of};
+use store_commands::store_numbers::{StoreNumbers, block_sizes, numbers_of};
 use store_files::DiskSink;
+use store_page::{BlockStarts, Histogram, Page};
 
 const EXAMPLE: &str = "\
 Example:
@@ -26,14 +19,14 @@ Example:
 
 // The page to write.
 fn html<'a>(alloc: Global) -> Arg<'a> {
-    Arg::new(alloc, "html")
-        .long("html")
-        .value_name("OUT")
-        .required(true)
-        .action(ArgAction::Set)
-        .help(
-            "Output file. It replaces an existing page of HTML or empty file, never any other file",
-        )
+    option(
+        alloc,
+        "html",
+        "OUT",
+        "Output file. It replaces an existing page of HTML or empty file, never any other file",
+    )
+    .required(true)
+    .action(ArgAction::Set)
 }
 
 /// The words of `inspect`.
@@ -96,21 +89,50 @@ fn spread_of(sizes: &[usize]) -> Histogram {
     spread
 }
 
+// The first document of each block of a store.
+fn starts_of(alloc: Global, reader: &DiskReader) -> Result<BlockStarts, StoreError> {
+    let mut starts = Vec::new(alloc);
+    for checkpoint in reader.block_checkpoints() {
+        starts.push(checkpoint.doc_range.start)?;
+    }
+    Ok(BlockStarts::new(starts, reader.num_docs()))
+}
+
+// The numbers that a page shows, each with its name.
+fn named(numbers: &StoreNumbers, damaged: u64) -> [(&'static str, u64); 11] {
+    [
+        ("version", u64::from(numbers.version)),
+        ("period", u64::from(numbers.period)),
+        ("documents", u64::from(numbers.documents)),
+        ("damaged documents", damaged),
+        ("blocks", numbers.blocks as u64),
+        ("layers", u64::from(numbers.layers)),
+        ("bytes of data", numbers.data_bytes),
+        ("bytes of index", numbers.index_bytes),
+        ("bytes of the smallest block", numbers.smallest_block as u64),
+        ("bytes of the median block", numbers.median_block as u64),
+        ("bytes of the largest block", numbers.largest_block as u64),
+    ]
+}
+
 // The page on an opened store of this name.
 fn page_on(alloc: Global, name: &str, reader: &mut DiskReader) -> Result<String, Cause> {
     let documents = document_sizes(alloc, reader)?;
     let sizes = block_sizes(alloc, reader)?;
     let spread = spread_of(&sizes);
     let numbers = numbers_of(reader, sizes);
-    let starts = BlockStarts::of(alloc, reader)?;
+    let starts = starts_of(alloc, reader)?;
     let mut page = String::new(alloc);
     Page {
         name,
-        numbers,
+        numbers: &named(&numbers, documents.damaged),
+        data_bytes: numbers.data_bytes,
+        index_bytes: numbers.index_bytes,
+        period: numbers.period,
+        layers: numbers.layers,
         starts: &starts,
         block_sizes: &spread,
         document_sizes: &documents.spread,
-        damaged: documents.damaged,
     }
     .push_to(&mut page)?;
     Ok(page)

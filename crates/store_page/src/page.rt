@@ -1,11 +1,10 @@
 //! The page: what a store has, drawn.
 
-use crate::inspect::blocks::BlockStarts;
-use crate::inspect::histogram::Histogram;
-use crate::inspect::seek_drawing::SeekDrawing;
+use crate::block_starts::BlockStarts;
+use crate::histogram::Histogram;
+use crate::seek_drawing::SeekDrawing;
 use std::alloc::AllocError;
 use std::fmt::Write;
-use store_commands::store_numbers::StoreNumbers;
 
 // How many bytes a footer has.
 const FOOTER_BYTES: u64 = 28;
@@ -47,11 +46,15 @@ svg text { fill: var(--text); font-size: 13px; }
 #[derive(Clone, Copy)]
 pub struct Page<'a> {
     pub name: &'a str,
-    pub numbers: StoreNumbers,
+    /// The numbers of the store, each with its name.
+    pub numbers: &'a [(&'a str, u64)],
+    pub data_bytes: u64,
+    pub index_bytes: u64,
+    pub period: u8,
+    pub layers: u32,
     pub starts: &'a BlockStarts,
     pub block_sizes: &'a Histogram,
     pub document_sizes: &'a Histogram,
-    pub damaged: u64,
 }
 
 // Adds a text as HTML writes it.
@@ -86,37 +89,16 @@ impl<'a> Page<'a> {
 
     // The numbers.
     fn push_numbers(&self, page: &mut String) -> Result<(), AllocError> {
-        let numbers = &self.numbers;
         page.push_str("<section><h2>Numbers</h2>\n<table>\n")?;
-        push_row(page, "version", u64::from(numbers.version))?;
-        push_row(page, "period", u64::from(numbers.period))?;
-        push_row(page, "documents", u64::from(numbers.documents))?;
-        push_row(page, "damaged documents", self.damaged)?;
-        push_row(page, "blocks", numbers.blocks as u64)?;
-        push_row(page, "layers", u64::from(numbers.layers))?;
-        push_row(page, "bytes of data", numbers.data_bytes)?;
-        push_row(page, "bytes of index", numbers.index_bytes)?;
-        push_row(
-            page,
-            "bytes of the smallest block",
-            numbers.smallest_block as u64,
-        )?;
-        push_row(
-            page,
-            "bytes of the median block",
-            numbers.median_block as u64,
-        )?;
-        push_row(
-            page,
-            "bytes of the largest block",
-            numbers.largest_block as u64,
-        )?;
+        for (name, number) in self.numbers {
+            push_row(page, name, *number)?;
+        }
         page.push_str("</table></section>\n")
     }
 
     // The parts of the file, to scale.
     fn push_parts(&self, page: &mut String) -> Result<(), AllocError> {
-        let (data, index) = (self.numbers.data_bytes, self.numbers.index_bytes);
+        let (data, index) = (self.data_bytes, self.index_bytes);
         page.push_str("<section><h2>Parts of the file, to scale</h2>\n<div class=\"parts\">")?;
         write!(
             page,
@@ -157,7 +139,7 @@ impl<'a> Page<'a> {
             "in each layer it takes the first entry whose documents end after that one. ",
         )?;
         page.push_str("A reader of an opened store searches the bottom layer directly.</p>\n")?;
-        SeekDrawing::new(self.starts, &self.numbers).draw(page)?;
+        SeekDrawing::new(self.starts, self.period, self.layers).draw(page)?;
         page.push_str("</section>\n")
     }
 

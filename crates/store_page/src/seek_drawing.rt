@@ -1,11 +1,10 @@
 //! A drawing of the layers of an index, and of how a seek goes down through them.
 
-use crate::inspect::blocks::BlockStarts;
+use crate::block_starts::BlockStarts;
 use std::alloc::AllocError;
 use std::fmt::Write;
-use store_commands::store_numbers::StoreNumbers;
 
-// The drawing's width, the height of a run's boxes, and that of a run with its title and the room behind it.
+// The drawing's width, the height of a run's boxes, and that of a run with its title and the room after it.
 const WIDTH: u64 = 1000;
 
 const BOX_HEIGHT: u64 = 40;
@@ -25,7 +24,7 @@ pub struct SeekDrawing<'a> {
     block: u64,
 }
 
-// One run of a layer: its entries, each over so many blocks, and the entry that the seek takes.
+// One run of a layer: its entries, each over `span` blocks, and the entry that the seek takes.
 #[derive(Clone, Copy)]
 struct Run {
     first: u64,
@@ -35,17 +34,17 @@ struct Run {
 }
 
 impl<'a> SeekDrawing<'a> {
-    /// For a store of these numbers.
-    pub fn new(starts: &'a BlockStarts, numbers: &StoreNumbers) -> SeekDrawing<'a> {
+    /// In an index of this period and with this number of layers.
+    pub fn new(starts: &'a BlockStarts, period: u8, layers: u32) -> SeekDrawing<'a> {
         SeekDrawing {
             starts,
-            period: u64::from(numbers.period),
-            layers: numbers.layers,
+            period: u64::from(period),
+            layers,
             block: starts.len() / 2,
         }
     }
 
-    // The run of a layer that the seek goes through, where an entry is over so many blocks.
+    // The run of a layer that the seek goes through, where an entry is over `span` blocks.
     fn run(&self, span: u64) -> Run {
         let span = span.max(1);
         let taken = self.block / span;
