@@ -27,3 +27,6 @@ pub mod BlockLemmas
 pub mod BuilderLemmas
 pub mod InsertionLemmas
 pub mod ClosingLemmas
+pub mod PointedLemmas
+pub mod SoughtLemmas
+pub mod DescentLemmas

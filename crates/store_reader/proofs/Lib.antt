@@ -26,3 +26,5 @@ pub mod ExactLemmas
 pub mod FailedLemmas
 pub mod StoredLemmas
 pub mod OpenedCoverLemmas
+pub mod StoreSliceLemmas
+pub mod AmidLemmas

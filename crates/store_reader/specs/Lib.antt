@@ -17,3 +17,4 @@ pub mod ViewLaws
 pub mod CallList
 pub mod CallAnswers
 pub mod Parts
+pub mod StoreSlices

@@ -1,0 +1,236 @@
+//! An index that is sought in as it stands: no table is made of it, and no memory taken.
+ghost use Rattle.std.specs.Prelude.{◌≡◌, ◌≤◌, ◌+◌, ◌*◌, List, length, Ok, IfOk, IfErr, IfSome, IsOkAnd};
+ghost use Rattle.std.specs.Option.{option_map};
+ghost use Rattle.layered_index.specs.declared.index.Checkpoint.{Checkpoint};
+ghost use Rattle.layered_index.specs.Checkpoint.{docs_end, first_past};
+ghost use Rattle.layered_index.specs.Layers.{digit_count};
+ghost use Rattle.layered_index.specs.IndexReading.{IsIndexPart, HasIndex};
+ghost use Rattle.layered_index.specs.Sought.{next_layer, behind_numbers, IsPast, IndexBytes};
+
+use crate::index::Checkpoint;
+use crate::index::block_seek::{seek_block, seek_layer};
+use crate::index::layer_cursor::LayerCursor;
+use crate::index::looks::Steps;
+use std::marker::Model;
+use store_base::{DocId, StoreError, first_number};
+
+// No list has more layers: its length is below 2^64.
+const MOST_LAYERS: u64 = 64;
+
+/// The index part of a store, of which no more was read than how many layers it has. A seek decodes one block a layer,
+/// from the top down, and checks what it touches. Nothing takes memory.
+#[derive(Drop)]
+pub struct IndexSlice<'a> {
+    period: u8,
+    bytes: &'a [u8],
+    count: usize,
+    ends: &'a [u8],
+    texts: &'a [u8],
+}
+
+impl<'a> Model for IndexSlice<'a> {
+    ghost use Rattle.layered_index.specs.Sought.{IndexBytes, IsHeaded};
+
+    ghost Value = { IndexBytes };
+
+    ghost view = { λ a. record { period = a.period; bytes = a.bytes.now } };
+
+    ghost invariant = { λ a. IsHeaded a.period a.bytes.now a.count a.ends.now a.texts.now };
+}
+
+// What stands behind so many numbers.
+fn pass_numbers(count: usize, bytes: &[u8]) -> Option<&[u8]>
+    ensures { option_map (λ x. x.now) result ≡ behind_numbers count bytes.now }
+{
+    let mut rest = bytes;
+    for _ in 0..count {
+        let (_, after) = first_number(rest, u64::MAX)?;
+        rest = after;
+    }
+    Some(rest)
+}
+
+// The next layer, where it ends, the ends of the others, and the others.
+#[inline(always)]
+#[tactic(auto, unfolding(crate::specs::Sought::next_layer))]
+fn next_layer<'a>(
+    place: usize,
+    ends: &'a [u8],
+    texts: &'a [u8],
+) -> Option<(&'a [u8], usize, &'a [u8], &'a [u8])>
+    ensures { option_map (λ x. (x.0.now, x.1, x.2.now, x.3.now)) result
+        ≡ next_layer place ends.now texts.now }
+{
+    let (end, more_ends) = first_number(ends, u64::MAX)?;
+    let end = end as usize;
+    if end < place {
+        return None;
+    }
+    let len = end - place;
+    if texts.len() < len {
+        return None;
+    }
+    let (layer, more) = texts.split_at(len);
+    Some((layer, end, more_ends, more))
+}
+
+impl<'a> IndexSlice<'a> {
+    /// The index that these bytes are, if they are one. It reads how many layers there are and passes over where each
+    /// ends, and refuses bytes without these numbers.
+    pub fn new(bytes: &'a [u8], period: u8) -> Result<IndexSlice<'a>, StoreError>
+        requires two { 2 ≤ period }
+        requires few { period ≤ 64 }
+        ensures ok { IfOk result (λ index. index ≡ record { period = period; bytes = bytes.now }) }
+        ensures refused { IfErr result (λ e. (e ≡ StoreError.BadIndex) × (HasIndex period bytes.now → ⊥)) }
+    {
+        let Some((count, ends)) = first_number(bytes, MOST_LAYERS) else {
+            return Err(StoreError::BadIndex);
+        };
+        let count = count as usize;
+        let Some(texts) = pass_numbers(count, ends) else {
+            return Err(StoreError::BadIndex);
+        };
+        Ok(IndexSlice {
+            period,
+            bytes,
+            count,
+            ends,
+            texts,
+        })
+    }
+
+    // The first checkpoint whose documents end past the target, by one block a layer, which is compared whole or decoded
+    // up to what is sought. Each checkpoint that is decoded is counted.
+    #[inline(always)]
+    fn descend(
+        &self,
+        whole: bool,
+        target: DocId,
+        steps: &mut Steps,
+    ) -> Result<Option<Checkpoint>, StoreError>
+        ensures answer { (cs : List Checkpoint) → IsIndexPart self.now.period self.now.bytes cs
+            → result ≡ Ok (first_past cs target) }
+        ensures most { (cs : List Checkpoint) → IsIndexPart self.now.period self.now.bytes cs
+            → steps.new ≤ steps.old + self.now.period * digit_count self.now.period (length cs) }
+        ensures always { steps.new ≤ steps.old + self.now.period * 64 }
+        ensures past { IfOk result (λ found. IfSome found (IsPast target)) }
+        ensures refused { IfErr result (λ e. e ≡ StoreError.BadIndex) }
+    {
+        let period = self.period as usize;
+        let mut found: Option<Checkpoint> = None;
+        let mut place = 0;
+        let mut ends = self.ends;
+        let mut texts = self.texts;
+        for _ in 0..self.count {
+            let Some((layer, end, more_ends, more)) = next_layer(place, ends, texts) else {
+                return Err(StoreError::BadIndex);
+            };
+            let Some(next) = seek_layer(whole, period, target, layer, &found, steps) else {
+                return Err(StoreError::BadIndex);
+            };
+            if next.is_none() {
+                return Ok(None);
+            }
+            found = next;
+            place = end;
+            ends = more_ends;
+            texts = more;
+        }
+        if !texts.is_empty() {
+            return Err(StoreError::BadIndex);
+        }
+        Ok(found)
+    }
+
+    /// The first checkpoint whose documents end past the target. Of any bytes it answers so, or `BadIndex` where a
+    /// block that it needs isn't where the layer above points to. It decodes a block up to what it seeks.
+    pub fn seek(&self, target: DocId) -> Result<Option<Checkpoint>, StoreError>
+        ensures answer { (cs : List Checkpoint) → IsIndexPart self.now.period self.now.bytes cs
+            → result ≡ Ok (first_past cs target) }
+        ensures past { IfOk result (λ found. IfSome found (IsPast target)) }
+        ensures refused { IfErr result (λ e. e ≡ StoreError.BadIndex) }
+    {
+        let mut steps = Steps::new();
+        self.descend(false, target, &mut steps)
+    }
+
+    /// The same, and counts each checkpoint that is decoded: at most a period for each layer, of which there are as
+    /// many as the number of checkpoints has digits in the base of the period.
+    pub fn seek_counted(
+        &self,
+        target: DocId,
+        steps: &mut Steps,
+    ) -> Result<Option<Checkpoint>, StoreError>
+        ensures answer { (cs : List Checkpoint) → IsIndexPart self.now.period self.now.bytes cs
+            → result ≡ Ok (first_past cs target) }
+        ensures most { (cs : List Checkpoint) → IsIndexPart self.now.period self.now.bytes cs
+            → steps.new ≤ steps.old + self.now.period * digit_count self.now.period (length cs) }
+        ensures always { steps.new ≤ steps.old + self.now.period * 64 }
+        ensures past { IfOk result (λ found. IfSome found (IsPast target)) }
+        ensures refused { IfErr result (λ e. e ≡ StoreError.BadIndex) }
+    {
+        self.descend(false, target, steps)
+    }
+
+    /// The same, and compares each block that it needs as a whole: it has to have exactly the documents and the length
+    /// in bytes that the layer above points to, and else is answered by `BadIndex`.
+    pub fn seek_whole(
+        &self,
+        target: DocId,
+        steps: &mut Steps,
+    ) -> Result<Option<Checkpoint>, StoreError>
+        ensures answer { (cs : List Checkpoint) → IsIndexPart self.now.period self.now.bytes cs
+            → result ≡ Ok (first_past cs target) }
+        ensures most { (cs : List Checkpoint) → IsIndexPart self.now.period self.now.bytes cs
+            → steps.new ≤ steps.old + self.now.period * digit_count self.now.period (length cs) }
+        ensures always { steps.new ≤ steps.old + self.now.period * 64 }
+        ensures past { IfOk result (λ found. IfSome found (IsPast target)) }
+        ensures refused { IfErr result (λ e. e ≡ StoreError.BadIndex) }
+    {
+        self.descend(true, target, steps)
+    }
+
+    /// Where the documents end. It decodes the one block of the top layer.
+    pub fn docs_end(&self) -> Result<DocId, StoreError>
+        ensures answer { (cs : List Checkpoint) → IsIndexPart self.now.period self.now.bytes cs
+            → result ≡ Ok (docs_end 0 cs) }
+        ensures refused { IfErr result (λ e. e ≡ StoreError.BadIndex) }
+    {
+        if self.count == 0 {
+            return Ok(0);
+        }
+        let Some((top, _, _, _)) = next_layer(0, self.ends, self.texts) else {
+            return Err(StoreError::BadIndex);
+        };
+        let mut steps = Steps::new();
+        let Some(sought) = seek_block(self.period as usize, 0, top, &mut steps) else {
+            return Err(StoreError::BadIndex);
+        };
+        Ok(sought.doc_end)
+    }
+
+    /// The checkpoints, in order: a walk over the bottom layer, which is sought out at once and decoded as it goes.
+    pub fn checkpoints(&self) -> Result<LayerCursor<'a>, StoreError>
+        ensures answer { (cs : List Checkpoint) → IsIndexPart self.now.period self.now.bytes cs
+            → IsOkAnd result (λ cursor. cursor ≡ cs) }
+        ensures refused { IfErr result (λ e. e ≡ StoreError.BadIndex) }
+    {
+        let mut bottom: &'a [u8] = &self.texts[..0];
+        let mut place = 0;
+        let mut ends = self.ends;
+        let mut texts = self.texts;
+        for _ in 0..self.count {
+            let Some((layer, end, more_ends, more)) = next_layer(place, ends, texts) else {
+                return Err(StoreError::BadIndex);
+            };
+            bottom = layer;
+            place = end;
+            ends = more_ends;
+            texts = more;
+        }
+        if !texts.is_empty() {
+            return Err(StoreError::BadIndex);
+        }
+        Ok(LayerCursor::new(bottom))
+    }
+}

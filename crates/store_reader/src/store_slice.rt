@@ -1,0 +1,185 @@
+//! A store that is read as it stands: nothing is opened, and no table is made of its index.
+ghost use Rattle.std.specs.Prelude.{◌≡◌, ◌≤◌, ◌<◌, ◌+◌, ◌^◌, ℕ, List, length, slice_range, IfOk, IfErr, IsOkAnd, MatchResult, Ok, Err, None};
+ghost use Rattle.layered_index.specs.Checkpoint.{first_past};
+ghost use Rattle.store_format.specs.Footer.{version_number};
+ghost use Rattle.store_format.specs.StoreFile.{checkpoints_of};
+ghost use Rattle.store_reader.specs.Opening.{IsSomeStore};
+ghost use Rattle.store_reader.specs.Viewing.{Finds, given, placed_in};
+ghost use Rattle.store_reader.specs.StoreSlices.{document_in, count_of_store, IsBlockSlice, IsAmid, RefusesOne};
+
+use crate::slice_documents::SliceDocuments;
+use crate::view_iter::ViewBlock;
+use crate::view_opening::footer_of;
+use layered_index::IndexSlice;
+use std::alloc::Global;
+use std::marker::Model;
+use std::ops::Range;
+use store_base::{DocId, StoreError};
+use store_format::{DocStoreVersion, FOOTER_LEN, likely_read_index, part};
+
+/// A store whose file is a slice of bytes that another holds. Of its index no more is read than what a call needs, so
+/// making one takes no memory and the same time for every store. Where the bytes are the file of a store, its answers are
+/// those of `StoreView`. Where they are not, a call answers with a part of the bytes or with a refusal, which may be
+/// `BadIndex`.
+#[derive(Drop)]
+pub struct StoreSlice<'a> {
+    file: &'a [u8],
+    data_len: usize,
+    index: IndexSlice<'a>,
+    version: DocStoreVersion,
+}
+
+/// Clauses see the bytes.
+impl<'a> Model for StoreSlice<'a> {
+    ghost use Rattle.std.specs.Prelude.{List, ℕ};
+    ghost use Rattle.store_reader.specs.StoreSlices.{IsStoreSlice};
+
+    ghost Value = { List ℕ };
+
+    ghost view = { λ s. s.file.now };
+
+    ghost invariant = { λ s. IsStoreSlice s.file.now s.data_len s.index s.version };
+}
+
+/// A block of a store: the ids of its documents, where it begins, and its bytes.
+#[derive(Clone, Copy)]
+pub struct BlockSlice<'a> {
+    pub first: DocId,
+    pub end: DocId,
+    pub start: usize,
+    pub bytes: &'a [u8],
+}
+
+impl<'a> BlockSlice<'a> {
+    /// Where a document of the block lies in the file, or `DamagedDocument`.
+    #[inline(always)]
+    pub fn locate(&self, doc_id: DocId) -> Result<Range<usize>, StoreError>
+        requires from { self.now.first ≤ doc_id }
+        requires to { doc_id < self.now.end }
+        requires fits { self.now.start + length self.now.bytes.now < 2 ^ 64 }
+        ensures document { (file : List ℕ) (s : IsSomeStore file) → IsBlockSlice file s doc_id
+            self.now.first self.now.end self.now.start self.now.bytes.now
+            → placed_in file result ≡ document_in file s doc_id }
+        ensures order { IfOk result (λ r. r.start ≤ r.end) }
+        ensures within { IfOk result (λ r. r.end ≤ self.now.start + length self.now.bytes.now) }
+        ensures refused { IfErr result (λ e. e ≡ StoreError.DamagedDocument doc_id) }
+    {
+        match likely_read_index(self.bytes, self.end - self.first, doc_id - self.first) {
+            Some(range) => Ok(self.start + range.start..self.start + range.end),
+            None => Err(StoreError::DamagedDocument(doc_id)),
+        }
+    }
+}
+
+impl<'a> StoreSlice<'a> {
+    /// The store whose file these bytes are, if they are one. It reads the footer, and how many layers the index has. It is
+    /// refused by the first refusal of these, as `StoreView::open` would be; but a damaged index behind its head is
+    /// found by the calls that meet it.
+    pub fn new(alloc: Global, file: &'a [u8]) -> Result<StoreSlice<'a>, StoreError>
+        ensures ok { IfOk result (λ store. store ≡ file.entry.now) }
+        ensures found { IfErr result (λ e. Finds file.entry.now (Err e)) }
+        ensures refused { IfErr result (λ e. IsSomeStore file.entry.now → ⊥) }
+    {
+        let footer = footer_of(alloc, file)?;
+        let end = file.len() - FOOTER_LEN as usize;
+        if (end as u64) < footer.offset {
+            return Err(StoreError::BadOffset);
+        }
+        let data_len = footer.offset as usize;
+        let index = IndexSlice::new(part(file, data_len, end), footer.period)?;
+        Ok(StoreSlice {
+            file,
+            data_len,
+            index,
+            version: footer.doc_store_version,
+        })
+    }
+
+    /// The block that has a document. It takes no memory, and is refused by `InvalidArgument` where no block has it, and
+    /// by `BadIndex` where the index is found damaged on the way to it.
+    pub fn block_of(&self, doc_id: DocId) -> Result<BlockSlice<'a>, StoreError>
+        ensures block { (s : IsSomeStore self.now) → MatchResult result
+            (λ b. (id : ℕ) → b.first ≤ id → id < b.end → IsBlockSlice self.now s id b.first b.end b.start b.bytes.now)
+            (λ e. (e ≡ StoreError.InvalidArgument doc_id) × (first_past (checkpoints_of s.blocks) doc_id ≡ None)) }
+        ensures has { IfOk result (λ b. (b.first ≤ doc_id) × (doc_id < b.end)) }
+        ensures part { IfOk result (λ b. b.bytes.now ≡ slice_range self.now b.start (b.start + length b.bytes.now)) }
+        ensures within { IfOk result (λ b. b.start + length b.bytes.now ≤ length self.now) }
+        ensures fits { IfOk result (λ b. b.start + length b.bytes.now < 2 ^ 64) }
+        ensures refused { IfErr result (RefusesOne doc_id) }
+    {
+        let Some(checkpoint) = self.index.seek(doc_id)? else {
+            return Err(StoreError::InvalidArgument(doc_id));
+        };
+        let docs = checkpoint.doc_range;
+        let bytes = checkpoint.byte_range;
+        if doc_id < docs.start || self.data_len < bytes.end {
+            return Err(StoreError::BadIndex);
+        }
+        Ok(BlockSlice {
+            first: docs.start,
+            end: docs.end,
+            start: bytes.start,
+            bytes: part(self.file, bytes.start, bytes.end),
+        })
+    }
+
+    /// Where a document lies in the file. It takes no memory.
+    #[inline(always)]
+    pub fn locate(&self, doc_id: DocId) -> Result<Range<usize>, StoreError>
+        ensures document { (s : IsSomeStore self.now) → placed_in self.now result ≡ document_in self.now s doc_id }
+        ensures order { IfOk result (λ r. r.start ≤ r.end) }
+        ensures within { IfOk result (λ r. r.end ≤ length self.now) }
+        ensures refused { IfErr result (RefusesOne doc_id) }
+    {
+        self.block_of(doc_id)?.locate(doc_id)
+    }
+
+    /// The bytes of a document: the part of the file where it lies. It takes no memory.
+    #[inline(always)]
+    pub fn get(&self, doc_id: DocId) -> Result<&'a [u8], StoreError>
+        ensures document { (s : IsSomeStore self.now) → given result ≡ document_in self.now s doc_id }
+        ensures refused { IfErr result (RefusesOne doc_id) }
+    {
+        let range = self.locate(doc_id)?;
+        Ok(part(self.file, range.start, range.end))
+    }
+
+    /// How many documents the store has.
+    pub fn num_docs(&self) -> Result<DocId, StoreError>
+        ensures count { (s : IsSomeStore self.now) → result ≡ Ok (count_of_store self.now s) }
+        ensures refused { IfErr result (λ e. e ≡ StoreError.BadIndex) }
+    {
+        self.index.docs_end()
+    }
+
+    /// How the store's documents are spelled.
+    pub fn version(&self) -> DocStoreVersion
+        ensures { (s : IsSomeStore self.now) → version_number result ≡ s.version }
+    {
+        self.version
+    }
+
+    /// The documents in the order of their ids. Each is a part of the file.
+    pub fn iter(&self) -> Result<SliceDocuments<'a>, StoreError>
+        ensures file { IfOk result (λ d. d.file.now ≡ self.now) }
+        ensures first { IfOk result (λ d. d.next ≡ 0) }
+        ensures can { IfOk result (λ d. (d.block.first ≤ d.next) × (d.data_len ≤ length d.file.now)) }
+        ensures amid { (s : IsSomeStore self.now) → IsOkAnd result (λ d. IsAmid self.now s d.data_len d.next
+            d.block.first d.block.end d.block.bytes.now d.checkpoints d.failed) }
+        ensures refused { IfErr result (λ e. e ≡ StoreError.BadIndex) }
+    {
+        let checkpoints = self.index.checkpoints()?;
+        Ok(SliceDocuments {
+            file: self.file,
+            data_len: self.data_len,
+            checkpoints,
+            next: 0,
+            block: ViewBlock {
+                first: 0,
+                end: 0,
+                bytes: &[],
+            },
+            failed: false,
+        })
+    }
+}
