@@ -29,4 +29,6 @@ pub mod InsertionLemmas
 pub mod ClosingLemmas
 pub mod PointedLemmas
 pub mod SoughtLemmas
+pub mod IndexHeadLemmas
 pub mod DescentLemmas
+pub mod OuterLayersLemmas

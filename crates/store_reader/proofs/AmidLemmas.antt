@@ -1,4 +1,4 @@
--- Going over a store that is read as it stands.
+-- Iterations over the documents of a store in a slice of bytes.
 use Rattle.std.proofs.Common.{◌≡◌, ℕ, ◌+◌, ◌-◌, ◌<◌, ◌≤◌, Bool, true, false, List, [], ◌∷◌, ◌++◌, length, Some, None, refl, sym, ap, ◌∙◌, subst, arith, append_assoc}
 use Rattle.std.specs.Prelude.{Result, slice_range, slice_get}
 use Rattle.std.specs.Borrow.{Bor}
@@ -10,6 +10,7 @@ use Rattle.layered_index.specs.declared.index.Checkpoint.{Checkpoint}
 use Rattle.layered_index.specs.Checkpoint.{IsInLineFrom, IsFilled, docs_end, bytes_end, first_past}
 use Rattle.layered_index.specs.LineLemmas.{in_line-split}
 use Rattle.layered_index.proofs.LayerLemmas.{docs_grow}
+use Rattle.layered_index.proofs.OuterLayersLemmas.{docs_end-append}
 use Rattle.store_format.specs.Block.{slot}
 use Rattle.store_format.specs.Slots.{slots}
 use Rattle.store_format.specs.StoreFile.{checkpoints_of, data_of}
@@ -33,10 +34,6 @@ first_here doc byte (x ∷ xs) c rest h lt =
 all_behind : {A : Type 0} (P : A → Type 0) (xs ys : List A) → AllByRecursion P (xs ++ ys) → AllByRecursion P ys
 all_behind P [] ys h = h
 all_behind P (x ∷ xs) ys h = all_behind P xs ys h.1
-
-docs_end-append : (doc : ℕ) (xs ys : List Checkpoint) → docs_end doc (xs ++ ys) ≡ docs_end (docs_end doc xs) ys
-docs_end-append doc [] ys = refl
-docs_end-append doc (x ∷ xs) ys = docs_end-append x.doc_range.end xs ys
 
 -- what is known of the next checkpoint
 record IsNext (bytes : List ℕ) (s : IsSomeStore bytes) (before : List Checkpoint) (c : Checkpoint) : Type 0 where
@@ -64,7 +61,7 @@ is_next bytes s before c rest parts =
 
 -- ---- one step
 
--- behind the last block
+-- after the last block
 pub amid_ends : (bytes : List ℕ) (s : IsSomeStore bytes) (data_len next first end : ℕ) (block : List ℕ) (left : List Checkpoint) (failed : Bool) → IsAmid bytes s data_len next first end block left failed
     → left ≡ [] → end ≤ next → GivesStored bytes s next None next
 amid_ends bytes s data_len next first end block left failed amid none over =

@@ -1,4 +1,4 @@
--- A store that is read as it stands.
+-- A store in a slice of bytes.
 use Rattle.std.specs.Prelude.{◌≡◌, ◌⊎◌, ℕ, ◌-◌, ◌+◌, ◌<◌, ◌≤◌, Bool, false, List, ◌++◌, length, slice_get, slice_range, Option}
 use Rattle.std.specs.Prelude.{Some, None, Result}
 use Rattle.std.specs.Borrow.{Bor}
@@ -17,8 +17,8 @@ use Rattle.store_reader.specs.CallAnswers.{exact_result}
 use Rattle.store_reader.specs.Opening.{IsSomeStore}
 use Rattle.store_reader.specs.Viewing.{given}
 
--- What the document of this number is in the store whose file these bytes are: its bytes, or the refusal of this id
--- where there is none or it is damaged.
+-- What the document of this id is in the store whose file these bytes are: its bytes, or the refusal of this id where
+-- there is none or it is damaged.
 abbrev pub document_in : (bytes : List ℕ) → IsSomeStore bytes → ℕ → Result (List ℕ) StoreError
 document_in bytes s id = exact_result id (slice_get (slots s.blocks) id)
 
@@ -34,12 +34,12 @@ pub record IsLaidOut (bytes : List ℕ) (data_len : ℕ) (index : IndexBytes) (v
   pub index_is : index.bytes ≡ index_part s.period (checkpoints_of s.blocks)
   pub version_is : version ≡ s.version
 
--- What always holds: the data stands in front, and the parts are those of the store, if the bytes are the file of one.
+-- What always holds: the data lies in the bytes, and the parts are those of the store, if the bytes are a store's file.
 pub record IsStoreSlice (bytes : List ℕ) (data_len : ℕ) (index : IndexBytes) (version : DocStoreVersion) : Type 0 where
   pub within : data_len ≤ length bytes
   pub laid_out : (s : IsSomeStore bytes) → IsLaidOut bytes data_len index (version_number version) s
 
--- This block, which begins at this byte and has these bytes, is the one that has the document.
+-- The block that begins at this byte and has these bytes is the one that has the document.
 pub record IsBlockSlice (bytes : List ℕ) (s : IsSomeStore bytes) (id first end start : ℕ)
     (block : List ℕ) : Type 0 where
   pub checkpoint : Checkpoint
@@ -67,7 +67,7 @@ pub record IsAmid (bytes : List ℕ) (s : IsSomeStore bytes) (data_len next firs
   pub data_is : data_len ≡ length (data_of s.blocks)
   pub well : failed ≡ false
 
--- The next of the documents, or its refusal; none behind the last.
+-- The next of the documents, or its refusal; none after the last.
 abbrev pub GivesStored : (bytes : List ℕ) → IsSomeStore bytes → ℕ → Option (Result (Bor (List ℕ)) StoreError) → ℕ
     → Type 0
 GivesStored bytes s next None next' = (next ≡ count_of_store bytes s) × (next' ≡ next)

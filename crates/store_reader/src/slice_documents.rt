@@ -1,4 +1,4 @@
-//! Going over the documents of a store that is read as it stands.
+//! Iterations over the documents of a store in a slice of bytes.
 ghost use Rattle.std.specs.Prelude.{◌≡◌, ◌≤◌, ◌<◌, length, slice_range, IfSome, IsSome};
 
 use crate::view_iter::{ViewBlock, document_at};
@@ -36,9 +36,8 @@ fn block_at<'a>(
     })
 }
 
-/// The documents of a store in the order of their ids: each a part of the file, or its refusal where it is damaged. The
-/// bottom layer of the index is decoded as it goes, each checkpoint once, and nothing is sought. Where the index is
-/// found damaged, `BadIndex` is the last item.
+/// The documents of a store in the order of their ids: each a part of the file, or `DamagedDocument`. It decodes each
+/// checkpoint of the bottom layer once, and seeks nothing. Where it finds the index damaged, `BadIndex` is the last item.
 #[derive(Drop)]
 pub struct SliceDocuments<'a> {
     pub(crate) file: &'a [u8],

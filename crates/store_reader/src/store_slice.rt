@@ -1,5 +1,6 @@
-//! A store that is read as it stands: nothing is opened, and no table is made of its index.
-ghost use Rattle.std.specs.Prelude.{◌≡◌, ◌≤◌, ◌<◌, ◌+◌, ◌^◌, ℕ, List, length, slice_range, IfOk, IfErr, IsOkAnd, MatchResult, Ok, Err, None};
+//! A store in a slice of bytes, read without opening: its index is not copied, and no table is made of it.
+ghost use Rattle.std.specs.Prelude.{◌≡◌, ◌≤◌, ◌<◌, ◌+◌, ◌^◌, ℕ, length, slice_range, IfOk, IfErr, IsOkAnd};
+ghost use Rattle.std.specs.Prelude.{MatchResult, Ok, Err, None};
 ghost use Rattle.layered_index.specs.Checkpoint.{first_past};
 ghost use Rattle.store_format.specs.Footer.{version_number};
 ghost use Rattle.store_format.specs.StoreFile.{checkpoints_of};
@@ -7,6 +8,7 @@ ghost use Rattle.store_reader.specs.Opening.{IsSomeStore};
 ghost use Rattle.store_reader.specs.Viewing.{Finds, given, placed_in};
 ghost use Rattle.store_reader.specs.StoreSlices.{document_in, count_of_store, IsBlockSlice, IsAmid, RefusesOne};
 
+use crate::block_slice::BlockSlice;
 use crate::slice_documents::SliceDocuments;
 use crate::view_iter::ViewBlock;
 use crate::view_opening::footer_of;
@@ -15,12 +17,11 @@ use std::alloc::Global;
 use std::marker::Model;
 use std::ops::Range;
 use store_base::{DocId, StoreError};
-use store_format::{DocStoreVersion, FOOTER_LEN, likely_read_index, part};
+use store_format::{DocStoreVersion, FOOTER_LEN, part};
 
-/// A store whose file is a slice of bytes that another holds. Of its index no more is read than what a call needs, so
-/// making one takes no memory and the same time for every store. Where the bytes are the file of a store, its answers are
-/// those of `StoreView`. Where they are not, a call answers with a part of the bytes or with a refusal, which may be
-/// `BadIndex`.
+/// A store whose file is a slice of bytes that another holds. A call reads the part of the index that it needs, so `new`
+/// takes no memory and the same time for every store. Of the file of a store, each call returns what the same call of
+/// `StoreView` returns. Of other bytes, it returns a part of the bytes or an error, which may be `BadIndex`.
 #[derive(Drop)]
 pub struct StoreSlice<'a> {
     file: &'a [u8],
@@ -41,40 +42,9 @@ impl<'a> Model for StoreSlice<'a> {
     ghost invariant = { λ s. IsStoreSlice s.file.now s.data_len s.index s.version };
 }
 
-/// A block of a store: the ids of its documents, where it begins, and its bytes.
-#[derive(Clone, Copy)]
-pub struct BlockSlice<'a> {
-    pub first: DocId,
-    pub end: DocId,
-    pub start: usize,
-    pub bytes: &'a [u8],
-}
-
-impl<'a> BlockSlice<'a> {
-    /// Where a document of the block lies in the file, or `DamagedDocument`.
-    #[inline(always)]
-    pub fn locate(&self, doc_id: DocId) -> Result<Range<usize>, StoreError>
-        requires from { self.now.first ≤ doc_id }
-        requires to { doc_id < self.now.end }
-        requires fits { self.now.start + length self.now.bytes.now < 2 ^ 64 }
-        ensures document { (file : List ℕ) (s : IsSomeStore file) → IsBlockSlice file s doc_id
-            self.now.first self.now.end self.now.start self.now.bytes.now
-            → placed_in file result ≡ document_in file s doc_id }
-        ensures order { IfOk result (λ r. r.start ≤ r.end) }
-        ensures within { IfOk result (λ r. r.end ≤ self.now.start + length self.now.bytes.now) }
-        ensures refused { IfErr result (λ e. e ≡ StoreError.DamagedDocument doc_id) }
-    {
-        match likely_read_index(self.bytes, self.end - self.first, doc_id - self.first) {
-            Some(range) => Ok(self.start + range.start..self.start + range.end),
-            None => Err(StoreError::DamagedDocument(doc_id)),
-        }
-    }
-}
-
 impl<'a> StoreSlice<'a> {
-    /// The store whose file these bytes are, if they are one. It reads the footer, and how many layers the index has. It is
-    /// refused by the first refusal of these, as `StoreView::open` would be; but a damaged index behind its head is
-    /// found by the calls that meet it.
+    /// The store whose file these bytes are. It reads the footer, and how many layers the index has. It returns the
+    /// first error that `StoreView::open` finds in these; damage in the layers is found by the calls that meet it.
     pub fn new(alloc: Global, file: &'a [u8]) -> Result<StoreSlice<'a>, StoreError>
         ensures ok { IfOk result (λ store. store ≡ file.entry.now) }
         ensures found { IfErr result (λ e. Finds file.entry.now (Err e)) }
@@ -95,8 +65,8 @@ impl<'a> StoreSlice<'a> {
         })
     }
 
-    /// The block that has a document. It takes no memory, and is refused by `InvalidArgument` where no block has it, and
-    /// by `BadIndex` where the index is found damaged on the way to it.
+    /// The block that has a document. It takes no memory. It returns `InvalidArgument` where there is no such document,
+    /// and `BadIndex` where it finds the index damaged.
     pub fn block_of(&self, doc_id: DocId) -> Result<BlockSlice<'a>, StoreError>
         ensures block { (s : IsSomeStore self.now) → MatchResult result
             (λ b. (id : ℕ) → b.first ≤ id → id < b.end → IsBlockSlice self.now s id b.first b.end b.start b.bytes.now)
@@ -123,7 +93,8 @@ impl<'a> StoreSlice<'a> {
         })
     }
 
-    /// Where a document lies in the file. It takes no memory.
+    /// Where a document lies in the file. It takes no memory. It returns `InvalidArgument` where there is no such
+    /// document, `DamagedDocument` where its block doesn't say where it lies, and `BadIndex` where the index is damaged.
     #[inline(always)]
     pub fn locate(&self, doc_id: DocId) -> Result<Range<usize>, StoreError>
         ensures document { (s : IsSomeStore self.now) → placed_in self.now result ≡ document_in self.now s doc_id }
@@ -134,7 +105,8 @@ impl<'a> StoreSlice<'a> {
         self.block_of(doc_id)?.locate(doc_id)
     }
 
-    /// The bytes of a document: the part of the file where it lies. It takes no memory.
+    /// The bytes of a document: the part of the file where it lies. It takes no memory, and returns the errors of
+    /// `locate`.
     #[inline(always)]
     pub fn get(&self, doc_id: DocId) -> Result<&'a [u8], StoreError>
         ensures document { (s : IsSomeStore self.now) → given result ≡ document_in self.now s doc_id }
@@ -144,7 +116,7 @@ impl<'a> StoreSlice<'a> {
         Ok(part(self.file, range.start, range.end))
     }
 
-    /// How many documents the store has.
+    /// How many documents the store has. It decodes the top layer of the index, and returns `BadIndex` where it can't.
     pub fn num_docs(&self) -> Result<DocId, StoreError>
         ensures count { (s : IsSomeStore self.now) → result ≡ Ok (count_of_store self.now s) }
         ensures refused { IfErr result (λ e. e ≡ StoreError.BadIndex) }
@@ -152,14 +124,15 @@ impl<'a> StoreSlice<'a> {
         self.index.docs_end()
     }
 
-    /// How the store's documents are spelled.
+    /// The version that the footer names: how the store's documents are spelled.
     pub fn version(&self) -> DocStoreVersion
         ensures { (s : IsSomeStore self.now) → version_number result ≡ s.version }
     {
         self.version
     }
 
-    /// The documents in the order of their ids. Each is a part of the file.
+    /// The documents in the order of their ids. Each is a part of the file. It returns `BadIndex` where it can't find the
+    /// bottom layer of the index.
     pub fn iter(&self) -> Result<SliceDocuments<'a>, StoreError>
         ensures file { IfOk result (λ d. d.file.now ≡ self.now) }
         ensures first { IfOk result (λ d. d.next ≡ 0) }

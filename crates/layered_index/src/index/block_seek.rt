@@ -1,4 +1,4 @@
-//! Seeking in one block of a layer, which is decoded where it stands.
+//! Seeks in one checkpoint block of a layer, in the bytes of the layer.
 ghost use Rattle.std.specs.Prelude.{◌≡◌, ◌≤◌, ◌+◌, List, [], ◌∷◌, Some, None, IfSome};
 ghost use Rattle.std.specs.Option.{option_map, option_or};
 ghost use Rattle.layered_index.specs.declared.index.Checkpoint.{Checkpoint};
@@ -12,7 +12,8 @@ use crate::index::block_reading::{Heading, heading_front, step_front};
 use crate::index::looks::Steps;
 use store_base::DocId;
 
-/// The first checkpoint of a block whose documents end past a target, if there is one, and the documents of the block.
+/// What a seek in a whole block found: the first checkpoint whose documents end past the target, if there is one, and
+/// the documents of the block.
 #[derive(Drop)]
 pub(crate) struct Sought {
     pub found: Option<Checkpoint>,
@@ -20,7 +21,7 @@ pub(crate) struct Sought {
     pub doc_end: DocId,
 }
 
-// What was found before, or the next checkpoint if its documents end past the target.
+// The checkpoint that was found before, or the next one if its documents end past the target.
 #[inline(always)]
 fn found_next(found: Option<Checkpoint>, target: DocId, next: Checkpoint) -> Option<Checkpoint>
     ensures { result ≡ option_or found (first_past (next ∷ []) target) }
@@ -32,7 +33,8 @@ fn found_next(found: Option<Checkpoint>, target: DocId, next: Checkpoint) -> Opt
     }
 }
 
-// So many checkpoints: the first past the target, where the last one's documents end, and what follows.
+// Decodes `heading.count` checkpoints: the first past the target, where the last one's documents end, and the bytes
+// after them.
 #[inline(always)]
 fn seek_steps(
     heading: Heading,
@@ -56,7 +58,7 @@ fn seek_steps(
     Some((found, doc_end, rest))
 }
 
-// A block of at most so many checkpoints, each of which is counted, and that fills the bytes.
+// Decodes a whole block, which fills the bytes and has at most `most` checkpoints, and counts each.
 #[inline(always)]
 #[tactic(auto, unfolding(crate::specs::Sought::sought_at))]
 pub(crate) fn seek_block(
@@ -84,7 +86,7 @@ pub(crate) fn seek_block(
     })
 }
 
-// So many checkpoints, decoded up to the first past the target, each of which is counted: that one, or none.
+// Decodes `heading.count` checkpoints up to the first past the target, and counts each: that one, or none.
 #[inline(always)]
 fn scan_steps(
     heading: Heading,
@@ -111,7 +113,7 @@ fn scan_steps(
     Some(None)
 }
 
-// The same of a block of at most so many checkpoints, and where its documents begin.
+// The first checkpoint past the target in a block of at most `most` checkpoints, and where the block's documents begin.
 #[inline(always)]
 #[tactic(auto, unfolding(crate::specs::Sought::scanned_at))]
 fn scan_block(
@@ -154,7 +156,7 @@ fn seek_top(
     Some(found)
 }
 
-// The same of the block that a pointer points to, whose documents it has.
+// The first checkpoint past the target of the run that a pointer points to. The run has the pointer's documents.
 fn seek_pointed(
     whole: bool,
     period: usize,
@@ -182,7 +184,7 @@ fn seek_pointed(
     Some(found)
 }
 
-// The same of a layer where this pointer was found above.
+// The first checkpoint past the target of a layer, by the pointer that was found in the layer above.
 fn seek_below(
     whole: bool,
     period: usize,
@@ -206,9 +208,10 @@ fn seek_below(
     seek_pointed(whole, period, target, &layer[start..end], pointer, steps)
 }
 
-/// The first checkpoint of a layer past the target, or none, by what was found in the layer above, if there is one. It
-/// is `None` where the one block that is looked at isn't the one that is pointed to. If the whole of it is to be
-/// compared, it has to have the documents of the pointer and fill its bytes; if not, it is decoded up to what is sought.
+/// The first checkpoint of a layer past the target, or none, by the pointer that was found in the layer above. The top
+/// layer has no pointer, and is one run. It returns `None` where the run isn't the one that the pointer points to. With
+/// `whole` the run is decoded to its end, and has to have the pointer's documents and fill its bytes; without, it is
+/// decoded up to what is sought.
 pub(crate) fn seek_layer(
     whole: bool,
     period: usize,

@@ -1,11 +1,11 @@
-//! An index that is sought in as it stands: no table is made of it, and no memory taken.
+//! Seeks in the bytes of an index: no table is made of them, and nothing takes memory.
 ghost use Rattle.std.specs.Prelude.{◌≡◌, ◌≤◌, ◌+◌, ◌*◌, List, length, Ok, IfOk, IfErr, IfSome, IsOkAnd};
 ghost use Rattle.std.specs.Option.{option_map};
 ghost use Rattle.layered_index.specs.declared.index.Checkpoint.{Checkpoint};
 ghost use Rattle.layered_index.specs.Checkpoint.{docs_end, first_past};
 ghost use Rattle.layered_index.specs.Layers.{digit_count};
 ghost use Rattle.layered_index.specs.IndexReading.{IsIndexPart, HasIndex};
-ghost use Rattle.layered_index.specs.Sought.{next_layer, behind_numbers, IsPast, IndexBytes};
+ghost use Rattle.layered_index.specs.Sought.{next_layer, after_numbers, IsPast, IndexBytes};
 
 use crate::index::Checkpoint;
 use crate::index::block_seek::{seek_block, seek_layer};
@@ -17,8 +17,8 @@ use store_base::{DocId, StoreError, first_number};
 // No list has more layers: its length is below 2^64.
 const MOST_LAYERS: u64 = 64;
 
-/// The index part of a store, of which no more was read than how many layers it has. A seek decodes one block a layer,
-/// from the top down, and checks what it touches. Nothing takes memory.
+/// The index part of a store, in a slice of bytes. `new` reads how many layers it has. A seek decodes one run of each
+/// layer, from the top layer down, and checks the bytes that it decodes. No call takes memory.
 #[derive(Drop)]
 pub struct IndexSlice<'a> {
     period: u8,
@@ -38,9 +38,9 @@ impl<'a> Model for IndexSlice<'a> {
     ghost invariant = { λ a. IsHeaded a.period a.bytes.now a.count a.ends.now a.texts.now };
 }
 
-// What stands behind so many numbers.
+// The bytes after `count` numbers.
 fn pass_numbers(count: usize, bytes: &[u8]) -> Option<&[u8]>
-    ensures { option_map (λ x. x.now) result ≡ behind_numbers count bytes.now }
+    ensures { option_map (λ x. x.now) result ≡ after_numbers count bytes.now }
 {
     let mut rest = bytes;
     for _ in 0..count {
@@ -50,7 +50,7 @@ fn pass_numbers(count: usize, bytes: &[u8]) -> Option<&[u8]>
     Some(rest)
 }
 
-// The next layer, where it ends, the ends of the others, and the others.
+// The next layer, where it ends, and, of the layers after it, the ends and the bytes.
 #[inline(always)]
 #[tactic(auto, unfolding(crate::specs::Sought::next_layer))]
 fn next_layer<'a>(
@@ -75,8 +75,8 @@ fn next_layer<'a>(
 }
 
 impl<'a> IndexSlice<'a> {
-    /// The index that these bytes are, if they are one. It reads how many layers there are and passes over where each
-    /// ends, and refuses bytes without these numbers.
+    /// The index in these bytes. It reads how many layers there are and skips the numbers that say where each ends. It
+    /// returns `BadIndex` where these numbers are missing; damage after them is found by the calls that meet it.
     pub fn new(bytes: &'a [u8], period: u8) -> Result<IndexSlice<'a>, StoreError>
         requires two { 2 ≤ period }
         requires few { period ≤ 64 }
@@ -99,8 +99,8 @@ impl<'a> IndexSlice<'a> {
         })
     }
 
-    // The first checkpoint whose documents end past the target, by one block a layer, which is compared whole or decoded
-    // up to what is sought. Each checkpoint that is decoded is counted.
+    // The first checkpoint whose documents end past the target. It decodes one run of each layer: the whole run, or the
+    // run up to what it seeks. It counts each checkpoint that it decodes.
     #[inline(always)]
     fn descend(
         &self,
@@ -142,8 +142,8 @@ impl<'a> IndexSlice<'a> {
         Ok(found)
     }
 
-    /// The first checkpoint whose documents end past the target. Of any bytes it answers so, or `BadIndex` where a
-    /// block that it needs isn't where the layer above points to. It decodes a block up to what it seeks.
+    /// The first checkpoint whose documents end past the target, or `None` where there is none. It returns `BadIndex`
+    /// where a run is not where the layer above points. It decodes each run up to what it seeks.
     pub fn seek(&self, target: DocId) -> Result<Option<Checkpoint>, StoreError>
         ensures answer { (cs : List Checkpoint) → IsIndexPart self.now.period self.now.bytes cs
             → result ≡ Ok (first_past cs target) }
@@ -154,8 +154,8 @@ impl<'a> IndexSlice<'a> {
         self.descend(false, target, &mut steps)
     }
 
-    /// The same, and counts each checkpoint that is decoded: at most a period for each layer, of which there are as
-    /// many as the number of checkpoints has digits in the base of the period.
+    /// Seeks as `seek` does, and counts each checkpoint that it decodes: at most a period for each layer. There are as
+    /// many layers as the number of checkpoints has digits in the base of the period.
     pub fn seek_counted(
         &self,
         target: DocId,
@@ -172,8 +172,8 @@ impl<'a> IndexSlice<'a> {
         self.descend(false, target, steps)
     }
 
-    /// The same, and compares each block that it needs as a whole: it has to have exactly the documents and the length
-    /// in bytes that the layer above points to, and else is answered by `BadIndex`.
+    /// Seeks as `seek_counted` does, but decodes each run to its end, and returns `BadIndex` where a run hasn't exactly
+    /// the documents and the bytes of its pointer. This finds more damage, and decodes about twice as many checkpoints.
     pub fn seek_whole(
         &self,
         target: DocId,
@@ -190,7 +190,7 @@ impl<'a> IndexSlice<'a> {
         self.descend(true, target, steps)
     }
 
-    /// Where the documents end. It decodes the one block of the top layer.
+    /// The id after the last document. It decodes the top layer, which is one run.
     pub fn docs_end(&self) -> Result<DocId, StoreError>
         ensures answer { (cs : List Checkpoint) → IsIndexPart self.now.period self.now.bytes cs
             → result ≡ Ok (docs_end 0 cs) }
@@ -209,7 +209,8 @@ impl<'a> IndexSlice<'a> {
         Ok(sought.doc_end)
     }
 
-    /// The checkpoints, in order: a walk over the bottom layer, which is sought out at once and decoded as it goes.
+    /// The checkpoints, in order. It finds the bottom layer at once; the cursor decodes a checkpoint when it is asked
+    /// for.
     pub fn checkpoints(&self) -> Result<LayerCursor<'a>, StoreError>
         ensures answer { (cs : List Checkpoint) → IsIndexPart self.now.period self.now.bytes cs
             → IsOkAnd result (λ cursor. cursor ≡ cs) }

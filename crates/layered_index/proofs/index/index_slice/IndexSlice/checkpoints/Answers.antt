@@ -1,7 +1,8 @@
 use Rattle.std.proofs.Common.{ℕ, ◌≡◌, ◌-◌, [], length, refl, sym, ◌∙◌, subst, arith}
 use Rattle.std.proofs.lemmas.Bool.{eqb-false}
 use Rattle.layered_index.specs.Sought.{layers_left}
-use Rattle.layered_index.proofs.DescentLemmas.{inside, LastGives, last_gives, last_there, last_on, last_done}
+use Rattle.layered_index.proofs.IndexHeadLemmas.{inside}
+use Rattle.layered_index.proofs.OuterLayersLemmas.{LastGives, last_gives, last_there, last_on, last_done}
 use Rattle.layered_index.proofs.index.index_slice.IndexSlice.checkpoints.Goals as goal
 
 pub loop-init : goal.loop-init

@@ -2,7 +2,7 @@ use Rattle.std.proofs.Common.{◌-◌, List}
 use Rattle.layered_index.specs.declared.index.Checkpoint.{Checkpoint}
 use Rattle.layered_index.specs.IndexReading.{IsIndexPart}
 use Rattle.layered_index.specs.Sought.{layers_left}
-use Rattle.layered_index.proofs.DescentLemmas.{LastGives}
+use Rattle.layered_index.proofs.OuterLayersLemmas.{LastGives}
 use Rattle.layered_index.proofs.index.index_slice.IndexSlice.checkpoints.Given as goal
 
 abbrev pub invariant-loop : goal.invariant-loop

@@ -4,7 +4,8 @@ use Rattle.layered_index.specs.declared.index.Checkpoint.{Checkpoint}
 use Rattle.layered_index.specs.Checkpoint.{first_past}
 use Rattle.layered_index.specs.Layers.{digit_count}
 use Rattle.layered_index.specs.Sought.{IndexBytes, layers_left}
-use Rattle.layered_index.proofs.DescentLemmas.{inside, LeadsOn, leads_first, leads_next, leads_sought, leads_to_none, leads_on, leads_last, head_few, head_digits, counted_within, one_more_counted, answer_is}
+use Rattle.layered_index.proofs.IndexHeadLemmas.{inside, head_few, head_digits}
+use Rattle.layered_index.proofs.DescentLemmas.{LeadsOn, leads_first, leads_next, leads_sought, leads_to_none, leads_on, leads_last, counted_within, one_more_counted, answer_is}
 use Rattle.layered_index.proofs.index.index_slice.IndexSlice.descend.Goals as goal
 
 -- the looks at so many layers, where the head tells how many there are

@@ -1,7 +1,8 @@
 use Rattle.std.proofs.Common.{refl, sym, ap, arith}
 use Rattle.layered_index.specs.Checkpoint.{docs_end}
 use Rattle.layered_index.proofs.SoughtLemmas.{read_nothing}
-use Rattle.layered_index.proofs.DescentLemmas.{inside, head_none, top_there, top_is, top_read, top_end, end_is}
+use Rattle.layered_index.proofs.IndexHeadLemmas.{inside}
+use Rattle.layered_index.proofs.OuterLayersLemmas.{head_none, top_there, top_is, top_read, top_end, end_is}
 use Rattle.layered_index.proofs.index.index_slice.IndexSlice.docs_end.Goals as goal
 
 pub returns-then-self-eq0-clause-answer : goal.returns-then-self-eq0-clause-answer

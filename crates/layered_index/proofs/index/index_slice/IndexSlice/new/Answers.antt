@@ -1,5 +1,5 @@
 use Rattle.std.proofs.Common.{refl, sym, arith}
-use Rattle.layered_index.proofs.DescentLemmas.{no_count, no_ends}
+use Rattle.layered_index.proofs.IndexHeadLemmas.{no_count, no_ends}
 use Rattle.layered_index.proofs.index.index_slice.IndexSlice.new.Goals as goal
 
 pub returns-in_default-clause-refused : goal.returns-in_default-clause-refused

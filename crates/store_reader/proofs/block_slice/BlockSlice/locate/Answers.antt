@@ -1,5 +1,5 @@
 use Rattle.store_reader.proofs.StoreSliceLemmas.{found_in_block, damaged_in_block}
-use Rattle.store_reader.proofs.store_slice.BlockSlice.locate.Goals as goal
+use Rattle.store_reader.proofs.block_slice.BlockSlice.locate.Goals as goal
 
 pub returns-in-Some-clause-document : goal.returns-in-Some-clause-document
 returns-in-Some-clause-document c file s is =
