@@ -19,6 +19,7 @@ use Rattle.store_format.specs.Slots.{slots}
 use Rattle.store_format.specs.StoreFile.{StoreBlock, HasForm, IsStore, blocks_at, checkpoints_of, data_of}
 use Rattle.store_format.proofs.StoreLemmas.{checkpoints_cover, blocks_from, checkpoints_in_line, data_fits}
 use Rattle.store_reader.specs.CallAnswers.{exact_result}
+use Rattle.store_reader.specs.GetAnswer.{AnswersTruly}
 use Rattle.store_reader.specs.Opening.{IsSomeStore}
 use Rattle.store_reader.specs.Viewing.{Viewing, IsView, FindsFooter, Finds, data_in}
 use Rattle.store_reader.specs.StoreSlices.{IsLaidOut, IsStoreSlice, IsBlockSlice, document_in, count_of_store}
@@ -211,6 +212,24 @@ found_in_block bytes s id first end start from to block is slot_is order inside 
 pub damaged_in_block : (bytes : List ℕ) (s : IsSomeStore bytes) (id first end start : ℕ) (block : List ℕ) → IsBlockSlice bytes s id first end start block → slot block (id - first) ≡ damaged
     → ◌≡◌ {A = Result (List ℕ) StoreError} (Err (DamagedDocument id)) (document_in bytes s id)
 damaged_in_block bytes s id first end start block is slot_is = sym (slot_of_block bytes s id first end start block is ∙ ap (λ (x : Slot). exact_result id (Some x)) slot_is)
+
+-- the number of a version tells which it is
+pub same_version : (v w : DocStoreVersion) → version_number v ≡ version_number w → v ≡ w
+same_version V1 V1 e = refl
+same_version V1 V2 e = absurd (omega arith)
+same_version V1 V3 e = absurd (omega arith)
+same_version V2 V1 e = absurd (omega arith)
+same_version V2 V2 e = refl
+same_version V2 V3 e = absurd (omega arith)
+same_version V3 V1 e = absurd (omega arith)
+same_version V3 V2 e = absurd (omega arith)
+same_version V3 V3 e = refl
+
+-- a slot answers what is true of it
+pub exactly_true : (id : ℕ) (s : Option Slot) → AnswersTruly id s (exact_result id s)
+exactly_true id None = inl (refl, refl)
+exactly_true id (Some damaged) = inr (inl (refl, refl))
+exactly_true id (Some (doc bytes)) = refl
 
 -- what holds of the bytes inside holds of those that are seen
 pub seen_parts : (a b : List ℕ) (data_len : ℕ) (index : IndexBytes) (version : DocStoreVersion) → a ≡ b → IsStoreSlice a data_len index version → IsStoreSlice b data_len index version

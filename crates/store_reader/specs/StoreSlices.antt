@@ -4,6 +4,7 @@ use Rattle.std.specs.Prelude.{Some, None, Result}
 use Rattle.std.specs.Borrow.{Bor}
 use Rattle.store_base.specs.declared.error.StoreError.{StoreError}
 use Rattle.store_base.specs.declared.error.StoreError.TheVariants.{InvalidArgument, DamagedDocument, BadIndex}
+use Rattle.store_base.specs.declared.error.StoreError.TheVariants.{BadDocument, Memory}
 use Rattle.layered_index.specs.declared.index.Checkpoint.{Checkpoint}
 use Rattle.layered_index.specs.Checkpoint.{docs_end, first_past}
 use Rattle.layered_index.specs.Layers.{index_part}
@@ -34,9 +35,10 @@ pub record IsLaidOut (bytes : List ℕ) (data_len : ℕ) (index : IndexBytes) (v
   pub index_is : index.bytes ≡ index_part s.period (checkpoints_of s.blocks)
   pub version_is : version ≡ s.version
 
--- What always holds: the data lies in the bytes, and the parts are those of the store, if the bytes are a store's file.
+-- What always holds: the data and a footer lie in the bytes, and the parts are those of the store, if the bytes are a
+-- store's file.
 pub record IsStoreSlice (bytes : List ℕ) (data_len : ℕ) (index : IndexBytes) (version : DocStoreVersion) : Type 0 where
-  pub within : data_len ≤ length bytes
+  pub within : data_len + 28 ≤ length bytes
   pub laid_out : (s : IsSomeStore bytes) → IsLaidOut bytes data_len index (version_number version) s
 
 -- The block that begins at this byte and has these bytes is the one that has the document.
@@ -52,6 +54,10 @@ pub record IsBlockSlice (bytes : List ℕ) (s : IsSomeStore bytes) (id first end
 -- the refusals of a document: there is none, it is damaged, or the index is found damaged on the way to it
 abbrev pub RefusesOne : ℕ → StoreError → Type 0
 RefusesOne id e = (e ≡ InvalidArgument id) ⊎ (e ≡ DamagedDocument id) ⊎ (e ≡ BadIndex)
+
+-- the same where the document is read, too: its bytes are no document of the type, or memory runs out
+abbrev pub RefusesReading : ℕ → StoreError → Type 0
+RefusesReading id e = RefusesOne id e ⊎ (e ≡ BadDocument) ⊎ (e ≡ Memory)
 
 -- ---- iterations
 

@@ -1,22 +1,29 @@
 //! A store in a slice of bytes, read without opening: its index is not copied, and no table is made of it.
-ghost use Rattle.std.specs.Prelude.{◌≡◌, ◌≤◌, ◌<◌, ◌+◌, ◌^◌, ℕ, length, slice_range, IfOk, IfErr, IsOkAnd};
-ghost use Rattle.std.specs.Prelude.{MatchResult, Ok, Err, None};
+ghost use Rattle.std.specs.Prelude.{◌≡◌, ◌≢◌, ◌≤◌, ◌<◌, ◌+◌, ◌^◌, ◌↔◌, ℕ, length, slice_range, slice_get};
+ghost use Rattle.std.specs.Prelude.{IfOk, IfErr, IsOkAnd, IsErrOf, MatchResult, Ok, Err, Some, None};
 ghost use Rattle.layered_index.specs.Checkpoint.{first_past};
+ghost use Rattle.layered_index.specs.Layers.{index_part};
+ghost use Rattle.store_format.specs.declared.version.DocStoreVersion.{DocStoreVersion};
+ghost use Rattle.store_format.specs.Block.{damaged};
 ghost use Rattle.store_format.specs.Footer.{version_number};
-ghost use Rattle.store_format.specs.StoreFile.{checkpoints_of};
+ghost use Rattle.store_format.specs.Slots.{slots};
+ghost use Rattle.store_format.specs.StoreFile.{checkpoints_of, data_of};
+ghost use Rattle.store_reader.specs.Documents.{document_version, ReadsFrom, ReadsTruly};
 ghost use Rattle.store_reader.specs.Opening.{IsSomeStore};
 ghost use Rattle.store_reader.specs.Viewing.{Finds, given, placed_in};
-ghost use Rattle.store_reader.specs.StoreSlices.{document_in, count_of_store, IsBlockSlice, IsAmid, RefusesOne};
+ghost use Rattle.store_reader.specs.StoreSlices.{document_in, count_of_store, IsBlockSlice, IsAmid};
+ghost use Rattle.store_reader.specs.StoreSlices.{RefusesOne, RefusesReading};
 
 use crate::block_slice::BlockSlice;
+use crate::documents::read_bytes;
 use crate::slice_documents::SliceDocuments;
 use crate::view_iter::ViewBlock;
 use crate::view_opening::footer_of;
-use layered_index::IndexSlice;
+use layered_index::{IndexSlice, LayerCursor};
 use std::alloc::Global;
 use std::marker::Model;
 use std::ops::Range;
-use store_base::{DocId, StoreError};
+use store_base::{DocId, DocumentDeserialize, StoreError, StoreSpaceUsage};
 use store_format::{DocStoreVersion, FOOTER_LEN, part};
 
 /// A store whose file is a slice of bytes that another holds. A call reads the part of the index that it needs, so `new`
@@ -111,9 +118,37 @@ impl<'a> StoreSlice<'a> {
     pub fn get(&self, doc_id: DocId) -> Result<&'a [u8], StoreError>
         ensures document { (s : IsSomeStore self.now) → given result ≡ document_in self.now s doc_id }
         ensures refused { IfErr result (RefusesOne doc_id) }
+
+        // What follows.
+        ensures no_document { (s : IsSomeStore self.now) → IsErrOf result (StoreError.InvalidArgument doc_id)
+            ↔ (count_of_store self.now s ≤ doc_id) }
+        ensures damaged { (s : IsSomeStore self.now) → IsErrOf result (StoreError.DamagedDocument doc_id)
+            ↔ (slice_get (slots s.blocks) doc_id ≡ Some damaged) }
     {
         let range = self.locate(doc_id)?;
         Ok(part(self.file, range.start, range.end))
+    }
+
+    /// A document, read from its bytes. Those of version 3 are read as version 2. It returns the errors of `get`,
+    /// `BadDocument` where the bytes are no document of this type, and `Memory`.
+    pub fn get_document<D: DocumentDeserialize>(
+        &self,
+        alloc: Global,
+        doc_id: DocId,
+    ) -> Result<D, StoreError>
+        ensures got { (s : IsSomeStore self.now) (version : DocStoreVersion) → version_number version ≡ s.version
+            → ReadsFrom (D.reading (document_version version)) (document_in self.now s doc_id) result }
+        ensures refused { IfErr result (RefusesReading doc_id) }
+
+        // What follows.
+        ensures truly { (s : IsSomeStore self.now) (version : DocStoreVersion) → version_number version ≡ s.version
+            → ReadsTruly (D.reading (document_version version)) doc_id (slice_get (slots s.blocks) doc_id) result }
+        ensures causes { IfErr result (λ e. e ≢ StoreError.Read) }
+        ensures no_document { (s : IsSomeStore self.now) → IsErrOf result (StoreError.InvalidArgument doc_id)
+            ↔ (count_of_store self.now s ≤ doc_id) }
+    {
+        let bytes = self.get(doc_id)?;
+        read_bytes(alloc, self.version, bytes)
     }
 
     /// How many documents the store has. It decodes the top layer of the index, and returns `BadIndex` where it can't.
@@ -129,6 +164,43 @@ impl<'a> StoreSlice<'a> {
         ensures { (s : IsSomeStore self.now) → version_number result ≡ s.version }
     {
         self.version
+    }
+
+    /// How many checkpoints a full run of the store's index has, at least 2 and at most 64.
+    pub fn period(&self) -> u8
+        ensures period { (s : IsSomeStore self.now) → result ≡ s.period }
+        ensures two { 2 ≤ result }
+        ensures few { result ≤ 64 }
+    {
+        self.index.period()
+    }
+
+    /// The data of all blocks: the bytes of the file before the index.
+    pub fn block_data(&self) -> &'a [u8]
+        ensures data { (s : IsSomeStore self.now) → result.now ≡ data_of s.blocks }
+        ensures part { result.now ≡ slice_range self.now 0 (length result.now) }
+    {
+        part(self.file, 0, self.data_len)
+    }
+
+    /// How many bytes the data and the index take.
+    pub fn space_usage(&self) -> StoreSpaceUsage
+        ensures store { (s : IsSomeStore self.now) → result ≡ (
+          length (data_of s.blocks),
+          length (index_part s.period (checkpoints_of s.blocks)),
+        ) }
+        ensures whole { result.0 + result.1 + 28 ≡ length self.now }
+    {
+        let end = self.file.len() - FOOTER_LEN as usize;
+        StoreSpaceUsage::new(self.data_len as u64, (end - self.data_len) as u64)
+    }
+
+    /// Where the blocks lie, in order. It returns `BadIndex` where it can't find the bottom layer of the index.
+    pub fn block_checkpoints(&self) -> Result<LayerCursor<'a>, StoreError>
+        ensures store { (s : IsSomeStore self.now) → IsOkAnd result (λ cursor. cursor ≡ checkpoints_of s.blocks) }
+        ensures refused { IfErr result (λ e. e ≡ StoreError.BadIndex) }
+    {
+        self.index.checkpoints()
     }
 
     /// The documents in the order of their ids. Each is a part of the file. It returns `BadIndex` where it can't find the

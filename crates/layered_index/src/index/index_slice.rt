@@ -99,6 +99,15 @@ impl<'a> IndexSlice<'a> {
         })
     }
 
+    /// How many checkpoints a full run of the index has, at least 2 and at most 64.
+    pub fn period(&self) -> u8
+        ensures period { result ≡ self.now.period }
+        ensures two { 2 ≤ result }
+        ensures few { result ≤ 64 }
+    {
+        self.period
+    }
+
     // The first checkpoint whose documents end past the target. It decodes one run of each layer: the whole run, or the
     // run up to what it seeks. It counts each checkpoint that it decodes.
     #[inline(always)]

@@ -30,6 +30,6 @@ invariant_of-result c =
     let part : c.part.result.now ≡ slice_range bytes f.offset (length bytes - 28) = c.part.ensures in
     let is : c.in_ok-index.index ≡ record { period = f.period; bytes = slice_range bytes f.offset (length bytes - 28) } = c.in_ok-index.ensures.ok ∙ (λ i. record { period = f.period; bytes = part i }) in
     record {
-      within = omega (arith, c.if-end-footer.false);
+      within = omega (arith, c.if-end-footer.false, c.in_ok-footer.ensures.long);
       laid_out = laid_out bytes f c.in_ok-index.index c.in_ok-footer.ensures.long c.in_ok-footer.ensures.found is;
     }
