@@ -28,3 +28,4 @@ pub mod StoredLemmas
 pub mod OpenedCoverLemmas
 pub mod StoreSliceLemmas
 pub mod AmidLemmas
+pub mod SliceGivenLemmas

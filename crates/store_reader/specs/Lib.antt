@@ -18,3 +18,4 @@ pub mod CallList
 pub mod CallAnswers
 pub mod Parts
 pub mod StoreSlices
+pub mod SliceLaws
