@@ -14,7 +14,7 @@ pub mod writer;
 
 pub use close_error::CloseError;
 pub use layered_index::{
-    CHECKPOINT_PERIOD, Checkpoint, CheckpointBlock, LayerCursor, Looks, SkipIndex,
+    CHECKPOINT_PERIOD, Checkpoint, CheckpointBlock, IndexSlice, LayerCursor, Looks, SkipIndex,
     SkipIndexBuilder, Steps, seek_near, seek_over,
 };
 pub use run::{StoreCommand, WriteReport, write_store, write_store_with_period};
@@ -30,8 +30,8 @@ pub use store_format::{
     block_read_index,
 };
 pub use store_reader::{
-    AliveDocuments, Answer, CacheStats, DOCSTORE_CACHE_CAPACITY, DataPart, DocIter, DocWalk,
-    Documents, Items, RawIter, ReadCall, StoreReader, StoreView, Walk, answer_all,
-    any_lacks_memory,
+    AliveDocuments, Answer, BlockSlice, CacheStats, DOCSTORE_CACHE_CAPACITY, DataPart, DocIter,
+    DocWalk, Documents, Items, RawIter, ReadCall, SliceDocuments, StoreReader, StoreSlice,
+    StoreView, Walk, answer_all, any_lacks_memory,
 };
 pub use writer::StoreWriter;

@@ -27,3 +27,8 @@ pub mod BlockLemmas
 pub mod BuilderLemmas
 pub mod InsertionLemmas
 pub mod ClosingLemmas
+pub mod PointedLemmas
+pub mod SoughtLemmas
+pub mod IndexHeadLemmas
+pub mod DescentLemmas
+pub mod OuterLayersLemmas

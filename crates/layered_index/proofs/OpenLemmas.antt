@@ -23,15 +23,15 @@ all_append : {A : Type 0} (P : A → Type 0) (xs ys : List A) → AllByRecursion
 all_append P [] ys p q = q
 all_append P (x ∷ xs) ys p q = (p.0, all_append P xs ys p.1 q)
 
-all_reverse : {A : Type 0} (P : A → Type 0) (xs : List A) → AllByRecursion P xs → AllByRecursion P (reverse xs)
+pub all_reverse : {A : Type 0} (P : A → Type 0) (xs : List A) → AllByRecursion P xs → AllByRecursion P (reverse xs)
 all_reverse P [] p = tt
 all_reverse {A} P (x ∷ xs) p = subst (AllByRecursion P) (sym (reverse-append (x ∷ []) xs)) (all_append P (reverse xs) (x ∷ []) (all_reverse P xs p.1) (p.0, tt))
 
-texts_fit : (ts : List (List ℕ)) → length (concat ts) < 2 ^ 64 → AllByRecursion (λ t. length t < 2 ^ 64) ts
+pub texts_fit : (ts : List (List ℕ)) → length (concat ts) < 2 ^ 64 → AllByRecursion (λ t. length t < 2 ^ 64) ts
 texts_fit [] fits = tt
 texts_fit (t ∷ ts) fits = (omega (arith, length-append t (concat ts)), texts_fit ts (omega (arith, length-append t (concat ts))))
 
-is_joined : (period : ℕ) (cs : List Checkpoint) → index_part period cs ≡ joined (texts_down period cs)
+pub is_joined : (period : ℕ) (cs : List Checkpoint) → index_part period cs ≡ joined (texts_down period cs)
 is_joined period cs = index_parts period cs ∙ ap (λ (n : ℕ). number n ++ (flat_map number (ends_from 0 (texts_down period cs)) ++ concat (texts_down period cs))) (sym (length-texts_down period cs))
 
 -- Texts that are layers are those of an index.

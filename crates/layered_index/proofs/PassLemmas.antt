@@ -33,7 +33,7 @@ abbrev pub first_items : List (List ℕ) → List Checkpoint
 first_items [] = []
 first_items (t ∷ ts) = items 0 0 0 t
 
-turn : (t : List ℕ) (ts us : List (List ℕ)) → reverse (t ∷ ts) ++ us ≡ reverse ts ++ t ∷ us
+pub turn : (t : List ℕ) (ts us : List (List ℕ)) → reverse (t ∷ ts) ++ us ≡ reverse ts ++ t ∷ us
 turn t ts us = ap (λ (vs : List (List ℕ)). vs ++ us) (reverse-append (t ∷ []) ts) ∙ append_assoc (reverse ts) (t ∷ []) us
 
 below_or_above : (period : ℕ) (a : List ℕ) (ts us : List (List ℕ)) → (AreLayersBelow period (Some (items 0 0 0 a)) ts × AreLayersAbove period (a ∷ us)) ↔ AreLayersAbove period (reverse ts ++ a ∷ us)
@@ -102,7 +102,7 @@ above_read period (t ∷ ts) two small fits p digits =
 
 -- ---- what is read again
 
-above_some : (period : ℕ) (cs : List Checkpoint) → 1 ≤ period → 0 < length cs → 0 < length (layer_above period cs)
+pub above_some : (period : ℕ) (cs : List Checkpoint) → 1 ≤ period → 0 < length cs → 0 < length (layer_above period cs)
 above_some period cs one some = by_count (length (groups period cs)) refl
   where
     by_count : (n : ℕ) → length (groups period cs) ≡ n → 0 < length (layer_above period cs)

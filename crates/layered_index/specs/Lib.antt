@@ -10,3 +10,4 @@ pub mod Building
 pub mod Refusal
 pub mod Laws
 pub mod Seeking
+pub mod Sought

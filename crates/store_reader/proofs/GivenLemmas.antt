@@ -13,14 +13,14 @@ use Rattle.store_reader.specs.Viewing.{Viewing, slot_of, count_in, given}
 use Rattle.store_reader.specs.ViewLaws.{AreGiven, AreGivenAlive, given_with_id, exact_with_id, ViewsGiveEachSlot, ViewsGiveEachAlive}
 
 -- these are the slots from this id on
-record IsRest (v : Viewing) (id : ℕ) (xs : List Slot) : Type 0 where
-  size : id + length xs ≡ count_in v
-  each : (k : ℕ) → slot_of v (id + k) ≡ slice_get xs k
+pub record IsRest (v : Viewing) (id : ℕ) (xs : List Slot) : Type 0 where
+  pub size : id + length xs ≡ count_in v
+  pub each : (k : ℕ) → slot_of v (id + k) ≡ slice_get xs k
 
-all_slots : (v : Viewing) → IsRest v 0 (slots v.store)
+pub all_slots : (v : Viewing) → IsRest v 0 (slots v.store)
 all_slots v = record { size = omega arith; each = λ k. let whole : 0 + k ≡ k = omega arith in ap (slice_get (slots v.store)) whole }
 
-rest_of : (v : Viewing) (id : ℕ) (x : Slot) (xs : List Slot) → IsRest v id (x ∷ xs) → IsRest v (id + 1) xs
+pub rest_of : (v : Viewing) (id : ℕ) (x : Slot) (xs : List Slot) → IsRest v id (x ∷ xs) → IsRest v (id + 1) xs
 rest_of v id x xs r =
     let size = r.size in
     record { size = omega arith; each = λ k. let place : (id + 1) + k ≡ id + suc k = omega arith in ap (slot_of v) place ∙ r.each (suc k) }
@@ -28,7 +28,7 @@ rest_of v id x xs r =
 first_of_rest : (v : Viewing) (id : ℕ) (x : Slot) (xs : List Slot) → IsRest v id (x ∷ xs) → slot_of v id ≡ Some x
 first_of_rest v id x xs r = let place : id ≡ id + 0 = omega arith in ap (slot_of v) place ∙ r.each 0
 
-each_from : (v : Viewing) (id : ℕ) (xs : List Slot) (items : List (Result (Bor (List ℕ)) StoreError)) → IsRest v id xs → AreGiven v id items
+pub each_from : (v : Viewing) (id : ℕ) (xs : List Slot) (items : List (Result (Bor (List ℕ)) StoreError)) → IsRest v id xs → AreGiven v id items
     → map given items ≡ map (λ x. exact_result x.0 (Some x.1)) (enumerate_from id xs)
 each_from v id [] [] r g = refl
 each_from v id [] (item ∷ items) r g = absurd (let size = r.size in let below = g.0.0 in omega arith)

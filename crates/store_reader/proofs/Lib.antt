@@ -26,3 +26,6 @@ pub mod ExactLemmas
 pub mod FailedLemmas
 pub mod StoredLemmas
 pub mod OpenedCoverLemmas
+pub mod StoreSliceLemmas
+pub mod AmidLemmas
+pub mod SliceGivenLemmas

@@ -25,12 +25,13 @@ use Rattle.store_format.proofs.StoreLemmas.{checkpoints_cover}
 -- ---- the parts of a file
 
 -- where the parts of a store's file stand
-record HasParts (content : List ℕ) (s : IsSomeStore content) : Type 0 where
-  size : length content ≡ length (data_of s.blocks) + length (index_part s.period (checkpoints_of s.blocks)) + 28
-  index : slice_range content (length (data_of s.blocks)) (length content - 28) ≡ index_part s.period (checkpoints_of s.blocks)
-  tail : slice_range content (length content - 28) (length content) ≡ footer s.version (length (data_of s.blocks)) 0 s.store.reserved
+pub record HasParts (content : List ℕ) (s : IsSomeStore content) : Type 0 where
+  pub size : length content ≡ length (data_of s.blocks) + length (index_part s.period (checkpoints_of s.blocks)) + 28
+  pub front : slice_range content 0 (length (data_of s.blocks)) ≡ data_of s.blocks
+  pub index : slice_range content (length (data_of s.blocks)) (length content - 28) ≡ index_part s.period (checkpoints_of s.blocks)
+  pub tail : slice_range content (length content - 28) (length content) ≡ footer s.version (length (data_of s.blocks)) 0 s.store.reserved
 
-parts_of : (content : List ℕ) (s : IsSomeStore content) → HasParts content s
+pub parts_of : (content : List ℕ) (s : IsSomeStore content) → HasParts content s
 parts_of content s =
     let data_bytes = data_of s.blocks in
     let index = index_part s.period (checkpoints_of s.blocks) in
@@ -41,6 +42,7 @@ parts_of content s =
     let last : content ≡ (data_bytes ++ index) ++ (foot ++ []) = s.store.parts ∙ ap (λ (x : List ℕ). (data_bytes ++ index) ++ x) (sym (append-nil foot)) in
     record {
       size = whole;
+      front = ap (λ (x : List ℕ). slice_range x 0 (length data_bytes)) right ∙ slice_between [] data_bytes (index ++ foot) 0 (length data_bytes) refl (omega arith);
       index = ap (λ (x : List ℕ). slice_range x (length data_bytes) (length content - 28)) right ∙ slice_between data_bytes index foot (length data_bytes) (length content - 28) refl (omega arith);
       tail = ap (λ (x : List ℕ). slice_range x (length content - 28) (length content)) last
           ∙ slice_between (data_bytes ++ index) foot [] (length content - 28) (length content) (omega (arith, length-append data_bytes index)) (omega (arith, length-append data_bytes index));
@@ -77,11 +79,12 @@ not_refused b p v o r (BadPeriod q) form few is says =
 not_refused b p v o r e form few is says = absurd says
 
 -- the footer that was read is the store's
-record IsFooterOf (content : List ℕ) (s : IsSomeStore content) (f : DocStoreFooter) : Type 0 where
-  offset : f.offset ≡ length (data_of s.blocks)
-  period : f.period ≡ s.period
+pub record IsFooterOf (content : List ℕ) (s : IsSomeStore content) (f : DocStoreFooter) : Type 0 where
+  pub offset : f.offset ≡ length (data_of s.blocks)
+  pub period : f.period ≡ s.period
+  pub version : version_number f.doc_store_version ≡ s.version
 
-footer_of : (content : List ℕ) (s : IsSomeStore content) (f : DocStoreFooter) → IsTail content f → IsFooterOf content s f
+pub footer_of : (content : List ℕ) (s : IsSomeStore content) (f : DocStoreFooter) → IsTail content f → IsFooterOf content s f
 footer_of content s f tail =
     let parts = parts_of content s in
     let v = version_number f.doc_store_version in
@@ -92,6 +95,7 @@ footer_of content s f tail =
     record {
       offset = same.1;
       period = one_period f.period s.period v s.version tail.reserved s.store.reserved tail.form s.store.form same.0 (tails 0 0 tail.reserved s.store.reserved same.2);
+      version = same.0;
     }
 
 -- ---- refusals

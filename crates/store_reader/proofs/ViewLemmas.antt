@@ -95,7 +95,7 @@ starts_above first byte (x ∷ cs) id c r e = (elim (nat_lt id x.doc_range.end) 
 ]) refl
 
 -- a seek finds it for each of its documents
-seek_stays : (first byte : ℕ) (cs : List Checkpoint) (id k : ℕ) (c : Checkpoint) → IsInLineFrom first byte cs → first_past cs id ≡ Some c
+pub seek_stays : (first byte : ℕ) (cs : List Checkpoint) (id k : ℕ) (c : Checkpoint) → IsInLineFrom first byte cs → first_past cs id ≡ Some c
     → c.doc_range.start ≤ k → k < c.doc_range.end → first_past cs k ≡ Some c
 seek_stays first byte [] id k c r e from to = absurd cc
 seek_stays first byte (x ∷ cs) id k c r e from to = (elim (nat_lt id x.doc_range.end) as (λ y. nat_lt id x.doc_range.end ≡ y → first_past (x ∷ cs) k ≡ Some c) [

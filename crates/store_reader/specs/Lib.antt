@@ -17,3 +17,5 @@ pub mod ViewLaws
 pub mod CallList
 pub mod CallAnswers
 pub mod Parts
+pub mod StoreSlices
+pub mod SliceLaws

@@ -5,6 +5,7 @@ ghost use Rattle.store_reader.specs.LookLaws.{LooksAreRecent, LookUpsAreCounted,
 ghost use Rattle.store_reader.specs.CallAnswers.{AnswersAreExact, SlotsDecideAnswers};
 ghost use Rattle.store_reader.specs.Laws.{StoredDocumentsAreGot};
 ghost use Rattle.store_reader.specs.ViewLaws.{ViewsOpenAsReaders, ViewsAnswerAsReaders, ViewsReadAsReaders};
+ghost use Rattle.store_reader.specs.SliceLaws.{SlicesGiveEachSlot};
 ghost use Rattle.store_reader.specs.ViewLaws.{ViewsGiveEachSlot, ViewsGiveEachAlive};
 
 use store_base::{DocumentDeserialize, StoredDocument};
@@ -75,4 +76,10 @@ pub fn views_give_each_slot()
 /// the id.
 pub fn views_give_each_alive()
     ensures { ViewsGiveEachAlive }
+{}
+
+/// What `StoreSlice::iter` gives to its end is what each slot answers, in order. An iteration that begins at a later
+/// document gives what the slots from that document on answer.
+pub fn slices_give_each_slot()
+    ensures { SlicesGiveEachSlot }
 {}

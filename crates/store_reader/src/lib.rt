@@ -2,6 +2,7 @@
 #![tactic(auto)]
 
 pub mod answers;
+pub mod block_slice;
 mod cache;
 pub mod cache_stats;
 pub mod data_part;
@@ -12,18 +13,23 @@ mod look_up;
 mod opening;
 pub mod reader;
 mod share;
+pub mod slice_documents;
 mod slot;
 mod store_index;
+pub mod store_slice;
 pub mod view;
 pub mod view_iter;
 mod view_opening;
 pub mod walk;
 
 pub use answers::{Answer, ReadCall, answer_all, any_lacks_memory};
+pub use block_slice::BlockSlice;
 pub use cache_stats::CacheStats;
 pub use data_part::DataPart;
 pub use iter::{DocIter, Items, RawIter};
 pub use reader::{DOCSTORE_CACHE_CAPACITY, StoreReader};
+pub use slice_documents::SliceDocuments;
+pub use store_slice::StoreSlice;
 pub use view::StoreView;
 pub use view_iter::{AliveDocuments, Documents};
 pub use walk::{DocWalk, Walk};

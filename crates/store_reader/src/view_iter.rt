@@ -19,7 +19,11 @@ pub(crate) struct ViewBlock<'a> {
 
 // The document at a position of a block.
 #[inline(always)]
-fn document_at<'a>(block: &'a [u8], doc_id: DocId, doc_pos: u32) -> Result<&'a [u8], StoreError>
+pub(crate) fn document_at<'a>(
+    block: &'a [u8],
+    doc_id: DocId,
+    doc_pos: u32,
+) -> Result<&'a [u8], StoreError>
     ensures { given result ≡ exact_result doc_id (Some (slot block.entry.now doc_pos)) }
 {
     match block_read_index(block, doc_pos) {

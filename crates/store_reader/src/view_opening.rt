@@ -7,8 +7,8 @@ use std::alloc::Global;
 use store_base::{NoMemory, OwnedBytes, StoreError};
 use store_format::{DocStoreFooter, FOOTER_LEN, footer_in};
 
-// The footer of a file.
-fn footer_of(alloc: Global, file: &[u8]) -> Result<DocStoreFooter, StoreError>
+/// The footer of a file.
+pub(crate) fn footer_of(alloc: Global, file: &[u8]) -> Result<DocStoreFooter, StoreError>
     ensures found { FindsFooter file.now result }
     ensures long { IfOk result (λ _. 28 ≤ length file.now) }
 {

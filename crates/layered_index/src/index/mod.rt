@@ -4,8 +4,10 @@ ghost use Rattle.layered_index.specs.Checkpoint.{Follows};
 
 pub mod block;
 mod block_reading;
+mod block_seek;
 mod fault;
 mod guide;
+pub mod index_slice;
 pub mod layer_cursor;
 mod layers;
 pub mod looks;

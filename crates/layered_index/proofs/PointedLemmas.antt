@@ -1,0 +1,184 @@
+-- What the first pointer past a target points to: the run that has the first checkpoint past it.
+use Rattle.std.proofs.Common.{◌≡◌, ℕ, ◌+◌, ◌-◌, ◌<◌, ◌≤◌, inl, inr, ltb, List, [], ◌∷◌, ◌++◌, length, take, drop, Option, Some, None, refl, sym, ◌∙◌, ap, subst, arith, append_assoc, length-append}
+use Rattle.std.proofs.lemmas.Bool.{cond-true, cond-false, lt-ltb, le-ltb, cases_lt}
+use Rattle.std.proofs.lemmas.List.Folds.{find-append}
+use Rattle.std.proofs.Math.Seq.{drop-append_seam, take-append_seam}
+use Rattle.std.specs.Prelude.{slice_range, nat_lt, IfSome}
+use Rattle.std.specs.Option.{option_or}
+use Rattle.std.specs.List.{flat_map, AllByRecursion}
+use Rattle.store_base.specs.ReadingLemmas.{some_is}
+use Rattle.layered_index.specs.declared.index.Checkpoint.{Checkpoint}
+use Rattle.layered_index.specs.Checkpoint.{checkpoint, docs_end, bytes_end, IsInLineFrom, IsInLine, checkpoint_block, first_past}
+use Rattle.layered_index.specs.Layers.{groups, layer_text, docs_start, pointers, layer_above}
+use Rattle.layered_index.specs.LineLemmas.{in_line-split, in_line_somewhere}
+use Rattle.layered_index.specs.Sought.{IsPast}
+use Rattle.layered_index.proofs.GroupLemmas.{groups_joined}
+use Rattle.layered_index.proofs.LayerLemmas.{docs_grow}
+use Rattle.layered_index.proofs.RunLemmas.{IsRun, groups_are_runs}
+
+-- ---- the first past a target
+
+pub past_here : (c : Checkpoint) (cs : List Checkpoint) (target : ℕ) → target < c.doc_range.end → first_past (c ∷ cs) target ≡ Some c
+past_here c cs target lt = cond-true (ltb target c.doc_range.end) (Some c) (first_past cs target) (lt-ltb target c.doc_range.end lt)
+
+pub past_later : (c : Checkpoint) (cs : List Checkpoint) (target : ℕ) → c.doc_range.end ≤ target → first_past (c ∷ cs) target ≡ first_past cs target
+past_later c cs target le = cond-false (ltb target c.doc_range.end) (Some c) (first_past cs target) (le-ltb target c.doc_range.end le)
+
+-- the first of two lists
+first_past-append : (xs ys : List Checkpoint) (target : ℕ) → first_past (xs ++ ys) target ≡ option_or (first_past xs target) (first_past ys target)
+first_past-append xs ys target = find-append (λ c. nat_lt target c.doc_range.end) xs ys
+
+-- none is past it where the documents end at it or before
+none_before : (doc byte : ℕ) (cs : List Checkpoint) (target : ℕ) → IsInLineFrom doc byte cs → docs_end doc cs ≤ target → first_past cs target ≡ None
+none_before doc byte [] target h le = refl
+none_before doc byte (c ∷ cs) target h le =
+    let grow = docs_grow c.doc_range.end c.byte_range.end cs h.3 in
+    past_later c cs target (omega arith) ∙ none_before c.doc_range.end c.byte_range.end cs target h.3 le
+
+-- and one is where they end past it
+some_past : (doc byte : ℕ) (c : Checkpoint) (cs : List Checkpoint) (target : ℕ) → IsInLineFrom doc byte (c ∷ cs) → target < docs_end c.doc_range.end cs
+    → (x : Checkpoint) × (first_past (c ∷ cs) target ≡ Some x)
+some_past doc byte c [] target h lt = (c, past_here c [] target lt)
+some_past doc byte c (d ∷ cs) target h lt = elim (cases_lt target c.doc_range.end) [
+  | inl here ↦ (c, past_here c (d ∷ cs) target here)
+  | inr later ↦
+      let on = some_past c.doc_range.end c.byte_range.end d cs target h.3 lt in
+      (on.0, past_later c (d ∷ cs) target later ∙ on.1)
+]
+
+-- it is not reversed
+pub found_past : (doc byte : ℕ) (cs : List Checkpoint) (target : ℕ) → IsInLineFrom doc byte cs → IfSome (first_past cs target) (IsPast target)
+found_past doc byte [] target h = tt
+found_past doc byte (c ∷ cs) target h = elim (cases_lt target c.doc_range.end) [
+  | inl here ↦ subst (λ (o : Option Checkpoint). IfSome o (IsPast target)) (sym (past_here c cs target here)) (record { docs = h.2.doc_order; bytes = h.2.byte_order; past = here })
+  | inr later ↦ subst (λ (o : Option Checkpoint). IfSome o (IsPast target)) (sym (past_later c cs target later)) (found_past c.doc_range.end c.byte_range.end cs target h.3)
+]
+
+-- ---- the run that is pointed to
+
+-- The pointer is that to one of the runs, which has the first checkpoint past the target; the first run is at this place.
+pub record IsPointer (period target place : ℕ) (gs : List (List Checkpoint)) (p : Checkpoint) : Type 0 where
+  pub run : List Checkpoint
+  pub front : List ℕ
+  pub back : List ℕ
+  pub text : flat_map checkpoint_block gs ≡ front ++ (checkpoint_block run ++ back)
+  pub start : p.byte_range.start ≡ place + length front
+  pub end : p.byte_range.end ≡ p.byte_range.start + length (checkpoint_block run)
+  pub docs_first : p.doc_range.start ≡ docs_start run
+  pub docs_last : p.doc_range.end ≡ docs_end 0 run
+  pub is_run : IsRun period run
+  pub first : first_past (flat_map (λ g. g) gs) target ≡ first_past run target
+
+-- the first run is it, or one of the others
+is_pointer : (period target place doc byte : ℕ) (gs : List (List Checkpoint)) (p : Checkpoint) → AllByRecursion (IsRun period) gs → IsInLineFrom doc byte (flat_map (λ g. g) gs)
+    → first_past (pointers place gs) target ≡ Some p → IsPointer period target place gs p
+is_pointer period target place doc byte [] p runs h e = absurd (cc)
+is_pointer period target place doc byte ([] ∷ gs) p runs h e = absurd (omega (arith, runs.0.some))
+is_pointer period target place doc byte ((c ∷ cs) ∷ gs) p runs h e =
+    let g = c ∷ cs in
+    let rest = flat_map (λ (x : List Checkpoint). x) gs in
+    let block = checkpoint_block g in
+    let behind = flat_map checkpoint_block gs in
+    let others = pointers (place + length block) gs in
+    let q = checkpoint c.doc_range.start (docs_end c.doc_range.end cs) place (place + length block) in
+    let both = in_line-split doc byte g rest h in
+    elim (cases_lt target (docs_end c.doc_range.end cs)) [
+      | inl here ↦
+          let same : q ≡ p = some_is q p (sym (past_here q others target here) ∙ e) in
+          let found = some_past doc byte c cs target both.0 here in
+          let at_front : place ≡ place + 0 = omega arith in
+          subst (IsPointer period target place (g ∷ gs)) same (record {
+            run = g;
+            front = [];
+            back = behind;
+            text = refl;
+            start = at_front;
+            end = refl;
+            docs_first = refl;
+            docs_last = refl;
+            is_run = runs.0;
+            first = first_past-append g rest target ∙ ap (λ (o : Option Checkpoint). option_or o (first_past rest target)) found.1 ∙ sym found.1;
+          })
+      | inr later ↦
+          let on = is_pointer period target (place + length block) (docs_end doc g) (bytes_end byte g) gs p runs.1 both.1 (sym (past_later q others target later) ∙ e) in
+          let none : first_past g target ≡ None = none_before doc byte g target both.0 later in
+          record {
+            run = on.run;
+            front = block ++ on.front;
+            back = on.back;
+            text = ap (λ (t : List ℕ). block ++ t) on.text ∙ sym (append_assoc block on.front (checkpoint_block on.run ++ on.back));
+            start = omega (arith, on.start, length-append block on.front);
+            end = on.end;
+            docs_first = on.docs_first;
+            docs_last = on.docs_last;
+            is_run = on.is_run;
+            first = first_past-append g rest target ∙ ap (λ (o : Option Checkpoint). option_or o (first_past rest target)) none ∙ on.first;
+          }
+    ]
+
+-- where no pointer is past it, no checkpoint is
+no_pointer : (period target place doc byte : ℕ) (gs : List (List Checkpoint)) → AllByRecursion (IsRun period) gs → IsInLineFrom doc byte (flat_map (λ g. g) gs)
+    → first_past (pointers place gs) target ≡ None → first_past (flat_map (λ g. g) gs) target ≡ None
+no_pointer period target place doc byte [] runs h e = refl
+no_pointer period target place doc byte ([] ∷ gs) runs h e = absurd (omega (arith, runs.0.some))
+no_pointer period target place doc byte ((c ∷ cs) ∷ gs) runs h e =
+    let g = c ∷ cs in
+    let rest = flat_map (λ (x : List Checkpoint). x) gs in
+    let block = checkpoint_block g in
+    let others = pointers (place + length block) gs in
+    let q = checkpoint c.doc_range.start (docs_end c.doc_range.end cs) place (place + length block) in
+    let both = in_line-split doc byte g rest h in
+    elim (cases_lt target (docs_end c.doc_range.end cs)) [
+      | inl here ↦ absurd (not_both q (sym (past_here q others target here) ∙ e))
+      | inr later ↦
+          let none : first_past g target ≡ None = none_before doc byte g target both.0 later in
+          first_past-append g rest target ∙ ap (λ (o : Option Checkpoint). option_or o (first_past rest target)) none
+          ∙ no_pointer period target (place + length block) (docs_end doc g) (bytes_end byte g) gs runs.1 both.1 (sym (past_later q others target later) ∙ e)
+    ]
+  where
+    not_both : (q : Checkpoint) → Some q ≡ None → ⊥
+    not_both q e = cc
+
+-- ---- a layer
+
+-- What is pointed to is a run of the layer. Its block is this part of the text, and it has the first past the target.
+pub record IsRunPointed (period target : ℕ) (cs : List Checkpoint) (p : Checkpoint) : Type 0 where
+  pub run : List Checkpoint
+  pub order : p.byte_range.start ≤ p.byte_range.end
+  pub within : p.byte_range.end ≤ length (layer_text period cs)
+  pub part : slice_range (layer_text period cs) p.byte_range.start p.byte_range.end ≡ checkpoint_block run
+  pub docs_first : p.doc_range.start ≡ docs_start run
+  pub docs_last : p.doc_range.end ≡ docs_end 0 run
+  pub is_run : IsRun period run
+  pub first : first_past cs target ≡ first_past run target
+
+cut_out : (front block back : List ℕ) (start end : ℕ) → start ≡ length front → end ≡ start + length block → slice_range (front ++ (block ++ back)) start end ≡ block
+cut_out front block back start end s e =
+    let size : end - start ≡ length block = omega arith in
+    (λ i. take (size i) (drop (s i) (front ++ (block ++ back)))) ∙ ap (take (length block)) (drop-append_seam front (block ++ back)) ∙ take-append_seam block back
+
+pub run_pointed : (period target : ℕ) (cs : List Checkpoint) (p : Checkpoint) → 1 ≤ period → IsInLine cs → first_past (layer_above period cs) target ≡ Some p → IsRunPointed period target cs p
+run_pointed period target cs p one h e =
+    let from = in_line_somewhere cs h in
+    let gs = groups period cs in
+    let joined = groups_joined period cs one in
+    let is = is_pointer period target 0 from.0 from.1 gs p (groups_are_runs period from.0 from.1 cs one from.2) (subst (IsInLineFrom from.0 from.1) (sym joined) from.2) e in
+    let start : p.byte_range.start ≡ length is.front = omega (arith, is.start) in
+    record {
+      run = is.run;
+      order = omega (arith, is.end);
+      within = omega (arith, is.end, start, ap length is.text, length-append is.front (checkpoint_block is.run ++ is.back), length-append (checkpoint_block is.run) is.back);
+      part = ap (λ (t : List ℕ). slice_range t p.byte_range.start p.byte_range.end) is.text ∙ cut_out is.front (checkpoint_block is.run) is.back p.byte_range.start p.byte_range.end start is.end;
+      docs_first = is.docs_first;
+      docs_last = is.docs_last;
+      is_run = is.is_run;
+      first = ap (λ (xs : List Checkpoint). first_past xs target) (sym joined) ∙ is.first;
+    }
+
+pub none_pointed : (period target : ℕ) (cs : List Checkpoint) → 1 ≤ period → IsInLine cs → first_past (layer_above period cs) target ≡ None → first_past cs target ≡ None
+none_pointed period target cs one h e =
+    let from = in_line_somewhere cs h in
+    let gs = groups period cs in
+    let joined = groups_joined period cs one in
+    ap (λ (xs : List Checkpoint). first_past xs target) (sym joined)
+    ∙ no_pointer period target 0 from.0 from.1 gs (groups_are_runs period from.0 from.1 cs one from.2) (subst (IsInLineFrom from.0 from.1) (sym joined) from.2) e

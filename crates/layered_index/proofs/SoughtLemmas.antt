@@ -1,0 +1,279 @@
+-- What a seek reads of one block, and of the layers that are left.
+use Rattle.std.proofs.Common.{◌≡◌, ℕ, zero, suc, ◌+◌, ◌-◌, ◌<◌, ◌≤◌, inl, inr, Bool, true, false, cond, eqb, ltb, List, [], ◌∷◌, ◌++◌, length, take, drop, Option, Some, None, refl, sym, ◌∙◌, ap, subst, arith, append_assoc}
+use Rattle.std.proofs.lemmas.Bool.{lt-ltb, le-ltb, cases_lt, cond-true, cond-false}
+use Rattle.std.proofs.lemmas.List.{append-nil, take-append-drop}
+use Rattle.std.specs.Prelude.{IfSome, slice_range}
+use Rattle.std.specs.Option.{option_or}
+use Rattle.std.specs.List.{flat_map}
+use Rattle.store_base.specs.VInt.{◌>>=◌}
+use Rattle.store_base.specs.ReadingLemmas.{bind_some, some_is, pass_some, bytes_behind}
+use Rattle.store_base.specs.Serialize.{IsBytes}
+use Rattle.layered_index.specs.declared.index.Checkpoint.{Checkpoint}
+use Rattle.layered_index.specs.declared.index.block_reading.Heading.{Heading}
+use Rattle.layered_index.specs.declared.index.block_seek.Sought.{Sought}
+use Rattle.layered_index.specs.Checkpoint.{docs_end, IsInLineFrom, IsInLine, step, checkpoint_block, first_past}
+use Rattle.layered_index.specs.Layers.{layer_text, docs_start}
+use Rattle.layered_index.specs.BlockReading.{step_at, steps_at, heading_at}
+use Rattle.layered_index.specs.Sought.{sought_from, sought_at, scanned, scanned_at, IsPast, IsRunAt, IsFoundAbove}
+use Rattle.layered_index.proofs.BlockReadingLemmas.{step_again, step_read, heading_again, heading_read, steps_again, steps_read}
+use Rattle.layered_index.proofs.PointedLemmas.{found_past, run_pointed}
+use Rattle.layered_index.proofs.GrowthLemmas.{groups_one}
+
+-- ---- one step of a block, as a loop takes it
+
+one_more : (target : ℕ) (found : Option Checkpoint) (doc : ℕ) (c : Checkpoint) (read : Option (List Checkpoint × List ℕ))
+    → sought_from target found doc (read >>= λ x. Some (c ∷ x.0, x.1)) ≡ sought_from target (option_or found (first_past (c ∷ []) target)) c.doc_range.end read
+one_more target (Some f) doc c (Some x) = refl
+one_more target None doc c (Some x) = by_test (ltb target c.doc_range.end)
+  where
+    by_test : (b : Bool) → ◌≡◌ {A = Option (Option Checkpoint × ℕ × List ℕ)}
+        (Some (cond b (Some c) (first_past x.0 target), docs_end c.doc_range.end x.0, x.1)) (Some (option_or (cond b (Some c) None) (first_past x.0 target), docs_end c.doc_range.end x.0, x.1))
+    by_test true = refl
+    by_test false = refl
+one_more target found doc c None = refl
+
+pub seek_goes_on : (target : ℕ) (found : Option Checkpoint) (count i doc byte : ℕ) (bytes : List ℕ) (c : Checkpoint) (after : List ℕ) (total : Option (Option Checkpoint × ℕ × List ℕ)) → i < count
+    → step_at doc byte bytes ≡ Some (c, after) → sought_from target found doc (steps_at (count - i) doc byte bytes) ≡ total
+    → sought_from target (option_or found (first_past (c ∷ []) target)) c.doc_range.end (steps_at (count - (i + 1)) c.doc_range.end c.byte_range.end after) ≡ total
+unfolding steps_at
+seek_goes_on target found count i doc byte bytes c after total lt h so_far =
+    let k : count - i ≡ suc (count - (i + 1)) = omega arith in
+    let one : sought_from target found doc (steps_at (count - i) doc byte bytes)
+    ≡ sought_from target (option_or found (first_past (c ∷ []) target)) c.doc_range.end (steps_at (count - (i + 1)) c.doc_range.end c.byte_range.end after) =
+    rw (k, h) (one_more target found doc c (steps_at (count - (i + 1)) c.doc_range.end c.byte_range.end after)) in
+    sym one ∙ so_far
+
+pub seek_ends : (target : ℕ) (found : Option Checkpoint) (count i doc byte : ℕ) (bytes : List ℕ) (total : Option (Option Checkpoint × ℕ × List ℕ)) → i < count → step_at doc byte bytes ≡ None
+    → sought_from target found doc (steps_at (count - i) doc byte bytes) ≡ total → total ≡ None
+unfolding steps_at
+seek_ends target found count i doc byte bytes total lt h so_far =
+    let k : count - i ≡ suc (count - (i + 1)) = omega arith in
+    let one : sought_from target found doc (steps_at (count - i) doc byte bytes) ≡ None = rw (k, h) refl in
+    sym so_far ∙ one
+
+pub seek_is_done : (target : ℕ) (found : Option Checkpoint) (count i doc byte : ℕ) (bytes : List ℕ) (total : Option (Option Checkpoint × ℕ × List ℕ)) → count ≤ i
+    → sought_from target found doc (steps_at (count - i) doc byte bytes) ≡ total → total ≡ Some (found, doc, bytes)
+unfolding steps_at
+seek_is_done target found count i doc byte bytes total le so_far =
+    let k : count - i ≡ 0 = omega arith in
+    let one : sought_from target found doc (steps_at (count - i) doc byte bytes) ≡ Some (found, doc, bytes) = rw k (by_found found) in
+    sym so_far ∙ one
+  where
+    by_found : (o : Option Checkpoint) → ◌≡◌ {A = Option (Option Checkpoint × ℕ × List ℕ)} (Some (option_or o None, doc, bytes)) (Some (o, doc, bytes))
+    by_found (Some x) = refl
+    by_found None = refl
+
+-- ---- one block
+
+-- the block of a run tells what is first in it
+pub block_sought : (most target : ℕ) (g : List Checkpoint) → 0 < length g → length g ≤ most → most ≤ 64 → IsInLine g
+    → sought_at most target (checkpoint_block g) ≡ Some (record { found = first_past g target; doc = docs_start g; doc_end = docs_end 0 g })
+unfolding sought_at
+block_sought most target [] some few small h = absurd (omega arith)
+block_sought most target (c ∷ cs) some few small h =
+    let same : checkpoint_block (c ∷ cs) ++ [] ≡ checkpoint_block (c ∷ cs) = append-nil (checkpoint_block (c ∷ cs)) in
+    let heading : Heading = record { count = length (c ∷ cs); doc = c.doc_range.start; byte = c.byte_range.start } in
+    let head : heading_at (checkpoint_block (c ∷ cs)) ≡ Some (heading, flat_map step (c ∷ cs) ++ []) = ap heading_at (sym same) ∙ heading_again c cs [] h (omega arith) in
+    let test : ltb most (length (c ∷ cs)) ≡ false = le-ltb _ _ few in
+    let steps : steps_at (length (c ∷ cs)) c.doc_range.start c.byte_range.start (flat_map step (c ∷ cs) ++ []) ≡ Some (c ∷ cs, []) = steps_again c.doc_range.start c.byte_range.start (c ∷ cs) [] h in
+    rw (head, test, steps) refl
+
+pass_none : {A : Type 0} (b : Bool) (x : Option A) (y : A) → cond b None x ≡ Some y → (b ≡ false) × (x ≡ Some y)
+pass_none true x y e = absurd (cc)
+pass_none false x y e = (refl, e)
+
+-- what is found in any block is past the target
+pub sought_past : (most target : ℕ) (bytes : List ℕ) (s : Sought) → IsBytes bytes → sought_at most target bytes ≡ Some s → IfSome s.found (IsPast target)
+unfolding sought_at
+sought_past most target bytes s fits e =
+    let a = bind_some (heading_at bytes) (λ h. cond (ltb most h.0.count) None (sought_from target None h.0.doc (steps_at h.0.count h.0.doc h.0.byte h.1) >>= λ x. cond (eqb (length x.2) 0)
+    (Some (record { found = x.0; doc = h.0.doc; doc_end = x.1 })) None)) s e in
+    let h = a.0.0 in
+    let p = pass_none (ltb most h.count) (sought_from target None h.doc (steps_at h.count h.doc h.byte a.0.1) >>= λ x. cond (eqb (length x.2) 0)
+    (Some (record { found = x.0; doc = h.doc; doc_end = x.1 })) None) s a.2 in
+    let b = bind_some (sought_from target None h.doc (steps_at h.count h.doc h.byte a.0.1)) (λ x. cond (eqb (length x.2) 0) (Some (record { found = x.0; doc = h.doc; doc_end = x.1 })) None) s p.1 in
+    let made : Sought = record { found = b.0.0; doc = h.doc; doc_end = b.0.1 } in
+    let q = pass_some (eqb (length b.0.2) 0) made s b.2 in
+    let d = bind_some (steps_at h.count h.doc h.byte a.0.1) (λ x. Some (first_past x.0 target, docs_end h.doc x.0, x.1)) b.0 b.1 in
+    let found : first_past d.0.0 target ≡ b.0.0 = ap (λ (x : Option Checkpoint × ℕ × List ℕ). x.0) (some_is (first_past d.0.0 target, docs_end h.doc d.0.0, d.0.1) b.0 d.2) in
+    let rest_fits : IsBytes a.0.1 = elim (heading_read bytes h a.0.1 fits a.1) [ inl none ↦ none.takes.rest_fits | inr more ↦ more.takes_byte.rest_fits ] in
+    let steps = steps_read h.count h.doc h.byte a.0.1 d.0.0 d.0.1 rest_fits d.1 in
+    subst (λ (x : Sought). IfSome x.found (IsPast target)) q.1 (subst (λ (o : Option Checkpoint). IfSome o (IsPast target)) found (found_past h.doc h.byte d.0.0 target steps.runs))
+
+-- ---- a layer
+
+-- a layer of one run is one block
+one_block : (period : ℕ) (cs : List Checkpoint) → 0 < length cs → length cs ≤ period → layer_text period cs ≡ checkpoint_block cs
+one_block period cs some few = ap (flat_map checkpoint_block) (groups_one period cs some few) ∙ append-nil (checkpoint_block cs)
+
+pub top_sought : (period target : ℕ) (layer : List ℕ) (cs : List Checkpoint) (read : Option Sought) → period ≤ 64 → IsInLine cs → layer ≡ layer_text period cs → IsFoundAbove period target None cs
+    → read ≡ sought_at period target layer → read ≡ Some (record { found = first_past cs target; doc = docs_start cs; doc_end = docs_end 0 cs })
+top_sought period target layer cs read small h text above e =
+    e ∙ ap (sought_at period target) (text ∙ one_block period cs above.0 above.1) ∙ block_sought period target cs above.0 above.1 small h
+
+-- what a seek finds below a pointer
+pub record IsSoughtBelow (period target : ℕ) (layer : List ℕ) (p : Checkpoint) (cs : List Checkpoint) : Type 0 where
+  pub order : p.byte_range.start ≤ p.byte_range.end
+  pub within : p.byte_range.end ≤ length layer
+  pub run : List Checkpoint
+  pub is_run : IsRunAt period run p (slice_range layer p.byte_range.start p.byte_range.end)
+  pub first : first_past cs target ≡ first_past run target
+
+pub below_sought : (period target : ℕ) (layer : List ℕ) (p : Checkpoint) (cs : List Checkpoint) → 1 ≤ period → period ≤ 64 → IsInLine cs → layer ≡ layer_text period cs
+    → IsFoundAbove period target (Some p) cs → IsSoughtBelow period target layer p cs
+below_sought period target layer p cs one small h text above =
+    let is = run_pointed period target cs p one h above in
+    record {
+      order = is.order;
+      within = omega (arith, is.within, ap length text);
+      run = is.run;
+      is_run = record {
+        some = is.is_run.some;
+        few = is.is_run.few;
+        small = small;
+        in_line = is.is_run.in_line;
+        spells = ap (λ (t : List ℕ). slice_range t p.byte_range.start p.byte_range.end) text ∙ is.part;
+        docs_first = is.docs_first;
+        docs_last = is.docs_last;
+      };
+      first = is.first;
+    }
+
+-- what is read of the whole block
+pub pointed_sought : (period target : ℕ) (run : List Checkpoint) (p : Checkpoint) (block : List ℕ) → IsRunAt period run p block
+    → sought_at period target block ≡ Some (record { found = first_past run target; doc = p.doc_range.start; doc_end = p.doc_range.end })
+pointed_sought period target run p block is =
+    ap (sought_at period target) is.spells ∙ block_sought period target run is.some is.few is.small is.in_line
+    ∙ (λ i. Some (record { found = first_past run target; doc = sym is.docs_first i; doc_end = sym is.docs_last i }))
+
+-- ---- a block that is decoded up to what is sought
+
+-- none past the target, in a loop
+pub scan_goes_on : (target count i doc byte : ℕ) (bytes : List ℕ) (c : Checkpoint) (after : List ℕ) (total : Option (Option Checkpoint)) → i < count → step_at doc byte bytes ≡ Some (c, after)
+    → c.doc_range.end ≤ target → scanned target (count - i) doc byte bytes ≡ total → scanned target (count - (i + 1)) c.doc_range.end c.byte_range.end after ≡ total
+unfolding scanned
+scan_goes_on target count i doc byte bytes c after total lt h past so_far =
+    let k : count - i ≡ suc (count - (i + 1)) = omega arith in
+    let test : ltb target c.doc_range.end ≡ false = le-ltb _ _ past in
+    let one : scanned target (count - i) doc byte bytes ≡ scanned target (count - (i + 1)) c.doc_range.end c.byte_range.end after = rw (k, h, test) refl in
+    sym one ∙ so_far
+
+pub scan_finds : (target count i doc byte : ℕ) (bytes : List ℕ) (c : Checkpoint) (after : List ℕ) (total : Option (Option Checkpoint)) → i < count → step_at doc byte bytes ≡ Some (c, after)
+    → target < c.doc_range.end → scanned target (count - i) doc byte bytes ≡ total → Some (Some c) ≡ total
+unfolding scanned
+scan_finds target count i doc byte bytes c after total lt h past so_far =
+    let k : count - i ≡ suc (count - (i + 1)) = omega arith in
+    let test : ltb target c.doc_range.end ≡ true = lt-ltb _ _ past in
+    let one : scanned target (count - i) doc byte bytes ≡ Some (Some c) = rw (k, h, test) refl in
+    sym one ∙ so_far
+
+pub scan_ends : (target count i doc byte : ℕ) (bytes : List ℕ) (total : Option (Option Checkpoint)) → i < count → step_at doc byte bytes ≡ None → scanned target (count - i) doc byte bytes ≡ total → None ≡ total
+unfolding scanned
+scan_ends target count i doc byte bytes total lt h so_far =
+    let k : count - i ≡ suc (count - (i + 1)) = omega arith in
+    let one : scanned target (count - i) doc byte bytes ≡ None = rw (k, h) refl in
+    sym one ∙ so_far
+
+pub scan_is_done : (target count i doc byte : ℕ) (bytes : List ℕ) (total : Option (Option Checkpoint)) → count ≤ i → scanned target (count - i) doc byte bytes ≡ total → Some None ≡ total
+unfolding scanned
+scan_is_done target count i doc byte bytes total le so_far =
+    let k : count - i ≡ 0 = omega arith in
+    let one : scanned target (count - i) doc byte bytes ≡ Some None = rw k refl in
+    sym one ∙ so_far
+
+-- the steps of a list in line are decoded up to the first past the target
+scan_again : (target doc byte : ℕ) (cs : List Checkpoint) (rest : List ℕ) → IsInLineFrom doc byte cs → scanned target (length cs) doc byte (flat_map step cs ++ rest) ≡ Some (first_past cs target)
+unfolding scanned
+scan_again target doc byte [] rest h = refl
+scan_again target doc byte (c ∷ cs) rest h =
+    let behind = flat_map step cs ++ rest in
+    let first : step_at doc byte (step c ++ behind) ≡ Some (c, behind) = (λ i. step_at (sym h.0 i) (sym h.1 i) (step c ++ behind)) ∙ step_again c behind h.2 in
+    let on = scan_again target c.doc_range.end c.byte_range.end cs rest h.3 in
+    ap (scanned target (suc (length cs)) doc byte) (append_assoc (step c) (flat_map step cs) rest) ∙ rw first (by_test (ltb target c.doc_range.end) (scanned target (length cs) c.doc_range.end c.byte_range.end behind) on)
+  where
+    by_test : (b : Bool) (read : Option (Option Checkpoint)) → read ≡ Some (first_past cs target) → cond b (Some (Some c)) read ≡ Some (cond b (Some c) (first_past cs target))
+    by_test true read e = refl
+    by_test false read e = e
+
+pub block_scanned : (most target : ℕ) (g : List Checkpoint) → 0 < length g → length g ≤ most → most ≤ 64 → IsInLine g → scanned_at most target (checkpoint_block g) ≡ Some (first_past g target, docs_start g)
+unfolding scanned_at
+block_scanned most target [] some few small h = absurd (omega arith)
+block_scanned most target (c ∷ cs) some few small h =
+    let same : checkpoint_block (c ∷ cs) ++ [] ≡ checkpoint_block (c ∷ cs) = append-nil (checkpoint_block (c ∷ cs)) in
+    let heading : Heading = record { count = length (c ∷ cs); doc = c.doc_range.start; byte = c.byte_range.start } in
+    let head : heading_at (checkpoint_block (c ∷ cs)) ≡ Some (heading, flat_map step (c ∷ cs) ++ []) = ap heading_at (sym same) ∙ heading_again c cs [] h (omega arith) in
+    let test : ltb most (length (c ∷ cs)) ≡ false = le-ltb _ _ few in
+    let found : scanned target (length (c ∷ cs)) c.doc_range.start c.byte_range.start (flat_map step (c ∷ cs) ++ []) ≡ Some (first_past (c ∷ cs) target) =
+    scan_again target c.doc_range.start c.byte_range.start (c ∷ cs) [] h in
+    rw (head, test, found) refl
+
+pub top_scanned : (period target : ℕ) (layer : List ℕ) (cs : List Checkpoint) → period ≤ 64 → IsInLine cs → layer ≡ layer_text period cs → IsFoundAbove period target None cs
+    → scanned_at period target layer ≡ Some (first_past cs target, docs_start cs)
+top_scanned period target layer cs small h text above = ap (scanned_at period target) (text ∙ one_block period cs above.0 above.1) ∙ block_scanned period target cs above.0 above.1 small h
+
+pub pointed_scanned : (period target : ℕ) (run : List Checkpoint) (p : Checkpoint) (block : List ℕ) → IsRunAt period run p block → scanned_at period target block ≡ Some (first_past run target, p.doc_range.start)
+pointed_scanned period target run p block is =
+    ap (scanned_at period target) is.spells ∙ block_scanned period target run is.some is.few is.small is.in_line ∙ (λ i. Some (first_past run target, sym is.docs_first i))
+
+-- what is found is past the target, in any bytes
+steps_scanned_past : (target count doc byte : ℕ) (bytes : List ℕ) (found : Option Checkpoint) → IsBytes bytes → scanned target count doc byte bytes ≡ Some found → IfSome found (IsPast target)
+unfolding scanned
+steps_scanned_past target zero doc byte bytes found fits e = subst (λ (o : Option Checkpoint). IfSome o (IsPast target)) (some_is None found e) tt
+steps_scanned_past target (suc count) doc byte bytes found fits e =
+    let a = bind_some (step_at doc byte bytes) (λ c. cond (ltb target c.0.doc_range.end) (Some (Some c.0)) (scanned target count c.0.doc_range.end c.0.byte_range.end c.1)) found e in
+    let c = a.0.0 in
+    let read = step_read doc byte bytes c a.0.1 fits a.1 in
+    elim (cases_lt target c.doc_range.end) [
+      | inl here ↦
+          let test : ltb target c.doc_range.end ≡ true = lt-ltb _ _ here in
+          let same : Some c ≡ found = some_is (Some c) found (sym (cond-true (ltb target c.doc_range.end) (Some (Some c)) (scanned target count c.doc_range.end c.byte_range.end a.0.1) test) ∙ a.2) in
+          subst (λ (o : Option Checkpoint). IfSome o (IsPast target)) same (record { docs = read.limits.doc_order; bytes = read.limits.byte_order; past = here })
+      | inr later ↦
+          let test : ltb target c.doc_range.end ≡ false = le-ltb _ _ later in
+          steps_scanned_past target count c.doc_range.end c.byte_range.end a.0.1 found read.takes.rest_fits
+          (sym (cond-false (ltb target c.doc_range.end) (Some (Some c)) (scanned target count c.doc_range.end c.byte_range.end a.0.1) test) ∙ a.2)
+    ]
+
+pub scanned_past : (most target : ℕ) (bytes : List ℕ) (found : Option Checkpoint) (doc : ℕ) → IsBytes bytes → scanned_at most target bytes ≡ Some (found, doc) → IfSome found (IsPast target)
+unfolding scanned_at
+scanned_past most target bytes found doc fits e =
+    let a = bind_some (heading_at bytes) (λ h. cond (ltb most h.0.count) None (scanned target h.0.count h.0.doc h.0.byte h.1 >>= λ f. Some (f, h.0.doc))) (found, doc) e in
+    let h = a.0.0 in
+    let p = pass_none (ltb most h.count) (scanned target h.count h.doc h.byte a.0.1 >>= λ f. Some (f, h.doc)) (found, doc) a.2 in
+    let b = bind_some (scanned target h.count h.doc h.byte a.0.1) (λ f. Some (f, h.doc)) (found, doc) p.1 in
+    let rest_fits : IsBytes a.0.1 = elim (heading_read bytes h a.0.1 fits a.1) [ inl none ↦ none.takes.rest_fits | inr more ↦ more.takes_byte.rest_fits ] in
+    let same : b.0 ≡ found = ap (λ (x : Option Checkpoint × ℕ). x.0) (some_is (b.0, h.doc) (found, doc) b.2) in
+    subst (λ (o : Option Checkpoint). IfSome o (IsPast target)) same (steps_scanned_past target h.count h.doc h.byte a.0.1 b.0 rest_fits b.1)
+
+pub pair_is : (read : Option (Option Checkpoint × ℕ)) (found other : Option Checkpoint) (doc start : ℕ) → Some (found, doc) ≡ read → read ≡ Some (other, start) → (Some found ≡ Some other) × (doc ≡ start)
+pair_is read found other doc start e f =
+    let same = some_is (found, doc) (other, start) (e ∙ f) in
+    (ap (λ (x : Option Checkpoint × ℕ). Some x.0) same, ap (λ (x : Option Checkpoint × ℕ). x.1) same)
+
+-- what was read is not nothing
+pub read_nothing : {A : Type 0} {x : A} (read : Option A) → None ≡ read → read ≡ Some x → ⊥
+read_nothing read e f = nothing (e ∙ f)
+  where
+    nothing : {A : Type 0} {x : A} → None ≡ Some x → ⊥
+    nothing e = cc
+
+pub found_is : (read : Option Sought) (s : Sought) (cs : List Checkpoint) (target doc doc_end : ℕ) → Some s ≡ read → read ≡ Some (record { found = first_past cs target; doc = doc; doc_end = doc_end })
+    → Some s.found ≡ Some (first_past cs target)
+found_is read s cs target doc doc_end e f = ap (λ (x : Sought). Some x.found) (some_is s (record { found = first_past cs target; doc = doc; doc_end = doc_end }) (e ∙ f))
+
+-- the documents of the block are those of the pointer
+pub documents_are : (read : Option Sought) (s : Sought) (found : Option Checkpoint) (doc doc_end : ℕ) → Some s ≡ read → read ≡ Some (record { found = found; doc = doc; doc_end = doc_end })
+    → (s.doc ≡ doc) × (s.doc_end ≡ doc_end)
+documents_are read s found doc doc_end e f =
+    let same = some_is s (record { found = found; doc = doc; doc_end = doc_end }) (e ∙ f) in
+    (ap (λ (x : Sought). x.doc) same, ap (λ (x : Sought). x.doc_end) same)
+
+-- a part of bytes is of bytes
+bytes_front : (xs ys : List ℕ) → IsBytes (xs ++ ys) → IsBytes xs
+bytes_front [] ys h = tt
+bytes_front (x ∷ xs) ys h = (h.0, bytes_front xs ys h.1)
+
+pub part_is_bytes : (bytes : List ℕ) (start end : ℕ) → IsBytes bytes → IsBytes (slice_range bytes start end)
+part_is_bytes bytes start end fits =
+    let behind : IsBytes (drop start bytes) = bytes_behind (take start bytes) (drop start bytes) (subst IsBytes (sym (take-append-drop start bytes)) fits) in
+    bytes_front (take (end - start) (drop start bytes)) (drop (end - start) (drop start bytes)) (subst IsBytes (sym (take-append-drop (end - start) (drop start bytes))) behind)

@@ -1,0 +1,81 @@
+-- A store in a slice of bytes.
+use Rattle.std.specs.Prelude.{◌≡◌, ◌⊎◌, ℕ, ◌-◌, ◌+◌, ◌<◌, ◌≤◌, Bool, false, List, ◌++◌, length, slice_get, slice_range, Option}
+use Rattle.std.specs.Prelude.{Some, None, Result}
+use Rattle.std.specs.Borrow.{Bor}
+use Rattle.store_base.specs.declared.error.StoreError.{StoreError}
+use Rattle.store_base.specs.declared.error.StoreError.TheVariants.{InvalidArgument, DamagedDocument, BadIndex}
+use Rattle.store_base.specs.declared.error.StoreError.TheVariants.{BadDocument, Memory}
+use Rattle.layered_index.specs.declared.index.Checkpoint.{Checkpoint}
+use Rattle.layered_index.specs.Checkpoint.{docs_end, first_past}
+use Rattle.layered_index.specs.Layers.{index_part}
+use Rattle.layered_index.specs.Sought.{IndexBytes}
+use Rattle.store_format.specs.declared.version.DocStoreVersion.{DocStoreVersion}
+use Rattle.store_format.specs.Block.{slot}
+use Rattle.store_format.specs.Footer.{version_number}
+use Rattle.store_format.specs.Slots.{slots}
+use Rattle.store_format.specs.StoreFile.{data_of, checkpoints_of}
+use Rattle.store_reader.specs.CallAnswers.{exact_result}
+use Rattle.store_reader.specs.Opening.{IsSomeStore}
+use Rattle.store_reader.specs.Viewing.{given}
+
+-- What the document of this id is in the store whose file these bytes are: its bytes, or the refusal of this id where
+-- there is none or it is damaged.
+abbrev pub document_in : (bytes : List ℕ) → IsSomeStore bytes → ℕ → Result (List ℕ) StoreError
+document_in bytes s id = exact_result id (slice_get (slots s.blocks) id)
+
+-- how many documents it has
+abbrev pub count_of_store : (bytes : List ℕ) → IsSomeStore bytes → ℕ
+count_of_store bytes s = length (slots s.blocks)
+
+-- These parts of the bytes are those of the store.
+pub record IsLaidOut (bytes : List ℕ) (data_len : ℕ) (index : IndexBytes) (version : ℕ)
+    (s : IsSomeStore bytes) : Type 0 where
+  pub data_is : data_len ≡ length (data_of s.blocks)
+  pub period_is : index.period ≡ s.period
+  pub index_is : index.bytes ≡ index_part s.period (checkpoints_of s.blocks)
+  pub version_is : version ≡ s.version
+
+-- What always holds: the data and a footer lie in the bytes, and the parts are those of the store, if the bytes are a
+-- store's file.
+pub record IsStoreSlice (bytes : List ℕ) (data_len : ℕ) (index : IndexBytes) (version : DocStoreVersion) : Type 0 where
+  pub within : data_len + 28 ≤ length bytes
+  pub laid_out : (s : IsSomeStore bytes) → IsLaidOut bytes data_len index (version_number version) s
+
+-- The block that begins at this byte and has these bytes is the one that has the document.
+pub record IsBlockSlice (bytes : List ℕ) (s : IsSomeStore bytes) (id first end start : ℕ)
+    (block : List ℕ) : Type 0 where
+  pub checkpoint : Checkpoint
+  pub seeks : first_past (checkpoints_of s.blocks) id ≡ Some checkpoint
+  pub first_is : first ≡ checkpoint.doc_range.start
+  pub end_is : end ≡ checkpoint.doc_range.end
+  pub start_is : start ≡ checkpoint.byte_range.start
+  pub block_is : block ≡ slice_range bytes checkpoint.byte_range.start checkpoint.byte_range.end
+
+-- the refusals of a document: there is none, it is damaged, or the index is found damaged on the way to it
+abbrev pub RefusesOne : ℕ → StoreError → Type 0
+RefusesOne id e = (e ≡ InvalidArgument id) ⊎ (e ≡ DamagedDocument id) ⊎ (e ≡ BadIndex)
+
+-- the same where the document is read, too: its bytes are no document of the type, or memory runs out
+abbrev pub RefusesReading : ℕ → StoreError → Type 0
+RefusesReading id e = RefusesOne id e ⊎ (e ≡ BadDocument) ⊎ (e ≡ Memory)
+
+-- ---- iterations
+
+-- An iteration stands before the next document, which is in this block or in those of the checkpoints that are left.
+pub record IsAmid (bytes : List ℕ) (s : IsSomeStore bytes) (data_len next first end : ℕ) (block : List ℕ)
+    (left : List Checkpoint) (failed : Bool) : Type 0 where
+  pub before : List Checkpoint
+  pub parts : checkpoints_of s.blocks ≡ before ++ left
+  pub ended : docs_end 0 before ≡ end
+  pub above : first ≤ next
+  pub below : next ≤ end
+  pub goes_on : (id : ℕ) → next ≤ id → id < end → slice_get (slots s.blocks) id ≡ Some (slot block (id - first))
+  pub data_is : data_len ≡ length (data_of s.blocks)
+  pub well : failed ≡ false
+
+-- The next of the documents, or its refusal; none after the last.
+abbrev pub GivesStored : (bytes : List ℕ) → IsSomeStore bytes → ℕ → Option (Result (Bor (List ℕ)) StoreError) → ℕ
+    → Type 0
+GivesStored bytes s next None next' = (next ≡ count_of_store bytes s) × (next' ≡ next)
+GivesStored bytes s next (Some item) next' =
+    (next < count_of_store bytes s) × (given item ≡ document_in bytes s next) × (next' ≡ next + 1)
