@@ -7,11 +7,13 @@ mod merging;
 mod on_disk;
 mod pages;
 mod records;
+mod slice;
 mod view;
 
 fn main(rt: HostRuntime) -> anyhow::Result<()> {
     in_memory::write_and_read(&rt)?;
     on_disk::write_and_read(&rt)?;
+    slice::print_slice(&rt)?;
     view::print_view(&rt)?;
     pages::print_page(&rt)?;
     records::write_and_read(&rt)?;

@@ -1,7 +1,7 @@
-//! A view of bytes beside a reader of a file that holds them.
+//! A view of bytes beside a slice of them, and beside a reader of a file that holds them.
 
 use crate::making::opened;
-use docstore::{StoreError, StoreReader, StoreView};
+use docstore::{StoreError, StoreReader, StoreSlice, StoreView};
 use std::alloc::Global;
 use store_base::{FileHandle, MemFile};
 
@@ -40,8 +40,39 @@ fn are_gotten(view: &StoreView<'_>) -> bool {
     true
 }
 
-// Whether a view and a reader answer the same: of the first documents, of those behind the last, and of each item
-// of an iteration.
+// Whether the first documents of a slice are a view's, by gets and by an iteration, and also what comes after the last.
+fn are_sliced(slice: &StoreSlice<'_>, view: &StoreView<'_>) -> Result<bool, StoreError> {
+    let count = view.num_docs();
+    let mut items = slice.iter()?;
+    for doc_id in 0..count.min(20) {
+        if slice.get(doc_id) != view.get(doc_id) || items.next() != Some(view.get(doc_id)) {
+            return Ok(false);
+        }
+    }
+    Ok(
+        slice.num_docs()? == count
+            && slice.get(count) == view.get(count)
+            && slice.get(u32::MAX) == view.get(u32::MAX),
+    )
+}
+
+// Whether a slice of bytes is taken where a view of them opens, and answers the same; or gives the view's error, unless
+// only a call that meets the damage can find it.
+fn slice_agrees(
+    alloc: Global,
+    bytes: &[u8],
+    viewed: &Result<StoreView<'_>, StoreError>,
+) -> Result<bool, StoreError> {
+    match (StoreSlice::new(alloc, bytes), viewed) {
+        (Ok(slice), Ok(view)) => are_sliced(&slice, view),
+        (Ok(_), Err(error)) => Ok(*error == StoreError::BadIndex),
+        (Err(error), Err(viewed)) => Ok(error == *viewed),
+        (Err(_), Ok(_)) => Ok(false),
+    }
+}
+
+// Whether a view and a reader answer the same: of the first documents, of those after the last, and of each item of an
+// iteration.
 fn answer_alike<H: FileHandle>(
     alloc: Global,
     bytes: &[u8],
@@ -60,9 +91,13 @@ fn answer_alike<H: FileHandle>(
         && are_gotten(view)
 }
 
-/// Whether a view of these bytes and a reader of this file open the same, and answer the same.
+/// Whether a view of these bytes and a reader of this file open the same, and answer the same; and a slice of them.
 pub fn agree_with<H: FileHandle>(alloc: Global, bytes: &[u8], file: H) -> bool {
-    match (StoreView::open(alloc, bytes), opened(alloc, file)) {
+    let viewed = StoreView::open(alloc, bytes);
+    if slice_agrees(alloc, bytes, &viewed) != Ok(true) {
+        return false;
+    }
+    match (viewed, opened(alloc, file)) {
         (Ok(view), Ok(mut reader)) => answer_alike(alloc, bytes, &view, &mut reader),
         (Err(viewed), Err(read)) => viewed == read,
         _ => false,
