@@ -171,7 +171,8 @@ head_digits period bytes count ends texts cs head is =
     sym (ap (λ (x : ℕ × List ℕ). x.0) p.1) ∙ ap (λ (x : ℕ × List ℕ). x.0) found
 
 -- the texts of an index can be addressed
-pub small_texts : (period : ℕ) (bytes : List ℕ) (cs : List Checkpoint) → length bytes < 2 ^ 64 → IsIndexPart period bytes cs → AllByRecursion (λ t. length t < 2 ^ 64) (map (layer_text period) (layers period cs))
+pub small_texts : (period : ℕ) (bytes : List ℕ) (cs : List Checkpoint) → length bytes < 2 ^ 64 → IsIndexPart period bytes cs
+    → AllByRecursion (λ t. length t < 2 ^ 64) (map (layer_text period) (layers period cs))
 small_texts period bytes cs fits is =
     let ts = texts_down period cs in
     let up = map (layer_text period) (layers period cs) in

@@ -30,5 +30,6 @@ pub mod ClosingLemmas
 pub mod PointedLemmas
 pub mod SoughtLemmas
 pub mod IndexHeadLemmas
+pub mod RestOfLayerLemmas
 pub mod DescentLemmas
 pub mod OuterLayersLemmas

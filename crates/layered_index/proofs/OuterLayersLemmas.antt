@@ -121,7 +121,8 @@ pub top_is : (period : ℕ) (bytes : List ℕ) (count : ℕ) (ends texts : List 
     → length bytes < 2 ^ 64 → (count ≡ 0 → ⊥) → IsIndexPart period bytes cs → next_layer 0 ends texts ≡ Some (top, behind, more_ends, more) → IsTop period (docs_end 0 cs) top
 top_is period bytes count ends texts cs top behind more_ends more head fits some is e =
     let first = first_is_top period bytes count ends texts cs head fits some is in
-    subst (IsTop period (docs_end 0 cs)) (ap (λ (x : List ℕ × ℕ × List ℕ × List ℕ). x.0) (some_is (first.top, first.behind, first.more_ends, first.more) (top, behind, more_ends, more) (sym first.next ∙ e))) first.is
+    subst (IsTop period (docs_end 0 cs)) (ap (λ (x : List ℕ × ℕ × List ℕ × List ℕ). x.0)
+    (some_is (first.top, first.behind, first.more_ends, first.more) (top, behind, more_ends, more) (sym first.next ∙ e))) first.is
 
 -- ---- the bottom layer
 
@@ -178,5 +179,6 @@ top_read period end text read small is e = (
   top_sought period 0 text is.list read small is.in_line is.is_text is.one_run e ∙ (λ i. Some (record { found = first_past is.list 0; doc = docs_start is.list; doc_end = is.docs i })),
 )
 
-pub top_end : (read : Option Sought) (s : Sought) (end : ℕ) → Some s ≡ read → (found : Option Checkpoint) × (doc : ℕ) × (read ≡ Some (record { found = found; doc = doc; doc_end = end })) → s.doc_end ≡ end
+pub top_end : (read : Option Sought) (s : Sought) (end : ℕ) → Some s ≡ read → (found : Option Checkpoint) × (doc : ℕ) × (read ≡ Some (record { found = found; doc = doc; doc_end = end }))
+    → s.doc_end ≡ end
 top_end read s end e h = ap (λ (x : Sought). x.doc_end) (some_is s (record { found = h.0; doc = h.1; doc_end = end }) (e ∙ h.2))

@@ -29,7 +29,7 @@ first_past-append : (xs ys : List Checkpoint) (target : ℕ) → first_past (xs 
 first_past-append xs ys target = find-append (λ c. nat_lt target c.doc_range.end) xs ys
 
 -- none is past it where the documents end at it or before
-none_before : (doc byte : ℕ) (cs : List Checkpoint) (target : ℕ) → IsInLineFrom doc byte cs → docs_end doc cs ≤ target → first_past cs target ≡ None
+pub none_before : (doc byte : ℕ) (cs : List Checkpoint) (target : ℕ) → IsInLineFrom doc byte cs → docs_end doc cs ≤ target → first_past cs target ≡ None
 none_before doc byte [] target h le = refl
 none_before doc byte (c ∷ cs) target h le =
     let grow = docs_grow c.doc_range.end c.byte_range.end cs h.3 in

@@ -167,7 +167,8 @@ scan_finds target count i doc byte bytes c after total lt h past so_far =
     let one : scanned target (count - i) doc byte bytes ≡ Some (Some c) = rw (k, h, test) refl in
     sym one ∙ so_far
 
-pub scan_ends : (target count i doc byte : ℕ) (bytes : List ℕ) (total : Option (Option Checkpoint)) → i < count → step_at doc byte bytes ≡ None → scanned target (count - i) doc byte bytes ≡ total → None ≡ total
+pub scan_ends : (target count i doc byte : ℕ) (bytes : List ℕ) (total : Option (Option Checkpoint)) → i < count → step_at doc byte bytes ≡ None → scanned target (count - i) doc byte bytes ≡ total
+    → None ≡ total
 unfolding scanned
 scan_ends target count i doc byte bytes total lt h so_far =
     let k : count - i ≡ suc (count - (i + 1)) = omega arith in
@@ -189,13 +190,15 @@ scan_again target doc byte (c ∷ cs) rest h =
     let behind = flat_map step cs ++ rest in
     let first : step_at doc byte (step c ++ behind) ≡ Some (c, behind) = (λ i. step_at (sym h.0 i) (sym h.1 i) (step c ++ behind)) ∙ step_again c behind h.2 in
     let on = scan_again target c.doc_range.end c.byte_range.end cs rest h.3 in
-    ap (scanned target (suc (length cs)) doc byte) (append_assoc (step c) (flat_map step cs) rest) ∙ rw first (by_test (ltb target c.doc_range.end) (scanned target (length cs) c.doc_range.end c.byte_range.end behind) on)
+    ap (scanned target (suc (length cs)) doc byte) (append_assoc (step c) (flat_map step cs) rest)
+    ∙ rw first (by_test (ltb target c.doc_range.end) (scanned target (length cs) c.doc_range.end c.byte_range.end behind) on)
   where
     by_test : (b : Bool) (read : Option (Option Checkpoint)) → read ≡ Some (first_past cs target) → cond b (Some (Some c)) read ≡ Some (cond b (Some c) (first_past cs target))
     by_test true read e = refl
     by_test false read e = e
 
-pub block_scanned : (most target : ℕ) (g : List Checkpoint) → 0 < length g → length g ≤ most → most ≤ 64 → IsInLine g → scanned_at most target (checkpoint_block g) ≡ Some (first_past g target, docs_start g)
+pub block_scanned : (most target : ℕ) (g : List Checkpoint) → 0 < length g → length g ≤ most → most ≤ 64 → IsInLine g
+    → scanned_at most target (checkpoint_block g) ≡ Some (first_past g target, docs_start g)
 unfolding scanned_at
 block_scanned most target [] some few small h = absurd (omega arith)
 block_scanned most target (c ∷ cs) some few small h =
@@ -211,7 +214,8 @@ pub top_scanned : (period target : ℕ) (layer : List ℕ) (cs : List Checkpoint
     → scanned_at period target layer ≡ Some (first_past cs target, docs_start cs)
 top_scanned period target layer cs small h text above = ap (scanned_at period target) (text ∙ one_block period cs above.0 above.1) ∙ block_scanned period target cs above.0 above.1 small h
 
-pub pointed_scanned : (period target : ℕ) (run : List Checkpoint) (p : Checkpoint) (block : List ℕ) → IsRunAt period run p block → scanned_at period target block ≡ Some (first_past run target, p.doc_range.start)
+pub pointed_scanned : (period target : ℕ) (run : List Checkpoint) (p : Checkpoint) (block : List ℕ) → IsRunAt period run p block
+    → scanned_at period target block ≡ Some (first_past run target, p.doc_range.start)
 pointed_scanned period target run p block is =
     ap (scanned_at period target) is.spells ∙ block_scanned period target run is.some is.few is.small is.in_line ∙ (λ i. Some (first_past run target, sym is.docs_first i))
 
@@ -245,7 +249,8 @@ scanned_past most target bytes found doc fits e =
     let same : b.0 ≡ found = ap (λ (x : Option Checkpoint × ℕ). x.0) (some_is (b.0, h.doc) (found, doc) b.2) in
     subst (λ (o : Option Checkpoint). IfSome o (IsPast target)) same (steps_scanned_past target h.count h.doc h.byte a.0.1 b.0 rest_fits b.1)
 
-pub pair_is : (read : Option (Option Checkpoint × ℕ)) (found other : Option Checkpoint) (doc start : ℕ) → Some (found, doc) ≡ read → read ≡ Some (other, start) → (Some found ≡ Some other) × (doc ≡ start)
+pub pair_is : (read : Option (Option Checkpoint × ℕ)) (found other : Option Checkpoint) (doc start : ℕ) → Some (found, doc) ≡ read → read ≡ Some (other, start)
+    → (Some found ≡ Some other) × (doc ≡ start)
 pair_is read found other doc start e f =
     let same = some_is (found, doc) (other, start) (e ∙ f) in
     (ap (λ (x : Option Checkpoint × ℕ). Some x.0) same, ap (λ (x : Option Checkpoint × ℕ). x.1) same)

@@ -1,5 +1,5 @@
 -- Seeks that decode one run of each layer: what a run tells, the layers that are left, and what was found above them.
-use Rattle.std.specs.Prelude.{◌≡◌, ℕ, zero, suc, ◌-◌, ◌^◌, ◌<◌, ◌≤◌, nat_lt, ◌==◌, if◌then◌else◌, List, length, take, drop}
+use Rattle.std.specs.Prelude.{◌≡◌, ℕ, zero, suc, ◌-◌, ◌^◌, ◌<◌, ◌≤◌, nat_lt, ◌==◌, if◌then◌else◌, List, [], ◌∷◌, length, take, drop}
 use Rattle.std.specs.Prelude.{Option, Some, None}
 use Rattle.std.specs.Option.{option_or}
 use Rattle.store_base.specs.VInt.{◌>>=◌, number_below}
@@ -9,6 +9,7 @@ use Rattle.layered_index.specs.Checkpoint.{docs_end, IsInLine, checkpoint_block,
 use Rattle.layered_index.specs.Layers.{docs_start, layer_above}
 use Rattle.layered_index.specs.BlockReading.{step_at, steps_at, heading_at}
 use Rattle.layered_index.specs.IndexReading.{numbers_at, texts_at}
+use Rattle.layered_index.specs.LayerReading.{items}
 
 -- Of checkpoints that are read after others, in which this was found: the first past the target, where the last one's
 -- documents end, and the bytes after them.
@@ -56,6 +57,21 @@ pub record IsRunAt (period : ℕ) (run : List Checkpoint) (p : Checkpoint) (bloc
 abbrev pub IsFoundAbove : ℕ → ℕ → Option Checkpoint → List Checkpoint → Type 0
 IsFoundAbove period target None cs = (0 < length cs) × (length cs ≤ period)
 IsFoundAbove period target (Some p) cs = first_past (layer_above period cs) target ≡ Some p
+
+-- the bytes of a layer from the run on that a pointer points to; without a pointer from the first run on
+abbrev pub from_pointer : List ℕ → Option Checkpoint → List ℕ
+from_pointer layer None = layer
+from_pointer layer (Some p) = drop p.byte_range.start layer
+
+-- the first checkpoint past the target, and those after it
+abbrev pub past_on : List Checkpoint → ℕ → Option (Checkpoint × List Checkpoint)
+past_on [] target = None
+past_on (c ∷ cs) target = if nat_lt target c.doc_range.end then Some (c, cs) else past_on cs target
+
+-- what a seek found in the bottom layer, and the bytes of the layer from a run on that has it
+abbrev pub AreOn : List Checkpoint → ℕ → Option Checkpoint → List ℕ → Type 0
+AreOn cs target None run = Unit {0}
+AreOn cs target (Some c) run = past_on (items 0 0 0 run) target ≡ past_on cs target
 
 -- the layers, by the numbers that say where they end; the first begins at this place, and no byte follows the last
 unfoldable pub layers_left : ℕ → ℕ → List ℕ → List ℕ → Option (List (List ℕ))

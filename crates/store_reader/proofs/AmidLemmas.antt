@@ -1,5 +1,5 @@
 -- Iterations over the documents of a store in a slice of bytes.
-use Rattle.std.proofs.Common.{◌≡◌, ℕ, ◌+◌, ◌-◌, ◌<◌, ◌≤◌, Bool, true, false, List, [], ◌∷◌, ◌++◌, length, Some, None, refl, sym, ap, ◌∙◌, subst, arith, append_assoc}
+use Rattle.std.proofs.Common.{◌≡◌, ℕ, ◌+◌, ◌-◌, ◌<◌, ◌≤◌, Bool, true, false, List, [], ◌∷◌, ◌++◌, length, Option, Some, None, refl, sym, ap, ◌∙◌, subst, arith, append_assoc}
 use Rattle.std.specs.Prelude.{Result, slice_range, slice_get}
 use Rattle.std.specs.Borrow.{Bor}
 use Rattle.std.specs.List.{AllByRecursion}
@@ -11,6 +11,9 @@ use Rattle.layered_index.specs.Checkpoint.{IsInLineFrom, IsFilled, docs_end, byt
 use Rattle.layered_index.specs.LineLemmas.{in_line-split}
 use Rattle.layered_index.proofs.LayerLemmas.{docs_grow}
 use Rattle.layered_index.proofs.OuterLayersLemmas.{docs_end-append}
+use Rattle.layered_index.proofs.RestOfLayerLemmas.{first_is_on, on_parts}
+use Rattle.layered_index.specs.Sought.{past_on}
+use Rattle.std.specs.Option.{option_map}
 use Rattle.store_format.specs.Block.{slot}
 use Rattle.store_format.specs.Slots.{slots}
 use Rattle.store_format.specs.StoreFile.{checkpoints_of, data_of}
@@ -19,7 +22,7 @@ use Rattle.store_reader.specs.CallAnswers.{exact_result}
 use Rattle.store_reader.specs.Opening.{IsSomeStore}
 use Rattle.store_reader.specs.Viewing.{given}
 use Rattle.store_reader.specs.StoreSlices.{count_of_store, IsAmid, GivesStored}
-use Rattle.store_reader.proofs.StoreSliceLemmas.{block_is_of, count_stored, block_within}
+use Rattle.store_reader.proofs.StoreSliceLemmas.{block_is_of, count_stored, block_within, block_placed}
 
 -- the first document of a checkpoint is sought there
 first_here : (doc byte : ℕ) (before : List Checkpoint) (c : Checkpoint) (rest : List Checkpoint) → IsInLineFrom doc byte (before ++ c ∷ rest) → c.doc_range.start < c.doc_range.end
@@ -62,7 +65,8 @@ is_next bytes s before c rest parts =
 -- ---- one step
 
 -- after the last block
-pub amid_ends : (bytes : List ℕ) (s : IsSomeStore bytes) (data_len next first end : ℕ) (block : List ℕ) (left : List Checkpoint) (failed : Bool) → IsAmid bytes s data_len next first end block left failed
+pub amid_ends : (bytes : List ℕ) (s : IsSomeStore bytes) (data_len next first end : ℕ) (block : List ℕ) (left : List Checkpoint) (failed : Bool)
+    → IsAmid bytes s data_len next first end block left failed
     → left ≡ [] → end ≤ next → GivesStored bytes s next None next
 amid_ends bytes s data_len next first end block left failed amid none over =
     let all : checkpoints_of s.blocks ≡ amid.before = amid.parts ∙ ap (λ (cs : List Checkpoint). amid.before ++ cs) none ∙ append-nil amid.before in
@@ -143,8 +147,28 @@ amid_first bytes s data_len block left is all = record {
   well = refl;
 }
 
+-- before a document, in the block that has it
+pub amid_from : (bytes : List ℕ) (s : IsSomeStore bytes) (data_len id : ℕ) (block : List ℕ) (c : Checkpoint) (left : List Checkpoint) → data_len ≡ length (data_of s.blocks)
+    → Some (c, left) ≡ past_on (checkpoints_of s.blocks) id → block ≡ slice_range bytes c.byte_range.start c.byte_range.end
+    → IsAmid bytes s data_len id c.doc_range.start c.doc_range.end block left false
+amid_from bytes s data_len id block c left is found text =
+    let parts = on_parts (checkpoints_of s.blocks) id c left (sym found) in
+    let seeks : first_past (checkpoints_of s.blocks) id ≡ Some c = first_is_on (checkpoints_of s.blocks) id ∙ ap (λ (o : Option (Checkpoint × List Checkpoint)). option_map (λ x. x.0) o) (sym found) in
+    let place = block_placed bytes s id c seeks in
+    record {
+      before = parts.0 ++ c ∷ [];
+      parts = parts.1 ∙ sym (append_assoc parts.0 (c ∷ []) left);
+      ended = docs_end-append 0 parts.0 (c ∷ []);
+      above = place.from;
+      below = omega (arith, place.to);
+      goes_on = λ k le lt. block_is_of bytes s id c seeks k (omega (arith, place.from)) lt ∙ (λ i. Some (slot (sym text i) (k - c.doc_range.start)));
+      data_is = is;
+      well = refl;
+    }
+
 -- the block that was taken is that of the checkpoint
-pub amid_in : (bytes : List ℕ) (s : IsSomeStore bytes) (data_len next first end first' end' : ℕ) (block block' : List ℕ) (left : List Checkpoint) (failed : Bool) (c : Checkpoint) (rest : List Checkpoint)
+pub amid_in : (bytes : List ℕ) (s : IsSomeStore bytes) (data_len next first end first' end' : ℕ) (block block' : List ℕ) (left : List Checkpoint) (failed : Bool) (c : Checkpoint)
+    (rest : List Checkpoint)
     → left ≡ c ∷ rest → end ≤ next → first' ≡ next → end' ≡ c.doc_range.end → block' ≡ slice_range bytes c.byte_range.start c.byte_range.end
     → IsAmid bytes s data_len next first end block left failed → IsAmid bytes s data_len next first' end' block' rest failed
 amid_in bytes s data_len next first end first' end' block block' left failed c rest is over f e b amid =

@@ -26,7 +26,7 @@ use Rattle.store_reader.specs.StoreSlices.{IsLaidOut, IsStoreSlice, IsBlockSlice
 use Rattle.store_reader.proofs.OpenedLemmas.{IsTail, kind_zero}
 use Rattle.store_reader.proofs.RefusedLemmas.{parts_of, footer_of, not_refused}
 use Rattle.store_reader.proofs.SeekLemmas.{within}
-use Rattle.store_reader.proofs.ViewLemmas.{seek_stays, block_placed as block_seen, IsPlaced, placed, doc_placed, slot_placed, slot_none, count_is}
+use Rattle.store_reader.proofs.ViewLemmas.{seek_stays, block_placed as block_seen, block_none, IsPlaced, placed, doc_placed, slot_placed, slot_none, count_is}
 
 -- ---- where the parts lie
 
@@ -58,7 +58,8 @@ pub footer_no_store : (bytes : List ℕ) (e : StoreError) → FindsFooter bytes 
 footer_no_store bytes e finds s =
     let parts = parts_of bytes s in
     let long : 28 ≤ length bytes = omega (arith, parts.size) in
-    not_refused (slice_range bytes (length bytes - 28) (length bytes)) s.period s.version (length (data_of s.blocks)) s.store.reserved e s.store.form (data_fits s.blocks s.store.blocks) parts.tail (finds.long long)
+    not_refused (slice_range bytes (length bytes - 28) (length bytes)) s.period s.version (length (data_of s.blocks)) s.store.reserved e s.store.form
+    (data_fits s.blocks s.store.blocks) parts.tail (finds.long long)
 
 -- an offset past the footer's beginning is no store's
 pub offset_no_store : (bytes : List ℕ) (f : DocStoreFooter) → 28 ≤ length bytes → FindsFooter bytes (Ok f) → length bytes - 28 < f.offset → IsSomeStore bytes → ⊥
@@ -69,7 +70,8 @@ offset_no_store bytes f long finds past s =
     omega arith
 
 -- bytes that have no index are no store's
-pub index_no_store : (bytes : List ℕ) (f : DocStoreFooter) → 28 ≤ length bytes → FindsFooter bytes (Ok f) → (HasIndex f.period (slice_range bytes f.offset (length bytes - 28)) → ⊥) → IsSomeStore bytes → ⊥
+pub index_no_store : (bytes : List ℕ) (f : DocStoreFooter) → 28 ≤ length bytes → FindsFooter bytes (Ok f) → (HasIndex f.period (slice_range bytes f.offset (length bytes - 28)) → ⊥)
+    → IsSomeStore bytes → ⊥
 index_no_store bytes f long finds none s =
     let foot = footer_of bytes s f (found_tail bytes f long finds) in
     let parts = parts_of bytes s in
@@ -244,6 +246,13 @@ block_is_of bytes s id c e k from to =
     let v : Viewing = record { file = bytes; period = s.period; version = seen.version; store = blocks_at (checkpoints_of s.blocks) (data_in bytes (checkpoints_of s.blocks)) } in
     let of = block_seen v (checkpoints_of s.blocks) id c refl seen.view e in
     ap (λ (bs : List StoreBlock). slice_get (slots bs) k) (sym seen.blocks) ∙ of.goes_on k from to
+
+-- no document stands where a seek finds no block
+pub none_stored : (bytes : List ℕ) (s : IsSomeStore bytes) (id : ℕ) → first_past (checkpoints_of s.blocks) id ≡ None → count_of_store bytes s ≤ id
+none_stored bytes s id e =
+    let seen = is_seen bytes s in
+    let v : Viewing = record { file = bytes; period = s.period; version = seen.version; store = blocks_at (checkpoints_of s.blocks) (data_in bytes (checkpoints_of s.blocks)) } in
+    subst (λ (bs : List StoreBlock). length (slots bs) ≤ id) seen.blocks (block_none v (checkpoints_of s.blocks) id refl seen.view e)
 
 -- a store has fewer than 2^32 documents
 docs_small : (first byte : ℕ) (cs : List Checkpoint) → first < 2 ^ 32 → IsInLineFrom first byte cs → docs_end first cs < 2 ^ 32

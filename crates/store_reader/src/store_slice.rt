@@ -1,5 +1,5 @@
 //! A store in a slice of bytes, read without opening: its index is not copied, and no table is made of it.
-ghost use Rattle.std.specs.Prelude.{◌≡◌, ◌≢◌, ◌≤◌, ◌<◌, ◌+◌, ◌^◌, ◌↔◌, ℕ, length, slice_range, slice_get};
+ghost use Rattle.std.specs.Prelude.{◌≡◌, ◌≢◌, ◌≤◌, ◌<◌, ◌+◌, ◌^◌, ◌↔◌, ◌⊎◌, ℕ, length, slice_range, slice_get};
 ghost use Rattle.std.specs.Prelude.{IfOk, IfErr, IsOkAnd, IsErrOf, MatchResult, Ok, Err, Some, None};
 ghost use Rattle.layered_index.specs.Checkpoint.{first_past};
 ghost use Rattle.layered_index.specs.Layers.{index_part};
@@ -223,6 +223,40 @@ impl<'a> StoreSlice<'a> {
                 first: 0,
                 end: 0,
                 bytes: &[],
+            },
+            failed: false,
+        })
+    }
+
+    /// The documents from this one on, in the order of their ids. It seeks the block of the document, and then decodes
+    /// each checkpoint of the bottom layer once. It returns `InvalidArgument` where there is no such document, and
+    /// `BadIndex` where it finds the index damaged.
+    pub fn iter_from(&self, doc_id: DocId) -> Result<SliceDocuments<'a>, StoreError>
+        ensures file { IfOk result (λ d. d.file.now ≡ self.now) }
+        ensures first { IfOk result (λ d. d.next ≡ doc_id) }
+        ensures can { IfOk result (λ d. (d.block.first ≤ d.next) × (d.data_len ≤ length d.file.now)) }
+        ensures amid { (s : IsSomeStore self.now) → MatchResult result
+            (λ d. IsAmid self.now s d.data_len d.next d.block.first d.block.end d.block.bytes.now d.checkpoints d.failed)
+            (λ e. (e ≡ StoreError.InvalidArgument doc_id) × (count_of_store self.now s ≤ doc_id)) }
+        ensures refused { IfErr result (λ e. (e ≡ StoreError.InvalidArgument doc_id) ⊎ (e ≡ StoreError.BadIndex)) }
+    {
+        let Some((checkpoint, checkpoints)) = self.index.seek_on(doc_id)? else {
+            return Err(StoreError::InvalidArgument(doc_id));
+        };
+        let docs = checkpoint.doc_range;
+        let bytes = checkpoint.byte_range;
+        if docs.start > doc_id || bytes.end > self.data_len {
+            return Err(StoreError::BadIndex);
+        }
+        Ok(SliceDocuments {
+            file: self.file,
+            data_len: self.data_len,
+            checkpoints,
+            next: doc_id,
+            block: ViewBlock {
+                first: docs.start,
+                end: docs.end,
+                bytes: part(self.file, bytes.start, bytes.end),
             },
             failed: false,
         })

@@ -5,7 +5,8 @@ ghost use Rattle.layered_index.specs.declared.index.Checkpoint.{Checkpoint};
 ghost use Rattle.layered_index.specs.Checkpoint.{docs_end, first_past};
 ghost use Rattle.layered_index.specs.Layers.{digit_count};
 ghost use Rattle.layered_index.specs.IndexReading.{IsIndexPart, HasIndex};
-ghost use Rattle.layered_index.specs.Sought.{next_layer, after_numbers, IsPast, IndexBytes};
+ghost use Rattle.layered_index.specs.Sought.{next_layer, after_numbers, from_pointer, past_on, AreOn};
+ghost use Rattle.layered_index.specs.Sought.{IsPast, IndexBytes};
 
 use crate::index::Checkpoint;
 use crate::index::block_seek::{seek_block, seek_layer};
@@ -74,6 +75,24 @@ fn next_layer<'a>(
     Some((layer, end, more_ends, more))
 }
 
+// The bytes of a layer from the run on that a pointer points to; without a pointer from the first run on.
+#[inline(always)]
+fn from_pointer<'a>(layer: &'a [u8], pointer: &Option<Checkpoint>) -> &'a [u8]
+    ensures { result.now ≡ from_pointer layer.now pointer.now }
+{
+    match pointer {
+        None => layer,
+        Some(pointer) => &layer[pointer.byte_range.start.min(layer.len())..],
+    }
+}
+
+// What a descent found in the bottom layer, and the bytes of that layer from the run on in which it found it.
+#[derive(Drop)]
+struct Descent<'a> {
+    found: Option<Checkpoint>,
+    run: &'a [u8],
+}
+
 impl<'a> IndexSlice<'a> {
     /// The index in these bytes. It reads how many layers there are and skips the numbers that say where each ends. It
     /// returns `BadIndex` where these numbers are missing; damage after them is found by the calls that meet it.
@@ -116,17 +135,20 @@ impl<'a> IndexSlice<'a> {
         whole: bool,
         target: DocId,
         steps: &mut Steps,
-    ) -> Result<Option<Checkpoint>, StoreError>
+    ) -> Result<Descent<'a>, StoreError>
         ensures answer { (cs : List Checkpoint) → IsIndexPart self.now.period self.now.bytes cs
-            → result ≡ Ok (first_past cs target) }
+            → IsOkAnd result (λ d. d.found ≡ first_past cs target) }
+        ensures run { (cs : List Checkpoint) → IsIndexPart self.now.period self.now.bytes cs
+            → IfOk result (λ d. AreOn cs target d.found d.run.now) }
         ensures most { (cs : List Checkpoint) → IsIndexPart self.now.period self.now.bytes cs
             → steps.new ≤ steps.old + self.now.period * digit_count self.now.period (length cs) }
         ensures always { steps.new ≤ steps.old + self.now.period * 64 }
-        ensures past { IfOk result (λ found. IfSome found (IsPast target)) }
+        ensures past { IfOk result (λ d. IfSome d.found (IsPast target)) }
         ensures refused { IfErr result (λ e. e ≡ StoreError.BadIndex) }
     {
         let period = self.period as usize;
         let mut found: Option<Checkpoint> = None;
+        let mut run = self.texts;
         let mut place = 0;
         let mut ends = self.ends;
         let mut texts = self.texts;
@@ -137,8 +159,9 @@ impl<'a> IndexSlice<'a> {
             let Some(next) = seek_layer(whole, period, target, layer, &found, steps) else {
                 return Err(StoreError::BadIndex);
             };
+            run = from_pointer(layer, &found);
             if next.is_none() {
-                return Ok(None);
+                return Ok(Descent { found: None, run });
             }
             found = next;
             place = end;
@@ -148,7 +171,7 @@ impl<'a> IndexSlice<'a> {
         if !texts.is_empty() {
             return Err(StoreError::BadIndex);
         }
-        Ok(found)
+        Ok(Descent { found, run })
     }
 
     /// The first checkpoint whose documents end past the target, or `None` where there is none. It returns `BadIndex`
@@ -160,7 +183,33 @@ impl<'a> IndexSlice<'a> {
         ensures refused { IfErr result (λ e. e ≡ StoreError.BadIndex) }
     {
         let mut steps = Steps::new();
-        self.descend(false, target, &mut steps)
+        Ok(self.descend(false, target, &mut steps)?.found)
+    }
+
+    /// The first checkpoint whose documents end past the target, and a cursor over those after it; or `None` where there
+    /// is none. It returns `BadIndex` where a run is not where the layer above points. It seeks as `seek` does, and then
+    /// decodes the run of the bottom layer again up to the checkpoint.
+    pub fn seek_on(
+        &self,
+        target: DocId,
+    ) -> Result<Option<(Checkpoint, LayerCursor<'a>)>, StoreError>
+        ensures answer { (cs : List Checkpoint) → IsIndexPart self.now.period self.now.bytes cs
+            → IsOkAnd result (λ found. found ≡ past_on cs target) }
+        ensures past { IfOk result (λ found. IfSome found (λ x. IsPast target x.0)) }
+        ensures refused { IfErr result (λ e. e ≡ StoreError.BadIndex) }
+    {
+        let mut steps = Steps::new();
+        let descent = self.descend(false, target, &mut steps)?;
+        let Some(found) = descent.found else {
+            return Ok(None);
+        };
+        let mut cursor = LayerCursor::new(descent.run);
+        while let Some(checkpoint) = cursor.next() {
+            if target < checkpoint.doc_range.end {
+                return Ok(Some((found, cursor)));
+            }
+        }
+        Err(StoreError::BadIndex)
     }
 
     /// Seeks as `seek` does, and counts each checkpoint that it decodes: at most a period for each layer. There are as
@@ -178,7 +227,7 @@ impl<'a> IndexSlice<'a> {
         ensures past { IfOk result (λ found. IfSome found (IsPast target)) }
         ensures refused { IfErr result (λ e. e ≡ StoreError.BadIndex) }
     {
-        self.descend(false, target, steps)
+        Ok(self.descend(false, target, steps)?.found)
     }
 
     /// Seeks as `seek_counted` does, but decodes each run to its end, and returns `BadIndex` where a run hasn't exactly
@@ -196,7 +245,7 @@ impl<'a> IndexSlice<'a> {
         ensures past { IfOk result (λ found. IfSome found (IsPast target)) }
         ensures refused { IfErr result (λ e. e ≡ StoreError.BadIndex) }
     {
-        self.descend(true, target, steps)
+        Ok(self.descend(true, target, steps)?.found)
     }
 
     /// The id after the last document. It decodes the top layer, which is one run.

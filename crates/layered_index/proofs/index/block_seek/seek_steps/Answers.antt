@@ -8,7 +8,8 @@ pub returns-in_err-checkpoint : goal.returns-in_err-checkpoint
 returns-in_err-checkpoint c =
     let h = c.args.heading in
     let l = c.loop in
-    rw c.from_residual.ensures (sym (seek_ends c.args.target l.found h.count l.counter l.doc_end l.byte_end l.rest.now (sought_from c.args.target None h.doc (steps_at h.count h.doc h.byte c.args.bytes.now))
+    rw c.from_residual.ensures (sym (seek_ends c.args.target l.found h.count l.counter l.doc_end l.byte_end l.rest.now
+    (sought_from c.args.target None h.doc (steps_at h.count h.doc h.byte c.args.bytes.now))
     c.loop-test.true (sym c.in_err-checkpoint.ensures) l.invariant))
 
 pub loop-preserved : goal.loop-preserved
@@ -22,4 +23,5 @@ pub returns : goal.returns
 returns c =
     let h = c.args.heading in
     let l = c.loop in
-    sym (seek_is_done c.args.target l.found h.count l.counter l.doc_end l.byte_end l.rest.now (sought_from c.args.target None h.doc (steps_at h.count h.doc h.byte c.args.bytes.now)) c.loop-test.false l.invariant)
+    sym (seek_is_done c.args.target l.found h.count l.counter l.doc_end l.byte_end l.rest.now
+    (sought_from c.args.target None h.doc (steps_at h.count h.doc h.byte c.args.bytes.now)) c.loop-test.false l.invariant)

@@ -4,7 +4,8 @@ use Rattle.layered_index.proofs.SoughtLemmas.{top_sought, top_scanned, sought_pa
 use Rattle.layered_index.proofs.index.block_seek.seek_top.Goals as goal
 
 pub returns-in_err-sought-clause-answer : goal.returns-in_err-sought-clause-answer
-returns-in_err-sought-clause-answer c cs h text above = absurd (read_nothing _ c.in_err-sought.ensures.read (top_sought c.args.period c.args.target c.args.layer.now cs _ c.requires.few h text above refl))
+returns-in_err-sought-clause-answer c cs h text above = absurd
+    (read_nothing _ c.in_err-sought.ensures.read (top_sought c.args.period c.args.target c.args.layer.now cs _ c.requires.few h text above refl))
 
 pub returns-then-whole-clause-answer : goal.returns-then-whole-clause-answer
 returns-then-whole-clause-answer c cs h text above =

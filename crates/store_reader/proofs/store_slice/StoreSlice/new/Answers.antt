@@ -28,7 +28,8 @@ invariant_of-result c =
     let f = c.in_ok-footer.footer in
     let bytes = c.args.file.now in
     let part : c.part.result.now ≡ slice_range bytes f.offset (length bytes - 28) = c.part.ensures in
-    let is : c.in_ok-index.index ≡ record { period = f.period; bytes = slice_range bytes f.offset (length bytes - 28) } = c.in_ok-index.ensures.ok ∙ (λ i. record { period = f.period; bytes = part i }) in
+    let is : c.in_ok-index.index ≡ record { period = f.period; bytes = slice_range bytes f.offset (length bytes - 28) } = c.in_ok-index.ensures.ok
+    ∙ (λ i. record { period = f.period; bytes = part i }) in
     record {
       within = omega (arith, c.if-end-footer.false, c.in_ok-footer.ensures.long);
       laid_out = laid_out bytes f c.in_ok-index.index c.in_ok-footer.ensures.long c.in_ok-footer.ensures.found is;

@@ -1,11 +1,10 @@
 use Rattle.std.proofs.Common.{ℕ, ◌≡◌, ◌≤◌, ◌+◌, ◌-◌, ◌*◌, List, length, None, refl, sym, ◌∙◌, ap, subst, not, arith}
 use Rattle.std.proofs.lemmas.Bool.{eqb-false}
 use Rattle.layered_index.specs.declared.index.Checkpoint.{Checkpoint}
-use Rattle.layered_index.specs.Checkpoint.{first_past}
 use Rattle.layered_index.specs.Layers.{digit_count}
 use Rattle.layered_index.specs.Sought.{IndexBytes, layers_left}
 use Rattle.layered_index.proofs.IndexHeadLemmas.{inside, head_few, head_digits}
-use Rattle.layered_index.proofs.DescentLemmas.{LeadsOn, leads_first, leads_next, leads_sought, leads_to_none, leads_on, leads_last, counted_within, one_more_counted, answer_is}
+use Rattle.layered_index.proofs.DescentLemmas.{LeadsOn, leads_first, leads_next, leads_sought, leads_to_none, leads_on, leads_last, counted_within, one_more_counted}
 use Rattle.layered_index.proofs.index.index_slice.IndexSlice.descend.Goals as goal
 
 -- the looks at so many layers, where the head tells how many there are
@@ -23,8 +22,9 @@ pub loop-init : goal.loop-init
 loop-init c =
     let all : c.self.inside.count - 0 ≡ c.self.inside.count = omega arith in
     record {
-      leads = λ cs is. subst (λ (n : ℕ). LeadsOn c.self.inside.period c.args.target (first_past cs c.args.target) None (layers_left n 0 c.self.inside.ends.now c.self.inside.texts.now)) (sym all)
-          (leads_first c.self.inside.period c.args.target c.self.inside.bytes.now c.self.inside.count c.self.inside.ends.now c.self.inside.texts.now cs c.self.invariant (omega arith)
+      leads = λ cs is. subst (λ (n : ℕ). LeadsOn c.self.inside.period c.args.target cs None c.self.inside.texts.now (layers_left n 0 c.self.inside.ends.now c.self.inside.texts.now)) (sym all)
+          (leads_first c.self.inside.period c.args.target c.self.inside.bytes.now c.self.inside.count c.self.inside.ends.now c.self.inside.texts.now cs c.self.inside.texts.now c.self.invariant
+          (omega arith)
           (inside _ _ cs c.self.view_is is));
       counted = omega arith;
       past = tt;
@@ -33,7 +33,7 @@ loop-init c =
 pub returns-in_default-clause-answer : goal.returns-in_default-clause-answer
 returns-in_default-clause-answer c cs is =
     let l = c.loop in
-    absurd (leads_next c.self.inside.period c.args.target (first_past cs c.args.target) l.found c.self.inside.count l.counter l.place l.ends.now l.texts.now c.loop-test.true (sym c.in_default.ensures)
+    absurd (leads_next c.self.inside.period c.args.target cs l.found l.run.now c.self.inside.count l.counter l.place l.ends.now l.texts.now c.loop-test.true (sym c.in_default.ensures)
     (l.invariant.leads cs is))
 
 pub returns-in_default-clause-most : goal.returns-in_default-clause-most
@@ -48,7 +48,7 @@ returns-in_default-clause-always c =
 pub returns-in_default-seek_layer-clause-answer : goal.returns-in_default-seek_layer-clause-answer
 returns-in_default-seek_layer-clause-answer c cs is =
     let l = c.loop in
-    absurd (leads_sought c.self.inside.period c.args.target (first_past cs c.args.target) l.found c.self.inside.count l.counter l.place l.ends.now l.texts.now c.in-Some.layer.now c.in-Some.end
+    absurd (leads_sought c.self.inside.period c.args.target cs l.found l.run.now c.self.inside.count l.counter l.place l.ends.now l.texts.now c.in-Some.layer.now c.in-Some.end
     c.in-Some.more_ends.now c.in-Some.more.now None c.loop-test.true (sym c.in-Some.ensures) (l.invariant.leads cs is) c.in_default-seek_layer.ensures.answer refl)
 
 pub returns-in_default-seek_layer-clause-most : goal.returns-in_default-seek_layer-clause-most
@@ -65,9 +65,9 @@ returns-in_default-seek_layer-clause-always c =
 pub returns-then-is_none-clause-answer : goal.returns-then-is_none-clause-answer
 returns-then-is_none-clause-answer c cs is =
     let l = c.loop in
-    answer_is _ _ (sym (leads_to_none c.self.inside.period c.args.target (first_past cs c.args.target) l.found c.in-Some-seek_layer.next c.self.inside.count l.counter l.place l.ends.now l.texts.now
+    sym (leads_to_none c.self.inside.period c.args.target cs l.found c.in-Some-seek_layer.next l.run.now c.self.inside.count l.counter l.place l.ends.now l.texts.now
     c.in-Some.layer.now c.in-Some.end c.in-Some.more_ends.now c.in-Some.more.now c.loop-test.true (sym c.in-Some.ensures) (c.is_none.ensures ∙ ap not c.if-is_none.true) (l.invariant.leads cs is)
-    c.in-Some-seek_layer.ensures.answer))
+    c.in-Some-seek_layer.ensures.answer)
 
 pub returns-then-is_none-clause-most : goal.returns-then-is_none-clause-most
 returns-then-is_none-clause-most c cs is =
@@ -84,9 +84,12 @@ pub loop-preserved : goal.loop-preserved
 loop-preserved c =
     let l = c.loop in
     record {
-      leads = λ cs is. leads_on c.self.inside.period c.args.target (first_past cs c.args.target) l.found c.in-Some-seek_layer.next c.self.inside.count l.counter l.place l.ends.now l.texts.now
-          c.in-Some.layer.now c.in-Some.end c.in-Some.more_ends.now c.in-Some.more.now c.loop-test.true (sym c.in-Some.ensures) (c.is_none.ensures ∙ ap not c.if-is_none.false) (l.invariant.leads cs is)
-          c.in-Some-seek_layer.ensures.answer;
+      leads = λ cs is. subst (λ (t : List ℕ). LeadsOn c.self.inside.period c.args.target cs c.in-Some-seek_layer.next t (layers_left (c.self.inside.count - (l.counter + 1)) c.in-Some.end
+          c.in-Some.more_ends.now c.in-Some.more.now)) (sym c.from_pointer-run.ensures)
+          (leads_on c.self.inside.period c.args.target cs l.found c.in-Some-seek_layer.next l.run.now c.self.inside.count l.counter l.place l.ends.now l.texts.now
+          c.in-Some.layer.now c.in-Some.end c.in-Some.more_ends.now c.in-Some.more.now c.loop-test.true (sym c.in-Some.ensures) (c.is_none.ensures
+          ∙ ap not c.if-is_none.false) (l.invariant.leads cs is)
+          c.in-Some-seek_layer.ensures.answer);
       counted = one_more_counted _ l.steps c.args.steps.now c.self.inside.period l.counter c.seek_layer.ensures.counted l.invariant.counted;
       past = c.in-Some-seek_layer.ensures.past;
     }
@@ -94,8 +97,8 @@ loop-preserved c =
 pub returns-then-not-is_empty-clause-answer : goal.returns-then-not-is_empty-clause-answer
 returns-then-not-is_empty-clause-answer c cs is =
     let l = c.loop in
-    let last = leads_last c.self.inside.period c.args.target (first_past cs c.args.target) l.found c.self.inside.count l.counter l.place l.ends.now l.texts.now c.loop-test.false (l.invariant.leads cs is) in
-    absurd (eqb-false (length l.texts.now) 0 (sym c.if-not-is_empty.ensures) last.1)
+    let last = leads_last c.self.inside.period c.args.target cs l.found l.run.now c.self.inside.count l.counter l.place l.ends.now l.texts.now c.loop-test.false (l.invariant.leads cs is) in
+    absurd (eqb-false (length l.texts.now) 0 (sym c.if-not-is_empty.ensures) last.2)
 
 pub returns-then-not-is_empty-clause-most : goal.returns-then-not-is_empty-clause-most
 returns-then-not-is_empty-clause-most c cs is =
@@ -109,8 +112,14 @@ returns-then-not-is_empty-clause-always c =
 pub returns-clause-answer : goal.returns-clause-answer
 returns-clause-answer c cs is =
     let l = c.loop in
-    let last = leads_last c.self.inside.period c.args.target (first_past cs c.args.target) l.found c.self.inside.count l.counter l.place l.ends.now l.texts.now c.loop-test.false (l.invariant.leads cs is) in
-    answer_is _ _ (sym last.0)
+    let last = leads_last c.self.inside.period c.args.target cs l.found l.run.now c.self.inside.count l.counter l.place l.ends.now l.texts.now c.loop-test.false (l.invariant.leads cs is) in
+    sym last.0
+
+pub returns-clause-run : goal.returns-clause-run
+returns-clause-run c cs is =
+    let l = c.loop in
+    let last = leads_last c.self.inside.period c.args.target cs l.found l.run.now c.self.inside.count l.counter l.place l.ends.now l.texts.now c.loop-test.false (l.invariant.leads cs is) in
+    last.1
 
 pub returns-clause-most : goal.returns-clause-most
 returns-clause-most c cs is =

@@ -1,6 +1,5 @@
 use Rattle.std.proofs.Common.{◌≤◌, ◌+◌, ◌-◌, ◌*◌, List, IfSome}
 use Rattle.layered_index.specs.declared.index.Checkpoint.{Checkpoint}
-use Rattle.layered_index.specs.Checkpoint.{first_past}
 use Rattle.layered_index.specs.IndexReading.{IsIndexPart}
 use Rattle.layered_index.specs.Sought.{layers_left, IsPast}
 use Rattle.layered_index.proofs.DescentLemmas.{LeadsOn}
@@ -10,7 +9,7 @@ use Rattle.layered_index.proofs.index.index_slice.IndexSlice.descend.Given as go
 abbrev pub invariant-loop : goal.invariant-loop
 invariant-loop l = record {
   leads : (cs : List Checkpoint) → IsIndexPart l.self.period l.self.bytes cs
-      → LeadsOn l.period l.target (first_past cs l.target) l.found (layers_left (l.end - l.counter) l.place l.ends l.texts);
+      → LeadsOn l.period l.target cs l.found l.run (layers_left (l.end - l.counter) l.place l.ends l.texts);
   counted : l.steps ≤ l.initial.steps + l.period * l.counter;
   past : IfSome l.found (IsPast l.target);
 }
