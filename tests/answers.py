@@ -1,11 +1,11 @@
 #!/usr/bin/env python3
 """Every file of the outside vectors through C, Rust and Python, with the answers of storetool.
 
-usage: answers.py STORETOOL C_PROGRAM [RUST_PROGRAM]
+usage: answers.py STORETOOL PROGRAM..
 
-The programs are the built crate storetool, and `answers` of examples/c and examples/rust. Python reads by the package
-in examples/python. Of each file the first 200 documents are asked for, the last one and the one behind it. storetool
-answers scripts, and its answers over the same vectors are those of tantivy's own code (crates/test_vectors).
+STORETOOL is the built crate storetool, and a PROGRAM is `answers` of examples/c or examples/rust. Python reads by the
+package in examples/python. Of each file the first 200 documents are asked for, the last one and the one behind it.
+storetool answers scripts, and its answers over the same vectors are those of tantivy's own code (crates/test_vectors).
 """
 
 import itertools
@@ -87,7 +87,7 @@ def told_by_package(path):
 
 
 def main():
-    if len(sys.argv) not in (3, 4):
+    if len(sys.argv) < 3:
         sys.exit(__doc__)
     tool, *programs = map(os.path.abspath, sys.argv[1:])
     contents = files()

@@ -67,7 +67,7 @@ symbols() {
 }
 
 warnings="-Wall -Wextra -Wpedantic -Wconversion -Wshadow -Werror"
-calls="" linked=""
+calls="" linked="" programs=()
 
 # compiled COMPILER FLAG.. SOURCE: a program over the static library, at $work/program. Its calls with arrays are those
 # of the object $calls, which are compiled as the program is, or else the library's.
@@ -98,12 +98,16 @@ for linked in "" "-fsanitize=address,undefined -fno-sanitize-recover=all"; do
         check "$in_c $flags: calls with arrays" "$in_c" -std=c11 $flags $warnings -I"$work/prefix/include" -c \
             -o "$calls" "$source/null_arrays.c"
         check "$in_c $flags: what reaches the proved calls" proved_calls "$in_c"
-        for program in stress writing nulls; do
+        for program in stress writing nulls getting; do
             check "$in_c $flags: build of $program" compiled "$in_c" -std=c11 $flags "$source/$program.c"
             check "$in_c $flags: $program" "$work/program" "$hex"
             check "$in_cpp $flags: build of $program" compiled "$in_cpp" -std=c++17 $flags -x c++ "$source/$program.c"
             check "$in_cpp $flags: $program" "$work/program" "$hex"
         done
+        check "$in_c $flags: build of answers" compiled "$in_c" -std=c11 $flags "$source/answers.c"
+        programs+=("$work/answers.${#programs[@]}") && mv "$work/program" "${programs[-1]}"
+        check "$in_cpp $flags: build of answers" compiled "$in_cpp" -std=c++17 $flags -x c++ "$source/answers.c"
+        programs+=("$work/answers.${#programs[@]}") && mv "$work/program" "${programs[-1]}"
     done
 done
 calls=""
@@ -204,9 +208,6 @@ tool=$top/crates/storetool/out/storetool
 if [ ! -x "$tool" ]; then
     (cd "$top/crates/storetool" && rt run --jobs 2 </dev/null >/dev/null 2>&1)
 fi
-check "answers: build in C" "${CC:-cc}" -std=c11 $warnings -I"$work/prefix/include" -o "$work/answers" \
-    "$source/answers.c" "$work/prefix/lib/libzevkhadun.a"
-programs=("$tool" "$work/answers")
 
 export ZEVKHADUN_PREFIX=$work/prefix CARGO_TARGET_DIR=$work/target
 rust() {
@@ -222,6 +223,6 @@ if has "Rust" cargo; then
     check "Rust: pack" bash "$top/tests/packing.sh" "$work/target/debug/examples/pack"
     programs+=("$work/target/debug/examples/answers")
 fi
-check "answers to the outside vectors" python3 "$top/tests/answers.py" "${programs[@]}"
+check "answers to the outside vectors" python3 "$top/tests/answers.py" "$tool" "${programs[@]}"
 
 echo "$passed checks passed"

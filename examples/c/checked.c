@@ -19,6 +19,16 @@
 
 CHECKED(size_t, refusal_text, (uint32_t number, uint8_t *text, size_t text_len), (number, text, text_len), BYTES(text))
 
+CHECKED(uint32_t, get, (const uint8_t *file, size_t file_len, uint32_t doc_id, zevk_place *place),
+        (file, file_len, doc_id, place), BYTES(file))
+
+CHECKED(uint32_t, get_run,
+        (const uint8_t *file, size_t file_len, uint32_t first, zevk_place *places, size_t places_len, size_t *count),
+        (file, file_len, first, places, places_len, count), BYTES(file); PLACES(places))
+
+CHECKED(uint32_t, num_docs, (const uint8_t *file, size_t file_len, uint32_t *num_docs), (file, file_len, num_docs),
+        BYTES(file))
+
 CHECKED(uint32_t, open,
         (const uint8_t *file, size_t file_len, zevk_block *table, size_t table_len, size_t *count, uint32_t *num_docs),
         (file, file_len, table, table_len, count, num_docs), BYTES(file); ROWS(table))

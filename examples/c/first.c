@@ -10,16 +10,9 @@
 uint32_t print_document(const uint8_t *file, size_t len, uint32_t id);
 
 uint32_t print_document(const uint8_t *file, size_t len, uint32_t id) {
-    size_t blocks = 0;
-    uint32_t documents;
     zevk_place place;
-    zevk_open(file, len, NULL, 0, &blocks, &documents);
-    zevk_block *table = (zevk_block *)malloc((blocks + 1) * sizeof *table);
-    if (table == NULL) return ZEVK_NO_MEMORY;
-    uint32_t error = zevk_open(file, len, table, blocks, &blocks, &documents);
-    if (error == ZEVK_DONE) error = zevk_locate(file, len, table, blocks, id, &place);
+    uint32_t error = zevk_get(file, len, id, &place);
     if (error == ZEVK_DONE) fwrite(file + place.start, 1, place.len, stdout);
-    free(table);
     return error;
 }
 

@@ -1,4 +1,4 @@
-/* A hundred thousand gets of a store that is opened once.
+/* A hundred thousand gets of a store that is opened once, and each without opening.
  *
  * usage: gets HEX
  */
@@ -15,6 +15,7 @@ int main(int argc, char **argv) {
         id = (id * 1664525u + 1013904223u) % DOCUMENTS;
         WANT(zevk_locate(file, len, table, count, id, &place) == ZEVK_DONE);
         WANT(is_document(file, len, place, id));
+        WANT(zevk_get(file, len, id, &place) == ZEVK_DONE && is_document(file, len, place, id));
     }
     free(table);
     free(file);

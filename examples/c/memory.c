@@ -57,6 +57,9 @@ static uint32_t open_with(const uint8_t *file, size_t len, long allocations) {
     if (answer == ZEVK_DONE) {
         WANT(zevk_locate(file, len, table, count, 3, &place) == ZEVK_DONE && is_document(file, len, place, 3));
         WANT(zevk_locate_run(file, len, table, count, 0, run, DOCUMENTS, &found) == ZEVK_DONE);
+        WANT(zevk_get(file, len, 3, &place) == ZEVK_DONE && is_document(file, len, place, 3));
+        WANT(zevk_get_run(file, len, 0, run, DOCUMENTS, &found) == ZEVK_DONE && found == DOCUMENTS);
+        WANT(zevk_num_docs(file, len, &num_docs) == ZEVK_DONE && num_docs == DOCUMENTS);
     } else {
         WANT(count == 77 && num_docs == 78);
     }

@@ -7,6 +7,10 @@
 #include "zevkhadun.h"
 
 size_t zevk_proved_refusal_text(uint32_t number, uint8_t *text, size_t text_len);
+uint32_t zevk_proved_get(const uint8_t *file, size_t file_len, uint32_t doc_id, zevk_place *place);
+uint32_t zevk_proved_get_run(const uint8_t *file, size_t file_len, uint32_t first, zevk_place *places,
+                             size_t places_len, size_t *count);
+uint32_t zevk_proved_num_docs(const uint8_t *file, size_t file_len, uint32_t *num_docs);
 uint32_t zevk_proved_open(const uint8_t *file, size_t file_len, zevk_block *table, size_t table_len, size_t *count,
                           uint32_t *num_docs);
 uint32_t zevk_proved_locate(const uint8_t *file, size_t file_len, const zevk_block *table, size_t table_len,
@@ -32,6 +36,20 @@ static inline void *address(const void *array, size_t len) {
 
 size_t zevk_refusal_text(uint32_t number, uint8_t *text, size_t text_len) {
     return zevk_proved_refusal_text(number, address(text, text_len), text_len);
+}
+
+uint32_t zevk_get(const uint8_t *file, size_t file_len, uint32_t doc_id, zevk_place *place) {
+    return zevk_proved_get(address(file, file_len), file_len, doc_id, place);
+}
+
+uint32_t zevk_get_run(const uint8_t *file, size_t file_len, uint32_t first, zevk_place *places, size_t places_len,
+                      size_t *count) {
+    return zevk_proved_get_run(address(file, file_len), file_len, first, address(places, places_len), places_len,
+                               count);
+}
+
+uint32_t zevk_num_docs(const uint8_t *file, size_t file_len, uint32_t *num_docs) {
+    return zevk_proved_num_docs(address(file, file_len), file_len, num_docs);
 }
 
 uint32_t zevk_open(const uint8_t *file, size_t file_len, zevk_block *table, size_t table_len, size_t *count,

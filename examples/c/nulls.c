@@ -13,6 +13,19 @@ static void texts(void) {
     WANT(len > 0 && zevk_refusal_text(ZEVK_NO_DOCUMENT, NULL, 0) == len);
 }
 
+static void getting(const uint8_t *file, size_t len) {
+    zevk_place place = {1, 2};
+    size_t found = 78;
+    uint32_t num_docs = 79;
+    WANT(zevk_get(NULL, 0, 0, &place) == ZEVK_SHORT_FILE && place.start == 1 && place.len == 2);
+    WANT(zevk_num_docs(NULL, 0, &num_docs) == ZEVK_SHORT_FILE && num_docs == 79);
+    WANT(zevk_get_run(NULL, 0, 0, NULL, 0, &found) == ZEVK_SHORT_FILE && found == 0);
+    found = 78;
+    WANT(zevk_get_run(NULL, 0, 0, &place, 1, &found) == ZEVK_SHORT_FILE && found == 0 && place.start == 1);
+    found = 78;
+    WANT(zevk_get_run(file, len, 1, NULL, 0, &found) == ZEVK_DONE && found == 0);
+}
+
 static void reading(const uint8_t *file, size_t len) {
     zevk_place place = {1, 2}, run[3];
     size_t count = 77, found = 78;
@@ -46,6 +59,9 @@ static void empty_store(void) {
     count = 77;
     WANT(zevk_open(end, sizeof end, NULL, 0, &count, &num_docs) == ZEVK_DONE && count == 0 && num_docs == 0);
     WANT(zevk_locate(end, sizeof end, NULL, 0, 0, &place) == ZEVK_NO_DOCUMENT);
+    num_docs = 79;
+    WANT(zevk_num_docs(end, sizeof end, &num_docs) == ZEVK_DONE && num_docs == 0);
+    WANT(zevk_get(end, sizeof end, 0, &place) == ZEVK_NO_DOCUMENT);
     count = 77;
     WANT(zevk_writer_stack(&writer, NULL, 0, end, sizeof end, &count, &len) == ZEVK_DONE && count == 0 && len == 0);
 }
@@ -79,6 +95,7 @@ int main(int argc, char **argv) {
     WANT(argc == 2);
     uint8_t *file = loaded(argv[1], &len);
     texts();
+    getting(file, len);
     reading(file, len);
     empty_store();
     writing(file, len);

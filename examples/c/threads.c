@@ -1,4 +1,4 @@
-/* Eight threads that read one file by one table, both in memory that nobody may write.
+/* Eight threads that read one file, without opening it and by one table, both in memory that nobody may write.
  *
  * usage: threads HEX
  */
@@ -33,14 +33,21 @@ static void *read_all(void *given) {
     const struct shared_store *store = (const struct shared_store *)given;
     zevk_place place, run[DOCUMENTS];
     size_t found = 0;
+    uint32_t num_docs = 0;
     for (int round = 0; round < ROUNDS; round++) {
         for (uint32_t id = 0; id < DOCUMENTS; id++) {
             WANT(zevk_locate(store->file, store->len, store->table, store->count, id, &place) == ZEVK_DONE);
+            WANT(is_document(store->file, store->len, place, id));
+            WANT(zevk_get(store->file, store->len, id, &place) == ZEVK_DONE);
             WANT(is_document(store->file, store->len, place, id));
         }
         WANT(zevk_locate_run(store->file, store->len, store->table, store->count, 0, run, DOCUMENTS, &found)
             == ZEVK_DONE);
         WANT(found == DOCUMENTS && is_document(store->file, store->len, run[DOCUMENTS - 1], DOCUMENTS - 1));
+        memset(run, 7, sizeof run);
+        WANT(zevk_get_run(store->file, store->len, 0, run, DOCUMENTS, &found) == ZEVK_DONE);
+        WANT(found == DOCUMENTS && is_document(store->file, store->len, run[DOCUMENTS - 1], DOCUMENTS - 1));
+        WANT(zevk_num_docs(store->file, store->len, &num_docs) == ZEVK_DONE && num_docs == DOCUMENTS);
     }
     size_t count = 0;
     zevk_block *own = table_of(store->file, store->len, &count);

@@ -1,7 +1,7 @@
 /* Writing: stores of many block sizes are read back, each refusal leaves what it says, stacking in two orders gives one
  * file, and a writer of any numbers is safe. Arrays are as short as can be, so that a sanitizer sees what goes too far.
  */
-#include "stores.h"
+#include "compared.h"
 
 enum { MOST = 400 };
 
@@ -137,6 +137,7 @@ static void has_documents(const output *out, uint32_t from, uint32_t to) {
         WANT(zevk_locate(out->bytes, out->len, out->table, count, id, &place) == ZEVK_DONE);
         WANT(is_document(out->bytes, out->len, place, from + id));
     }
+    WANT(compared(out->bytes, out->len) == ZEVK_DONE);
     free(table);
 }
 

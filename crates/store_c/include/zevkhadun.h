@@ -6,16 +6,9 @@
  * (examples/c/first.c):
  *
  *     uint32_t print_document(const uint8_t *file, size_t len, uint32_t id) {
- *         size_t blocks = 0;
- *         uint32_t documents;
  *         zevk_place place;
- *         zevk_open(file, len, NULL, 0, &blocks, &documents);
- *         zevk_block *table = (zevk_block *)malloc((blocks + 1) * sizeof *table);
- *         if (table == NULL) return ZEVK_NO_MEMORY;
- *         uint32_t error = zevk_open(file, len, table, blocks, &blocks, &documents);
- *         if (error == ZEVK_DONE) error = zevk_locate(file, len, table, blocks, id, &place);
+ *         uint32_t error = zevk_get(file, len, id, &place);
  *         if (error == ZEVK_DONE) fwrite(file + place.start, 1, place.len, stdout);
- *         free(table);
  *         return error;
  *     }
  *
@@ -37,7 +30,7 @@
  * - malloc, realloc and free belong to one allocator, whose blocks are aligned for any type. zevk_open,
  *   zevk_writer_stack and zevk_writer_close take memory and free it before they return: don't call them in a signal
  *   handler, or in the child after a fork of a process with threads.
- * - Any number of threads may read with one table of one file at once, while none writes to either. One thread at a
+ * - Any number of threads may read one file at once, also with one table, while none writes to either. One thread at a
  *   time uses a writer.
  */
 #ifndef ZEVKHADUN_H
@@ -80,19 +73,47 @@ enum zevk_refusal {
  * If `text_len` is too short it writes nothing. */
 size_t zevk_refusal_text(uint32_t number, uint8_t *text, size_t text_len);
 
-/* ---- reading */
-
-/* A row of a table: where a block of documents ends. A block begins where the one before it ends. */
-typedef struct zevk_block {
-    uint32_t end_doc;  /* one more than the number of its last document */
-    size_t end_byte;   /* the offset in the file at which it ends */
-} zevk_block;
+/* ---- reading
+ *
+ * zevk_get, zevk_get_run and zevk_num_docs take the bytes of the file and nothing else: no table, and no memory. Each
+ * reads the footer and the part of the index that it needs, and finds damage only there: with a damaged index it may
+ * give another place, which lies within the bytes all the same, or another number of documents.
+ *
+ * zevk_open checks the whole index, which takes time by the number of blocks. With its table a get is quicker: it is
+ * the way to many documents of one store. */
 
 /* Where a document lies in its file. */
 typedef struct zevk_place {
     size_t start;  /* the offset of its first byte */
     size_t len;    /* its length in bytes */
 } zevk_place;
+
+/* Sets `place` to where a document lies in the file: its bytes begin at file[place->start].
+ *
+ * Errors: NO_DOCUMENT, for a store's file if and only if it has no document of this number; DAMAGED_DOCUMENT. If the
+ * bytes are not a store's file, also the first of SHORT_FILE, BAD_VERSION, BAD_BLOCK_KIND, BAD_PERIOD, BAD_OFFSET and
+ * BAD_INDEX that the call finds. */
+uint32_t zevk_get(const uint8_t *file, size_t file_len, uint32_t doc_id, zevk_place *place);
+
+/* Finds the places of the documents from `first` on, up to `places_len` of them, and sets `count` to how many it
+ * found. It stops before the first document that fails, number first + *count, and returns the error of that one; the
+ * places before it are set all the same. So DONE means that all `places_len` were found, and the last part of a store
+ * ends with NO_DOCUMENT, and mostly a count above 0. It seeks once for each block.
+ *
+ * Errors: those of zevk_get. `count` is set in any case. */
+uint32_t zevk_get_run(const uint8_t *file, size_t file_len, uint32_t first, zevk_place *places, size_t places_len,
+                      size_t *count);
+
+/* Sets `num_docs` to the number of documents, by the footer and the top layer of the index.
+ *
+ * Errors: those of zevk_get, but no NO_DOCUMENT and no DAMAGED_DOCUMENT; so it never fails for a store's file. */
+uint32_t zevk_num_docs(const uint8_t *file, size_t file_len, uint32_t *num_docs);
+
+/* A row of a table: where a block of documents ends. A block begins where the one before it ends. */
+typedef struct zevk_block {
+    uint32_t end_doc;  /* one more than the number of its last document */
+    size_t end_byte;   /* the offset in the file at which it ends */
+} zevk_block;
 
 /* Opens the store whose file these bytes are. It checks the footer and the whole index, fills a row of the table for
  * each block, and sets `count` to the number of blocks and `num_docs` to the number of documents. Other calls take the
@@ -105,20 +126,15 @@ typedef struct zevk_place {
 uint32_t zevk_open(const uint8_t *file, size_t file_len, zevk_block *table, size_t table_len, size_t *count,
                    uint32_t *num_docs);
 
-/* Sets `place` to where a document lies in the file: its bytes begin at file[place->start]. It takes no memory.
- *
- * The table is the one that zevk_open filled for these bytes. With another table the call is safe: a place lies within
- * the bytes, but it may be that of anything.
+/* Sets `place` to where a document lies in the file, by the table that zevk_open filled for these bytes. It takes no
+ * memory. With another table the call is safe: a place lies within the bytes, but it may be that of anything.
  *
  * Errors: NO_DOCUMENT if and only if `doc_id` is not below the number of documents; DAMAGED_DOCUMENT; OTHER_TABLE,
  * only if the table is not the one of the file. */
 uint32_t zevk_locate(const uint8_t *file, size_t file_len, const zevk_block *table, size_t table_len, uint32_t doc_id,
                      zevk_place *place);
 
-/* Finds the places of the documents from `first` on, up to `places_len` of them, and sets `count` to how many it
- * found. It stops before the first document that fails, number first + *count, and returns the error of that one; the
- * places before it are set all the same. So DONE means that all `places_len` were found, and the last part of a store
- * ends with NO_DOCUMENT, and mostly a count above 0.
+/* Finds the places of the documents from `first` on, as zevk_get_run does, by the table.
  *
  * Errors: those of zevk_locate. `count` is set in any case. */
 uint32_t zevk_locate_run(const uint8_t *file, size_t file_len, const zevk_block *table, size_t table_len,

@@ -1,6 +1,7 @@
 pub mod TableLemmas
 pub mod TableViewLemmas
 pub mod PlacesLemmas
+pub mod GettingLemmas
 pub mod TextLemmas
 pub mod MemoryLemmas
 pub mod MemoryRefusalLemmas

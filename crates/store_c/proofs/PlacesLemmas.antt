@@ -7,6 +7,7 @@ use Rattle.std.proofs.lemmas.List.{drop-set-lt}
 use Rattle.store_c.specs.declared.block.Block.{Block}
 use Rattle.store_c.specs.declared.place.Place.{Place}
 use Rattle.store_c.specs.Calls.{IsPlace, ArePlaces}
+use Rattle.store_c.specs.Getting.{IsPlaceIn, ArePlacesIn}
 
 set_here : (ps : List Place) (n : ℕ) (p : Place) → n < length ps → slice_get (set ps n p) n ≡ Some p
 set_here [] n p lt = absurd (omega arith)
@@ -19,17 +20,26 @@ set_before (x ∷ ps) zero j p lt = absurd (omega arith)
 set_before (x ∷ ps) (suc n) zero p lt = refl
 set_before (x ∷ ps) (suc n) (suc j) p lt = set_before ps n j p (omega arith)
 
--- one more has its place
-pub one_more : (file : List ℕ) (table : List Block) (first n : ℕ) (ps : List Place) (p : Place) → n < length ps → ArePlaces file table first ps n
-    → IsPlace file table (first + n) p → ArePlaces file table first
-    (set ps n p) (n + 1)
-one_more file table first n ps p lt are is j below =
-    (elim (nat_lt j n) as (λ y. nat_lt j n ≡ y → IfSome (slice_get (set ps n p) j) (IsPlace file table (first + j))) [
-      | true ↦ λ t. let before = ltb-true j n t in subst (λ (o : Option Place). IfSome o (IsPlace file table (first + j))) (sym (set_before ps n j p before)) (are j before)
+-- one more of a row of facts on places
+pub one_more_of : (P : ℕ → Place → Type 0) (n : ℕ) (ps : List Place) (p : Place) → n < length ps → ((j : ℕ) → j < n → IfSome (slice_get ps j) (P j)) → P n p
+    → (j : ℕ) → j < n + 1 → IfSome (slice_get (set ps n p) j) (P j)
+one_more_of P n ps p lt are is j below =
+    (elim (nat_lt j n) as (λ y. nat_lt j n ≡ y → IfSome (slice_get (set ps n p) j) (P j)) [
+      | true ↦ λ t. let before = ltb-true j n t in subst (λ (o : Option Place). IfSome o (P j)) (sym (set_before ps n j p before)) (are j before)
       | false ↦ λ t. let past = ltb-false j n t in let here : n ≡ j = omega arith in
-          subst (λ (i : ℕ). IfSome (slice_get (set ps n p) i) (IsPlace file table (first + i))) here
-          (subst (λ (o : Option Place). IfSome o (IsPlace file table (first + n))) (sym (set_here ps n p lt)) is)
+          subst (λ (i : ℕ). IfSome (slice_get (set ps n p) i) (P i)) here
+          (subst (λ (o : Option Place). IfSome o (P n)) (sym (set_here ps n p lt)) is)
     ]) refl
+
+-- one more has its place, by a table
+pub one_more : (file : List ℕ) (table : List Block) (first n : ℕ) (ps : List Place) (p : Place) → n < length ps → ArePlaces file table first ps n
+    → IsPlace file table (first + n) p → ArePlaces file table first (set ps n p) (n + 1)
+one_more file table first = one_more_of (λ j. IsPlace file table (first + j))
+
+-- the same by the file alone
+pub one_more_in : (file : List ℕ) (first n : ℕ) (ps : List Place) (p : Place) → n < length ps → ArePlacesIn file first ps n → IsPlaceIn file (first + n) p
+    → ArePlacesIn file first (set ps n p) (n + 1)
+one_more_in file first = one_more_of (λ j. IsPlaceIn file (first + j))
 
 -- those behind it stay
 pub behind_stay : (n : ℕ) (ps qs : List Place) (p : Place) → drop n ps ≡ drop n qs → drop (n + 1) (set ps n p) ≡ drop (n + 1) qs

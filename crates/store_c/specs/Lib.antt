@@ -1,3 +1,4 @@
 pub mod Calls
+pub mod Getting
 pub mod Texts
 pub mod Writing

@@ -7,6 +7,7 @@
 pub mod block;
 mod ending;
 mod filling;
+pub mod getting;
 mod locating;
 mod open_block;
 pub mod place;

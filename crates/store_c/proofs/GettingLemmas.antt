@@ -1,0 +1,99 @@
+-- Reading without opening: places in the bytes of a file, and refusals by their numbers.
+use Rattle.std.proofs.Common.{◌≡◌, ℕ, ◌+◌, ◌-◌, ◌<◌, ◌≤◌, inl, inr, List, length, Option, Some, None, sym, ap, ◌∙◌, subst, arith}
+use Rattle.std.specs.Prelude.{slice_get, slice_range, Result, Ok, Err, MatchResult, IfOk, IfErr}
+use Rattle.store_base.specs.Outcome.{number_of}
+use Rattle.store_base.specs.declared.error.StoreError.{StoreError}
+use Rattle.store_base.specs.declared.error.StoreError.TheVariants.{BadIndex, InvalidArgument, DamagedDocument}
+use Rattle.layered_index.specs.Checkpoint.{first_past}
+use Rattle.store_format.specs.Block.{Slot, doc, damaged}
+use Rattle.store_format.specs.Slots.{slots}
+use Rattle.store_format.specs.StoreFile.{checkpoints_of}
+use Rattle.store_reader.specs.declared.block_slice.BlockSlice.{BlockSlice}
+use Rattle.store_reader.specs.CallAnswers.{exact_result}
+use Rattle.store_reader.specs.Opening.{IsSomeStore}
+use Rattle.store_reader.specs.StoreSlices.{document_in, count_of_store, IsBlockSlice, RefusesOne}
+use Rattle.store_reader.proofs.StoreSliceLemmas.{err_not_ok, ok_is, refused_is, few_stored, document_past}
+use Rattle.store_c.specs.Getting.{IsPlaceIn, IsRefusedIn, RefusesGet, HasBlock, RefusesUnopened}
+
+-- ---- places
+
+-- a range of a block is a place
+pub is_place : (file : List ℕ) (id start end last : ℕ) → start ≤ end → end ≤ last → last ≤ length file
+    → ((s : IsSomeStore file) → ◌≡◌ {A = Result (List ℕ) StoreError} (Ok (slice_range file start end)) (document_in file s id))
+    → IsPlaceIn file id (record { start = start; len = end - start })
+is_place file id start end last order inside within h =
+    let whole : start + (end - start) ≡ end = omega arith in
+    record {
+      within = omega arith;
+      document = λ s. sym (h s) ∙ ap (λ (n : ℕ). Ok (slice_range file start n)) (sym whole);
+    }
+
+-- a seek that finds no block refuses the document
+pub block_refused : (file : List ℕ) (id : ℕ) (e : StoreError) → RefusesOne id e → ((s : IsSomeStore file) → (e ≡ InvalidArgument id) × (first_past (checkpoints_of s.blocks) id ≡ None))
+    → RefusesGet file id e
+block_refused file id e one h = (one, λ s. sym (refused_is file s id e (h s)))
+
+-- what a seek finds is the block of its documents, or the document is refused
+pub block_found : (file : List ℕ) (id : ℕ) (r : Result BlockSlice StoreError)
+    → ((s : IsSomeStore file) → MatchResult r (λ b. (k : ℕ) → b.first ≤ k → k < b.end → IsBlockSlice file s k b.first b.end b.start b.bytes.now)
+    (λ e. (e ≡ InvalidArgument id) × (first_past (checkpoints_of s.blocks) id ≡ None)))
+    → IfOk r (λ b. b.start + length b.bytes.now ≤ length file) → IfErr r (RefusesOne id)
+    → MatchResult r (λ b. HasBlock file b.first b.end b.start b.bytes.now) (RefusesGet file id)
+block_found file id (Ok b) h within one = record { within = within; stored = h }
+block_found file id (Err e) h within one = block_refused file id e one h
+
+-- ---- refusals
+
+-- no store has a document of the greatest number
+pub none_last : (file : List ℕ) (id : ℕ) → id ≡ 4294967295 → RefusesGet file id (InvalidArgument 4294967295)
+none_last file id e =
+    (inl (ap InvalidArgument (sym e)), λ s. document_past file s id (omega (arith, few_stored file s, e)) ∙ ap (λ (n : ℕ). Err (InvalidArgument n)) e)
+
+pub by_six : (file : List ℕ) (id : ℕ) (e : StoreError) → RefusesGet file id e → number_of e ≡ 6 → IsRefusedIn file id (InvalidArgument id)
+by_six file id e h six s = elim h.0 [
+  | inl none ↦ h.1 s ∙ ap (λ (x : StoreError). Err x) none
+  | inr more ↦ elim more [
+    | inl bad ↦ absurd (omega (arith, six, ap number_of bad))
+    | inr index ↦ absurd (omega (arith, six, ap number_of index))
+  ]
+]
+
+pub by_seven : (file : List ℕ) (id : ℕ) (e : StoreError) → RefusesGet file id e → number_of e ≡ 7 → IsRefusedIn file id (DamagedDocument id)
+by_seven file id e h seven s = elim h.0 [
+  | inl none ↦ absurd (omega (arith, seven, ap number_of none))
+  | inr more ↦ elim more [
+    | inl bad ↦ h.1 s ∙ ap (λ (x : StoreError). Err x) bad
+    | inr index ↦ absurd (omega (arith, seven, ap number_of index))
+  ]
+]
+
+-- a store's document is never refused by its index
+no_index : (id : ℕ) (o : Option Slot) → exact_result id o ≡ Err BadIndex → ⊥
+no_index id None h = cc
+no_index id (Some damaged) h = cc
+no_index id (Some (doc b)) h = cc
+
+pub by_other : (file : List ℕ) (id : ℕ) (e : StoreError) → RefusesGet file id e → (number_of e ≡ 6 → ⊥) → (number_of e ≡ 7 → ⊥) → RefusesUnopened file (number_of e)
+by_other file id e h six seven = elim h.0 [
+  | inl none ↦ absurd (six (ap number_of none))
+  | inr more ↦ elim more [
+    | inl bad ↦ absurd (seven (ap number_of bad))
+    | inr index ↦ inr (ap number_of index, λ s. no_index id (slice_get (slots s.blocks) id) (h.1 s ∙ ap (λ (x : StoreError). Err x) index))
+  ]
+]
+
+-- ---- the bytes by another name
+
+pub moved : (a file : List ℕ) (id : ℕ) (e : StoreError) → a ≡ file → RefusesGet a id e → RefusesGet file id e
+moved a file id e same h = subst (λ (b : List ℕ). RefusesGet b id e) same h
+
+-- how many documents there are
+pub counted : (a file : List ℕ) (docs : ℕ) → a ≡ file → ((s : IsSomeStore a) → ◌≡◌ {A = Result ℕ StoreError} (Ok docs) (Ok (count_of_store a s)))
+    → (s : IsSomeStore file) → docs ≡ count_of_store file s
+counted a file docs same h = subst (λ (b : List ℕ). (s : IsSomeStore b) → docs ≡ count_of_store b s) same (λ s. ok_is docs (count_of_store a s) (h s))
+
+-- they can't be counted
+pub uncounted : (a file : List ℕ) (e : StoreError) → a ≡ file → e ≡ BadIndex → ((s : IsSomeStore a) → ◌≡◌ {A = Result ℕ StoreError} (Err e) (Ok (count_of_store a s)))
+    → RefusesUnopened file (number_of e)
+uncounted a file e same index h =
+    inr (ap number_of index, subst (λ (b : List ℕ). IsSomeStore b → ⊥) same (λ s. err_not_ok e (count_of_store a s) (h s)))

@@ -1,0 +1,187 @@
+//! Reading without opening, as C calls it: by the bytes of the file alone. There is no table, no handle, and nothing to
+//! close, and no memory is taken.
+ghost use Rattle.std.specs.Prelude.{◌≡◌, ◌≢◌, ◌≤◌, ◌<◌, ◌+◌, ◌^◌, ℕ, List, length, drop, MatchResult, MatchOption};
+ghost use Rattle.std.specs.Prelude.{IfOk};
+ghost use Rattle.store_base.specs.declared.error.StoreError.TheVariants.{InvalidArgument, DamagedDocument};
+ghost use Rattle.store_reader.specs.Opening.{IsSomeStore};
+ghost use Rattle.store_reader.specs.StoreSlices.{count_of_store};
+ghost use Rattle.store_c.specs.Getting.{IsPlaceIn, ArePlacesIn, IsRefusedIn, RefusesGet};
+ghost use Rattle.store_c.specs.Getting.{HasBlock, RefusesUnopened};
+
+use crate::place::Place;
+use std::alloc::Global;
+use store_base::{DocId, StoreError};
+use store_reader::{BlockSlice, StoreSlice};
+
+const DONE: u32 = 0;
+
+// Where a document of a block lies in the file.
+#[inline(always)]
+fn place_in(block: &BlockSlice<'_>, doc_id: DocId) -> Result<Place, StoreError>
+    requires from { block.now.first ≤ doc_id }
+    requires to { doc_id < block.now.end }
+    requires fits { block.now.start + length block.now.bytes.now < 2 ^ 64 }
+    ensures { (file : List ℕ) → HasBlock file block.now.first block.now.end block.now.start block.now.bytes.now
+        → MatchResult result (IsPlaceIn file doc_id) (RefusesGet file doc_id) }
+{
+    let range = block.locate(doc_id)?;
+    Ok(Place {
+        start: range.start,
+        len: range.end - range.start,
+    })
+}
+
+// The block that has a document: this one if the document is not past it, otherwise the one that a seek finds.
+#[inline(always)]
+fn block_for<'a>(
+    store: &StoreSlice<'a>,
+    block: BlockSlice<'a>,
+    doc_id: DocId,
+) -> Result<BlockSlice<'a>, StoreError>
+    requires from { block.first ≤ doc_id }
+    requires held { HasBlock store.now block.first block.end block.start block.bytes.now }
+    requires fits { block.start + length block.bytes.now < 2 ^ 64 }
+    ensures has { IfOk result (λ b. (b.first ≤ doc_id) × (doc_id < b.end)) }
+    ensures fits { IfOk result (λ b. b.start + length b.bytes.now < 2 ^ 64) }
+    ensures held { MatchResult result (λ b. HasBlock store.now b.first b.end b.start b.bytes.now)
+        (RefusesGet store.now doc_id) }
+{
+    if doc_id < block.end {
+        return Ok(block);
+    }
+    store.block_of(doc_id)
+}
+
+// Where documents lie, in the order of their numbers from the first on: as many as there is room for, up to the first
+// that is refused. It returns how many places it wrote, and that refusal.
+fn places_from(
+    store: &StoreSlice<'_>,
+    first: DocId,
+    places: &mut [Place],
+) -> (usize, Option<StoreError>)
+    ensures found { ArePlacesIn store.now first places.new result.0 }
+    ensures room { result.0 ≤ length places.old }
+    ensures next { MatchOption result.1 (result.0 ≡ length places.old) (RefusesGet store.now (first + result.0)) }
+    ensures kept { drop result.0 places.new ≡ drop result.0 places.old }
+{
+    let mut block = BlockSlice {
+        first: 0,
+        end: 0,
+        start: 0,
+        bytes: &[],
+    };
+    let room = places.len().min((u32::MAX - first) as usize);
+    for at in 0..room {
+        let doc_id = first + at as u32;
+        block = match block_for(store, block, doc_id) {
+            Ok(block) => block,
+            Err(error) => return (at, Some(error)),
+        };
+        match place_in(&block, doc_id) {
+            Ok(found) => places[at] = found,
+            Err(error) => return (at, Some(error)),
+        }
+    }
+    if room < places.len() {
+        (room, Some(StoreError::InvalidArgument(u32::MAX)))
+    } else {
+        (room, None)
+    }
+}
+
+// Where a document lies in the file.
+#[inline(always)]
+fn place_of(store: &StoreSlice<'_>, doc_id: DocId) -> Result<Place, StoreError>
+    ensures { MatchResult result (IsPlaceIn store.now doc_id) (RefusesGet store.now doc_id) }
+{
+    let block = store.block_of(doc_id)?;
+    place_in(&block, doc_id)
+}
+
+/// Sets `place` to where a document lies in the store whose file these bytes are. It reads the footer, and of the index
+/// one block in each layer.
+///
+/// Of a store's file it is refused by 6 if and only if there is no document of this number, by 7 if and only if the
+/// document's block doesn't say where it lies, and by no other number. A refusal keeps `place`.
+#[unsafe(no_mangle)]
+pub extern "C" fn zevk_get(alloc: Global, file: &[u8], doc_id: u32, place: &mut Place) -> u32
+    ensures within { result ≡ 0 → place.new.start + place.new.len ≤ length file.now }
+    ensures done { result ≡ 0 → IsPlaceIn file.now doc_id place.new }
+
+    // Each refusal.
+    ensures no_document { result ≡ 6 → IsRefusedIn file.now doc_id (InvalidArgument doc_id) }
+    ensures damaged { result ≡ 7 → IsRefusedIn file.now doc_id (DamagedDocument doc_id) }
+    ensures no_store { result ≢ 0 → result ≢ 6 → result ≢ 7 → RefusesUnopened file.now result }
+
+    ensures kept { result ≢ 0 → place.new ≡ place.old }
+{
+    let store = match StoreSlice::new(alloc, file) {
+        Ok(store) => store,
+        Err(error) => return error.number(),
+    };
+    match place_of(&store, doc_id) {
+        Ok(found) => {
+            *place = found;
+            DONE
+        }
+        Err(error) => error.number(),
+    }
+}
+
+/// Sets `places` to where the documents lie from `first` on, in the order of their numbers and as many as there is room
+/// for, and `count` to how many these are. It stops before the first that is refused, and returns the number of that
+/// refusal, as `zevk_get` does. It seeks once for each block. The places after the first `count` are kept.
+#[unsafe(no_mangle)]
+pub extern "C" fn zevk_get_run(
+    alloc: Global,
+    file: &[u8],
+    first: u32,
+    places: &mut [Place],
+    count: &mut usize,
+) -> u32
+    ensures found { ArePlacesIn file.now first places.new count.new }
+    ensures room { count.new ≤ length places.old }
+    ensures done { result ≡ 0 → count.new ≡ length places.old }
+
+    // Each refusal.
+    ensures no_document { result ≡ 6 → IsRefusedIn file.now (first + count.new) (InvalidArgument (first + count.new)) }
+    ensures damaged { result ≡ 7 → IsRefusedIn file.now (first + count.new) (DamagedDocument (first + count.new)) }
+    ensures no_store { result ≢ 0 → result ≢ 6 → result ≢ 7 → RefusesUnopened file.now result }
+
+    ensures kept { drop count.new places.new ≡ drop count.new places.old }
+{
+    let store = match StoreSlice::new(alloc, file) {
+        Ok(store) => store,
+        Err(error) => {
+            *count = 0;
+            return error.number();
+        }
+    };
+    let (found, refusal) = places_from(&store, first, places);
+    *count = found;
+    match refusal {
+        Some(error) => error.number(),
+        None => DONE,
+    }
+}
+
+/// Sets `num_docs` to how many documents the store has whose file these bytes are. It reads the footer and the top
+/// layer of the index. It is refused only if the bytes are no store's file, and then keeps `num_docs`.
+#[unsafe(no_mangle)]
+pub extern "C" fn zevk_num_docs(alloc: Global, file: &[u8], num_docs: &mut u32) -> u32
+    ensures done { result ≡ 0 → (s : IsSomeStore file.now) → num_docs.new ≡ count_of_store file.now s }
+    ensures refused { result ≢ 0 → RefusesUnopened file.now result }
+    ensures kept { result ≢ 0 → num_docs.new ≡ num_docs.old }
+{
+    let store = match StoreSlice::new(alloc, file) {
+        Ok(store) => store,
+        Err(error) => return error.number(),
+    };
+    match store.num_docs() {
+        Ok(docs) => {
+            *num_docs = docs;
+            DONE
+        }
+        Err(error) => error.number(),
+    }
+}
