@@ -30,8 +30,8 @@ pub use store_format::{
     block_read_index,
 };
 pub use store_reader::{
-    AliveDocuments, Answer, BlockSlice, CacheStats, DOCSTORE_CACHE_CAPACITY, DataPart, DocIter,
-    DocWalk, Documents, Items, RawIter, ReadCall, SliceDocuments, StoreReader, StoreSlice,
-    StoreView, Walk, answer_all, any_lacks_memory,
+    AliveDocuments, AliveSliceDocuments, Answer, BlockSlice, CacheStats, DOCSTORE_CACHE_CAPACITY,
+    DataPart, DocIter, DocWalk, Documents, Items, RawIter, ReadCall, SliceDocuments, StoreReader,
+    StoreSlice, StoreView, Walk, answer_all, any_lacks_memory,
 };
 pub use writer::StoreWriter;

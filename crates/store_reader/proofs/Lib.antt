@@ -28,4 +28,5 @@ pub mod StoredLemmas
 pub mod OpenedCoverLemmas
 pub mod StoreSliceLemmas
 pub mod AmidLemmas
+pub mod AliveSliceLemmas
 pub mod SliceGivenLemmas

@@ -1,7 +1,8 @@
 -- A store in a slice of bytes.
-use Rattle.std.specs.Prelude.{◌≡◌, ◌⊎◌, ℕ, ◌-◌, ◌+◌, ◌<◌, ◌≤◌, Bool, false, List, ◌++◌, length, slice_get, slice_range, Option}
+use Rattle.std.specs.Prelude.{◌≡◌, ◌⊎◌, ℕ, ◌-◌, ◌+◌, ◌<◌, ◌≤◌, Bool, true, false, List, ◌++◌, length, slice_get, slice_range, Option}
 use Rattle.std.specs.Prelude.{Some, None, Result}
 use Rattle.std.specs.Borrow.{Bor}
+use Rattle.store_base.specs.AliveBitSet.{is_alive_at}
 use Rattle.store_base.specs.declared.error.StoreError.{StoreError}
 use Rattle.store_base.specs.declared.error.StoreError.TheVariants.{InvalidArgument, DamagedDocument, BadIndex}
 use Rattle.store_base.specs.declared.error.StoreError.TheVariants.{BadDocument, Memory}
@@ -16,7 +17,7 @@ use Rattle.store_format.specs.Slots.{slots}
 use Rattle.store_format.specs.StoreFile.{data_of, checkpoints_of}
 use Rattle.store_reader.specs.CallAnswers.{exact_result}
 use Rattle.store_reader.specs.Opening.{IsSomeStore}
-use Rattle.store_reader.specs.Viewing.{given}
+use Rattle.store_reader.specs.Viewing.{AreDead, given}
 
 -- What the document of this id is in the store whose file these bytes are: its bytes, or the refusal of this id where
 -- there is none or it is damaged.
@@ -79,3 +80,12 @@ abbrev pub GivesStored : (bytes : List ℕ) → IsSomeStore bytes → ℕ → Op
 GivesStored bytes s next None next' = (next ≡ count_of_store bytes s) × (next' ≡ next)
 GivesStored bytes s next (Some item) next' =
     (next < count_of_store bytes s) × (given item ≡ document_in bytes s next) × (next' ≡ next + 1)
+
+-- The next of the documents that are alive, or its refusal, with its id; none where no further one is alive.
+abbrev pub GivesStoredAlive : List Bool → (bytes : List ℕ) → IsSomeStore bytes → ℕ
+    → Option (ℕ × Result (Bor (List ℕ)) StoreError) → ℕ → Type 0
+GivesStoredAlive set bytes s next None next' =
+    AreDead set next (count_of_store bytes s) × (next' ≡ count_of_store bytes s)
+GivesStoredAlive set bytes s next (Some item) next' =
+    AreDead set next item.0 × (next ≤ item.0) × (item.0 < count_of_store bytes s) × (is_alive_at set item.0 ≡ true)
+    × (given item.1 ≡ document_in bytes s item.0) × (next' ≡ item.0 + 1)

@@ -1,6 +1,7 @@
 //! The reader of a document store: its cache of blocks, gets, iterations, and whole lists of reading calls.
 #![tactic(auto)]
 
+pub mod alive_slice_documents;
 pub mod answers;
 pub mod block_slice;
 mod cache;
@@ -22,6 +23,7 @@ pub mod view_iter;
 mod view_opening;
 pub mod walk;
 
+pub use alive_slice_documents::AliveSliceDocuments;
 pub use answers::{Answer, ReadCall, answer_all, any_lacks_memory};
 pub use block_slice::BlockSlice;
 pub use cache_stats::CacheStats;
