@@ -40,19 +40,37 @@ fn are_gotten(view: &StoreView<'_>) -> bool {
     true
 }
 
-// Whether the first documents of a slice are a view's, by gets and by an iteration, and also what comes after the last.
-fn are_sliced(slice: &StoreSlice<'_>, view: &StoreView<'_>) -> Result<bool, StoreError> {
-    let count = view.num_docs();
-    let mut items = slice.iter()?;
-    for doc_id in 0..count.min(20) {
-        if slice.get(doc_id) != view.get(doc_id) || items.next() != Some(view.get(doc_id)) {
+// Whether the first items of a slice's iteration are what a view's gets of their ids answer.
+fn are_iterated(slice: &StoreSlice<'_>, view: &StoreView<'_>) -> Result<bool, StoreError> {
+    let mut doc_id: u32 = 0;
+    for item in slice.iter()?.take(20) {
+        if item != view.get(doc_id) {
             return Ok(false);
         }
+        doc_id = doc_id.wrapping_add(1);
     }
+    Ok(doc_id == view.num_docs().min(20))
+}
+
+// Whether a slice's gets of the first documents are a view's.
+fn are_sliced(slice: &StoreSlice<'_>, view: &StoreView<'_>) -> bool {
+    for doc_id in 0..view.num_docs().min(20) {
+        if slice.get(doc_id) != view.get(doc_id) {
+            return false;
+        }
+    }
+    true
+}
+
+// Whether a slice answers what a view does: of the first documents, of those after the last, and by an iteration.
+fn slice_answers(slice: &StoreSlice<'_>, view: &StoreView<'_>) -> Result<bool, StoreError> {
+    let count = view.num_docs();
     Ok(
         slice.num_docs()? == count
             && slice.get(count) == view.get(count)
-            && slice.get(u32::MAX) == view.get(u32::MAX),
+            && slice.get(u32::MAX) == view.get(u32::MAX)
+            && are_sliced(slice, view)
+            && are_iterated(slice, view)?,
     )
 }
 
@@ -64,7 +82,7 @@ fn slice_agrees(
     viewed: &Result<StoreView<'_>, StoreError>,
 ) -> Result<bool, StoreError> {
     match (StoreSlice::new(alloc, bytes), viewed) {
-        (Ok(slice), Ok(view)) => are_sliced(&slice, view),
+        (Ok(slice), Ok(view)) => slice_answers(&slice, view),
         (Ok(_), Err(error)) => Ok(*error == StoreError::BadIndex),
         (Err(error), Err(viewed)) => Ok(error == *viewed),
         (Err(_), Ok(_)) => Ok(false),
