@@ -1,12 +1,14 @@
-"""What a file of measurements says: the least of the rounds of each row."""
+"""What a file of measurements says: medians of the rounds of each row, and how far the rounds lie apart."""
 
 import json
 from pathlib import Path
-from typing import Dict, Iterable, List, Optional
+from statistics import median, quantiles
+from typing import Dict, Iterable, List, NamedTuple, Optional
 
 #: how sides are called in plots
 LABELS = {
-    "zevk": "Zevkhadun",
+    "zevk": "opened (C)",
+    "unopened": "zevk_get (C)",
     "view": "view",
     "reader": "reader",
     "disk": "disk",
@@ -18,9 +20,43 @@ LABELS = {
     "plain": "floor",
 }
 
+#: a row is even if its quartiles lie at most this share of the median apart
+EVEN = 0.15
+
 
 def label_of(side: str) -> str:
     return LABELS.get(side, side)
+
+
+class Spread(NamedTuple):
+    """The median of some values, and their quartiles."""
+
+    low: float
+    middle: float
+    high: float
+
+    @property
+    def share(self) -> float:
+        """How far apart the quartiles lie, as a share of the median."""
+        return (self.high - self.low) / self.middle if self.middle else 0.0
+
+
+def spread_of(values: List[float]) -> Spread:
+    if len(values) < 2:
+        return Spread(values[0], values[0], values[0])
+    low, middle, high = quantiles(values, n=4, method="inclusive")
+    return Spread(low, middle, high)
+
+
+def each_of(taken: Dict[str, int]) -> float:
+    """Nanoseconds for each document, or each open. A write ends when the system was asked to keep it, where that is
+    told apart."""
+    return (taken["ns"] + taken.get("sync_ns", 0)) / max(1, taken["count"])
+
+
+def is_even(rounds: List[Dict[str, int]]) -> bool:
+    """Whether the quartiles of these rounds lie close together."""
+    return spread_of([each_of(taken) for taken in rounds]).share <= EVEN
 
 
 class Figures:
@@ -34,20 +70,30 @@ class Figures:
         """The rows that have all of these."""
         return [row for row in self.rows if all(row[key] == value for key, value in wanted.items())]
 
-    def least(self, key: str, **wanted: object) -> Optional[float]:
-        """The least of the rounds of the one such row, or None where there is none."""
+    def rounds(self, **wanted: object) -> List[Dict[str, int]]:
+        """The rounds of the one such row; none if there isn't exactly one."""
         rows = self.find(**wanted)
-        if len(rows) != 1:
-            return None
-        found = [taken[key] for taken in rows[0]["rounds"] if key in taken]
-        return min(found) if found else None
+        return rows[0]["rounds"] if len(rows) == 1 else []
+
+    def middle(self, key: str, **wanted: object) -> Optional[float]:
+        """The median over the rounds of the one such row, or None where there is none."""
+        found = [taken[key] for taken in self.rounds(**wanted) if key in taken]
+        return median(found) if found else None
+
+    def spread(self, **wanted: object) -> Optional[Spread]:
+        """Nanoseconds for each document, or each open: the median and the quartiles of the rounds."""
+        rounds = self.rounds(**wanted)
+        return spread_of([each_of(taken) for taken in rounds]) if rounds else None
 
     def each(self, **wanted: object) -> Optional[float]:
-        """Nanoseconds for each document, or each open: the least of the rounds."""
-        rows = self.find(**wanted)
-        if len(rows) != 1:
-            return None
-        return min(_each(taken) for taken in rows[0]["rounds"])
+        """Nanoseconds for each document, or each open: the median of the rounds."""
+        spread = self.spread(**wanted)
+        return None if spread is None else spread.middle
+
+    def ratio(self, mine: Dict[str, object], theirs: Dict[str, object]) -> Optional[float]:
+        """The median of the rounds' ratios: each round of the one row by the same round of the other."""
+        pairs = list(zip(self.rounds(**mine), self.rounds(**theirs)))
+        return median(each_of(own) / each_of(other) for own, other in pairs) if pairs else None
 
     def lengths(self, **wanted: object) -> List[int]:
         return sorted({row["length"] for row in self.find(**wanted)})
@@ -57,8 +103,3 @@ class Figures:
         there = {row["side"] for row in self.find(**wanted)}
         known = [side for side in order if side in there]
         return known + sorted(there - set(known) - set(LABELS))
-
-
-def _each(taken: Dict[str, int]) -> float:
-    """A write ends when the system was asked to keep it, where that is told apart."""
-    return (taken["ns"] + taken.get("sync_ns", 0)) / max(1, taken["count"])

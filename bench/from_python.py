@@ -1,7 +1,7 @@
 #!/usr/bin/env python3
 """Times the package for Python beside what Python has: sqlite3, dbm.gnu, and a dict of offsets over a mapped file.
 
-Each side does each workload in turn, in as many rounds as asked; one JSON file has every round, and the least times are
+Each side does each workload in turn, in as many rounds as asked; one JSON file has every round, and the medians are
 printed as a table. ZEVKHADUN_LIBRARY names the library for C where the system doesn't find it; dbm.gnu is left out
 where Python has none (Debian: python3-gdbm, and /usr/bin/python3).
 """
@@ -17,6 +17,7 @@ import tempfile
 import time
 from array import array
 from pathlib import Path
+from statistics import median
 from typing import Callable, Dict, Iterable, Iterator, List
 
 HERE = Path(__file__).resolve().parent
@@ -195,11 +196,11 @@ def round_of(side: type, folder: Path, count: int, length: int, asked: List[int]
 
 
 def table_of(sides: List[type], rounds: Dict[str, List[Dict[str, float]]]) -> str:
-    """The least times of each side as a Markdown table."""
+    """The medians of each side as a Markdown table."""
     lines = ["| Python, ns | " + " | ".join(side.name for side in sides) + " |", "|---" * (len(sides) + 1) + "|"]
     for workload in rounds[sides[0].name][0]:
-        least = [min(told[workload] for told in rounds[side.name]) for side in sides]
-        lines.append(f"| {workload} | " + " | ".join(f"{value:.0f}" for value in least) + " |")
+        middle = [median(told[workload] for told in rounds[side.name]) for side in sides]
+        lines.append(f"| {workload} | " + " | ".join(f"{value:.0f}" for value in middle) + " |")
     return "\n".join(lines)
 
 
@@ -208,7 +209,7 @@ def main() -> int:
     parser.add_argument("--documents", type=int, default=200_000)
     parser.add_argument("--length", type=int, default=100)
     parser.add_argument("--asked", type=int, default=100_000)
-    parser.add_argument("--rounds", type=int, default=5)
+    parser.add_argument("--rounds", type=int, default=9)
     parser.add_argument("--output", type=Path, default=HERE / "from_python.json")
     given = parser.parse_args()
     sides = [Zevkhadun, Sqlite] + ([Gnu] if gnu else []) + [Offsets]

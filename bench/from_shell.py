@@ -4,8 +4,9 @@
 usage: from_shell.py PROGRAM
 
 Many short lines lie in a file system in memory, and few long ones, more than 4 GiB, on a disk. Each command is run in
-as many rounds as asked; one JSON file has the seconds of each, and the least are printed as a table. `sqlite3` imports
-the lines into a table of one column, with no journal and no syncs, and checks its file by `PRAGMA integrity_check`.
+as many rounds as asked; one JSON file has the seconds of each, and the medians are printed as a table. `sqlite3`
+imports the lines into a table of one column, with no journal and no syncs, and checks its file by `PRAGMA
+integrity_check`.
 """
 
 import argparse
@@ -16,6 +17,7 @@ import sys
 import tempfile
 import time
 from pathlib import Path
+from statistics import median
 from typing import Callable, Dict, Iterator, List, Optional
 
 import machine
@@ -103,16 +105,16 @@ def measured(program: str, folder: Path, lines: Iterator[bytes], count: int, rou
     return {"lines": count, "sizes": sizes, "rounds": seconds}
 
 
-def least(seconds: Optional[List[float]]) -> str:
-    return f"{min(seconds):.3f} s" if seconds else ""
+def middle(seconds: Optional[List[float]]) -> str:
+    return f"{median(seconds):.3f} s" if seconds else ""
 
 
 def table_of(told: Dict[str, object]) -> str:
-    """The least times as a Markdown table."""
+    """The medians as a Markdown table."""
     rounds = told["rounds"]
     rows = [[f"{told['lines']} lines", *rounds], ["---"] * (len(rounds) + 1)]
     for name in rounds["zevkhadun"]:
-        rows.append([name, *(least(commands.get(name)) for commands in rounds.values())])
+        rows.append([name, *(middle(commands.get(name)) for commands in rounds.values())])
     rows.append(["the file", *(f"{size / 1e6:.0f} MB" for size in told["sizes"].values())])
     return "\n".join("| " + " | ".join(row) + " |" for row in rows)
 

@@ -10,8 +10,8 @@ LEFT, RIGHT = 58, WIDTH - 22
 PANEL, TITLE, GAP = 140, 30, 24
 
 #: in the order of their markers
-SIDES = ["zevk", "view", "reader", "plain", "lmdb", "cdb"]
-NAMES = {"zevk": "Zevkhadun from C", "view": "view, in Rattle", "reader": "reader, in Rattle"}
+SIDES = ["zevk", "unopened", "view", "plain", "lmdb", "cdb"]
+NAMES = {"zevk": "opened, from C", "unopened": "zevk_get, from C", "view": "view, in Rattle"}
 
 #: less memory than a page is told as a page
 PAGE = 4096
@@ -41,7 +41,7 @@ def opens(figures: Figures) -> Points:
 
 def memory(figures: Figures) -> Points:
     def own(side: str, blocks: int) -> Optional[float]:
-        seen = figures.least("own_bytes", group="growth", workload="uniform", side=side, documents=blocks)
+        seen = figures.middle("own_bytes", group="growth", workload="uniform", side=side, documents=blocks)
         return None if seen is None else max(seen, PAGE)
     return _points(figures, "uniform", own)
 

@@ -3,9 +3,13 @@
 from dataclasses import asdict, dataclass
 from typing import Dict, List
 
-#: sides in C: what users would pick instead, the floor, and ours
+#: sides in C: what users would pick instead, the floor, and ours, opened by `zevk_open` and unopened by `zevk_get`
 PEERS = ["lmdb", "sqlite", "leveldb", "rocksdb", "cdb"]
-C_SIDES = PEERS + ["plain", "zevk"]
+OWN_C_SIDES = ["zevk", "unopened"]
+C_SIDES = PEERS + ["plain"] + OWN_C_SIDES
+
+#: sides in C that write in a way of their own
+WRITERS = [side for side in C_SIDES if side != "unopened"]
 
 #: sides in Rattle, all ours: bytes at hand, a reader with a cache over them, the same over a file on disk
 RATTLE_SIDES = ["view", "reader", "disk"]
@@ -13,6 +17,9 @@ RATTLE_SIDES = ["view", "reader", "disk"]
 ORDERS = ["uniform", "hot", "zipf", "sequence"]
 READS = ORDERS + ["iterate"]
 GROUPS = ["size", "read", "memory", "write", "open", "cold", "threads", "growth"]
+
+#: what does not change from round to round
+ONCE = ["size"]
 
 #: bytes of a block, where nothing else is said; at 0 each document has a block of its own
 BLOCK_SIZE = 16384
@@ -46,6 +53,10 @@ class Row:
     def work(self) -> tuple:
         """What has to give the same check on every side."""
         return (self.workload, self.documents, self.length, self.questions, self.threads)
+
+    def compared(self) -> tuple:
+        """What all rows have in common that are compared with each other."""
+        return (self.group, self.workload, self.documents, self.length, self.threads)
 
     def told(self) -> Dict[str, object]:
         return asdict(self)
@@ -86,7 +97,7 @@ def size_rows(sizes: Sizes) -> List[Row]:
     return [
         Row("size", "size", DISK, side, documents, length)
         for length, documents in sizes.documents.items()
-        for side in C_SIDES
+        for side in WRITERS
     ]
 
 
@@ -115,9 +126,9 @@ def memory_rows(sizes: Sizes, outside: List[str]) -> List[Row]:
 def write_rows(sizes: Sizes, outside: List[str]) -> List[Row]:
     rows = []
     for length, documents in sizes.documents.items():
-        places = [(MEMORY, C_SIDES + ["disk"]), (PROCESS, ["reader"] + outside)]
+        places = [(MEMORY, WRITERS + ["disk"]), (PROCESS, ["reader"] + outside)]
         if length in (100, 1000):
-            places.append((DISK, C_SIDES + ["disk"]))
+            places.append((DISK, WRITERS + ["disk"]))
         for place, sides in places:
             rows += [Row("write", "write", place, side, documents, length) for side in sides]
     return rows
@@ -153,8 +164,8 @@ def growth_rows(sizes: Sizes) -> List[Row]:
     rows = []
     for blocks in sizes.blocks:
         opens = max(1, min(100, 1_000_000 // blocks))
-        for side, place in [("zevk", DISK), ("view", PROCESS), ("reader", PROCESS), ("plain", DISK), ("lmdb", DISK),
-                            ("cdb", DISK)]:
+        for side, place in [("zevk", DISK), ("unopened", DISK), ("view", PROCESS), ("reader", PROCESS),
+                            ("plain", DISK), ("lmdb", DISK), ("cdb", DISK)]:
             rows.append(Row("growth", "uniform", place, side, blocks, 8, BLOCK_EACH, sizes.questions))
             rows.append(Row("growth", "open", place, side, blocks, 8, BLOCK_EACH, opens))
     return rows

@@ -33,7 +33,10 @@ def _sentence(figures: Figures, work: str, panels: List[ratios.Panel]) -> str:
 
 def ratio_plots(figures: Figures) -> List[Plot]:
     told = [
-        ("ratios-reading", "Reading, beside other libraries", "A read by our library for C", ratios.READ_PANELS),
+        ("ratios-reading", "Reading without opening, beside other libraries", "A read by zevk_get, which opens nothing,",
+         ratios.UNOPENED_PANELS),
+        ("ratios-opened", "Reading an opened store, beside other libraries", "A read by zevk_locate from an opened store",
+         ratios.OPENED_PANELS),
         ("ratios-other", "Opening, cold reads, threads, writing", "Other work", ratios.OTHER_PANELS),
         ("ratios-outside", "A reader, beside what was built outside", "Work by our reader", ratios.OUTSIDE_PANELS),
     ]
@@ -109,7 +112,7 @@ def page_of(figures: Figures, plots: List[Plot]) -> str:
     lines += ["## Measured on", "",
               f"{machine['processor']}, {machine['cores']} cores, {machine['memory_bytes'] / 2**30:.0f} GiB of memory, "
               f"{machine['system']}, kernel {machine['kernel']}. {known}. Load before {whole['before']['load'][0]}, "
-              f"after {whole['after']['load'][0]}; the least of {whole['rounds']} rounds, the growth in one; "
+              f"after {whole['after']['load'][0]}; medians of {whole['rounds']} rounds; "
               f"{whole['after']['time'][:10]}.", ""]
     if whole["quick"]:
         lines += ["Small sizes, to see that all is right: no figures to publish.", ""]

@@ -12,36 +12,40 @@ ROW, TITLE = 21, 26
 #: a panel: its title, the side that is ours, the other sides' place and ours, and what its rows have in common
 Panel = Tuple[str, str, str, str, Dict[str, object]]
 
-READ_PANELS: List[Panel] = [
-    ("get, uniform", "zevk", DISK, DISK, {"group": "read", "workload": "uniform"}),
-    ("get, mostly one of a hundred (hot)", "zevk", DISK, DISK, {"group": "read", "workload": "hot"}),
-    ("get, zipf", "zevk", DISK, DISK, {"group": "read", "workload": "zipf"}),
-    ("get in sequence", "zevk", DISK, DISK, {"group": "read", "workload": "sequence"}),
-    ("iterate", "zevk", DISK, DISK, {"group": "read", "workload": "iterate"}),
-]
+READS = {
+    "uniform": "get, uniform",
+    "hot": "get, mostly one of a hundred (hot)",
+    "zipf": "get, zipf",
+    "sequence": "get in sequence",
+    "iterate": "iterate",
+}
+
+
+def _reads(ours: str, group: str, place: str) -> List[Panel]:
+    return [(title, ours, place, place, {"group": group, "workload": workload}) for workload, title in READS.items()]
+
+
+UNOPENED_PANELS = _reads("unopened", "read", DISK)
+OPENED_PANELS = _reads("zevk", "read", DISK)
 OTHER_PANELS: List[Panel] = [
-    ("open, to the first document", "zevk", DISK, DISK, {"group": "open"}),
+    ("to the first document, by zevk_get", "unopened", DISK, DISK, {"group": "open"}),
+    ("open with all checks, to the first document", "zevk", DISK, DISK, {"group": "open"}),
     ("get from a file that is not in memory", "zevk", DISK, DISK, {"group": "cold"}),
     ("get, uniform, eight threads", "zevk", DISK, DISK, {"group": "threads", "threads": 8}),
     ("write, file system in memory", "zevk", MEMORY, MEMORY, {"group": "write"}),
     ("write and sync, disk", "zevk", DISK, DISK, {"group": "write"}),
 ]
-OUTSIDE_PANELS: List[Panel] = [
-    ("get, uniform", "reader", PROCESS, PROCESS, {"group": "memory", "workload": "uniform"}),
-    ("get, mostly one of a hundred (hot)", "reader", PROCESS, PROCESS, {"group": "memory", "workload": "hot"}),
-    ("get, zipf", "reader", PROCESS, PROCESS, {"group": "memory", "workload": "zipf"}),
-    ("get in sequence", "reader", PROCESS, PROCESS, {"group": "memory", "workload": "sequence"}),
-    ("iterate", "reader", PROCESS, PROCESS, {"group": "memory", "workload": "iterate"}),
+OUTSIDE_PANELS: List[Panel] = _reads("reader", "memory", PROCESS) + [
     ("write", "reader", PROCESS, PROCESS, {"group": "write"}),
 ]
 
 
 def ratio(figures: Figures, panel: Panel, side: str, length: int) -> Optional[float]:
-    """Our time by theirs, or None where one is not there."""
+    """Our time by theirs, as the median of the rounds' ratios, or None where one is not there."""
     _, ours, place, our_place, common = panel
-    mine = figures.each(side=ours, place=our_place, length=length, **common)
-    theirs = figures.each(side=side, place=place, length=length, **common)
-    return mine / theirs if mine and theirs else None
+    mine = dict(side=ours, place=our_place, length=length, **common)
+    theirs = dict(side=side, place=place, length=length, **common)
+    return figures.ratio(mine, theirs)
 
 
 def sides_of(figures: Figures, panel: Panel) -> List[str]:

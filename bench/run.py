@@ -15,7 +15,8 @@ from typing import Dict, List, Tuple
 
 import machine
 import sides
-from plan import FULL, GROUPS, QUICK, Row, rows_of
+from figures import is_even
+from plan import FULL, GROUPS, ONCE, QUICK, Row, rows_of
 
 HERE = Path(__file__).resolve().parent
 TOP = HERE.parent
@@ -27,7 +28,10 @@ SEEDS = {"documents": 88172645463325252, "numbers": 1234567890123456789}
 
 def arguments() -> argparse.Namespace:
     parser = argparse.ArgumentParser(description=__doc__.splitlines()[0])
-    parser.add_argument("--rounds", type=int, default=3, help="how often each workload of each side is done")
+    parser.add_argument("--rounds", type=int, default=9, help="how often each workload of each side is done")
+    parser.add_argument("--again", type=int, default=2,
+                        help="how often a work is measured again while the quartiles of one of its rows lie more than "
+                             "15 %% of the median apart")
     parser.add_argument("--quick", action="store_true", help="small sizes, to see that all is right: no figures")
     parser.add_argument("--only", default=",".join(GROUPS), help="groups: " + ",".join(GROUPS))
     parser.add_argument("--sides", default="", help="these sides alone, as lmdb,zevk")
@@ -73,6 +77,7 @@ class Measurements:
 
     def __init__(self) -> None:
         self.rounds: Dict[Row, List[Dict[str, object]]] = {}
+        self.again: Dict[Row, int] = {}
         self.checks: Dict[tuple, Tuple[str, str]] = {}
 
     def agree(self, work: tuple, side: str, check: str) -> None:
@@ -88,8 +93,19 @@ class Measurements:
         self.agree(row.work(), row.side, check)
         self.rounds.setdefault(row, []).append(told)
 
+    def uneven(self) -> List[Row]:
+        """All rows of each work of which one side's rounds lie far apart: they are compared round by round."""
+        works = {row.compared() for row, rounds in self.rounds.items() if not is_even(rounds)}
+        return [row for row in self.rounds if row.compared() in works]
+
+    def start_over(self, rows: List[Row]) -> None:
+        for row in rows:
+            self.rounds[row] = []
+            self.again[row] = self.again.get(row, 0) + 1
+
     def rows(self) -> List[Dict[str, object]]:
-        return [{**row.told(), "rounds": rounds} for row, rounds in self.rounds.items()]
+        return [{**row.told(), "again": self.again.get(row, 0), "rounds": rounds}
+                for row, rounds in self.rounds.items()]
 
 
 def make_stores(programs: sides.Programs, rows: List[Row], measured: Measurements) -> None:
@@ -98,20 +114,26 @@ def make_stores(programs: sides.Programs, rows: List[Row], measured: Measurement
         measured.agree(("write", row.documents, row.length, 1, 1), row.side, made)
 
 
-def rounds_of(group: str, rounds: int) -> int:
-    """The growth is done once, and what does not change is looked at once."""
-    return 1 if group in ("growth", "size") else rounds
-
-
-def measure(programs: sides.Programs, rows: List[Row], rounds: int) -> Measurements:
-    """All sides in turn, again and again; one group's stores after the other's."""
-    measured = Measurements()
-    make_stores(programs, rows, measured)
+def take_rounds(programs: sides.Programs, measured: Measurements, rows: List[Row], rounds: int) -> None:
+    """All sides in turn, again and again. What does not change is looked at once."""
     for turn in range(rounds):
         for row in rows:
-            if turn < rounds_of(row.group, rounds):
+            if turn == 0 or row.group not in ONCE:
                 measured.add(row, sides.run(programs, row))
-        print(f"round {turn + 1} of {rounds}: {time.strftime('%H:%M:%S')}", file=sys.stderr)
+        print(f"round {turn + 1} of {rounds}, {len(rows)} rows: {time.strftime('%H:%M:%S')}", file=sys.stderr)
+
+
+def measure(programs: sides.Programs, rows: List[Row], rounds: int, again: int) -> Measurements:
+    """The rounds of all rows, and then of those works whose rounds lay far apart, which take the place of the first."""
+    measured = Measurements()
+    make_stores(programs, rows, measured)
+    take_rounds(programs, measured, rows, rounds)
+    for _ in range(again):
+        uneven = measured.uneven()
+        if not uneven:
+            break
+        measured.start_over(uneven)
+        take_rounds(programs, measured, uneven, rounds)
     return measured
 
 
@@ -126,7 +148,7 @@ def measure_in_folders(given: argparse.Namespace, rows: List[Row]) -> Measuremen
     """The same with files in folders of its own, which are removed at the end."""
     with tempfile.TemporaryDirectory(dir=given.directory) as disk:
         with tempfile.TemporaryDirectory(dir=given.memory) as memory:
-            return measure(programs_of(given, Path(disk), Path(memory)), rows, given.rounds)
+            return measure(programs_of(given, Path(disk), Path(memory)), rows, given.rounds, given.again)
 
 
 def main() -> int:

@@ -51,7 +51,8 @@ def _run(command: List[str], folder: Path) -> subprocess.CompletedProcess:
 
 def store_path(programs: Programs, row: Row) -> Path:
     """The store that a row reads."""
-    name = f"{row.side}-{row.documents}-{row.length}-{row.block_size}"
+    writer = "zevk" if row.side == "unopened" else row.side
+    name = f"{writer}-{row.documents}-{row.length}-{row.block_size}"
     return programs.folder(row.place) / name
 
 

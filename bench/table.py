@@ -1,13 +1,16 @@
 #!/usr/bin/env python3
-"""Prints what a file of measurements has as tables in Markdown: nanoseconds for each document or open."""
+"""Prints what a file of measurements has as tables in Markdown: nanoseconds for each document or open.
+
+A figure is the median of the rounds; where the quartiles lie more than 15 % of it apart they follow in brackets.
+"""
 
 import argparse
 import sys
 from pathlib import Path
-from typing import Dict, List, Tuple
+from typing import Dict, List, Optional, Tuple
 
-from figures import Figures, label_of
-from plan import BLOCK_EACH, C_SIDES, GROUPS, RATTLE_SIDES
+from figures import EVEN, Figures, Spread, label_of
+from plan import BLOCK_EACH, GROUPS, OWN_C_SIDES, PEERS, RATTLE_SIDES
 
 HERE = Path(__file__).resolve().parent
 
@@ -29,22 +32,30 @@ def shown(value: float) -> str:
     return f"{value:.1f}" if value < 100 else f"{value:.0f}"
 
 
+def spread_text(spread: Optional[Spread]) -> str:
+    """The median, and the quartiles where they lie far apart."""
+    if spread is None:
+        return ""
+    if spread.share <= EVEN:
+        return shown(spread.middle)
+    return f"{shown(spread.middle)} [{shown(spread.low)}, {shown(spread.high)}]"
+
+
 def table_of(figures: Figures, group: str) -> List[str]:
     """A row for each work of a group, a column for each side; an empty place where a side does not do it."""
     rows = figures.find(group=group)
-    sides = figures.sides(["zevk"] + RATTLE_SIDES + C_SIDES[:-1], group=group)
+    sides = figures.sides(OWN_C_SIDES + RATTLE_SIDES + PEERS + ["plain"], group=group)
     lines = [f"| {group} | " + " | ".join(label_of(side) for side in sides) + " |", "|---" * (len(sides) + 1) + "|"]
     for work in dict.fromkeys(work_of(row) for row in rows):
         workload, place, documents, length, threads = work
         wanted = dict(group=group, workload=workload, place=place, documents=documents, length=length, threads=threads)
-        values = [figures.each(side=side, **wanted) for side in sides]
-        texts = ["" if value is None else shown(value) for value in values]
+        texts = [spread_text(figures.spread(side=side, **wanted)) for side in sides]
         lines.append(f"| {name_of(work)} | " + " | ".join(texts) + " |")
     return lines
 
 
 def main() -> int:
-    parser = argparse.ArgumentParser(description=__doc__)
+    parser = argparse.ArgumentParser(description=__doc__.splitlines()[0])
     parser.add_argument("measurements", nargs="?", type=Path, default=HERE / "measurements.json")
     figures = Figures(parser.parse_args().measurements)
     print(f"`growth` has blocks of one document (block size {BLOCK_EACH}).\n")

@@ -16,7 +16,7 @@ def excess(figures: Figures, length: int) -> Dict[str, float]:
     found = {}
     for side in figures.sides([OURS] + PEERS + ["plain"], group="size"):
         row = figures.find(group="size", side=side, length=length)
-        taken = figures.least("file_bytes", group="size", side=side, length=length)
+        taken = figures.middle("file_bytes", group="size", side=side, length=length)
         if row and taken:
             found[side] = taken / row[0]["documents"] - length
     return found

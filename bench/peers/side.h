@@ -44,7 +44,8 @@ struct side {
     void (*close)(void *store);
 };
 
-extern const struct side plain_side, lmdb_side, sqlite_side, leveldb_side, rocksdb_side, cdb_side, zevk_side;
+extern const struct side plain_side, lmdb_side, sqlite_side, leveldb_side, rocksdb_side, cdb_side, zevk_side,
+    unopened_side;
 
 /* Ends the program with a text, and where it came from. */
 _Noreturn void stop(const char *who, const char *why);

@@ -1,10 +1,10 @@
-/* Ours, by the library for C: a file that is written, and mapped and read. */
+/* Ours, by the library for C: a file that is written, and mapped, opened with all checks and read. */
 #include <stdio.h>
 #include <stdlib.h>
 #include <zevkhadun.h>
 
 #include "files.h"
-#include "side.h"
+#include "zevk.h"
 
 enum { RUN = 512, USUAL_BLOCK = 8192, USUAL_ROWS = 64, PERIOD = 8, WRITE_BUFFER = 1 << 20 };
 
@@ -15,7 +15,7 @@ struct zevk_store {
     uint32_t count;
 };
 
-static void expect(uint32_t refusal) {
+void expect_done(uint32_t refusal) {
     uint8_t text[ZEVK_TEXT_LEN];
     if (refusal != ZEVK_DONE) {
         zevk_refusal_text(refusal, text, sizeof text);
@@ -50,25 +50,25 @@ static void put_document(struct writing *to, struct bytes document) {
            == ZEVK_NO_ROOM) {
         grow(to);
     }
-    expect(refusal);
+    expect_done(refusal);
     append(to, document.start, document.length);
     append(to, to->starts, count * sizeof *to->starts);
 }
 
 static void put_end(struct writing *to) {
     size_t count = 0, length = 0;
-    expect(zevk_writer_end_block(&to->writer, to->starts, to->room, to->table, to->room, &count));
+    expect_done(zevk_writer_end_block(&to->writer, to->starts, to->room, to->table, to->room, &count));
     append(to, to->starts, count * sizeof *to->starts);
     uint32_t asked = zevk_writer_close(&to->writer, to->table, to->room, PERIOD, NULL, 0, &length);
-    expect(asked == ZEVK_NO_ROOM ? ZEVK_DONE : asked);
+    expect_done(asked == ZEVK_NO_ROOM ? ZEVK_DONE : asked);
     uint8_t *end = malloc(length);
     require(end != NULL, "zevk", "no memory");
-    expect(zevk_writer_close(&to->writer, to->table, to->room, PERIOD, end, length, &length));
+    expect_done(zevk_writer_close(&to->writer, to->table, to->room, PERIOD, end, length, &length));
     append(to, end, length);
     free(end);
 }
 
-static void zevk_write(const char *path, const struct documents *documents, const struct settings *settings) {
+void write_store(const char *path, const struct documents *documents, const struct settings *settings) {
     struct writing to = {.file = fopen(path, "wb"), .room = USUAL_ROWS};
     require(to.file != NULL, "zevk", "a file that can't be written");
     require(setvbuf(to.file, NULL, _IOFBF, WRITE_BUFFER) == 0, "zevk", "no memory");
@@ -90,30 +90,30 @@ static uint32_t opened(struct zevk_store *store, size_t rows) {
 }
 
 /* Opens with as many rows as a store of blocks of the usual size needs, and again where it has more blocks. */
-static void *zevk_open_store(const char *path, const struct settings *settings) {
+static void *open_store(const char *path, const struct settings *settings) {
     struct zevk_store *store = calloc(1, sizeof *store);
     require(store != NULL, "zevk", "no memory");
     store->map = map_file(path);
     uint32_t refusal = opened(store, store->map.length / USUAL_BLOCK + USUAL_ROWS);
-    expect(refusal == ZEVK_NO_ROOM ? opened(store, store->blocks) : refusal);
+    expect_done(refusal == ZEVK_NO_ROOM ? opened(store, store->blocks) : refusal);
     if (settings->scattered) {
         map_scattered(store->map);
     }
     return store;
 }
 
-static void *zevk_begin(void *store) {
+static void *begin(void *store) {
     return store;
 }
 
-static void zevk_end(void *reader) {
+static void end(void *reader) {
     (void)reader;
 }
 
-static struct bytes zevk_get(void *reader, uint32_t number) {
+static struct bytes get(void *reader, uint32_t number) {
     const struct zevk_store *store = reader;
     zevk_place place;
-    expect(zevk_locate(store->map.start, store->map.length, store->table, store->blocks, number, &place));
+    expect_done(zevk_locate(store->map.start, store->map.length, store->table, store->blocks, number, &place));
     return (struct bytes){store->map.start + place.start, place.len};
 }
 
@@ -123,19 +123,19 @@ static void add_places(const struct zevk_store *store, const zevk_place *places,
     }
 }
 
-static void zevk_iterate(void *reader, struct check *check) {
+static void iterate(void *reader, struct check *check) {
     const struct zevk_store *store = reader;
     zevk_place places[RUN];
     size_t count = 0;
     for (uint32_t first = 0; first < store->count; first += (uint32_t)count) {
         size_t most = store->count - first < RUN ? store->count - first : RUN;
-        expect(zevk_locate_run(store->map.start, store->map.length, store->table, store->blocks, first, places, most,
-                           &count));
+        expect_done(zevk_locate_run(store->map.start, store->map.length, store->table, store->blocks, first, places,
+                                    most, &count));
         add_places(store, places, count, check);
     }
 }
 
-static void zevk_close_store(void *closed) {
+static void close_store(void *closed) {
     struct zevk_store *store = closed;
     unmap_file(store->map);
     free(store->table);
@@ -144,11 +144,11 @@ static void zevk_close_store(void *closed) {
 
 const struct side zevk_side = {
     .name = "zevk",
-    .write = zevk_write,
-    .open = zevk_open_store,
-    .begin = zevk_begin,
-    .end = zevk_end,
-    .get = zevk_get,
-    .iterate = zevk_iterate,
-    .close = zevk_close_store,
+    .write = write_store,
+    .open = open_store,
+    .begin = begin,
+    .end = end,
+    .get = get,
+    .iterate = iterate,
+    .close = close_store,
 };
