@@ -7,8 +7,8 @@ from typing import Dict, Iterable, List, NamedTuple, Optional
 
 #: how sides are called in plots
 LABELS = {
-    "zevk": "opened (C)",
-    "unopened": "zevk_get (C)",
+    "zevk": "zevk_locate",
+    "unopened": "zevk_get",
     "view": "view",
     "reader": "reader",
     "disk": "disk",

@@ -11,7 +11,7 @@ PANEL, TITLE, GAP = 140, 30, 24
 
 #: in the order of their markers
 SIDES = ["zevk", "unopened", "view", "plain", "lmdb", "cdb"]
-NAMES = {"zevk": "opened, from C", "unopened": "zevk_get, from C", "view": "view, in Rattle"}
+NAMES = {"zevk": "zevk_open, zevk_locate", "view": "view, in Rattle"}
 
 #: less memory than a page is told as a page
 PAGE = 4096

@@ -33,10 +33,10 @@ def _sentence(figures: Figures, work: str, panels: List[ratios.Panel]) -> str:
 
 def ratio_plots(figures: Figures) -> List[Plot]:
     told = [
-        ("ratios-reading", "Reading without opening, beside other libraries", "A read by zevk_get, which opens nothing,",
-         ratios.UNOPENED_PANELS),
-        ("ratios-opened", "Reading an opened store, beside other libraries", "A read by zevk_locate from an opened store",
-         ratios.OPENED_PANELS),
+        ("ratios-reading", "Reading without opening, beside other libraries",
+         "A read by zevk_get, which opens nothing,", ratios.UNOPENED_PANELS),
+        ("ratios-opened", "Reading an opened store, beside other libraries",
+         "A read by zevk_locate, from an opened store,", ratios.OPENED_PANELS),
         ("ratios-other", "Opening, cold reads, threads, writing", "Other work", ratios.OTHER_PANELS),
         ("ratios-outside", "A reader, beside what was built outside", "Work by our reader", ratios.OUTSIDE_PANELS),
     ]

@@ -29,10 +29,11 @@ def _panel(drawing: Drawing, length: int, values: Dict[str, float], top: float) 
     for at, (side, value) in enumerate(values.items()):
         y = start + ROW * at + (ROW - BAR) / 2
         width = (RIGHT - LEFT) * max(0.0, value) / most
-        drawing.text(LEFT - 8, y + BAR - 2, label_of(side), "title" if side == OURS else "", "end")
         if side == OURS:
+            drawing.text(LEFT - 8, y + BAR - 2, "Zevkhadun", "title", "end")
             drawing.rectangle(LEFT, y, width, BAR, "mark0")
         else:
+            drawing.text(LEFT - 8, y + BAR - 2, label_of(side), "", "end")
             drawing.hatched(LEFT, y, width, BAR, 5)
         drawing.text(LEFT + width + 6, y + BAR - 2, f"{value:.1f}")
     drawing.line(LEFT, start, LEFT, end, "axis")

@@ -2,7 +2,8 @@
  *
  * usage: peers SIDE WORKLOAD PATH [key=number ...]
  *
- * SIDE: plain, lmdb, sqlite, leveldb, rocksdb, cdb, zevk or unopened. PATH: the store, which `write` makes and the others read.
+ * SIDE: plain, lmdb, sqlite, leveldb, rocksdb, cdb, zevk or unopened. PATH: the store, which `write` makes and the
+ * others read.
  * WORKLOAD: write, uniform, hot, zipf, sequence, iterate, open, cold, threads or size.
  * Keys: n documents, l bytes of each, bs bytes of a block, cache bytes that a reader may keep, q questions (of each
  * thread), hot documents that are asked for most, threads.
