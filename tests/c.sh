@@ -130,6 +130,19 @@ if has "gets under valgrind" gcc valgrind; then
     check "gets under valgrind" valgrind -q --leak-check=full --error-exitcode=1 "$work/program" "$hex"
 fi
 
+# Every input that reached an edge of its own when the library was fuzzed (tests/fuzz/run.sh).
+linked="-fsanitize=address,undefined -fno-sanitize-recover=all"
+if links "fuzzed inputs under sanitizers" gcc $linked; then
+    check "fuzzed inputs: build" compiled gcc -std=c11 -g -O1 $linked -DREPLAY -I"$source" "$top/tests/fuzz/calls.c"
+    check "fuzzed inputs under sanitizers" "$work/program" "$top/tests/fuzz/corpus.hex"
+fi
+linked=""
+if has "fuzzed inputs under valgrind" gcc valgrind; then
+    check "fuzzed inputs: build" compiled gcc -std=c11 -g -O1 -DREPLAY -I"$source" "$top/tests/fuzz/calls.c"
+    check "fuzzed inputs under valgrind" valgrind -q --leak-check=full --error-exitcode=1 "$work/program" \
+        "$top/tests/fuzz/corpus.hex"
+fi
+
 linked="-Wl,--wrap=malloc,--wrap=realloc,--wrap=free"
 check "allocations: build" compiled "${CC:-cc}" -std=c11 -g -O1 "$source/memory.c"
 check "allocations, each refused in turn" "$work/program" "$hex"

@@ -1,13 +1,19 @@
 #!/usr/bin/env bash
 # Builds libzevkhadun.a and libzevkhadun.so and installs them, the header and a pkg-config file.
 #
-# usage: build.sh PREFIX [LIBRARY]
+# usage: build.sh [--static] PREFIX [LIBRARY]
 #
-# The crate is proved and compiled by `rt lib`, unless LIBRARY is its static library already. Its three functions of the
-# heap are the kit's, over malloc. The calls that take arrays are those of null_arrays.c, over the proved ones.
+# With --static it installs libzevkhadun.a and the header alone. The crate is proved and compiled by `rt lib`, unless
+# LIBRARY is its static library already. Its three functions of the heap are the kit's, over malloc. The calls that take
+# arrays are those of null_arrays.c, over the proved ones.
 set -eu
+shared=yes
+if [ "${1:-}" = --static ]; then
+    shared=no
+    shift
+fi
 if [ $# -lt 1 ] || [ $# -gt 2 ]; then
-    echo "usage: $0 PREFIX [LIBRARY]" >&2
+    echo "usage: $0 [--static] PREFIX [LIBRARY]" >&2
     exit 2
 fi
 top=$(cd "$(dirname "$0")/../.." && pwd)
@@ -40,13 +46,17 @@ addmod $work/null_arrays.o
 save
 end
 MRI
+install -m 644 "$work/libzevkhadun.a" "$prefix/lib/libzevkhadun.a"
+install -m 644 "$crate/include/zevkhadun.h" "$prefix/include/zevkhadun.h"
+if [ $shared = no ]; then
+    exit 0
+fi
+
 "${CC:-cc}" -shared -o "$work/libzevkhadun.so.1" -Wl,-soname,libzevkhadun.so.1 \
     -Wl,--whole-archive "$work/libzevkhadun.a" -Wl,--no-whole-archive \
     -Wl,--version-script="$crate/zevkhadun.map" -Wl,-z,defs -Wl,-z,relro,-z,now
-install -m 644 "$work/libzevkhadun.a" "$prefix/lib/libzevkhadun.a"
 install -m 755 "$work/libzevkhadun.so.1" "$prefix/lib/libzevkhadun.so.1"
 ln -sf libzevkhadun.so.1 "$prefix/lib/libzevkhadun.so"
-install -m 644 "$crate/include/zevkhadun.h" "$prefix/include/zevkhadun.h"
 cat >"$prefix/lib/pkgconfig/zevkhadun.pc" <<PC
 prefix=$prefix
 libdir=\${prefix}/lib

@@ -1,0 +1,58 @@
+#!/usr/bin/env bash
+# Fuzzes the library for C by coverage: libFuzzer counts the edges inside the proved code, and compares.
+#
+# usage: run.sh [SECONDS]
+#
+# It fuzzes for an hour, or as many seconds as it is told, on two processors; begins with corpus.hex, which `tests/c.sh`
+# replays; and writes the smallest corpus that reaches the same edges back. It prints how many edges were reached by
+# then. Needs clang and libclang-rt-14-dev. The code is that of `rt lib`, compiled with counters by a `clang` that passes
+# the kit's what it was told, and three flags more.
+set -euo pipefail
+seconds=${1:-3600}
+here=$(cd "$(dirname "$0")" && pwd)
+top=$(cd "$here/../.." && pwd)
+crate=$top/crates/store_c
+kit=$(dirname "$(rt doc | head -n 1)")
+out=$here/out
+rm -rf "$out"
+mkdir -p "$out/toolchain/bin" "$out/corpus"
+
+# What the kit's toolchain has, with another clang.
+ln -s "$kit/toolchain/lib" "$out/toolchain/lib"
+for program in "$kit/toolchain/bin/"*; do
+    ln -s "$program" "$out/toolchain/bin/"
+done
+rm "$out/toolchain/bin/clang"
+cat >"$out/toolchain/bin/clang" <<SH
+#!/bin/sh
+exec "$kit/toolchain/bin/clang" -fsanitize-coverage=inline-8bit-counters,pc-table,trace-cmp "\$@"
+SH
+chmod +x "$out/toolchain/bin/clang"
+
+# The library, proved once more as it is compiled: `rattle build` compiles nothing else.
+(cd "$crate" && rt lib --jobs 2 >/dev/null)
+libraries=()
+for library in $(sed -n 's/^store_c staticlib: //p' "$top/crates.txt"); do
+    libraries+=(--extern "$library=$top/crates/$library/out/rlib/$library.rlib")
+done
+for folder in "$top"/crates/*/out/rlib; do
+    libraries+=(-L "dependency=$folder")
+done
+for library in core std; do
+    libraries+=(--extern "$library=$kit/rlibs/$library.rlib")
+done
+(cd "$crate" && rattle build --crate-name store_c src/lib.rt --crate-type staticlib "${libraries[@]}" \
+    -L "dependency=$kit/rlibs" --antt-project "$kit/rattle/logic/antt-project.json" --logic-built "$kit/logic_built" \
+    --jobs 2 --toolchain "$out/toolchain" -o "$out/libstore_c.a")
+bash "$top/examples/c/build.sh" --static "$out/prefix" "$out/libstore_c.a"
+
+# Only the library counts edges: the calls are compiled without.
+clang -std=c11 -g -O1 -I"$out/prefix/include" -I"$top/examples/c" -c -o "$out/calls.o" "$here/calls.c"
+clang -g -fsanitize=fuzzer -o "$out/calls" "$out/calls.o" "$out/prefix/lib/libzevkhadun.a"
+
+python3 "$here/corpus.py" unpack "$here/corpus.hex" "$out/corpus"
+(cd "$out" && ./calls -max_total_time="$seconds" -fork=2 -max_len=4096 -ignore_timeouts=0 corpus 2>&1 |
+    tee fuzz.log | grep -E '^#[0-9]+: cov: |ERROR|SUMMARY' | awk 'NR % 20 == 1 || !/cov:/')
+mkdir "$out/least"
+"$out/calls" -merge=1 "$out/least" "$out/corpus" 2>&1 | tee "$out/merge.log" | grep -E 'MERGE-OUTER|Loaded' | tail -n 3
+python3 "$here/corpus.py" pack "$out/least" "$here/corpus.hex"
