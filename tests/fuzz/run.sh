@@ -51,8 +51,14 @@ clang -std=c11 -g -O1 -I"$out/prefix/include" -I"$top/examples/c" -c -o "$out/ca
 clang -g -fsanitize=fuzzer -o "$out/calls" "$out/calls.o" "$out/prefix/lib/libzevkhadun.a"
 
 python3 "$here/corpus.py" unpack "$here/corpus.hex" "$out/corpus"
-(cd "$out" && ./calls -max_total_time="$seconds" -fork=2 -max_len=4096 -ignore_timeouts=0 corpus 2>&1 |
-    tee fuzz.log | grep -E '^#[0-9]+: cov: |ERROR|SUMMARY' | awk 'NR % 20 == 1 || !/cov:/')
+(cd "$out" && ./calls -max_total_time="$seconds" -fork=2 -max_len=4096 corpus >fuzz.log 2>&1) ||
+    { tail -n 40 "$out/fuzz.log" >&2; exit 1; }
 mkdir "$out/least"
-"$out/calls" -merge=1 "$out/least" "$out/corpus" 2>&1 | tee "$out/merge.log" | grep -E 'MERGE-OUTER|Loaded' | tail -n 3
+"$out/calls" -merge=1 -use_counters=0 "$out/least" "$out/corpus" >"$out/merge.log" 2>&1
 python3 "$here/corpus.py" pack "$out/least" "$here/corpus.hex"
+
+edges=$(sed -nE 's/.*Loaded 1 modules +\(([0-9]+) .*/\1/p' "$out/fuzz.log")
+echo "edges inside the library: $edges; reached after so many seconds:"
+sed -nE 's/^#[0-9]+: cov: ([0-9]+) .* time: ([0-9]+)s .*/\2 \1/p' "$out/fuzz.log" |
+    awk '$2 > most { most = $2; seen = seen $1 ": " $2 "\n" } END { printf "%s", seen }' | tail -n 12
+echo "inputs in the corpus: $(wc -l <"$here/corpus.hex")"

@@ -68,6 +68,21 @@ fn split_number(bytes: &[u8]) -> Option<(u64, &[u8])>
     None
 }
 
+// The same as `first_number`, by the loop.
+//
+// It is a function of its own, so that the place for the loop's result is made ready only where the loop is needed.
+#[inline(always)]
+fn looped_number(bytes: &[u8], most: u64) -> Option<(u64, &[u8])>
+    ensures read { option_map (λ x. (x.0, x.1.now)) result ≡ number_below (most + 1) bytes.now }
+    ensures most { IfSome result (λ x. x.0 ≤ most) }
+{
+    let (value, rest) = split_number(bytes)?;
+    if value > most {
+        return None;
+    }
+    Some((value, rest))
+}
+
 /// The number up to `most` at the front of the bytes, and what follows it.
 ///
 /// `None` where no front of them is the one spelling of such a number. It takes no memory, so readers that
@@ -77,9 +92,8 @@ pub fn first_number(bytes: &[u8], most: u64) -> Option<(u64, &[u8])>
     ensures read { option_map (λ x. (x.0, x.1.now)) result ≡ number_below (most + 1) bytes.now }
     ensures most { IfSome result (λ x. x.0 ≤ most) }
 {
-    let (value, rest) = match split_short(bytes) {
-        Some(short) => short,
-        None => split_number(bytes)?,
+    let Some((value, rest)) = split_short(bytes) else {
+        return looped_number(bytes, most);
     };
     if value > most {
         return None;
