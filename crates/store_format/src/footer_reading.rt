@@ -1,5 +1,5 @@
 //! Reading the footer of a file.
-ghost use Rattle.std.specs.Prelude.{◌≡◌, ◌-◌, length, slice_range, Ok, Err, IfErr, MatchResult};
+ghost use Rattle.std.specs.Prelude.{◌≡◌, ◌≢◌, ◌-◌, length, slice_range, Ok, Err, IfErr, MatchResult};
 ghost use Rattle.store_base.specs.Files.{Part};
 ghost use Rattle.store_format.specs.Extraction.{ExtractsFooter, narrowed, Says};
 
@@ -12,10 +12,11 @@ use store_base::{BinarySerializable, DecodeFault, FileHandle, FileSlice, FixedSi
 /// How many bytes a footer has.
 pub const FOOTER_LEN: u64 = DocStoreFooter::SIZE_IN_BYTES as u64;
 
-/// What the 28 bytes of a footer say.
+/// What the 28 bytes of a footer say. It takes no memory.
 pub fn footer_in(alloc: Global, bytes: &[u8]) -> Result<DocStoreFooter, StoreError>
     requires { length bytes.now ≡ 28 }
-    ensures { Says bytes.now result }
+    ensures says { Says bytes.now result }
+    ensures causes { IfErr result (λ e. e ≢ StoreError.Memory) }
 {
     let mut rest: &[u8] = bytes;
     match DocStoreFooter::deserialize(alloc, &mut rest) {

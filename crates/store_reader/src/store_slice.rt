@@ -57,6 +57,7 @@ impl<'a> StoreSlice<'a> {
         ensures ok { IfOk result (λ store. store ≡ file.entry.now) }
         ensures found { IfErr result (λ e. Finds file.entry.now (Err e)) }
         ensures refused { IfErr result (λ e. IsSomeStore file.entry.now → ⊥) }
+        ensures causes { IfErr result (λ e. e ≢ StoreError.Memory) }
     {
         let footer = footer_of(alloc, file)?;
         let end = file.len() - FOOTER_LEN as usize;

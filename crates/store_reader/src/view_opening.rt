@@ -1,5 +1,5 @@
 //! Opening a store whose bytes another holds.
-ghost use Rattle.std.specs.Prelude.{◌≡◌, ◌≤◌, length, IfOk};
+ghost use Rattle.std.specs.Prelude.{◌≡◌, ◌≢◌, ◌≤◌, length, IfOk, IfErr};
 ghost use Rattle.store_reader.specs.Viewing.{FindsFooter, FindsIndex, Finds};
 
 use crate::store_index::StoreIndex;
@@ -11,6 +11,7 @@ use store_format::{DocStoreFooter, FOOTER_LEN, footer_in};
 pub(crate) fn footer_of(alloc: Global, file: &[u8]) -> Result<DocStoreFooter, StoreError>
     ensures found { FindsFooter file.now result }
     ensures long { IfOk result (λ _. 28 ≤ length file.now) }
+    ensures causes { IfErr result (λ e. e ≢ StoreError.Memory) }
 {
     let len = file.len();
     if len < FOOTER_LEN as usize {
