@@ -5,6 +5,7 @@ use Rattle.std.proofs.lemmas.Bool.{cases_lt, eqb-true, cond-true, lt-ltb, le-leb
 use Rattle.std.proofs.lemmas.List.{take-append-drop, length-take, append-nil, drop_all}
 use Rattle.std.specs.Prelude.{IsSome, MatchResult, Result, Ok, Err}
 use Rattle.std.specs.List.{flat_map, AllByRecursion}
+use Rattle.std.specs.Option.{option_map_or}
 use Rattle.store_base.specs.VInt.{◌>>=◌}
 use Rattle.store_base.specs.ReadingLemmas.{bind_some, some_is, Takes}
 use Rattle.store_base.specs.Serialize.{IsBytes}
@@ -16,9 +17,11 @@ use Rattle.layered_index.specs.Layers.{groups, layer_text, pointers, layer_above
 use Rattle.layered_index.specs.BlockReading.{steps_at, heading_at, ends_of, run_at}
 use Rattle.layered_index.specs.LayerReading.{items, may_stand, len_from, len_at, pointers_at, ArePointers, IsLayerBelow}
 use Rattle.layered_index.specs.Tables.{EndLists, no_ends, with_ends}
-use Rattle.layered_index.specs.Refusal.{FailsOnlyUnless}
-use Rattle.layered_index.specs.declared.index.fault.IndexFault.{IndexFault}
-use Rattle.layered_index.proofs.RefusalLemmas.{fails_of_part}
+use Rattle.layered_index.specs.Refusal.{BreaksOnlyUnless}
+use Rattle.layered_index.specs.declared.index.fault.LayerFault.{LayerFault}
+use Rattle.layered_index.specs.declared.index.fault.LayerFault.TheVariants.{Broken, OutOfMemory}
+use Rattle.layered_index.specs.Faults.{standing_from, PassedTo, BreaksAt}
+use Rattle.layered_index.proofs.FaultLemmas.{passed_here}
 use Rattle.layered_index.proofs.TableLemmas.{none_to_come}
 use Rattle.layered_index.proofs.BlockReadingLemmas.{heading_again, heading_read, steps_again, steps_read, some_block}
 use Rattle.layered_index.proofs.CheckpointLemmas.{block_some}
@@ -310,18 +313,35 @@ layer_none period bytes e some = not_some (len_at period bytes) (len_at_is perio
     not_some (Some x) e h = absurd cc
 
 -- What walking over the runs gives, where the first begins as the heading says, is what walking over the layer gives.
-pub layer_walked : (period : ℕ) (text : List ℕ) (above : Option (List Checkpoint)) (h : Heading) (steps : List ℕ) (old new : EndLists) (r : Result (Unit {0}) IndexFault)
+pub layer_walked : (period : ℕ) (text : List ℕ) (above : Option (List Checkpoint)) (h : Heading) (steps : List ℕ) (old new : EndLists) (r : Result (Unit {0}) LayerFault)
     → heading_at text ≡ Some (h, steps) → old ≡ no_ends
     → MatchResult r (λ _. IsSome (len_from period h.doc h.byte text) × ArePointers above (pointers_at 0 text)
-    × (with_ends new [] ≡ with_ends old (items 0 0 0 text))) (FailsOnlyUnless (IsSome (len_from period h.doc h.byte text) × ArePointers above (pointers_at 0 text)))
-    → MatchResult r (λ _. IsLayerBelow period above text × (new ≡ with_ends no_ends (items 0 0 0 text))) (FailsOnlyUnless (IsLayerBelow period above text))
+    × (with_ends new [] ≡ with_ends old (items 0 0 0 text))) (BreaksOnlyUnless (IsSome (len_from period h.doc h.byte text) × ArePointers above (pointers_at 0 text))
+    (λ byte. (byte ≤ length text) × PassedTo above (standing_from period h.doc h.byte 0 text) 0 byte))
+    → MatchResult r (λ _. IsLayerBelow period above text × (new ≡ with_ends no_ends (items 0 0 0 text)))
+    (BreaksOnlyUnless (IsLayerBelow period above text) (λ byte. (byte ≤ length text) × BreaksAt period above text byte))
 layer_walked period text above h steps old new r e none walked = by_result r walked
   where
     same : len_at period text ≡ len_from period h.doc h.byte text
     same = len_at_is period text ∙ ap (λ (o : Option (Heading × List ℕ)). o >>= λ h. len_from period h.0.doc h.0.byte text) e
 
-    by_result : (r : Result (Unit {0}) IndexFault) → MatchResult r (λ _. IsSome (len_from period h.doc h.byte text) × ArePointers above (pointers_at 0 text)
-        × (with_ends new [] ≡ with_ends old (items 0 0 0 text))) (FailsOnlyUnless (IsSome (len_from period h.doc h.byte text) × ArePointers above (pointers_at 0 text)))
-        → MatchResult r (λ _. IsLayerBelow period above text × (new ≡ with_ends no_ends (items 0 0 0 text))) (FailsOnlyUnless (IsLayerBelow period above text))
+    standing : option_map_or (λ (g : Heading × List ℕ). standing_from period g.0.doc g.0.byte 0 text) (heading_at text) [] ≡ standing_from period h.doc h.byte 0 text
+    standing = ap (λ (o : Option (Heading × List ℕ)). option_map_or (λ (g : Heading × List ℕ). standing_from period g.0.doc g.0.byte 0 text) o []) e
+
+    by_fault : (fault : LayerFault) → BreaksOnlyUnless (IsSome (len_from period h.doc h.byte text) × ArePointers above (pointers_at 0 text))
+        (λ byte. (byte ≤ length text) × PassedTo above (standing_from period h.doc h.byte 0 text) 0 byte) fault
+        → BreaksOnlyUnless (IsLayerBelow period above text) (λ byte. (byte ≤ length text) × BreaksAt period above text byte) fault
+    by_fault (Broken byte) w = (λ good. w.0 (subst IsSome same good.0, good.1), (w.1.0, subst (λ (ps : List Checkpoint). PassedTo above ps 0 byte) (sym standing) w.1.1))
+    by_fault OutOfMemory w = tt
+
+    by_result : (r : Result (Unit {0}) LayerFault) → MatchResult r (λ _. IsSome (len_from period h.doc h.byte text) × ArePointers above (pointers_at 0 text)
+        × (with_ends new [] ≡ with_ends old (items 0 0 0 text))) (BreaksOnlyUnless (IsSome (len_from period h.doc h.byte text) × ArePointers above (pointers_at 0 text))
+        (λ byte. (byte ≤ length text) × PassedTo above (standing_from period h.doc h.byte 0 text) 0 byte))
+        → MatchResult r (λ _. IsLayerBelow period above text × (new ≡ with_ends no_ends (items 0 0 0 text)))
+        (BreaksOnlyUnless (IsLayerBelow period above text) (λ byte. (byte ≤ length text) × BreaksAt period above text byte))
     by_result (Ok x) w = ((subst IsSome (sym same) w.0, w.1), sym (none_to_come new) ∙ w.2 ∙ ap (λ (ends : EndLists). with_ends ends (items 0 0 0 text)) none)
-    by_result (Err fault) w = fails_of_part _ _ fault (λ good. (subst IsSome same good.0, good.1)) w
+    by_result (Err fault) w = by_fault fault w
+
+-- no heading, no run
+pub layer_breaks : (period : ℕ) (above : Option (List Checkpoint)) (text : List ℕ) → heading_at text ≡ None → BreaksAt period above text 0
+layer_breaks period above text e = passed_here above _ 0 (ap (λ (o : Option (Heading × List ℕ)). option_map_or (λ (g : Heading × List ℕ). standing_from period g.0.doc g.0.byte 0 text) o []) e)

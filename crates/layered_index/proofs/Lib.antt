@@ -11,6 +11,7 @@ pub mod SkipLemmas
 pub mod DeserializeLemmas
 pub mod CursorLemmas
 pub mod WalkLemmas
+pub mod FaultLemmas
 pub mod LayerTextLemmas
 pub mod DigitLemmas
 pub mod HalvingLemmas

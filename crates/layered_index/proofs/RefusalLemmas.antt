@@ -1,15 +1,18 @@
 -- Faults and refusals.
 use Rattle.std.proofs.Common.{inl, inr, refl}
-use Rattle.layered_index.specs.declared.index.fault.IndexFault.{IndexFault}
-use Rattle.layered_index.specs.declared.index.fault.IndexFault.TheVariants.{Malformed, OutOfMemory}
-use Rattle.layered_index.specs.Refusal.{refusal_of, RefusesOnlyUnless, FailsOnlyUnless}
+use Rattle.layered_index.specs.declared.index.fault.ReadFault.{ReadFault}
+use Rattle.layered_index.specs.declared.index.fault.ReadFault.TheVariants.{Malformed, OutOfMemory}
+use Rattle.layered_index.specs.declared.index.fault.Refusal.{Refusal}
+use Rattle.layered_index.specs.declared.index.fault.Refusal.TheVariants as refusal
+use Rattle.layered_index.specs.declared.index.index_fault.IndexFault.{IndexFault}
+use Rattle.layered_index.specs.Refusal.{refusal_of, answer_to, RefusesOnlyUnless, RefusedOnlyUnless, FailsOnlyUnless}
 
 -- A fault is answered by its refusal.
-pub refused : (good : Type 0) (fault : IndexFault) → FailsOnlyUnless good fault → RefusesOnlyUnless good (refusal_of fault)
+pub refused : (good : Type 0) (fault : ReadFault) → FailsOnlyUnless good fault → RefusesOnlyUnless good (refusal_of fault)
 refused good Malformed h = inl (refl, h)
 refused good OutOfMemory h = inr refl
 
--- What is asked of a whole is asked of its part.
-pub fails_of_part : (part whole : Type 0) (fault : IndexFault) → (whole → part) → FailsOnlyUnless part fault → FailsOnlyUnless whole fault
-fails_of_part part whole Malformed goes h = λ good. h (goes good)
-fails_of_part part whole OutOfMemory goes h = tt
+-- so is that of an index
+pub refused_index : (good : Type 0) (first : IndexFault → Type 0) (refusal : Refusal) → RefusedOnlyUnless good first refusal → RefusesOnlyUnless good (answer_to refusal)
+refused_index good first (refusal.Broken fault) h = inl (refl, h.0)
+refused_index good first refusal.OutOfMemory h = inr refl

@@ -6,8 +6,8 @@ use Rattle.std.proofs.lemmas.List.{append-nil, drop-drop, length-drop, drop_all}
 use Rattle.std.proofs.Math.Seq.{drop-cons, drop-append_seam}
 use Rattle.store_base.specs.VInt.{◌>>=◌, number_at, number_below}
 use Rattle.store_base.specs.ReadingLemmas.{bind_some, some_is, guard_some, pass_some}
-use Rattle.layered_index.specs.declared.index.fault.IndexFault.{IndexFault}
-use Rattle.layered_index.specs.declared.index.fault.IndexFault.TheVariants.{Malformed, OutOfMemory}
+use Rattle.layered_index.specs.declared.index.fault.ReadFault.{ReadFault}
+use Rattle.layered_index.specs.declared.index.fault.ReadFault.TheVariants.{Malformed, OutOfMemory}
 use Rattle.layered_index.specs.IndexReading.{numbers_at, texts_at, ends_at, split_at}
 use Rattle.layered_index.specs.Refusal.{Fails}
 
@@ -185,7 +185,7 @@ pub split_is : (bytes : List ℕ) (ends rest : List ℕ) → ends_at bytes ≡ S
 unfolding split_at
 split_is bytes ends rest e = ap (λ (o : Option (List ℕ × List ℕ)). o >>= λ x. texts_at 0 x.0 x.1) e ∙ ap (texts_at 0 ends) (sym (behind_drop bytes rest (ends_behind bytes (ends, rest) e)))
 
-pub split_fails : (bytes : List ℕ) (e : IndexFault) → Fails e (ends_at bytes) → Fails e (split_at bytes)
+pub split_fails : (bytes : List ℕ) (e : ReadFault) → Fails e (ends_at bytes) → Fails e (split_at bytes)
 unfolding split_at
 split_fails bytes Malformed h = ap (λ (o : Option (List ℕ × List ℕ)). o >>= λ x. texts_at 0 x.0 x.1) h
 split_fails bytes OutOfMemory h = tt

@@ -7,10 +7,7 @@ use Rattle.store_base.specs.VInt.{◌>>=◌, number_at}
 use Rattle.store_base.specs.ReadingLemmas.{bind_some, some_is}
 use Rattle.layered_index.specs.declared.index.Checkpoint.{Checkpoint}
 use Rattle.layered_index.specs.declared.index.layers.Run.{Run}
-use Rattle.layered_index.specs.declared.index.fault.IndexFault.{IndexFault}
-use Rattle.layered_index.specs.declared.index.fault.IndexFault.TheVariants.{Malformed, OutOfMemory}
 use Rattle.layered_index.specs.Checkpoint.{checkpoint, docs_end, bytes_end}
-use Rattle.layered_index.specs.Refusal.{Fails, FailsOnlyUnless}
 use Rattle.layered_index.specs.BlockReading.{step_at, steps_at, heading_at, ends_of, run_at}
 use Rattle.layered_index.specs.LayerReading.{may_stand, len_within, len_from, pointers_within, pointers_at}
 use Rattle.layered_index.proofs.CursorLemmas.{heading_shorter, step_takes}
@@ -49,7 +46,7 @@ run_takes bytes x e =
       ap (λ (y : ℕ × ℕ × List ℕ). length y.2) ends,
     )
 
-run_none : run_at [] ≡ None
+pub run_none : run_at [] ≡ None
 unfolding run_at heading_at number_at
 run_none = refl
 
@@ -173,12 +170,10 @@ abbrev pub Counts : ℕ → ℕ → ℕ → List ℕ → Option ℕ → Type 0
 Counts period doc byte rest total = (k : ℕ) × (plus k (len_from period doc byte rest) ≡ total)
 
 -- no run stands here
-pub walk_ends : (period doc byte : ℕ) (rest : List ℕ) (total : Option ℕ) (P : Type 0) (fault : IndexFault) → 0 < length rest → Fails fault (run_at rest) → Counts period doc byte rest total
-    → FailsOnlyUnless (IsSome total × P) fault
-walk_ends period doc byte rest total P OutOfMemory some e so_far = tt
-walk_ends period doc byte rest total P Malformed some e so_far =
+pub walk_none : (period doc byte : ℕ) (rest : List ℕ) (total : Option ℕ) → 0 < length rest → run_at rest ≡ None → Counts period doc byte rest total → IsSome total → ⊥
+walk_none period doc byte rest total some e so_far =
     let none : len_from period doc byte rest ≡ None = len_from_some period doc byte rest some ∙ ap (len_then period doc byte) e in
-    λ good. none_is_some total (sym (ap (plus so_far.0) none) ∙ so_far.1) good.0
+    none_is_some total (sym (ap (plus so_far.0) none) ∙ so_far.1)
 
 -- one stands here that may not
 pub walk_refused : (period doc byte : ℕ) (rest : List ℕ) (r : Run) (after : List ℕ) (total : Option ℕ) → run_at rest ≡ Some (r, after) → may_stand period doc byte r (length after) ≡ false

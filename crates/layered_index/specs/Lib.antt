@@ -6,6 +6,7 @@ pub mod LayerReading
 pub mod Covering
 pub mod Tables
 pub mod IndexReading
+pub mod Faults
 pub mod Building
 pub mod Refusal
 pub mod Laws

@@ -8,7 +8,7 @@ ghost use Rattle.layered_index.specs.Refusal.{Gives, RefusesOnlyUnless, FailsOnl
 
 use crate::index::Checkpoint;
 use crate::index::block::CheckpointBlock;
-use crate::index::fault::IndexFault;
+use crate::index::fault::ReadFault;
 use crate::index::short_number::{first_count, first_length};
 use std::alloc::Global;
 use store_base::{StoreError, first_number};
@@ -80,7 +80,7 @@ fn steps_front(
     alloc: Global,
     heading: Heading,
     bytes: &[u8],
-) -> Result<(Vec<Checkpoint>, &[u8]), IndexFault>
+) -> Result<(Vec<Checkpoint>, &[u8]), ReadFault>
     ensures { Gives (λ x. (x.0.items, x.1.now)) result
         (steps_at heading.count heading.doc heading.byte bytes.now) }
 {
@@ -90,7 +90,7 @@ fn steps_front(
     let mut byte_end = heading.byte;
     for _ in 0..heading.count {
         let Some((checkpoint, after)) = step_front(false, doc_end, byte_end, rest) else {
-            return Err(IndexFault::Malformed);
+            return Err(ReadFault::Malformed);
         };
         doc_end = checkpoint.doc_range.end;
         byte_end = checkpoint.byte_range.end;
@@ -101,11 +101,11 @@ fn steps_front(
 }
 
 #[tactic(auto, unfolding(crate::specs::BlockReading::checkpoint_block_at))]
-fn block_front(alloc: Global, bytes: &[u8]) -> Result<(Vec<Checkpoint>, &[u8]), IndexFault>
+fn block_front(alloc: Global, bytes: &[u8]) -> Result<(Vec<Checkpoint>, &[u8]), ReadFault>
     ensures { Gives (λ x. (x.0.items, x.1.now)) result (checkpoint_block_at bytes.now) }
 {
     let Some((heading, rest)) = heading_front(bytes) else {
-        return Err(IndexFault::Malformed);
+        return Err(ReadFault::Malformed);
     };
     steps_front(alloc, heading, rest)
 }
@@ -114,7 +114,7 @@ fn block_front(alloc: Global, bytes: &[u8]) -> Result<(Vec<Checkpoint>, &[u8]), 
 pub(crate) fn first_block(
     alloc: Global,
     bytes: &[u8],
-) -> Result<(Vec<Checkpoint>, &[u8]), IndexFault>
+) -> Result<(Vec<Checkpoint>, &[u8]), ReadFault>
     ensures { MatchResult result
         (λ x. BeginsWithBlock bytes.now (x.0.items, x.1.now))
         (FailsOnlyUnless (HasBlock bytes.now)) }

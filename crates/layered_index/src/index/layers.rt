@@ -1,6 +1,7 @@
 //! Walking over the layers of an index, each of which is decoded once.
 ghost use Rattle.std.specs.Prelude.{◌≡◌, ◌≤◌, ◌<◌, ◌+◌, ◌/◌, ◌↔◌, ℕ, List, [], ◌∷◌, length};
 ghost use Rattle.std.specs.Prelude.{IsTrue, IsSome, IfOk, MatchResult};
+ghost use Rattle.std.specs.List.{concat};
 ghost use Rattle.layered_index.specs.declared.index.Checkpoint.{Checkpoint};
 ghost use Rattle.layered_index.specs.Checkpoint.{checkpoint};
 ghost use Rattle.layered_index.specs.Layers.{digit_count};
@@ -8,11 +9,13 @@ ghost use Rattle.layered_index.specs.BlockReading.{steps_at, ends_of, run_at};
 ghost use Rattle.layered_index.specs.LayerReading.{items, may_stand, len_from, pointers_at, ArePointers, IsLayerBelow};
 ghost use Rattle.layered_index.specs.Tables.{no_ends, with_ends};
 ghost use Rattle.layered_index.specs.IndexReading.{AreLayersBelow, last_ends};
-ghost use Rattle.layered_index.specs.Refusal.{Gives, FailsOnlyUnless};
+ghost use Rattle.layered_index.specs.Faults.{standing_from, PassedTo, BreaksAt, HasFault};
+ghost use Rattle.layered_index.specs.Refusal.{Gives, BreaksOnlyUnless, RefusedOnlyUnless};
 
 use crate::index::Checkpoint;
 use crate::index::block_reading::{Heading, heading_front, step_front};
-use crate::index::fault::IndexFault;
+use crate::index::fault::{LayerFault, ReadFault, Refusal};
+use crate::index::index_fault::fault_in;
 use crate::index::layer_cursor::LayerCursor;
 use crate::index::tables::Ends;
 use store_base::OwnedBytes;
@@ -73,7 +76,7 @@ fn keep_steps<'a>(
     heading: Heading,
     bytes: &'a [u8],
     ends: &mut Ends,
-) -> Result<(u32, usize, &'a [u8]), IndexFault>
+) -> Result<(u32, usize, &'a [u8]), ReadFault>
     ensures read { Gives (λ x. (x.0, x.1, x.2.now)) result (ends_of heading.doc heading.byte
         (steps_at heading.count heading.doc heading.byte bytes.now)) }
     ensures kept { IfOk result (λ x. with_ends ends.new (items 0 0 0 x.2.now)
@@ -84,7 +87,7 @@ fn keep_steps<'a>(
     let mut byte_end = heading.byte;
     for _ in 0..heading.count {
         let Some((checkpoint, after)) = step_front(uneven, doc_end, byte_end, rest) else {
-            return Err(IndexFault::Malformed);
+            return Err(ReadFault::Malformed);
         };
         ends.push(&checkpoint)?;
         doc_end = checkpoint.doc_range.end;
@@ -100,13 +103,13 @@ fn run_front<'a>(
     uneven: bool,
     bytes: &'a [u8],
     ends: &mut Ends,
-) -> Result<(Run, &'a [u8]), IndexFault>
+) -> Result<(Run, &'a [u8]), ReadFault>
     ensures read { Gives (λ x. (x.0, x.1.now)) result (run_at bytes.now) }
     ensures kept { IfOk result (λ x. 0 < x.0.count → with_ends ends.new (items 0 0 0 x.1.now)
         ≡ with_ends ends.old (items 0 0 0 bytes.now)) }
 {
     let Some((heading, steps)) = heading_front(bytes) else {
-        return Err(IndexFault::Malformed);
+        return Err(ReadFault::Malformed);
     };
     let (doc_end, byte_end, rest) = keep_steps(uneven, heading, steps, ends)?;
     let run = Run {
@@ -172,13 +175,15 @@ fn walk_runs(
     text: &[u8],
     mut above: Option<LayerCursor<'_>>,
     ends: &mut Ends,
-) -> Result<(), IndexFault>
+) -> Result<(), LayerFault>
     ensures { MatchResult result
         (λ _. IsSome (len_from period heading.doc heading.byte text.now)
         × ArePointers above.entry (pointers_at 0 text.now)
         × (with_ends ends.new [] ≡ with_ends ends.old (items 0 0 0 text.now)))
-        (FailsOnlyUnless (IsSome (len_from period heading.doc heading.byte text.now)
-        × ArePointers above.entry (pointers_at 0 text.now))) }
+        (BreaksOnlyUnless (IsSome (len_from period heading.doc heading.byte text.now)
+        × ArePointers above.entry (pointers_at 0 text.now))
+        (λ byte. (byte ≤ length text.now)
+        × PassedTo above.entry (standing_from period heading.doc heading.byte 0 text.now) 0 byte)) }
 {
     let mut rest = text;
     let mut place = 0;
@@ -186,12 +191,15 @@ fn walk_runs(
     let mut byte_end = heading.byte;
     let mut evenness = Evenness::of(text);
     while !rest.is_empty() {
-        let (run, after) = run_front(evenness.uneven, rest, ends)?;
+        let (run, after) = match run_front(evenness.uneven, rest, ends) {
+            Ok(read) => read,
+            Err(fault) => return Err(fault.at(place)),
+        };
         let end = place + (rest.len() - after.len());
         if !may_stand(period, doc_end, byte_end, &run, after.len())
             || !next_points(&mut above, &run, place, end)
         {
-            return Err(IndexFault::Malformed);
+            return Err(LayerFault::Broken(place));
         }
         doc_end = run.doc_end;
         byte_end = run.byte_end;
@@ -202,7 +210,7 @@ fn walk_runs(
     if none_left(above) {
         Ok(())
     } else {
-        Err(IndexFault::Malformed)
+        Err(LayerFault::Broken(place))
     }
 }
 
@@ -212,36 +220,45 @@ fn walk_layer(
     text: &[u8],
     above: Option<LayerCursor<'_>>,
     ends: &mut Ends,
-) -> Result<(), IndexFault>
+) -> Result<(), LayerFault>
     ensures { MatchResult result
         (λ _. IsLayerBelow period above.entry text.now
         × (ends.new ≡ with_ends no_ends (items 0 0 0 text.now)))
-        (FailsOnlyUnless (IsLayerBelow period above.entry text.now)) }
+        (BreaksOnlyUnless (IsLayerBelow period above.entry text.now)
+        (λ byte. (byte ≤ length text.now) × BreaksAt period above.entry text.now byte)) }
 {
     let most = ends.len().saturating_mul(period).min(text.len() / 2);
     ends.start_over(most)?;
     let Some((heading, _)) = heading_front(text) else {
-        return Err(IndexFault::Malformed);
+        return Err(LayerFault::Broken(0));
     };
     walk_runs(period, heading, text, above, ends)
 }
 
-/// Walks over layers from the top down. What is kept in the end is where the checkpoints of the last
-/// one end.
+/// Walks over layers from the top down, the last ones of an index of so many bytes. What is kept in the
+/// end is where the checkpoints of the last one end.
 pub(crate) fn walk_down(
     period: usize,
+    len: usize,
     layers: &[OwnedBytes],
     ends: &mut Ends,
-) -> Result<(), IndexFault>
+) -> Result<(), Refusal>
+    requires { length (concat layers.now) ≤ len }
     ensures { MatchResult result
         (λ _. AreLayersBelow period None layers.now
         × (ends.new ≡ last_ends ends.old layers.now))
-        (FailsOnlyUnless (AreLayersBelow period None layers.now)) }
+        (RefusedOnlyUnless (AreLayersBelow period None layers.now) (HasFault period len None layers.now)) }
 {
     let mut above = None;
-    for layer in layers {
+    for (place, layer) in layers.iter().enumerate() {
         let text = layer.as_slice();
-        walk_layer(period, text, above, ends)?;
+        match walk_layer(period, text, above, ends) {
+            Ok(()) => {}
+            Err(LayerFault::OutOfMemory) => return Err(Refusal::OutOfMemory),
+            Err(LayerFault::Broken(byte)) => {
+                return Err(Refusal::Broken(fault_in(len, &layers[place..], byte)));
+            }
+        }
         above = Some(LayerCursor::new(text));
     }
     Ok(())

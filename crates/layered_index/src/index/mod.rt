@@ -7,6 +7,7 @@ mod block_reading;
 mod block_seek;
 mod fault;
 mod guide;
+pub mod index_fault;
 pub mod index_slice;
 pub mod layer_cursor;
 mod layers;

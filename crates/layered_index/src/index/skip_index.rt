@@ -1,5 +1,6 @@
 //! The layered skip index of a store.
 ghost use Rattle.std.specs.Prelude.{◌≡◌, ◌≤◌, ◌<◌, ◌+◌, ◌*◌, ℕ, [], length, IfOk, IfErr, MatchResult};
+ghost use Rattle.std.specs.Prelude.{IsNone, IsSome, IfSome};
 ghost use Rattle.store_base.specs.Counts.{raised};
 ghost use Rattle.layered_index.specs.Checkpoint.{IsInLine, first_past};
 ghost use Rattle.layered_index.specs.Covering.{covered_to};
@@ -7,9 +8,11 @@ ghost use Rattle.layered_index.specs.Layers.{Index, digit_count, index_part};
 ghost use Rattle.layered_index.specs.LayerReading.{items};
 ghost use Rattle.layered_index.specs.IndexReading.{last_items, IsIndexPart, HasIndex};
 ghost use Rattle.layered_index.specs.Tables.{no_ends, with_ends};
-ghost use Rattle.layered_index.specs.Refusal.{RefusesOnlyUnless, FailsOnlyUnless};
+ghost use Rattle.layered_index.specs.Faults.{IsFirstFault};
+ghost use Rattle.layered_index.specs.Refusal.{RefusesOnlyUnless, RefusedOnlyUnless};
 
-use crate::index::fault::IndexFault;
+use crate::index::fault::Refusal;
+use crate::index::index_fault::IndexFault;
 use crate::index::layer_cursor::LayerCursor;
 use crate::index::layers::{digit_count, walk_down};
 use crate::index::looks::{Steps, seek_near, seek_over};
@@ -57,20 +60,23 @@ fn bottom_layer(
     source: &OwnedBytes,
     bytes: &[u8],
     period: usize,
-) -> Result<(OwnedBytes, Ends), IndexFault>
+) -> Result<(OwnedBytes, Ends), Refusal>
     requires source { bytes.now ≡ source.now }
     requires two { 2 ≤ period }
     requires few { period ≤ 64 }
     ensures { MatchResult result
         (λ x. IsIndexPart period source.now (items 0 0 0 x.0)
         × (x.1 ≡ with_ends no_ends (items 0 0 0 x.0)))
-        (FailsOnlyUnless (HasIndex period source.now)) }
+        (RefusedOnlyUnless (HasIndex period source.now) (IsFirstFault period source.now)) }
 {
-    let layers = split(alloc, source, bytes)?;
+    let layers = match split(alloc, source, bytes) {
+        Ok(layers) => layers,
+        Err(fault) => return Err(fault.in_list()),
+    };
     let mut ends = Ends::new(alloc);
-    walk_down(period, &layers, &mut ends)?;
+    walk_down(period, bytes.len(), &layers, &mut ends)?;
     if digit_count(period, ends.len()) != layers.len() {
-        return Err(IndexFault::Malformed);
+        return Err(Refusal::Broken(IndexFault::OF_LIST));
     }
     Ok((bottom_of(source, layers)?, ends))
 }
@@ -106,6 +112,26 @@ impl SkipIndex {
             bottom,
             tables,
         })
+    }
+
+    /// Where the bytes first break a rule of an index whose full blocks have so many checkpoints. It is `None` exactly if
+    /// they are the index of a list in line.
+    pub fn find_fault(
+        alloc: Global,
+        source: &OwnedBytes,
+        period: u8,
+    ) -> Result<Option<IndexFault>, NoMemory>
+        requires two { 2 ≤ period }
+        requires few { period ≤ 64 }
+        ensures sound { IfOk result (λ fault. IsNone fault → HasIndex period source.now) }
+        ensures broken { IfOk result (λ fault. IsSome fault → HasIndex period source.now → ⊥) }
+        ensures first { IfOk result (λ fault. IfSome fault (IsFirstFault period source.now)) }
+    {
+        match bottom_layer(alloc, source, source.as_slice(), period as usize) {
+            Ok(_) => Ok(None),
+            Err(Refusal::Broken(fault)) => Ok(Some(fault)),
+            Err(Refusal::OutOfMemory) => Err(NoMemory),
+        }
     }
 
     /// The first checkpoint whose documents end past the target.
