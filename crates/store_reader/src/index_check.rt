@@ -1,0 +1,43 @@
+//! Finding the place at which the index of a file breaks a rule.
+ghost use Rattle.std.specs.Prelude.{◌≡◌, ◌≢◌, ◌≤◌, ◌-◌, length, slice_range, IfOk, IfErr};
+ghost use Rattle.store_reader.specs.IndexChecks.{BreaksIndex, IsCheckOf};
+
+use crate::view_opening::footer_of;
+use layered_index::{IndexFault, SkipIndex};
+use std::alloc::Global;
+use store_base::{NoMemory, OwnedBytes, StoreError};
+use store_format::FOOTER_LEN;
+
+/// The index part of a file, and where it first breaks a rule.
+#[derive(Clone, Copy)]
+pub struct IndexCheck {
+    /// How many bytes of the file stand before the index.
+    pub start: usize,
+    /// The first fault, if the bytes are not the index of a list in line. Its bytes count from the start of the index.
+    pub fault: Option<IndexFault>,
+}
+
+// The first fault of the bytes of an index, of which a copy is made.
+fn fault_of(alloc: Global, part: &[u8], period: u8) -> Result<Option<IndexFault>, NoMemory>
+    requires two { 2 ≤ period }
+    requires few { period ≤ 64 }
+    ensures { IfOk result (λ fault. IsCheckOf period part.now fault) }
+{
+    let part = OwnedBytes::new(alloc, Vec::from_slice(alloc, part)?)?;
+    SkipIndex::find_fault(alloc, &part, period)
+}
+
+/// Where the index of a file first breaks a rule. It returns the errors of the footer, `BadOffset` where the index would
+/// begin after the footer's first byte, and `Memory`.
+pub fn check_index(alloc: Global, file: &[u8]) -> Result<IndexCheck, StoreError>
+    ensures ok { IfOk result (λ check. BreaksIndex file.now check.start check.fault) }
+{
+    let footer = footer_of(alloc, file)?;
+    let end = file.len() - FOOTER_LEN as usize;
+    if (end as u64) < footer.offset {
+        return Err(StoreError::BadOffset);
+    }
+    let start = footer.offset as usize;
+    let fault = fault_of(alloc, &file[start..end], footer.period)?;
+    Ok(IndexCheck { start, fault })
+}
