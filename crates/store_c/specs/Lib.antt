@@ -2,3 +2,4 @@ pub mod Calls
 pub mod Getting
 pub mod Texts
 pub mod Writing
+pub mod Checking

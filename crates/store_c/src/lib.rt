@@ -5,7 +5,9 @@
 #![tactic(auto)]
 
 pub mod block;
+pub mod checking;
 mod ending;
+pub mod fault;
 mod filling;
 pub mod getting;
 mod locating;

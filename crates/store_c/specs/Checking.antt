@@ -1,0 +1,41 @@
+-- What the full check of a file tells a caller in C.
+use Rattle.std.specs.Prelude.{◌≡◌, ℕ, ◌+◌, ◌-◌, ◌^◌, ◌<◌, List, Option, Some, None}
+use Rattle.layered_index.specs.declared.index.index_fault.IndexFault.{IndexFault}
+use Rattle.store_format.specs.Block.{damaged}
+use Rattle.store_reader.specs.Viewing.{Viewing, IsViewOf, slot_of}
+use Rattle.store_reader.specs.IndexChecks.{BreaksIndex}
+use Rattle.store_c.specs.declared.fault.Fault.{Fault}
+
+-- no document before this one is damaged
+abbrev pub AreWholeTo : Viewing → ℕ → Type 0
+AreWholeTo view end = (id : ℕ) → id < end → slot_of view id ≡ Some damaged → ⊥
+
+-- These bytes are the file of a store, and no document of it is damaged.
+pub record IsSound (file : List ℕ) : Type 0 where
+  pub view : Viewing
+  pub of : IsViewOf file view
+  pub whole : (id : ℕ) → slot_of view id ≡ Some damaged → ⊥
+
+-- These bytes are the file of a store, and this is the first of its documents that is damaged.
+pub record IsFirstDamaged (file : List ℕ) (id : ℕ) : Type 0 where
+  pub view : Viewing
+  pub of : IsViewOf file view
+  pub is : slot_of view id ≡ Some damaged
+  pub before : AreWholeTo view id
+
+-- the number of a layer
+abbrev pub IsLayer : Option ℕ → ℕ → Type 0
+IsLayer None number = number ≡ 2 ^ 32 - 1
+IsLayer (Some layer) number = layer < 2 ^ 32 → number ≡ layer
+
+-- the place of a fault in an index that begins there, or of one that has none
+abbrev pub IsPlaceOf : ℕ → Option IndexFault → Fault → Type 0
+IsPlaceOf start None at = (at.byte ≡ start) × (at.layer ≡ 2 ^ 32 - 2)
+IsPlaceOf start (Some fault) at = (start + fault.byte < 2 ^ 64 → at.byte ≡ start + fault.byte) × IsLayer fault.layer at.layer
+
+-- Where the index of this file first breaks a rule; or its start, where it is the index of a list in line.
+pub record IsIndexFault (file : List ℕ) (at : Fault) : Type 0 where
+  pub start : ℕ
+  pub fault : Option IndexFault
+  pub breaks : BreaksIndex file start fault
+  pub place : IsPlaceOf start fault at

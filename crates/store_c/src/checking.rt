@@ -1,0 +1,84 @@
+//! The full check of a file, as C calls it.
+ghost use Rattle.std.specs.Prelude.{◌≡◌, ◌≢◌, ◌<◌, ℕ, Some, IfOk, MatchOption};
+ghost use Rattle.store_format.specs.Block.{damaged};
+ghost use Rattle.store_reader.specs.Viewing.{slot_of};
+ghost use Rattle.store_c.specs.Calls.{RefusesFile};
+ghost use Rattle.store_c.specs.Checking.{AreWholeTo, IsSound, IsFirstDamaged, IsIndexFault};
+
+use crate::fault::{Fault, LAYER_COVER, LAYER_LIST};
+use std::alloc::Global;
+use store_base::{DocId, StoreError};
+use store_reader::{StoreView, check_index};
+
+const DONE: u32 = 0;
+
+// The first document that is damaged.
+fn first_damaged(view: &StoreView<'_>) -> Option<DocId>
+    ensures { MatchOption result ((id : ℕ) → slot_of view.now id ≡ Some damaged → ⊥)
+        (λ id. (slot_of view.now id ≡ Some damaged) × AreWholeTo view.now id) }
+{
+    for doc_id in 0..view.num_docs() {
+        if view.get(doc_id).is_err() {
+            return Some(doc_id);
+        }
+    }
+    None
+}
+
+// Where the index of a file breaks a rule, or doesn't cover the data.
+fn index_fault(alloc: Global, file: &[u8]) -> Result<Fault, StoreError>
+    ensures { IfOk result (IsIndexFault file.now) }
+{
+    let check = check_index(alloc, file)?;
+    let (byte, layer) = match check.fault {
+        None => (0, LAYER_COVER),
+        Some(fault) => match fault.layer {
+            None => (fault.byte, LAYER_LIST),
+            Some(layer) => (fault.byte, layer as u32),
+        },
+    };
+    Ok(Fault {
+        byte: check.start.saturating_add(byte),
+        layer,
+        doc_id: 0,
+    })
+}
+
+/// Checks the whole file: its footer, its index, that the blocks cover the data, and that each block says where each of
+/// its documents lies. It returns 0 if all of this is so, and otherwise the number of the first error: 5 for the index,
+/// where `fault` says at which byte and in which layer, 7 for a document, where `fault` says which, and 10 where memory
+/// runs out. Any other error leaves `fault`.
+#[unsafe(no_mangle)]
+pub extern "C" fn zevk_check(alloc: Global, file: &[u8], fault: &mut Fault) -> u32
+    ensures done { result ≡ 0 → IsSound file.now }
+
+    // Each refusal.
+    ensures index { result ≡ 5 → IsIndexFault file.now fault.new }
+    ensures damaged { result ≡ 7 → IsFirstDamaged file.now fault.new.doc_id }
+    ensures refused { result ≢ 0 → result ≢ 7 → result ≢ 10 → RefusesFile file.now result }
+
+    ensures kept { result ≢ 5 → result ≢ 7 → fault.new ≡ fault.old }
+{
+    match StoreView::open(alloc, file) {
+        Ok(view) => match first_damaged(&view) {
+            None => DONE,
+            Some(doc_id) => {
+                *fault = Fault {
+                    byte: 0,
+                    layer: 0,
+                    doc_id,
+                };
+                StoreError::DamagedDocument(doc_id).number()
+            }
+        },
+        Err(StoreError::BadIndex) => match index_fault(alloc, file) {
+            Ok(found) => {
+                *fault = found;
+                StoreError::BadIndex.number()
+            }
+            // The footer was read before.
+            Err(_) => StoreError::Memory.number(),
+        },
+        Err(error) => error.number(),
+    }
+}
