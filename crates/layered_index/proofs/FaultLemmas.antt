@@ -1,5 +1,5 @@
 -- Where a walk over the runs of a layer meets the first that breaks a rule.
-use Rattle.std.proofs.Common.{◌≡◌, ℕ, zero, suc, ◌+◌, ◌-◌, ◌<◌, ◌≤◌, Bool, true, false, cond, List, [], ◌∷◌, ◌++◌, length, Option, Some, None, refl, sym, ◌∙◌, ap, subst, arith, get_or, take, drop, length-drop}
+use Rattle.std.proofs.Common.{◌≡◌, ℕ, zero, suc, ◌+◌, ◌-◌, ◌<◌, ◌≤◌, Bool, true, false, cond, List, [], ◌∷◌, length, Option, Some, None, refl, sym, ◌∙◌, ap, arith, get_or, take, drop, length-drop}
 use Rattle.std.proofs.lemmas.List.{take_all}
 use Rattle.std.proofs.Math.Seq.{drop-cons}
 use Rattle.std.proofs.lemmas.Bool.{cond-true, cond-false}
@@ -7,13 +7,13 @@ use Rattle.std.specs.Prelude.{◌↔◌, IsTrue, IsSome}
 use Rattle.std.specs.Option.{option_map_or}
 use Rattle.layered_index.specs.declared.index.Checkpoint.{Checkpoint}
 use Rattle.layered_index.specs.declared.index.layers.Run.{Run}
-use Rattle.layered_index.specs.Checkpoint.{checkpoint, bytes_end}
+use Rattle.layered_index.specs.Checkpoint.{checkpoint}
 use Rattle.layered_index.specs.declared.index.fault.ReadFault.{ReadFault}
 use Rattle.layered_index.specs.declared.index.fault.ReadFault.TheVariants.{Malformed, OutOfMemory}
 use Rattle.layered_index.specs.Refusal.{Fails, BreaksOnlyUnless, at_byte}
 use Rattle.layered_index.specs.BlockReading.{run_at}
 use Rattle.layered_index.specs.LayerReading.{may_stand, ArePointers}
-use Rattle.layered_index.specs.Faults.{standing_within, standing_from, BeginAlike, ArePassed, PassedTo}
+use Rattle.layered_index.specs.Faults.{standing_within, standing_from, PassedTo}
 use Rattle.layered_index.proofs.WalkLemmas.{run_takes, run_none, heads, not_true, Counts, walk_none}
 
 -- ---- the runs that may stand
@@ -101,16 +101,16 @@ pub passed_unpointed : (old new : Option (List Checkpoint)) (b : Bool) (p : Chec
     → PassedTo old standing place place
 passed_unpointed None new b p standing others place e tells bad = not_true _ (sym bad ∙ ((tells []).1 tt).0)
 passed_unpointed (Some given) new b p standing others place e tells bad = (
-    [],
-    record {
-      more = given;
-      others = standing;
-      first = refl;
-      second = refl;
-      apart = λ c ms os m o. not_true ⊥ (sym bad ∙ ((tells ms).1 (m ∙ ap (λ (x : Checkpoint). x ∷ ms) (heads c p os others (sym o ∙ e)))).0);
-    },
-    refl,
-  )
+  [],
+  record {
+    more = given;
+    others = standing;
+    first = refl;
+    second = refl;
+    apart = λ c ms os m o. not_true ⊥ (sym bad ∙ ((tells ms).1 (m ∙ ap (λ (x : Checkpoint). x ∷ ms) (heads c p os others (sym o ∙ e)))).0);
+  },
+  refl,
+)
 
 -- one may, and is pointed to
 pub passed_on : (old new : Option (List Checkpoint)) (b : Bool) (p : Checkpoint) (standing others : List Checkpoint) (place byte : ℕ) → standing ≡ p ∷ others → TellsNext old new b p → b ≡ true
@@ -120,16 +120,16 @@ passed_on None (Some new) b p standing others place byte e tells good to = absur
 passed_on (Some old) None b p standing others place byte e tells good to =
     absurd (longer p (p ∷ []) (sym ((tells []).0 (good, tt)) ∙ (tells (p ∷ [])).0 (good, tt)))
 passed_on (Some old) (Some new) b p standing others place byte e tells good to = (
-    p ∷ to.0,
-    record {
-      more = to.1.more;
-      others = to.1.others;
-      first = (tells new).0 (good, refl) ∙ ap (λ (ps : List Checkpoint). p ∷ ps) to.1.first;
-      second = e ∙ ap (λ (ps : List Checkpoint). p ∷ ps) to.1.second;
-      apart = to.1.apart;
-    },
-    to.2,
-  )
+  p ∷ to.0,
+  record {
+    more = to.1.more;
+    others = to.1.others;
+    first = (tells new).0 (good, refl) ∙ ap (λ (ps : List Checkpoint). p ∷ ps) to.1.first;
+    second = e ∙ ap (λ (ps : List Checkpoint). p ∷ ps) to.1.second;
+    apart = to.1.apart;
+  },
+  to.2,
+)
 
 -- ---- the walk
 

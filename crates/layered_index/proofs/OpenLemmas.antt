@@ -80,9 +80,9 @@ opens_again period bytes cs two small fits is =
 pub opens_fail : (period : ℕ) (bytes : List ℕ) (fault : ReadFault) → 2 ≤ period → period ≤ 64 → length bytes < 2 ^ 64 → Fails fault (split_at bytes)
     → RefusedOnlyUnless (HasIndex period bytes) (IsFirstFault period bytes) (in_list fault)
 opens_fail period bytes Malformed two small fits h = (
-    λ has. none_is_none (sym h ∙ (opens_again period bytes has.0 two small fits has.1).0),
-    subst (λ (o : Option (List (List ℕ))). FaultOf period (length bytes) fault_of_list o) (sym h) refl,
-  )
+  λ has. none_is_none (sym h ∙ (opens_again period bytes has.0 two small fits has.1).0),
+  subst (λ (o : Option (List (List ℕ))). FaultOf period (length bytes) fault_of_list o) (sym h) refl,
+)
   where
     none_is_none : {A : Type 0} {x : A} → None ≡ Some x → ⊥
     none_is_none e = cc

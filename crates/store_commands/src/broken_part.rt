@@ -1,8 +1,8 @@
 //! Which part of a file keeps it from being opened.
 
-use crate::index_fault::{IndexFault, first_fault};
 use crate::store_part::part_of;
 use docstore::{DocStoreFooter, SkipIndex, StoreError};
+use layered_index::IndexFault;
 use std::alloc::Global;
 use std::fmt;
 use store_base::{FileHandle, FileSlice};
@@ -11,7 +11,8 @@ use store_base::{FileHandle, FileSlice};
 #[derive(Clone, Copy)]
 pub enum BrokenPart {
     Footer,
-    Index(IndexFault),
+    /// The index, which begins at this byte of the file.
+    Index { begin: u64, fault: IndexFault },
     /// The index is sound, but its blocks don't cover the data, or don't begin at 0, or one is empty.
     Coverage { data: u64, covered: Option<usize> },
 }
@@ -20,7 +21,13 @@ impl fmt::Display for BrokenPart {
     fn fmt<W: fmt::Write>(&self, f: &mut fmt::Formatter<W>) -> fmt::Result {
         match self {
             BrokenPart::Footer => f.write_str("footer"),
-            BrokenPart::Index(fault) => write!(f, "{fault}"),
+            BrokenPart::Index { begin, fault } => {
+                let byte = begin.saturating_add(fault.byte as u64);
+                match fault.layer {
+                    Some(layer) => write!(f, "index: layer {layer} at byte {byte}"),
+                    None => write!(f, "index: the list of layers at byte {byte}"),
+                }
+            }
             BrokenPart::Coverage {
                 data,
                 covered: Some(covered),
@@ -44,18 +51,16 @@ pub fn broken_before_footer<H: FileHandle>(
     footer: &DocStoreFooter,
     file: &mut FileSlice<H>,
 ) -> Result<BrokenPart, StoreError> {
-    let end = file.len();
-    let part = part_of(alloc, file, footer.offset, end)?;
-    match SkipIndex::open_with_period(alloc, part, footer.period) {
-        Ok(index) => Ok(BrokenPart::Coverage {
-            data: footer.offset,
-            covered: index.covered_to().map(|(_, bytes)| bytes),
-        }),
-        Err(StoreError::BadIndex) => {
-            let part = part_of(alloc, file, footer.offset, end)?;
-            let fault = first_fault(alloc, part.as_slice(), footer.period, footer.offset)?;
-            Ok(BrokenPart::Index(fault))
-        }
-        Err(error) => Err(error),
+    let part = part_of(alloc, file, footer.offset, file.len())?;
+    if let Some(fault) = SkipIndex::find_fault(alloc, &part, footer.period)? {
+        return Ok(BrokenPart::Index {
+            begin: footer.offset,
+            fault,
+        });
     }
+    let index = SkipIndex::open_with_period(alloc, part, footer.period)?;
+    Ok(BrokenPart::Coverage {
+        data: footer.offset,
+        covered: index.covered_to().map(|(_, bytes)| bytes),
+    })
 }

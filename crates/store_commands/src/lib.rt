@@ -5,7 +5,6 @@ pub mod block_documents;
 pub mod broken_part;
 pub mod checking;
 pub mod id_range;
-pub mod index_fault;
 pub mod kept_documents;
 pub mod left_out;
 pub mod request_error;

@@ -32,20 +32,25 @@ returns-then-not-may_stand c =
     let read = c.in-Ok.ensures.read in
     let place = l.place + (length l.rest.now - length after) in
     let passed = l.invariant.passed l.place in (
-    λ good.
-    elim c.then-not-may_stand.branch [
-      | then-not-may_stand-via-then-not-may_stand w ↦ walk_refused c.args.period l.doc_end l.byte_end l.rest.now r after (len_from c.args.period h.doc h.byte c.args.text.now) read
-          (sym c.may_stand.ensures ∙ w.if-not-may_stand.true) l.invariant.counted good.0
-      | then-not-may_stand-via-else-not-may_stand+then-not-next_points w ↦
-          let pointed = subst (ArePointers l.above) (pointers_go_on l.place l.rest.now r after read) (l.invariant.pointed.1 good.1) in
-          not_true ⊥ (sym w.if-not-next_points.true ∙ ((w.next_points.ensures (pointers_at place after)).1 pointed).0)
-    ], (omega (arith, l.invariant.places), elim c.then-not-may_stand.branch [
-      | then-not-may_stand-via-then-not-may_stand w ↦ passed (passed_here l.above _ l.place
-          (standing_refused c.args.period l.doc_end l.byte_end l.place l.rest.now r after read (sym c.may_stand.ensures ∙ w.if-not-may_stand.true)))
-      | then-not-may_stand-via-else-not-may_stand+then-not-next_points w ↦ passed (passed_unpointed l.above w.next_points.new.above w.next_points.result
-          (checkpoint r.doc r.doc_end l.place place) _ (standing_from c.args.period r.doc_end r.byte_end place after) l.place
-          (standing_goes_on c.args.period l.doc_end l.byte_end l.place l.rest.now r after read (sym c.may_stand.ensures ∙ w.if-not-may_stand.false)) w.next_points.ensures w.if-not-next_points.true)
-    ]))
+      λ good.
+          elim c.then-not-may_stand.branch [
+            | then-not-may_stand-via-then-not-may_stand w ↦ walk_refused c.args.period l.doc_end l.byte_end l.rest.now r after (len_from c.args.period h.doc h.byte c.args.text.now) read
+                (sym c.may_stand.ensures ∙ w.if-not-may_stand.true) l.invariant.counted good.0
+            | then-not-may_stand-via-else-not-may_stand+then-not-next_points w ↦
+                let pointed = subst (ArePointers l.above) (pointers_go_on l.place l.rest.now r after read) (l.invariant.pointed.1 good.1) in
+                not_true ⊥ (sym w.if-not-next_points.true ∙ ((w.next_points.ensures (pointers_at place after)).1 pointed).0)
+          ],
+      (
+        omega (arith, l.invariant.places),
+        elim c.then-not-may_stand.branch [
+          | then-not-may_stand-via-then-not-may_stand w ↦ passed (passed_here l.above _ l.place
+              (standing_refused c.args.period l.doc_end l.byte_end l.place l.rest.now r after read (sym c.may_stand.ensures ∙ w.if-not-may_stand.true)))
+          | then-not-may_stand-via-else-not-may_stand+then-not-next_points w ↦ passed (passed_unpointed l.above w.next_points.new.above w.next_points.result
+              (checkpoint r.doc r.doc_end l.place place) _ (standing_from c.args.period r.doc_end r.byte_end place after) l.place
+              (standing_goes_on c.args.period l.doc_end l.byte_end l.place l.rest.now r after read (sym c.may_stand.ensures ∙ w.if-not-may_stand.false)) w.next_points.ensures w.if-not-next_points.true)
+        ],
+      ),
+    )
 
 pub loop-rest-smaller : goal.loop-rest-smaller
 loop-rest-smaller c = let l = c.loop-rest in omega (arith, run_takes l.rest.now (c.in-Ok.read.0, c.in-Ok.read.1.now) c.in-Ok.ensures.read)
@@ -88,8 +93,7 @@ returns-then-none_left c =
 pub returns-else-none_left : goal.returns-else-none_left
 returns-else-none_left c =
     let l = c.loop-rest in
-    let none : length l.rest.now ≡ 0 = eqb-true (length l.rest.now) 0 (sym c.loop-rest-test.ensures) in
-    (
+    let none : length l.rest.now ≡ 0 = eqb-true (length l.rest.now) 0 (sym c.loop-rest-test.ensures) in (
       λ good. not_true ⊥ (sym c.if-none_left.false ∙ c.none_left.ensures.1 (subst (ArePointers l.above) (pointers_end l.place l.rest.now none) (l.invariant.pointed.1 good.1))),
       (
         omega (arith, l.invariant.places),
