@@ -19,3 +19,4 @@ pub mod CallAnswers
 pub mod Parts
 pub mod StoreSlices
 pub mod SliceLaws
+pub mod StoreTails
