@@ -1,4 +1,5 @@
 pub mod Calls
 pub mod Getting
+pub mod Ranges
 pub mod Texts
 pub mod Writing

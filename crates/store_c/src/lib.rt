@@ -5,12 +5,14 @@
 #![tactic(auto)]
 
 pub mod block;
+pub mod block_place;
 mod ending;
 mod filling;
 pub mod getting;
 mod locating;
 mod open_block;
 pub mod place;
+pub mod ranges;
 pub mod reading;
 pub mod refusal;
 pub mod refusal_text;
