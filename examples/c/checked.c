@@ -29,6 +29,15 @@ CHECKED(uint32_t, get_run,
 CHECKED(uint32_t, num_docs, (const uint8_t *file, size_t file_len, uint32_t *num_docs), (file, file_len, num_docs),
         BYTES(file))
 
+CHECKED(uint32_t, block_of,
+        (const uint8_t *tail, size_t tail_len, size_t file_len, uint32_t doc_id, zevk_block_place *block,
+         size_t *wanted),
+        (tail, tail_len, file_len, doc_id, block, wanted), BYTES(tail))
+
+CHECKED(uint32_t, get_in,
+        (const uint8_t *block, size_t block_len, const zevk_block_place *at, uint32_t doc_id, zevk_place *place),
+        (block, block_len, at, doc_id, place), BYTES(block))
+
 CHECKED(uint32_t, open,
         (const uint8_t *file, size_t file_len, zevk_block *table, size_t table_len, size_t *count, uint32_t *num_docs),
         (file, file_len, table, table_len, count, num_docs), BYTES(file); ROWS(table))

@@ -11,6 +11,10 @@ uint32_t zevk_proved_get(const uint8_t *file, size_t file_len, uint32_t doc_id, 
 uint32_t zevk_proved_get_run(const uint8_t *file, size_t file_len, uint32_t first, zevk_place *places,
                              size_t places_len, size_t *count);
 uint32_t zevk_proved_num_docs(const uint8_t *file, size_t file_len, uint32_t *num_docs);
+uint32_t zevk_proved_block_of(const uint8_t *tail, size_t tail_len, size_t file_len, uint32_t doc_id,
+                              zevk_block_place *block, size_t *wanted);
+uint32_t zevk_proved_get_in(const uint8_t *block, size_t block_len, const zevk_block_place *at, uint32_t doc_id,
+                            zevk_place *place);
 uint32_t zevk_proved_open(const uint8_t *file, size_t file_len, zevk_block *table, size_t table_len, size_t *count,
                           uint32_t *num_docs);
 uint32_t zevk_proved_locate(const uint8_t *file, size_t file_len, const zevk_block *table, size_t table_len,
@@ -50,6 +54,16 @@ uint32_t zevk_get_run(const uint8_t *file, size_t file_len, uint32_t first, zevk
 
 uint32_t zevk_num_docs(const uint8_t *file, size_t file_len, uint32_t *num_docs) {
     return zevk_proved_num_docs(address(file, file_len), file_len, num_docs);
+}
+
+uint32_t zevk_block_of(const uint8_t *tail, size_t tail_len, size_t file_len, uint32_t doc_id, zevk_block_place *block,
+                       size_t *wanted) {
+    return zevk_proved_block_of(address(tail, tail_len), tail_len, file_len, doc_id, block, wanted);
+}
+
+uint32_t zevk_get_in(const uint8_t *block, size_t block_len, const zevk_block_place *at, uint32_t doc_id,
+                     zevk_place *place) {
+    return zevk_proved_get_in(address(block, block_len), block_len, at, doc_id, place);
 }
 
 uint32_t zevk_open(const uint8_t *file, size_t file_len, zevk_block *table, size_t table_len, size_t *count,

@@ -26,6 +26,17 @@ static void getting(const uint8_t *file, size_t len) {
     WANT(zevk_get_run(file, len, 1, NULL, 0, &found) == ZEVK_DONE && found == 0);
 }
 
+static void ranges(size_t len) {
+    zevk_block_place block = {1, 2, 3, 0};
+    zevk_place place = {1, 2};
+    size_t wanted = 77;
+    WANT(zevk_block_of(NULL, 0, 0, 0, &block, &wanted) == ZEVK_SHORT_FILE && wanted == 77);
+    WANT(zevk_block_of(NULL, 0, len, 0, &block, &wanted) == ZEVK_TAIL_TOO_SHORT && wanted == 28);
+    WANT(block.first_doc == 1 && block.end_doc == 2 && block.start == 3 && block.len == 0);
+    WANT(zevk_get_in(NULL, 0, &block, 2, &place) == ZEVK_OTHER_BLOCK);
+    WANT(zevk_get_in(NULL, 0, &block, 1, &place) == ZEVK_DAMAGED_DOCUMENT && place.start == 1 && place.len == 2);
+}
+
 static void reading(const uint8_t *file, size_t len) {
     zevk_place place = {1, 2}, run[3];
     size_t count = 77, found = 78;
@@ -96,6 +107,7 @@ int main(int argc, char **argv) {
     uint8_t *file = loaded(argv[1], &len);
     texts();
     getting(file, len);
+    ranges(len);
     reading(file, len);
     empty_store();
     writing(file, len);

@@ -63,7 +63,9 @@ enum zevk_refusal {
     ZEVK_NO_ROOM = 32,          /* an array of the caller's is too short */
     ZEVK_OTHER_TABLE = 33,      /* the table is not the one of the file */
     ZEVK_OPEN_BLOCK = 34,       /* the open block has documents; end it first */
-    ZEVK_OTHER_WRITER = 35      /* the writer or its table is not as these calls left it */
+    ZEVK_OTHER_WRITER = 35,     /* the writer or its table is not as these calls left it */
+    ZEVK_TAIL_TOO_SHORT = 36,   /* the end of the file lacks the footer or a part of the index */
+    ZEVK_OTHER_BLOCK = 37       /* the block's place doesn't have the document, or not so many bytes */
 };
 
 /* How many bytes hold the text of any error and the zero byte after it. */
@@ -108,6 +110,49 @@ uint32_t zevk_get_run(const uint8_t *file, size_t file_len, uint32_t first, zevk
  *
  * Errors: those of zevk_get, but no NO_DOCUMENT and no DAMAGED_DOCUMENT; so it never fails for a store's file. */
 uint32_t zevk_num_docs(const uint8_t *file, size_t file_len, uint32_t *num_docs);
+
+/* ---- reading a file that lies elsewhere
+ *
+ * A store in object storage, or behind HTTP, is read by ranges of its file, with no copy of the whole. The end of the
+ * file has the index: keep it, and then a document takes one read, of its block. Neither call takes memory. The reads
+ * are the caller's (examples/c/ranges.c):
+ *
+ *     read the last tail_len bytes of the file, 64 KiB say, or all if it is shorter
+ *     while ((error = zevk_block_of(tail, tail_len, file_len, id, &block, &wanted)) == ZEVK_TAIL_TOO_SHORT)
+ *         read the last wanted bytes of the file as the tail
+ *     read block.len bytes of the file from block.start on
+ *     zevk_get_in(bytes, block.len, &block, id, &place)
+ *     the document has place.len bytes, from bytes[place.start - block.start] on */
+
+/* Where a block of documents lies in its file. */
+typedef struct zevk_block_place {
+    uint32_t first_doc;  /* the number of its first document */
+    uint32_t end_doc;    /* one more than the number of its last document */
+    size_t start;        /* the offset in the file of its first byte */
+    size_t len;          /* its length in bytes */
+} zevk_block_place;
+
+/* Sets `block` to where the block lies that has a document, in a file of `file_len` bytes of which `tail` has the last
+ * `tail_len`. What it checks is what zevk_get checks before it comes to the block.
+ *
+ * Errors: TAIL_TOO_SHORT, if the tail lacks the footer or a part of the index: `wanted` is set to how many of the last
+ * bytes of the file are enough, and is otherwise unchanged. A tail below 28 bytes is told 28; a longer one is told the
+ * length of index and footer, at most once for a file. NO_DOCUMENT, for a store's file if and only if it has no
+ * document of this number. SHORT_FILE, also if the tail is longer than the file. If the file is not a store's, also
+ * BAD_VERSION, BAD_BLOCK_KIND, BAD_PERIOD, BAD_OFFSET and BAD_INDEX, as zevk_get finds them. */
+uint32_t zevk_block_of(const uint8_t *tail, size_t tail_len, size_t file_len, uint32_t doc_id, zevk_block_place *block,
+                       size_t *wanted);
+
+/* Sets `place` to where a document lies in the file, by the bytes of its block, which lies at `at`. The place is the
+ * one that zevk_get finds in the whole file, so the document begins at block[place->start - at->start]. Any document of
+ * the block is found so, from at->first_doc up to, but not including, at->end_doc.
+ *
+ * Errors: DAMAGED_DOCUMENT; OTHER_BLOCK, if and only if `doc_id` is not one of these, `block_len` is not at->len, or
+ * the block would end at byte 2^64 or past it. */
+uint32_t zevk_get_in(const uint8_t *block, size_t block_len, const zevk_block_place *at, uint32_t doc_id,
+                     zevk_place *place);
+
+/* ---- reading by a table */
 
 /* A row of a table: where a block of documents ends. A block begins where the one before it ends. */
 typedef struct zevk_block {
@@ -202,8 +247,7 @@ uint32_t zevk_writer_stack(zevk_writer *writer, zevk_block *table, size_t table_
  * tantivy's is 8. The writer is unchanged, and may go on.
  *
  * Errors: BAD_PERIOD; OPEN_BLOCK; OTHER_WRITER; NO_MEMORY; NO_ROOM if `end` has fewer than `len` bytes. After NO_ROOM
- * `len` is the length that is needed, so a first call with 0 bytes finds it; the contract says that `end_len` is below
- * `len`, and tests say that `len` bytes are enough and the least. */
+ * `len` is exactly the length of what is to be written, so a first call with 0 bytes finds it. */
 uint32_t zevk_writer_close(const zevk_writer *writer, const zevk_block *table, size_t table_len, uint8_t period,
                            uint8_t *end, size_t end_len, size_t *len);
 

@@ -2,6 +2,7 @@ pub mod TableLemmas
 pub mod TableViewLemmas
 pub mod PlacesLemmas
 pub mod GettingLemmas
+pub mod RangeLemmas
 pub mod TextLemmas
 pub mod MemoryLemmas
 pub mod MemoryRefusalLemmas

@@ -13,7 +13,7 @@ use Rattle.std.specs.declared.result.Result.TheVariants.{Err}
 use Rattle.store_c.specs.declared.block.Block.{Block}
 use Rattle.store_c.specs.declared.place.Place.{Place}
 use Rattle.store_c.specs.declared.refusal.Refusal.{Refusal}
-use Rattle.store_c.specs.declared.refusal.Refusal.TheVariants.{NoDocument, Damaged, NoRoom, OtherTable}
+use Rattle.store_c.specs.declared.refusal.Refusal.TheVariants.{NoDocument, Damaged, OtherTable}
 
 -- ---- tables
 
@@ -83,4 +83,4 @@ abbrev pub RefusesDocument : List ℕ → List Block → ℕ → Refusal → Typ
 RefusesDocument file table id NoDocument = IsTableOf file table → HasSlot file id None
 RefusesDocument file table id Damaged = IsTableOf file table → HasSlot file id (Some damaged)
 RefusesDocument file table id OtherTable = IsTableOf file table → ⊥
-RefusesDocument file table id NoRoom = ⊥
+RefusesDocument file table id _ = ⊥

@@ -21,4 +21,6 @@ refusal_text number =
     if number == 33 then codes "the table is not that of the file" else
     if number == 34 then codes "the open block must be ended first" else
     if number == 35 then codes "the writer is not as the calls left it" else
+    if number == 36 then codes "the end of the file is too short" else
+    if number == 37 then codes "the block is not that of the document" else
     codes "unknown refusal"

@@ -104,6 +104,12 @@ EndsFile period end writer table =
     (starts : List ℕ) (written : List ℕ) (w : Writing) → Holds (memory writer starts table) written w
     → IsFileOf period (written ++ end) w
 
+-- What makes the file behind what was written has this length.
+pub record HasEnd (period len : ℕ) (writer : Writer) (table : List Block) : Type 0 where
+  pub end : List ℕ
+  pub size : length end ≡ len
+  pub ends : EndsFile period end writer table
+
 -- ---- refusals
 
 -- The block of the open documents with one of this length has no place in 32 bits.

@@ -18,7 +18,7 @@ fn first_damaged(view: &StoreView<'_>) -> Option<DocId>
         (λ id. (slot_of view.now id ≡ Some damaged) × AreWholeTo view.now id) }
 {
     for doc_id in 0..view.num_docs() {
-        if view.get(doc_id).is_err() {
+        if let Err(StoreError::DamagedDocument(_)) = view.get(doc_id) {
             return Some(doc_id);
         }
     }
@@ -34,7 +34,7 @@ fn index_fault(alloc: Global, file: &[u8]) -> Result<Fault, StoreError>
         None => (0, LAYER_COVER),
         Some(fault) => match fault.layer {
             None => (fault.byte, LAYER_LIST),
-            Some(layer) => (fault.byte, layer as u32),
+            Some(layer) => (fault.byte, u32::try_from(layer).unwrap_or(LAYER_LIST)),
         },
     };
     Ok(Fault {

@@ -6,6 +6,7 @@
 
 pub mod block;
 pub mod checking;
+pub mod block_place;
 mod ending;
 pub mod fault;
 mod filling;
@@ -13,6 +14,7 @@ pub mod getting;
 mod locating;
 mod open_block;
 pub mod place;
+pub mod ranges;
 pub mod reading;
 pub mod refusal;
 pub mod refusal_text;

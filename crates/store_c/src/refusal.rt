@@ -11,4 +11,8 @@ pub enum Refusal {
     NoRoom = 32,
     /// The table is not that of the file.
     OtherTable = 33,
+    /// The end of the file lacks the footer or a part of the index.
+    TailTooShort = 36,
+    /// The place is of no block with this document and so many bytes.
+    OtherBlock = 37,
 }

@@ -26,6 +26,8 @@ fn text_of(number: u32) -> &'static str
         33 => "the table is not that of the file",
         34 => "the open block must be ended first",
         35 => "the writer is not as the calls left it",
+        36 => "the end of the file is too short",
+        37 => "the block is not that of the document",
         _ => "unknown refusal",
     }
 }

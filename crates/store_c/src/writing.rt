@@ -5,7 +5,7 @@ ghost use Rattle.std.specs.Prelude.{◌≡◌, ◌≢◌, ◌⊎◌, ◌+◌, �
 ghost use Rattle.store_format.specs.StoreFile.{checkpoints_of};
 ghost use Rattle.store_format.specs.declared.version.DocStoreVersion.TheVariants.{V1};
 ghost use Rattle.store_c.specs.Calls.{RefusesFile};
-ghost use Rattle.store_c.specs.Writing.{memory, Begins, PutsDocument, EndsBlock, PutsStore, EndsFile};
+ghost use Rattle.store_c.specs.Writing.{memory, Begins, PutsDocument, EndsBlock, PutsStore, EndsFile, HasEnd};
 ghost use Rattle.store_c.specs.Writing.{IsTooLong, HasNoNumber, IsOther, RefusesStore, HasTooManyWith};
 
 use crate::block::Block;
@@ -152,7 +152,7 @@ pub extern "C" fn zevk_writer_stack(
 ///
 /// It is refused by 16 where the period is below 2 or above 64, by 34 where the open block has documents, by 35 where
 /// the numbers or the table are not as these calls left them, by 10 where memory runs out, and by 32 where they have no
-/// room. Then their length is told.
+/// room. Then exactly their length is told, so a second call with so much room is not refused by 32.
 #[unsafe(no_mangle)]
 pub extern "C" fn zevk_writer_close(
     alloc: Global,
@@ -170,6 +170,7 @@ pub extern "C" fn zevk_writer_close(
     ensures open_block { result ≡ 34 → 0 < writer.now.docs }
     ensures other { result ≡ 35 → IsOther writer.now table.now }
     ensures no_room { result ≡ 32 → length end.old < len.new }
+    ensures exact { result ≡ 32 → HasEnd period len.new writer.now table.now }
     ensures no_other { result ≢ 0 → result ≢ 10 → result ≢ 16 → result ≢ 32 → result ≢ 34 → result ≡ 35 }
 
     ensures stays { result ≢ 0 → end.new ≡ end.old }

@@ -30,3 +30,4 @@ pub mod StoreSliceLemmas
 pub mod AmidLemmas
 pub mod AliveSliceLemmas
 pub mod SliceGivenLemmas
+pub mod StoreTailLemmas

@@ -20,3 +20,4 @@ pub mod Parts
 pub mod StoreSlices
 pub mod SliceLaws
 pub mod IndexChecks
+pub mod StoreTails

@@ -6,6 +6,7 @@ ghost use Rattle.store_reader.specs.CallAnswers.{AnswersAreExact, SlotsDecideAns
 ghost use Rattle.store_reader.specs.Laws.{StoredDocumentsAreGot};
 ghost use Rattle.store_reader.specs.ViewLaws.{ViewsOpenAsReaders, ViewsAnswerAsReaders, ViewsReadAsReaders};
 ghost use Rattle.store_reader.specs.SliceLaws.{SlicesGiveEachSlot, SlicesGiveEachAlive};
+ghost use Rattle.store_reader.specs.StoreTails.{TailsAreWantedOnce};
 ghost use Rattle.store_reader.specs.ViewLaws.{ViewsGiveEachSlot, ViewsGiveEachAlive};
 
 use store_base::{DocumentDeserialize, StoredDocument};
@@ -88,4 +89,10 @@ pub fn slices_give_each_slot()
 /// id.
 pub fn slices_give_each_alive()
     ensures { SlicesGiveEachAlive }
+{}
+
+/// `StoreTail::new` wants more of a tail with a footer at most once: with as many bytes as it wants, it is not too short
+/// again.
+pub fn tails_are_wanted_once()
+    ensures { TailsAreWantedOnce }
 {}

@@ -29,3 +29,12 @@ returns-then-len-end-clause-closed c is =
     let all : bytes ≡ take c.len.result (c.copy_from_slice.new.self ++ drop c.len-then-len-end.result c.args.end.now) =
     sym ((λ i. take (size i) (text i ++ drop c.len-then-len-end.result c.args.end.now)) ∙ take-append_seam bytes _) in
     subst (λ (end : List ℕ). EndsFile c.args.period end c.args.writer.now c.args.table.now) all done
+
+pub returns-clause-exact : goal.returns-clause-exact
+returns-clause-exact c is =
+    let ends = front_part c.args.writer.now.blocks c.args.table.now c.in-Some.ends.now c.in-Some.ensures.lookup.0.2 in
+    record {
+      end = c.in-Ok.bytes.items;
+      size = sym (c.len.ensures ∙ c.in-Ok.bytes.ok.0);
+      ends = closed c.args.writer.now c.args.table.now c.in-Some.ends.now c.args.period c.in-Ok.bytes.items (omega arith) ends (omega arith) (omega arith) c.in-Ok.ensures.end;
+    }

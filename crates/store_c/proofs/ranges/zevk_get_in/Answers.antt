@@ -1,0 +1,16 @@
+use Rattle.std.proofs.Common.{sym, ap, ◌∙◌, arith}
+use Rattle.std.specs.Prelude.{Err}
+use Rattle.store_base.specs.declared.error.StoreError.{StoreError}
+use Rattle.store_c.proofs.GettingLemmas.{is_place}
+use Rattle.store_c.proofs.ranges.zevk_get_in.Goals as goal
+
+pub returns-in-Ok-clause-done : goal.returns-in-Ok-clause-done
+returns-in-Ok-clause-done c done file held =
+    let r = c.in-Ok in
+    is_place file c.args.doc_id r.range.start r.range.end _ r.ensures.order r.ensures.within held.within
+    (λ s. r.ensures.document file s (held.stored s c.args.doc_id (omega arith) (omega arith)))
+
+pub returns-in-Err-clause-damaged : goal.returns-in-Err-clause-damaged
+returns-in-Err-clause-damaged c seven file held s =
+    let e = c.in-Err.ensures in
+    sym (e.document file s (held.stored s c.args.doc_id (omega arith) (omega arith))) ∙ ap (λ (x : StoreError). Err x) e.refused

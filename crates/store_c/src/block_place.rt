@@ -1,0 +1,15 @@
+//! Where a block lies.
+
+/// Where a block of documents lies in the file of its store, and which documents it has.
+#[repr(C)]
+#[derive(Clone, Copy)]
+pub struct BlockPlace {
+    /// The number of its first document.
+    pub first_doc: u32,
+    /// The number behind that of its last document.
+    pub end_doc: u32,
+    /// How many bytes of the file stand before it.
+    pub start: usize,
+    /// How many bytes it has.
+    pub len: usize,
+}

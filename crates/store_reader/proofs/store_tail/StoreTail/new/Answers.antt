@@ -1,0 +1,42 @@
+use Rattle.std.proofs.Common.{◌≡◌, ◌-◌, ◌+◌, ◌≤◌, length, inl, inr, ◌∙◌, arith}
+use Rattle.std.specs.Prelude.{slice_range}
+use Rattle.store_reader.proofs.StoreTailLemmas.{short_file, bad_footer, bad_offset, bad_index, wanted_index, tail_laid_out}
+use Rattle.store_reader.proofs.store_tail.StoreTail.new.Goals as goal
+use Rattle.store_reader.proofs.store_tail.StoreTail.new.Goals.{then-file_len-via-then-file_len, then-file_len-via-else-file_len+then-file_len-tail}
+
+pub returns-then-file_len-clause-refused : goal.returns-then-file_len-clause-refused
+returns-then-file_len-clause-refused c =
+    short_file c.args.file_len c.args.tail.now (elim c.then-file_len.branch [
+      | then-file_len-via-then-file_len w ↦ inl (omega (arith, w.if-file_len.true))
+      | then-file_len-via-else-file_len+then-file_len-tail w ↦ inr (omega (arith, w.if-file_len-tail.true))
+    ])
+
+pub returns-in-Err-clause-refused : goal.returns-in-Err-clause-refused
+returns-in-Err-clause-refused c = bad_footer c.args.file_len c.args.tail.now c.in-Err.error (omega arith) (omega arith) c.in-Err.ensures.found
+
+pub returns-then-file_len-footer-clause-refused : goal.returns-then-file_len-footer-clause-refused
+returns-then-file_len-footer-clause-refused c = bad_offset c.args.file_len c.args.tail.now c.in-Ok.footer (omega arith) (omega arith) c.in-Ok.ensures.found (omega arith)
+
+pub returns-then-tail-wanted-clause-refused : goal.returns-then-tail-wanted-clause-refused
+returns-then-tail-wanted-clause-refused c =
+    wanted_index c.args.file_len c.args.tail.now c.in-Ok.footer (omega arith) (omega arith) c.in-Ok.ensures.found (omega arith) (omega arith)
+
+pub invariant_of-result : goal.invariant_of-result
+invariant_of-result c =
+    let f = c.in-Ok.footer in
+    let n = c.args.file_len in
+    let tail = c.args.tail.now in
+    let part : c.part-index_bytes.result.now ≡ slice_range tail (length tail - (n - f.offset)) (length tail - 28) = c.part-index_bytes.ensures in
+    let is : c.in-Ok-new.index ≡ record { period = f.period; bytes = slice_range tail (length tail - (n - f.offset)) (length tail - 28) } = c.in-Ok-new.ensures.ok
+    ∙ (λ i. record { period = f.period; bytes = part i }) in
+    let fits : 28 + f.offset ≤ n = omega arith in
+    let enough : n - f.offset ≤ length tail = omega arith in
+    record {
+      within = omega arith;
+      laid_out = λ file t. tail_laid_out file n tail f c.in-Ok-new.index t (omega arith) c.in-Ok.ensures.found fits enough is;
+    }
+
+pub returns-in-Err-new-clause-refused : goal.returns-in-Err-new-clause-refused
+returns-in-Err-new-clause-refused c =
+    let none = rw c.part-index_bytes.ensures at c.in-Err-new.ensures.refused in
+    bad_index c.args.file_len c.args.tail.now c.in-Ok.footer c.in-Err-new.error (omega arith) (omega arith) c.in-Ok.ensures.found (omega arith) (omega arith) none
