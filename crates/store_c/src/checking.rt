@@ -1,5 +1,5 @@
 //! The full check of a file, as C calls it.
-ghost use Rattle.std.specs.Prelude.{◌≡◌, ◌≢◌, ◌<◌, ℕ, Some, IfOk, MatchOption};
+ghost use Rattle.std.specs.Prelude.{◌≡◌, ◌≢◌, ◌↔◌, ◌<◌, ℕ, Some, IfOk, IsTrue, MatchOption};
 ghost use Rattle.store_format.specs.Block.{damaged};
 ghost use Rattle.store_reader.specs.Viewing.{slot_of};
 ghost use Rattle.store_c.specs.Calls.{RefusesFile};
@@ -11,6 +11,18 @@ use store_base::{DocId, StoreError};
 use store_reader::{StoreView, check_index};
 
 const DONE: u32 = 0;
+const BAD_INDEX: u32 = 5;
+const NO_MEMORY: u32 = 10;
+
+// Whether the block of a document doesn't say where it lies.
+fn is_damaged(view: &StoreView<'_>, doc_id: DocId) -> bool
+    ensures { IsTrue result ↔ (slot_of view.now doc_id ≡ Some damaged) }
+{
+    match view.get(doc_id) {
+        Ok(_) => false,
+        Err(error) => error == StoreError::DamagedDocument(doc_id),
+    }
+}
 
 // The first document that is damaged.
 fn first_damaged(view: &StoreView<'_>) -> Option<DocId>
@@ -18,7 +30,7 @@ fn first_damaged(view: &StoreView<'_>) -> Option<DocId>
         (λ id. (slot_of view.now id ≡ Some damaged) × AreWholeTo view.now id) }
 {
     for doc_id in 0..view.num_docs() {
-        if let Err(StoreError::DamagedDocument(_)) = view.get(doc_id) {
+        if is_damaged(view, doc_id) {
             return Some(doc_id);
         }
     }
@@ -71,14 +83,17 @@ pub extern "C" fn zevk_check(alloc: Global, file: &[u8], fault: &mut Fault) -> u
                 StoreError::DamagedDocument(doc_id).number()
             }
         },
-        Err(StoreError::BadIndex) => match index_fault(alloc, file) {
-            Ok(found) => {
-                *fault = found;
-                StoreError::BadIndex.number()
+        Err(error) => {
+            let number = error.number();
+            if number != BAD_INDEX {
+                return number;
             }
-            // The footer was read before.
-            Err(_) => StoreError::Memory.number(),
-        },
-        Err(error) => error.number(),
+            let Ok(found) = index_fault(alloc, file) else {
+                // The footer was read before, so there was no memory.
+                return NO_MEMORY;
+            };
+            *fault = found;
+            BAD_INDEX
+        }
     }
 }
