@@ -33,4 +33,5 @@ pub mod SoughtLemmas
 pub mod IndexHeadLemmas
 pub mod RestOfLayerLemmas
 pub mod DescentLemmas
+pub mod FoundLemmas
 pub mod OuterLayersLemmas

@@ -5,6 +5,7 @@ ghost use Rattle.layered_index.specs.declared.index.Checkpoint.{Checkpoint};
 ghost use Rattle.layered_index.specs.Checkpoint.{IsInLine, first_past};
 ghost use Rattle.layered_index.specs.Layers.{layer_text};
 ghost use Rattle.layered_index.specs.BlockReading.{steps_at};
+ghost use Rattle.layered_index.specs.Sought.{found_on_top, found_in_run, found_in};
 ghost use Rattle.layered_index.specs.Sought.{sought_from, sought_at, scanned, scanned_at, IsPast, IsRunAt, IsFoundAbove};
 
 use crate::index::Checkpoint;
@@ -145,6 +146,7 @@ fn seek_top(
     requires few { period ≤ 64 }
     ensures answer { (cs : List Checkpoint) → IsInLine cs → layer.now ≡ layer_text period cs
         → IsFoundAbove period target None cs → result ≡ Some (first_past cs target) }
+    ensures exact { result ≡ found_on_top whole period target layer.now }
     ensures past { IfSome result (λ found. IfSome found (IsPast target)) }
     ensures counted { steps.new ≤ steps.old + period }
 {
@@ -167,6 +169,7 @@ fn seek_pointed(
 ) -> Option<Option<Checkpoint>>
     ensures answer { (run : List Checkpoint) → IsRunAt period run pointer.now block.now
         → result ≡ Some (first_past run target) }
+    ensures exact { result ≡ found_in_run whole period target pointer.now block.now }
     ensures past { IfSome result (λ found. IfSome found (IsPast target)) }
     ensures counted { steps.new ≤ steps.old + period }
 {
@@ -197,6 +200,7 @@ fn seek_below(
     requires few { period ≤ 64 }
     ensures answer { (cs : List Checkpoint) → IsInLine cs → layer.now ≡ layer_text period cs
         → IsFoundAbove period target (Some pointer.now) cs → result ≡ Some (first_past cs target) }
+    ensures exact { result ≡ found_in whole period target (Some pointer.now) layer.now }
     ensures past { IfSome result (λ found. IfSome found (IsPast target)) }
     ensures counted { steps.new ≤ steps.old + period }
 {
@@ -224,6 +228,7 @@ pub(crate) fn seek_layer(
     requires few { period ≤ 64 }
     ensures answer { (cs : List Checkpoint) → IsInLine cs → layer.now ≡ layer_text period cs
         → IsFoundAbove period target above.now cs → result ≡ Some (first_past cs target) }
+    ensures exact { result ≡ found_in whole period target above.now layer.now }
     ensures past { IfSome result (λ found. IfSome found (IsPast target)) }
     ensures counted { steps.new ≤ steps.old + period }
 {

@@ -1,12 +1,13 @@
 //! Seeks in the bytes of an index: no table is made of them, and nothing takes memory.
 ghost use Rattle.std.specs.Prelude.{◌≡◌, ◌≤◌, ◌+◌, ◌*◌, List, length, Ok, IfOk, IfErr, IfSome, IsOkAnd};
+ghost use Rattle.std.specs.Prelude.{Some, None, true, false, MatchResult};
 ghost use Rattle.std.specs.Option.{option_map};
 ghost use Rattle.layered_index.specs.declared.index.Checkpoint.{Checkpoint};
 ghost use Rattle.layered_index.specs.Checkpoint.{docs_end, first_past};
 ghost use Rattle.layered_index.specs.Layers.{digit_count};
 ghost use Rattle.layered_index.specs.IndexReading.{IsIndexPart, HasIndex};
 ghost use Rattle.layered_index.specs.Sought.{next_layer, after_numbers, from_pointer, past_on, AreOn};
-ghost use Rattle.layered_index.specs.Sought.{IsPast, IndexBytes};
+ghost use Rattle.layered_index.specs.Sought.{IsPast, IndexBytes, found_in_index, Answers};
 
 use crate::index::Checkpoint;
 use crate::index::block_seek::{seek_block, seek_layer};
@@ -143,6 +144,9 @@ impl<'a> IndexSlice<'a> {
         ensures most { (cs : List Checkpoint) → IsIndexPart self.now.period self.now.bytes cs
             → steps.new ≤ steps.old + self.now.period * digit_count self.now.period (length cs) }
         ensures always { steps.new ≤ steps.old + self.now.period * 64 }
+        ensures exact { MatchResult result
+            (λ d. found_in_index whole self.now.period target self.now.bytes ≡ Some d.found)
+            (λ _. found_in_index whole self.now.period target self.now.bytes ≡ None) }
         ensures past { IfOk result (λ d. IfSome d.found (IsPast target)) }
         ensures refused { IfErr result (λ e. e ≡ StoreError.BadIndex) }
     {
@@ -179,6 +183,7 @@ impl<'a> IndexSlice<'a> {
     pub fn seek(&self, target: DocId) -> Result<Option<Checkpoint>, StoreError>
         ensures answer { (cs : List Checkpoint) → IsIndexPart self.now.period self.now.bytes cs
             → result ≡ Ok (first_past cs target) }
+        ensures exact { Answers (found_in_index false self.now.period target self.now.bytes) result }
         ensures past { IfOk result (λ found. IfSome found (IsPast target)) }
         ensures refused { IfErr result (λ e. e ≡ StoreError.BadIndex) }
     {
@@ -224,6 +229,7 @@ impl<'a> IndexSlice<'a> {
         ensures most { (cs : List Checkpoint) → IsIndexPart self.now.period self.now.bytes cs
             → steps.new ≤ steps.old + self.now.period * digit_count self.now.period (length cs) }
         ensures always { steps.new ≤ steps.old + self.now.period * 64 }
+        ensures exact { Answers (found_in_index false self.now.period target self.now.bytes) result }
         ensures past { IfOk result (λ found. IfSome found (IsPast target)) }
         ensures refused { IfErr result (λ e. e ≡ StoreError.BadIndex) }
     {
@@ -242,6 +248,7 @@ impl<'a> IndexSlice<'a> {
         ensures most { (cs : List Checkpoint) → IsIndexPart self.now.period self.now.bytes cs
             → steps.new ≤ steps.old + self.now.period * digit_count self.now.period (length cs) }
         ensures always { steps.new ≤ steps.old + self.now.period * 64 }
+        ensures exact { Answers (found_in_index true self.now.period target self.now.bytes) result }
         ensures past { IfOk result (λ found. IfSome found (IsPast target)) }
         ensures refused { IfErr result (λ e. e ≡ StoreError.BadIndex) }
     {
