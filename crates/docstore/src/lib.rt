@@ -32,6 +32,6 @@ pub use store_format::{
 pub use store_reader::{
     AliveDocuments, AliveSliceDocuments, Answer, BlockSlice, CacheStats, DOCSTORE_CACHE_CAPACITY,
     DataPart, DocIter, DocWalk, Documents, Items, RawIter, ReadCall, SliceDocuments, StoreReader,
-    StoreSlice, StoreView, Walk, answer_all, any_lacks_memory,
+    StoreSlice, StoreTail, StoreView, TailError, Walk, answer_all, any_lacks_memory,
 };
 pub use writer::StoreWriter;

@@ -179,7 +179,8 @@ uint32_t zevk_open(const uint8_t *file, size_t file_len, zevk_block *table, size
 uint32_t zevk_locate(const uint8_t *file, size_t file_len, const zevk_block *table, size_t table_len, uint32_t doc_id,
                      zevk_place *place);
 
-/* Finds the places of the documents from `first` on, as zevk_get_run does, by the table.
+/* Finds the places of the documents from `first` on, as zevk_get_run does, by the table. It seeks in the table once for
+ * each block.
  *
  * Errors: those of zevk_locate. `count` is set in any case. */
 uint32_t zevk_locate_run(const uint8_t *file, size_t file_len, const zevk_block *table, size_t table_len,

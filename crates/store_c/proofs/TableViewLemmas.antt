@@ -4,7 +4,7 @@ use Rattle.std.specs.Prelude.{slice_get, slice_range}
 use Rattle.std.proofs.lemmas.Option.{slice_get_past}
 use Rattle.std.proofs.Math.Seq.{take-append_seam}
 use Rattle.layered_index.specs.declared.index.Checkpoint.{Checkpoint}
-use Rattle.layered_index.specs.Checkpoint.{Covers, IsInLineFrom, bytes_end, docs_end, first_past}
+use Rattle.layered_index.specs.Checkpoint.{checkpoint, Covers, IsInLineFrom, bytes_end, docs_end, first_past}
 use Rattle.layered_index.specs.Layers.{index_part}
 use Rattle.store_base.proofs.Ranges.{part_of_part}
 use Rattle.store_format.specs.Block.{Slot, slot, doc}
@@ -15,10 +15,10 @@ use Rattle.store_format.proofs.StoreLemmas.{blocks_from, checkpoints_cover}
 use Rattle.store_reader.specs.Viewing.{Viewing, IsView, IsViewOf, count_in, data_in}
 use Rattle.store_reader.proofs.ReaderStoreLemmas.{length-slice}
 use Rattle.store_reader.proofs.SeekLemmas.{IsWithin, within}
-use Rattle.store_reader.proofs.ViewLemmas.{count_is, slot_none, slot_placed}
+use Rattle.store_reader.proofs.ViewLemmas.{count_is, seek_stays, slot_none, slot_placed}
 use Rattle.store_c.specs.declared.block.Block.{Block}
 use Rattle.store_c.specs.declared.place.Place.{Place}
-use Rattle.store_c.specs.Calls.{ends_of, IsTableOf, HasSlot, IsPlace}
+use Rattle.store_c.specs.Calls.{ends_of, IsTableOf, HasSlot, IsPlace, IsTableBlock}
 use Rattle.store_c.proofs.TableLemmas.{few_blocks}
 
 -- ---- the parts of a file
@@ -101,6 +101,19 @@ module _ (file : List ℕ) (v : Viewing) (of : IsViewOf file v) where
 pub sought : (file : List ℕ) (table : List Block) (id : ℕ) (o : Option Checkpoint) → ((cs : List Checkpoint) → table ≡ map ends_of cs → IsInLineFrom 0 0 cs → o ≡ first_past cs id)
     → (known : IsTableOf file table) → first_past (checkpoints_of known.view.store) id ≡ o
 sought file table id o e known = sym (e _ known.ends (in_line file known.view known.of))
+
+-- what a seek finds is the block of each of its documents
+pub table_block : (file : List ℕ) (table : List Block) (id : ℕ) (c : Checkpoint) → c.byte_range.start ≤ c.byte_range.end → c.byte_range.end ≤ length file
+    → ((known : IsTableOf file table) → first_past (checkpoints_of known.view.store) id ≡ Some c) → IsTableBlock file table c
+table_block file table id c order end seeks = record {
+  order = order;
+  within = end;
+  sought = λ known k from to. seek_stays 0 0 (checkpoints_of known.view.store) id k c (in_line file known.view known.of) (seeks known) from to;
+}
+
+-- a block without documents is of any table
+pub no_block : (file : List ℕ) (table : List Block) → IsTableBlock file table (checkpoint 0 0 0 0)
+no_block file table = record { order = omega arith; within = omega arith; sought = λ known id from to. absurd (omega arith) }
 
 -- the place of a document in the file, from that in its block
 pub lies : (file : List ℕ) (table : List Block) (id from to : ℕ) (c : Checkpoint) (p : Place) → ((known : IsTableOf file table) → first_past (checkpoints_of known.view.store) id ≡ Some c)

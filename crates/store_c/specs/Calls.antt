@@ -3,6 +3,7 @@ use Rattle.std.specs.Prelude.{◌≡◌, ℕ, zero, suc, ◌+◌, ◌<◌, ◌�
 use Rattle.std.specs.Prelude.{length, take, drop, map}
 use Rattle.std.specs.Prelude.{slice_get, slice_range, Option, Some, None, IfSome}
 use Rattle.layered_index.specs.declared.index.Checkpoint.{Checkpoint}
+use Rattle.layered_index.specs.Checkpoint.{first_past}
 use Rattle.store_base.specs.Outcome.{number_of}
 use Rattle.store_base.specs.declared.error.StoreError.{StoreError}
 use Rattle.store_format.specs.Block.{Slot, doc, damaged}
@@ -67,6 +68,13 @@ pub record HasSlot (file : List ℕ) (id : ℕ) (s : Option Slot) : Type 0 where
   pub view : Viewing
   pub of : IsViewOf file view
   pub slot : slot_of view id ≡ s
+
+-- A part of these bytes. It is the block of each of these documents, if the table is theirs.
+pub record IsTableBlock (file : List ℕ) (table : List Block) (c : Checkpoint) : Type 0 where
+  pub order : c.byte_range.start ≤ c.byte_range.end
+  pub within : c.byte_range.end ≤ length file
+  pub sought : (known : IsTableOf file table) → (id : ℕ) → c.doc_range.start ≤ id → id < c.doc_range.end
+      → first_past (checkpoints_of known.view.store) id ≡ Some c
 
 -- A part of these bytes. It is the document of this number, if the table is theirs.
 pub record IsPlace (file : List ℕ) (table : List Block) (id : ℕ) (p : Place) : Type 0 where

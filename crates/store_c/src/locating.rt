@@ -1,8 +1,9 @@
 //! Where documents lie, by the table of their store's blocks.
-ghost use Rattle.std.specs.Prelude.{◌≡◌, ◌+◌, ◌≤◌, List, length, drop, map, MatchOption, MatchResult};
+ghost use Rattle.std.specs.Prelude.{◌≡◌, ◌+◌, ◌≤◌, ◌<◌, List, length, drop, map, IfOk, MatchOption, MatchResult};
 ghost use Rattle.layered_index.specs.declared.index.Checkpoint.{Checkpoint as CheckpointOf};
 ghost use Rattle.layered_index.specs.Checkpoint.{IsInLineFrom, docs_end, first_past};
-ghost use Rattle.store_c.specs.Calls.{ends_of, start_in, IsPlace, ArePlaces, RefusesDocument};
+ghost use Rattle.store_c.specs.Calls.{ends_of, start_in, IsPlace, ArePlaces, IsTableBlock, RefusesDocument};
+ghost use Rattle.store_c.specs.declared.block.Block.{Block as BlockOf};
 
 use crate::block::Block;
 use crate::place::Place;
@@ -49,22 +50,38 @@ fn num_docs(table: &[Block]) -> DocId
     }
 }
 
-/// Where a document lies in the file.
-pub(crate) fn place_of(file: &[u8], table: &[Block], doc_id: DocId) -> Result<Place, Refusal>
-    ensures { MatchResult result (IsPlace file.now table.now doc_id)
-        (RefusesDocument file.now table.now doc_id) }
+// The block that has a document, by the table.
+fn block_of(file: &[u8], table: &[Block], doc_id: DocId) -> Result<Checkpoint, Refusal>
+    ensures block { MatchResult result (IsTableBlock file.now table.now) (RefusesDocument file.now table.now doc_id) }
+    ensures from { IfOk result (λ c. c.doc_range.start ≤ doc_id) }
+    ensures to { IfOk result (λ c. doc_id < c.doc_range.end) }
 {
     let Some(checkpoint) = seek(table, doc_id) else {
         return Err(Refusal::NoDocument);
     };
-    let docs = checkpoint.doc_range;
-    let bytes = checkpoint.byte_range;
-    if doc_id < docs.start || docs.end <= doc_id {
+    if doc_id < checkpoint.doc_range.start || checkpoint.doc_range.end <= doc_id {
         return Err(Refusal::OtherTable);
     }
-    if bytes.end < bytes.start || file.len() < bytes.end {
+    if checkpoint.byte_range.end < checkpoint.byte_range.start
+        || file.len() < checkpoint.byte_range.end
+    {
         return Err(Refusal::OtherTable);
     }
+    Ok(checkpoint)
+}
+
+// Where a document of a block lies in the file.
+#[inline(always)]
+fn place_in(file: &[u8], block: &Checkpoint, doc_id: DocId) -> Result<Place, Refusal>
+    requires from { block.now.doc_range.start ≤ doc_id }
+    requires to { doc_id < block.now.doc_range.end }
+    requires order { block.now.byte_range.start ≤ block.now.byte_range.end }
+    requires within { block.now.byte_range.end ≤ length file.now }
+    ensures { (table : List BlockOf) → IsTableBlock file.now table block.now
+        → MatchResult result (IsPlace file.now table doc_id) (RefusesDocument file.now table doc_id) }
+{
+    let docs = &block.doc_range;
+    let bytes = &block.byte_range;
     let block = part(file, bytes.start, bytes.end);
     match likely_read_index(block, docs.end - docs.start, doc_id - docs.start) {
         Some(range) => Ok(Place {
@@ -75,8 +92,37 @@ pub(crate) fn place_of(file: &[u8], table: &[Block], doc_id: DocId) -> Result<Pl
     }
 }
 
+/// Where a document lies in the file.
+pub(crate) fn place_of(file: &[u8], table: &[Block], doc_id: DocId) -> Result<Place, Refusal>
+    ensures { MatchResult result (IsPlace file.now table.now doc_id)
+        (RefusesDocument file.now table.now doc_id) }
+{
+    let block = block_of(file, table, doc_id)?;
+    place_in(file, &block, doc_id)
+}
+
+// The block that has a document: this one if the document is not past it, otherwise the one that a seek finds.
+#[inline(always)]
+fn block_for(
+    file: &[u8],
+    table: &[Block],
+    block: Checkpoint,
+    doc_id: DocId,
+) -> Result<Checkpoint, Refusal>
+    requires held { IsTableBlock file.now table.now block }
+    requires from { block.doc_range.start ≤ doc_id }
+    ensures block { MatchResult result (IsTableBlock file.now table.now) (RefusesDocument file.now table.now doc_id) }
+    ensures from { IfOk result (λ c. c.doc_range.start ≤ doc_id) }
+    ensures to { IfOk result (λ c. doc_id < c.doc_range.end) }
+{
+    if doc_id < block.doc_range.end {
+        return Ok(block);
+    }
+    block_of(file, table, doc_id)
+}
+
 /// Where documents lie, one behind the other from a number on: as many as there is room for, up to the first that is
-/// refused. It answers how many were told, and that refusal.
+/// refused. It answers how many were told, and that refusal. It seeks once for each block.
 pub(crate) fn places_from(
     file: &[u8],
     table: &[Block],
@@ -91,8 +137,17 @@ pub(crate) fn places_from(
 {
     let left = num_docs(table).saturating_sub(first) as usize;
     let room = places.len().min(left);
+    let mut block = Checkpoint {
+        doc_range: 0..0,
+        byte_range: 0..0,
+    };
     for at in 0..room {
-        match place_of(file, table, first + at as u32) {
+        let doc_id = first + at as u32;
+        block = match block_for(file, table, block, doc_id) {
+            Ok(block) => block,
+            Err(refusal) => return (at, Some(refusal)),
+        };
+        match place_in(file, &block, doc_id) {
             Ok(found) => places[at] = found,
             Err(refusal) => return (at, Some(refusal)),
         }

@@ -84,7 +84,8 @@ pub extern "C" fn zevk_locate(file: &[u8], table: &[Block], doc_id: u32, place: 
 }
 
 /// Tells where documents lie, one behind the other from `first` on, as many as `places` has room for, and how many
-/// these are. It stops before the first that is refused, and answers its refusal, as `zevk_locate` does.
+/// these are. It stops before the first that is refused, and answers its refusal, as `zevk_locate` does. It seeks in the
+/// table once for each block.
 #[unsafe(no_mangle)]
 pub extern "C" fn zevk_locate_run(
     file: &[u8],

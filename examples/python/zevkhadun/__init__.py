@@ -27,10 +27,12 @@ from .refusals import (
     NotPlainFile,
     OldVersion,
     OpenBlock,
+    OtherBlock,
     OtherTable,
     OtherWriter,
     Refused,
     ShortFile,
+    TailTooShort,
     TooManyDocs,
 )
 from .store import Store
@@ -56,11 +58,13 @@ __all__ = [
     "NotPlainFile",
     "OldVersion",
     "OpenBlock",
+    "OtherBlock",
     "OtherTable",
     "OtherWriter",
     "Refused",
     "ShortFile",
     "Store",
+    "TailTooShort",
     "TooManyDocs",
     "Writer",
 ]

@@ -76,6 +76,14 @@ class OtherWriter(Refused):
     """The writer or its table is not as the library left it."""
 
 
+class TailTooShort(Refused):
+    """The end of the file lacks the footer or a part of the index."""
+
+
+class OtherBlock(Refused):
+    """The block's place doesn't have the document, or not so many bytes."""
+
+
 class Closed(Refused, ValueError):
     """The store or the writer is closed."""
 
@@ -110,6 +118,8 @@ REFUSALS: Dict[int, Type[Refused]] = {
     33: OtherTable,
     34: OpenBlock,
     35: OtherWriter,
+    36: TailTooShort,
+    37: OtherBlock,
 }
 
 for _number, _class in REFUSALS.items():

@@ -7,18 +7,25 @@ use Rattle.store_c.proofs.locating.places_from.Goals as goal
 
 pub loop-at-preserved : goal.loop-at-preserved
 loop-at-preserved c =
-    let kept = c.loop-at.invariant in
+    let l = c.loop-at in
+    let kept = l.invariant in
     let lt = c.loop-at-test.true in
     let room = c.min-room.ensures in
-    let size = kept.2 in
-    (one_more _ _ _ _ _ _ (omega arith) kept.0 c.in-Ok.ensures, behind_stay c.loop-at.at c.loop-at.places c.args.places.now c.in-Ok.found kept.1, length-set _ _ _ ∙ kept.2)
+    let from = c.in-Ok.ensures.from in
+    record {
+      are = one_more _ _ _ _ _ _ (omega (arith, kept.size)) kept.are (c.in-Ok-place_in.ensures c.args.table.now c.in-Ok.ensures.block);
+      rest = behind_stay l.at l.places c.args.places.now c.in-Ok-place_in.found kept.rest;
+      size = length-set _ _ _ ∙ kept.size;
+      from = omega arith;
+      held = c.in-Ok.ensures.block;
+    }
 
 pub returns-then-room-places-clause-next : goal.returns-then-room-places-clause-next
 returns-then-room-places-clause-next c known =
     let room = c.min-room.ensures in
     let left = c.saturating_sub-left.ensures in
     let few = c.if-room-places.true in
-    let size = c.loop-at.invariant.2 in
+    let size = c.loop-at.invariant.size in
     let count = c.num_docs.ensures (checkpoints_of known.view.store) known.ends in
     let past : docs_end 0 (checkpoints_of known.view.store) ≤ c.args.first + c.min-room.result = omega arith in
     has_past c.args.file.now known.view known.of _ past
