@@ -11,7 +11,9 @@ use store_base::{DocId, StoreError};
 use store_reader::{StoreView, check_index};
 
 const DONE: u32 = 0;
+
 const BAD_INDEX: u32 = 5;
+
 const NO_MEMORY: u32 = 10;
 
 // Whether the block of a document doesn't say where it lies.

@@ -5,8 +5,8 @@
 #![tactic(auto)]
 
 pub mod block;
-pub mod checking;
 pub mod block_place;
+pub mod checking;
 mod ending;
 pub mod fault;
 mod filling;
