@@ -98,7 +98,7 @@ for linked in "" "-fsanitize=address,undefined -fno-sanitize-recover=all"; do
         check "$in_c $flags: calls with arrays" "$in_c" -std=c11 $flags $warnings -I"$work/prefix/include" -c \
             -o "$calls" "$source/null_arrays.c"
         check "$in_c $flags: what reaches the proved calls" proved_calls "$in_c"
-        for program in stress writing nulls getting ranges; do
+        for program in stress writing nulls getting ranges checking; do
             check "$in_c $flags: build of $program" compiled "$in_c" -std=c11 $flags "$source/$program.c"
             check "$in_c $flags: $program" "$work/program" "$hex"
             check "$in_cpp $flags: build of $program" compiled "$in_cpp" -std=c++17 $flags -x c++ "$source/$program.c"

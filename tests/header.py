@@ -13,7 +13,13 @@ import sys
 
 # How C spells what a parameter of Rattle is, by the name of the parameter.
 NUMBERS = {"u8": "uint8_t", "u32": "uint32_t", "usize": "size_t"}
-STRUCTS = {"Block": "zevk_block", "BlockPlace": "zevk_block_place", "Place": "zevk_place", "Writer": "zevk_writer"}
+STRUCTS = {
+    "Block": "zevk_block",
+    "BlockPlace": "zevk_block_place",
+    "Fault": "zevk_fault",
+    "Place": "zevk_place",
+    "Writer": "zevk_writer",
+}
 TYPES = NUMBERS | STRUCTS
 
 

@@ -29,6 +29,9 @@ CHECKED(uint32_t, get_run,
 CHECKED(uint32_t, num_docs, (const uint8_t *file, size_t file_len, uint32_t *num_docs), (file, file_len, num_docs),
         BYTES(file))
 
+CHECKED(uint32_t, check, (const uint8_t *file, size_t file_len, zevk_fault *fault), (file, file_len, fault),
+        BYTES(file))
+
 CHECKED(uint32_t, block_of,
         (const uint8_t *tail, size_t tail_len, size_t file_len, uint32_t doc_id, zevk_block_place *block,
          size_t *wanted),

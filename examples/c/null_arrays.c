@@ -11,6 +11,7 @@ uint32_t zevk_proved_get(const uint8_t *file, size_t file_len, uint32_t doc_id, 
 uint32_t zevk_proved_get_run(const uint8_t *file, size_t file_len, uint32_t first, zevk_place *places,
                              size_t places_len, size_t *count);
 uint32_t zevk_proved_num_docs(const uint8_t *file, size_t file_len, uint32_t *num_docs);
+uint32_t zevk_proved_check(const uint8_t *file, size_t file_len, zevk_fault *fault);
 uint32_t zevk_proved_block_of(const uint8_t *tail, size_t tail_len, size_t file_len, uint32_t doc_id,
                               zevk_block_place *block, size_t *wanted);
 uint32_t zevk_proved_get_in(const uint8_t *block, size_t block_len, const zevk_block_place *at, uint32_t doc_id,
@@ -54,6 +55,10 @@ uint32_t zevk_get_run(const uint8_t *file, size_t file_len, uint32_t first, zevk
 
 uint32_t zevk_num_docs(const uint8_t *file, size_t file_len, uint32_t *num_docs) {
     return zevk_proved_num_docs(address(file, file_len), file_len, num_docs);
+}
+
+uint32_t zevk_check(const uint8_t *file, size_t file_len, zevk_fault *fault) {
+    return zevk_proved_check(address(file, file_len), file_len, fault);
 }
 
 uint32_t zevk_block_of(const uint8_t *tail, size_t tail_len, size_t file_len, uint32_t doc_id, zevk_block_place *block,

@@ -19,6 +19,9 @@ static void getting(const uint8_t *file, size_t len) {
     uint32_t num_docs = 79;
     WANT(zevk_get(NULL, 0, 0, &place) == ZEVK_SHORT_FILE && place.start == 1 && place.len == 2);
     WANT(zevk_num_docs(NULL, 0, &num_docs) == ZEVK_SHORT_FILE && num_docs == 79);
+    zevk_fault fault = {1, 2, 3};
+    WANT(zevk_check(NULL, 0, &fault) == ZEVK_SHORT_FILE);
+    WANT(fault.byte == 1 && fault.layer == 2 && fault.doc_id == 3);
     WANT(zevk_get_run(NULL, 0, 0, NULL, 0, &found) == ZEVK_SHORT_FILE && found == 0);
     found = 78;
     WANT(zevk_get_run(NULL, 0, 0, &place, 1, &found) == ZEVK_SHORT_FILE && found == 0 && place.start == 1);

@@ -152,6 +152,28 @@ uint32_t zevk_block_of(const uint8_t *tail, size_t tail_len, size_t file_len, ui
 uint32_t zevk_get_in(const uint8_t *block, size_t block_len, const zevk_block_place *at, uint32_t doc_id,
                      zevk_place *place);
 
+/* ---- checking a file */
+
+/* Where a file breaks what the format says of it. */
+typedef struct zevk_fault {
+    size_t byte;      /* of an index: the offset in the file at which the first run begins that breaks a rule */
+    uint32_t layer;   /* of an index: the layer of that run, the bottom one at 0, or one of these two */
+    uint32_t doc_id;  /* of a damaged document: its number */
+} zevk_fault;
+
+/* The layer of a fault in the list of the layers' ends, with which the index begins. */
+#define ZEVK_LAYER_LIST UINT32_MAX
+
+/* The layer of the fault of an index that is sound, but whose blocks don't cover the data. */
+#define ZEVK_LAYER_COVER (UINT32_MAX - 1)
+
+/* Checks the whole file: the footer, the whole index, that the blocks cover the data, and that each block says where
+ * its documents lie. It takes time by the number of documents. After DONE every other call finds every document.
+ *
+ * Errors: those of zevk_open but NO_ROOM; DAMAGED_DOCUMENT. After BAD_INDEX `fault` has the byte and the layer, and
+ * after DAMAGED_DOCUMENT the number of the first document that is damaged; its other numbers are 0. */
+uint32_t zevk_check(const uint8_t *file, size_t file_len, zevk_fault *fault);
+
 /* ---- reading by a table */
 
 /* A row of a table: where a block of documents ends. A block begins where the one before it ends. */
