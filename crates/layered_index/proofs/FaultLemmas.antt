@@ -134,8 +134,8 @@ passed_on (Some old) (Some new) b p standing others place byte e tells good to =
 -- ---- the walk
 
 -- no run can be read here
-pub walk_ends : (period doc byte place : ℕ) (rest : List ℕ) (above : Option (List Checkpoint)) (total : Option ℕ) (P : Type 0) (len : ℕ) (Q : ℕ → Type 0) (fault : ReadFault) → 0 < length rest → place ≤ len
-    → Fails fault (run_at rest) → Counts period doc byte rest total → ((b : ℕ) → PassedTo above (standing_from period doc byte place rest) place b → Q b)
+pub walk_ends : (period doc byte place : ℕ) (rest : List ℕ) (above : Option (List Checkpoint)) (total : Option ℕ) (P : Type 0) (len : ℕ) (Q : ℕ → Type 0) (fault : ReadFault)
+    → 0 < length rest → place ≤ len → Fails fault (run_at rest) → Counts period doc byte rest total → ((b : ℕ) → PassedTo above (standing_from period doc byte place rest) place b → Q b)
     → BreaksOnlyUnless (IsSome total × P) (λ b. (b ≤ len) × Q b) (at_byte fault place)
 walk_ends period doc byte place rest above total P len Q OutOfMemory some within e so_far passed = tt
 walk_ends period doc byte place rest above total P len Q Malformed some within e so_far passed =

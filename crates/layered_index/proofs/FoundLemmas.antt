@@ -54,8 +54,8 @@ found_no_layer whole most target count i place ends texts found total lt e so_fa
     sym (next_down whole most target count i place ends texts found total lt so_far) ∙ ap (after_layer whole most target (count - (i + 1)) found) e
 
 -- one is, in which this is found
-pub found_next : (whole : Bool) (most target count i place : ℕ) (ends texts : List ℕ) (found : Option Checkpoint) (total : Option (Option Checkpoint)) (layer : List ℕ) (end : ℕ) (more_ends more : List ℕ)
-    (o : Option (Option Checkpoint)) → i < count → next_layer place ends texts ≡ Some (layer, end, more_ends, more) → o ≡ found_in whole most target found layer
+pub found_next : (whole : Bool) (most target count i place : ℕ) (ends texts : List ℕ) (found : Option Checkpoint) (total : Option (Option Checkpoint)) (layer : List ℕ)
+    (end : ℕ) (more_ends more : List ℕ) (o : Option (Option Checkpoint)) → i < count → next_layer place ends texts ≡ Some (layer, end, more_ends, more) → o ≡ found_in whole most target found layer
     → Finds whole most target count i place ends texts found total → after_next whole most target (count - (i + 1)) end more_ends more o ≡ total
 found_next whole most target count i place ends texts found total layer end more_ends more o lt e in_layer so_far =
     ap (after_next whole most target (count - (i + 1)) end more_ends more) in_layer

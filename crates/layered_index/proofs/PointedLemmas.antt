@@ -60,17 +60,20 @@ found_past doc byte (c ∷ cs) target h = elim (cases_lt target c.doc_range.end)
 pub record IsPointer (period target place : ℕ) (gs : List (List Checkpoint)) (p : Checkpoint) : Type 0 where
   pub run : List Checkpoint
   pub front : List ℕ
-  pub back : List ℕ
-  pub text : flat_map checkpoint_block gs ≡ front ++ (checkpoint_block run ++ back)
+  pub after : List (List Checkpoint)
+  pub text : flat_map checkpoint_block gs ≡ front ++ (checkpoint_block run ++ flat_map checkpoint_block after)
+  pub before : List Checkpoint
+  pub whole : flat_map (λ g. g) gs ≡ before ++ (run ++ flat_map (λ g. g) after)
+  pub none : first_past before target ≡ None
   pub start : p.byte_range.start ≡ place + length front
   pub end : p.byte_range.end ≡ p.byte_range.start + length (checkpoint_block run)
   pub docs_first : p.doc_range.start ≡ docs_start run
   pub docs_last : p.doc_range.end ≡ docs_end 0 run
-  pub is_run : IsRun period run
+  pub are_runs : AllByRecursion (IsRun period) (run ∷ after)
   pub first : first_past (flat_map (λ g. g) gs) target ≡ first_past run target
 
 -- the first run is it, or one of the others
-is_pointer : (period target place doc byte : ℕ) (gs : List (List Checkpoint)) (p : Checkpoint) → AllByRecursion (IsRun period) gs → IsInLineFrom doc byte (flat_map (λ g. g) gs)
+pub is_pointer : (period target place doc byte : ℕ) (gs : List (List Checkpoint)) (p : Checkpoint) → AllByRecursion (IsRun period) gs → IsInLineFrom doc byte (flat_map (λ g. g) gs)
     → first_past (pointers place gs) target ≡ Some p → IsPointer period target place gs p
 is_pointer period target place doc byte [] p runs h e = absurd (cc)
 is_pointer period target place doc byte ([] ∷ gs) p runs h e = absurd (omega (arith, runs.0.some))
@@ -78,7 +81,6 @@ is_pointer period target place doc byte ((c ∷ cs) ∷ gs) p runs h e =
     let g = c ∷ cs in
     let rest = flat_map (λ (x : List Checkpoint). x) gs in
     let block = checkpoint_block g in
-    let behind = flat_map checkpoint_block gs in
     let others = pointers (place + length block) gs in
     let q = checkpoint c.doc_range.start (docs_end c.doc_range.end cs) place (place + length block) in
     let both = in_line-split doc byte g rest h in
@@ -90,13 +92,16 @@ is_pointer period target place doc byte ((c ∷ cs) ∷ gs) p runs h e =
           subst (IsPointer period target place (g ∷ gs)) same (record {
             run = g;
             front = [];
-            back = behind;
+            after = gs;
             text = refl;
+            before = [];
+            whole = refl;
+            none = refl;
             start = at_front;
             end = refl;
             docs_first = refl;
             docs_last = refl;
-            is_run = runs.0;
+            are_runs = runs;
             first = first_past-append g rest target ∙ ap (λ (o : Option Checkpoint). option_or o (first_past rest target)) found.1 ∙ sym found.1;
           })
       | inr later ↦
@@ -105,13 +110,16 @@ is_pointer period target place doc byte ((c ∷ cs) ∷ gs) p runs h e =
           record {
             run = on.run;
             front = block ++ on.front;
-            back = on.back;
-            text = ap (λ (t : List ℕ). block ++ t) on.text ∙ sym (append_assoc block on.front (checkpoint_block on.run ++ on.back));
+            after = on.after;
+            text = ap (λ (t : List ℕ). block ++ t) on.text ∙ sym (append_assoc block on.front (checkpoint_block on.run ++ flat_map checkpoint_block on.after));
+            before = g ++ on.before;
+            whole = ap (λ (xs : List Checkpoint). g ++ xs) on.whole ∙ sym (append_assoc g on.before (on.run ++ flat_map (λ (x : List Checkpoint). x) on.after));
+            none = first_past-append g on.before target ∙ ap (λ (o : Option Checkpoint). option_or o (first_past on.before target)) none ∙ on.none;
             start = omega (arith, on.start, length-append block on.front);
             end = on.end;
             docs_first = on.docs_first;
             docs_last = on.docs_last;
-            is_run = on.is_run;
+            are_runs = on.are_runs;
             first = first_past-append g rest target ∙ ap (λ (o : Option Checkpoint). option_or o (first_past rest target)) none ∙ on.first;
           }
     ]
@@ -164,14 +172,15 @@ run_pointed period target cs p one h e =
     let joined = groups_joined period cs one in
     let is = is_pointer period target 0 from.0 from.1 gs p (groups_are_runs period from.0 from.1 cs one from.2) (subst (IsInLineFrom from.0 from.1) (sym joined) from.2) e in
     let start : p.byte_range.start ≡ length is.front = omega (arith, is.start) in
+    let back = flat_map checkpoint_block is.after in
     record {
       run = is.run;
       order = omega (arith, is.end);
-      within = omega (arith, is.end, start, ap length is.text, length-append is.front (checkpoint_block is.run ++ is.back), length-append (checkpoint_block is.run) is.back);
-      part = ap (λ (t : List ℕ). slice_range t p.byte_range.start p.byte_range.end) is.text ∙ cut_out is.front (checkpoint_block is.run) is.back p.byte_range.start p.byte_range.end start is.end;
+      within = omega (arith, is.end, start, ap length is.text, length-append is.front (checkpoint_block is.run ++ back), length-append (checkpoint_block is.run) back);
+      part = ap (λ (t : List ℕ). slice_range t p.byte_range.start p.byte_range.end) is.text ∙ cut_out is.front (checkpoint_block is.run) back p.byte_range.start p.byte_range.end start is.end;
       docs_first = is.docs_first;
       docs_last = is.docs_last;
-      is_run = is.is_run;
+      is_run = is.are_runs.0;
       first = ap (λ (xs : List Checkpoint). first_past xs target) (sym joined) ∙ is.first;
     }
 

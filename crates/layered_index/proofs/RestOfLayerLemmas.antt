@@ -1,20 +1,20 @@
 -- The checkpoints of a layer from a run on that has the first one past a target.
-use Rattle.std.proofs.Common.{◌≡◌, ℕ, ◌+◌, ◌<◌, ◌≤◌, inl, inr, Bool, true, false, cond, ltb, List, [], ◌∷◌, ◌++◌, length, drop, Option, Some, None, refl, sym, ◌∙◌, ap, subst, arith}
+use Rattle.std.proofs.Common.{◌≡◌, ℕ, ◌<◌, ◌≤◌, inl, inr, Bool, true, false, cond, ltb, List, [], ◌∷◌, ◌++◌, length, drop, Option, Some, None, refl, sym, ◌∙◌, ap, subst, arith}
 use Rattle.std.proofs.lemmas.Bool.{cond-true, cond-false, lt-ltb, le-ltb, cases_lt}
-use Rattle.std.proofs.Math.Seq.{drop-append-add}
+use Rattle.std.proofs.Math.Seq.{drop-append_seam}
 use Rattle.std.specs.Option.{option_map}
-use Rattle.std.specs.List.{flat_map, AllByRecursion}
+use Rattle.std.specs.List.{flat_map}
 use Rattle.store_base.specs.ReadingLemmas.{some_is}
 use Rattle.layered_index.specs.declared.index.Checkpoint.{Checkpoint}
-use Rattle.layered_index.specs.Checkpoint.{checkpoint, docs_end, bytes_end, IsInLineFrom, IsInLine, checkpoint_block, first_past}
-use Rattle.layered_index.specs.Layers.{groups, layer_text, pointers}
+use Rattle.layered_index.specs.Checkpoint.{IsInLineFrom, IsInLine, checkpoint_block, first_past}
+use Rattle.layered_index.specs.Layers.{groups, layer_text}
 use Rattle.layered_index.specs.LayerReading.{items}
-use Rattle.layered_index.specs.LineLemmas.{in_line-split, in_line_somewhere}
+use Rattle.layered_index.specs.LineLemmas.{in_line_somewhere}
 use Rattle.layered_index.specs.Sought.{from_pointer, past_on, IsFoundAbove}
 use Rattle.layered_index.proofs.CursorLemmas.{items_runs, items_layer}
 use Rattle.layered_index.proofs.GroupLemmas.{groups_joined}
-use Rattle.layered_index.proofs.PointedLemmas.{past_here, past_later, none_before}
-use Rattle.layered_index.proofs.RunLemmas.{IsRun, groups_are_runs}
+use Rattle.layered_index.proofs.PointedLemmas.{past_here, past_later, is_pointer}
+use Rattle.layered_index.proofs.RunLemmas.{groups_are_runs}
 
 -- ---- the first past a target, and those after it
 
@@ -58,45 +58,6 @@ on_parts (x ∷ xs) target c left e = elim (cases_lt target x.doc_range.end) [
 
 -- ---- from the run on that is pointed to
 
--- The pointer points to the first of these runs, which have the first past the target; the first of all is at this place.
-record IsRestAt (period target place : ℕ) (gs : List (List Checkpoint)) (p : Checkpoint) : Type 0 where
-  skipped : ℕ
-  start : p.byte_range.start ≡ place + skipped
-  runs : List (List Checkpoint)
-  text : drop skipped (flat_map checkpoint_block gs) ≡ flat_map checkpoint_block runs
-  are_runs : AllByRecursion (IsRun period) runs
-  goes_on : past_on (flat_map (λ g. g) gs) target ≡ past_on (flat_map (λ g. g) runs) target
-
-rest_at : (period target place doc byte : ℕ) (gs : List (List Checkpoint)) (p : Checkpoint) → AllByRecursion (IsRun period) gs → IsInLineFrom doc byte (flat_map (λ g. g) gs)
-    → first_past (pointers place gs) target ≡ Some p → IsRestAt period target place gs p
-rest_at period target place doc byte [] p runs h e = absurd (cc)
-rest_at period target place doc byte ([] ∷ gs) p runs h e = absurd (omega (arith, runs.0.some))
-rest_at period target place doc byte ((c ∷ cs) ∷ gs) p runs h e =
-    let g = c ∷ cs in
-    let rest = flat_map (λ (x : List Checkpoint). x) gs in
-    let block = checkpoint_block g in
-    let after = flat_map checkpoint_block gs in
-    let others = pointers (place + length block) gs in
-    let q = checkpoint c.doc_range.start (docs_end c.doc_range.end cs) place (place + length block) in
-    let both = in_line-split doc byte g rest h in
-    elim (cases_lt target (docs_end c.doc_range.end cs)) [
-      | inl here ↦
-          let same : q ≡ p = some_is q p (sym (past_here q others target here) ∙ e) in
-          let at_front : place ≡ place + 0 = omega arith in
-          subst (IsRestAt period target place (g ∷ gs)) same (record { skipped = 0; start = at_front; runs = g ∷ gs; text = refl; are_runs = runs; goes_on = refl })
-      | inr later ↦
-          let on = rest_at period target (place + length block) (docs_end doc g) (bytes_end byte g) gs p runs.1 both.1 (sym (past_later q others target later) ∙ e) in
-          let none : first_past g target ≡ None = none_before doc byte g target both.0 later in
-          record {
-            skipped = length block + on.skipped;
-            start = omega (arith, on.start);
-            runs = on.runs;
-            text = drop-append-add block after on.skipped ∙ on.text;
-            are_runs = on.are_runs;
-            goes_on = on_after g rest target none ∙ on.goes_on;
-          }
-    ]
-
 -- The text of a layer from the run on that was found above has the first past the target, and those after it.
 pub rest_found : (period target : ℕ) (cs : List Checkpoint) (found : Option Checkpoint) → 1 ≤ period → period ≤ 64 → IsInLine cs → IsFoundAbove period target found cs
     → past_on (items 0 0 0 (from_pointer (layer_text period cs) found)) target ≡ past_on cs target
@@ -105,11 +66,15 @@ rest_found period target cs (Some p) one small h above =
     let from = in_line_somewhere cs h in
     let gs = groups period cs in
     let joined = groups_joined period cs one in
-    let is = rest_at period target 0 from.0 from.1 gs p (groups_are_runs period from.0 from.1 cs one from.2) (subst (IsInLineFrom from.0 from.1) (sym joined) from.2) above in
-    let start : p.byte_range.start ≡ is.skipped = omega (arith, is.start) in
-    let text : from_pointer (layer_text period cs) (Some p) ≡ flat_map checkpoint_block is.runs = ap (λ (n : ℕ). drop n (layer_text period cs)) start ∙ is.text in
-    ap (λ (t : List ℕ). past_on (items 0 0 0 t) target) text ∙ ap (λ (xs : List Checkpoint). past_on xs target) (items_runs period 0 0 is.runs small is.are_runs)
-    ∙ sym is.goes_on ∙ ap (λ (xs : List Checkpoint). past_on xs target) joined
+    let is = is_pointer period target 0 from.0 from.1 gs p (groups_are_runs period from.0 from.1 cs one from.2) (subst (IsInLineFrom from.0 from.1) (sym joined) from.2) above in
+    let runs = is.run ∷ is.after in
+    let start : p.byte_range.start ≡ length is.front = omega (arith, is.start) in
+    let text : from_pointer (layer_text period cs) (Some p) ≡ flat_map checkpoint_block runs =
+    (λ i. drop (start i) (is.text i)) ∙ drop-append_seam is.front (flat_map checkpoint_block runs) in
+    let goes_on : past_on (flat_map (λ (g : List Checkpoint). g) gs) target ≡ past_on (flat_map (λ (g : List Checkpoint). g) runs) target =
+    ap (λ (xs : List Checkpoint). past_on xs target) is.whole ∙ on_after is.before (flat_map (λ (g : List Checkpoint). g) runs) target is.none in
+    ap (λ (t : List ℕ). past_on (items 0 0 0 t) target) text ∙ ap (λ (xs : List Checkpoint). past_on xs target) (items_runs period 0 0 runs small is.are_runs)
+    ∙ sym goes_on ∙ ap (λ (xs : List Checkpoint). past_on xs target) joined
 
 -- ---- a cursor that goes on to it
 

@@ -61,11 +61,12 @@ fault_of_list = record { layer = None; byte = 0 }
 abbrev pub HasFault : ℕ → ℕ → Option (List Checkpoint) → List (List ℕ) → IndexFault → Type 0
 HasFault period len above [] fault = ⊥
 HasFault period len above (t ∷ ts) fault =
-    ((byte : ℕ) × (IsLayerBelow period above t → ⊥) × BreaksAt period above t byte × (fault ≡ fault_in len (t ∷ ts) byte))
+    ((byte : ℕ) × (IsLayerBelow period above t → ⊥) × BreaksAt period above t byte
+    × (fault ≡ fault_in len (t ∷ ts) byte))
     ⊎ (IsLayerBelow period above t × HasFault period len (Some (items 0 0 0 t)) ts fault)
 
--- Of what was cut off as layers, the fault is that of the first that is none; or of the list of layers, where none could
--- be cut off by it, or there are not as many as the length of their list has digits.
+-- Of what was cut off as layers, the fault is that of the first that is none; or of the list of layers, where none
+-- could be cut off by it, or there are not as many as the length of their list has digits.
 abbrev pub FaultOf : ℕ → ℕ → IndexFault → Option (List (List ℕ)) → Type 0
 FaultOf period len fault None = fault ≡ fault_of_list
 FaultOf period len fault (Some ts) = HasFault period len None ts fault ⊎ (AreLayersBelow period None ts

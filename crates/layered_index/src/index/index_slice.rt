@@ -179,7 +179,8 @@ impl<'a> IndexSlice<'a> {
     }
 
     /// The first checkpoint whose documents end past the target, or `None` where there is none. It returns `BadIndex`
-    /// where a run is not where the layer above points. It decodes each run up to what it seeks.
+    /// where a run is not where the layer above points. It decodes each run up to what it seeks. In any bytes it
+    /// returns what the definition `found_in_index` finds, which says each check that is made.
     pub fn seek(&self, target: DocId) -> Result<Option<Checkpoint>, StoreError>
         ensures answer { (cs : List Checkpoint) → IsIndexPart self.now.period self.now.bytes cs
             → result ≡ Ok (first_past cs target) }

@@ -114,8 +114,8 @@ impl SkipIndex {
         })
     }
 
-    /// Where the bytes first break a rule of an index whose full blocks have so many checkpoints. It is `None` exactly if
-    /// they are the index of a list in line.
+    /// Where the bytes first break a rule of an index whose full blocks have so many checkpoints. It is
+    /// `None` exactly if they are the index of a list in line.
     pub fn find_fault(
         alloc: Global,
         source: &OwnedBytes,

@@ -140,13 +140,15 @@ pub returns-in_default-clause-exact : goal.returns-in_default-clause-exact
 returns-in_default-clause-exact c =
     let l = c.loop in
     let total = found_in_index c.args.whole c.args.self.now.period c.args.target c.args.self.now.bytes in
-    found_no_layer c.args.whole c.self.inside.period c.args.target c.self.inside.count l.counter l.place l.ends.now l.texts.now l.found total c.loop-test.true (sym c.in_default.ensures) l.invariant.exact
+    found_no_layer c.args.whole c.self.inside.period c.args.target c.self.inside.count l.counter l.place l.ends.now l.texts.now l.found
+    total c.loop-test.true (sym c.in_default.ensures) l.invariant.exact
 
 pub returns-in_default-seek_layer-clause-exact : goal.returns-in_default-seek_layer-clause-exact
 returns-in_default-seek_layer-clause-exact c =
     let l = c.loop in
     let total = found_in_index c.args.whole c.args.self.now.period c.args.target c.args.self.now.bytes in
-    sym (found_next c.args.whole c.self.inside.period c.args.target c.self.inside.count l.counter l.place l.ends.now l.texts.now l.found total c.in-Some.layer.now c.in-Some.end c.in-Some.more_ends.now c.in-Some.more.now
+    sym (found_next c.args.whole c.self.inside.period c.args.target c.self.inside.count l.counter l.place l.ends.now l.texts.now l.found
+    total c.in-Some.layer.now c.in-Some.end c.in-Some.more_ends.now c.in-Some.more.now
     None c.loop-test.true (sym c.in-Some.ensures) c.in_default-seek_layer.ensures.exact l.invariant.exact)
 
 pub returns-then-is_none-clause-exact : goal.returns-then-is_none-clause-exact
@@ -155,17 +157,20 @@ returns-then-is_none-clause-exact c =
     let total = found_in_index c.args.whole c.args.self.now.period c.args.target c.args.self.now.bytes in
     found_nothing c.args.whole c.self.inside.period c.args.target (c.self.inside.count - (l.counter + 1)) c.in-Some.end c.in-Some.more_ends.now c.in-Some.more.now c.in-Some-seek_layer.next total
     (c.is_none.ensures ∙ ap not c.if-is_none.true)
-    (found_next c.args.whole c.self.inside.period c.args.target c.self.inside.count l.counter l.place l.ends.now l.texts.now l.found total c.in-Some.layer.now c.in-Some.end c.in-Some.more_ends.now c.in-Some.more.now
+    (found_next c.args.whole c.self.inside.period c.args.target c.self.inside.count l.counter l.place l.ends.now l.texts.now l.found
+    total c.in-Some.layer.now c.in-Some.end c.in-Some.more_ends.now c.in-Some.more.now
     (Some c.in-Some-seek_layer.next) c.loop-test.true (sym c.in-Some.ensures) c.in-Some-seek_layer.ensures.exact l.invariant.exact)
 
 pub returns-then-not-is_empty-clause-exact : goal.returns-then-not-is_empty-clause-exact
 returns-then-not-is_empty-clause-exact c =
     let l = c.loop in
     let total = found_in_index c.args.whole c.args.self.now.period c.args.target c.args.self.now.bytes in
-    found_last c.args.whole c.self.inside.period c.args.target c.self.inside.count l.counter l.place l.ends.now l.texts.now l.found total c.loop-test.false l.invariant.exact ∙ cond-false (eqb (length l.texts.now) 0) (Some l.found) None (sym c.if-not-is_empty.ensures)
+    found_last c.args.whole c.self.inside.period c.args.target c.self.inside.count l.counter l.place l.ends.now l.texts.now l.found
+    total c.loop-test.false l.invariant.exact ∙ cond-false (eqb (length l.texts.now) 0) (Some l.found) None (sym c.if-not-is_empty.ensures)
 
 pub returns-clause-exact : goal.returns-clause-exact
 returns-clause-exact c =
     let l = c.loop in
     let total = found_in_index c.args.whole c.args.self.now.period c.args.target c.args.self.now.bytes in
-    found_last c.args.whole c.self.inside.period c.args.target c.self.inside.count l.counter l.place l.ends.now l.texts.now l.found total c.loop-test.false l.invariant.exact ∙ cond-true (eqb (length l.texts.now) 0) (Some l.found) None (sym c.if-not-is_empty.ensures)
+    found_last c.args.whole c.self.inside.period c.args.target c.self.inside.count l.counter l.place l.ends.now l.texts.now l.found
+    total c.loop-test.false l.invariant.exact ∙ cond-true (eqb (length l.texts.now) 0) (Some l.found) None (sym c.if-not-is_empty.ensures)
