@@ -25,4 +25,7 @@ returns-then-checkpoint-clause-block c known =
     let seeks = sought _ _ _ _ c.in-Some.ensures known in
     let order = (block_within _ known.view known.of _ _ seeks).order in
     let end = block_ends _ known.view known.of _ _ seeks in
-    elim c.then-checkpoint.branch [ then-checkpoint-via-then-checkpoint w ↦ omega (arith, w.if-checkpoint) | then-checkpoint-via-else-checkpoint+then-file-checkpoint w ↦ omega (arith, w.if-file-checkpoint) ]
+    elim c.then-checkpoint.branch [
+      | then-checkpoint-via-then-checkpoint w ↦ omega (arith, w.if-checkpoint)
+      | then-checkpoint-via-else-checkpoint+then-file-checkpoint w ↦ omega (arith, w.if-file-checkpoint)
+    ]
