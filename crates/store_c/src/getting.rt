@@ -113,6 +113,7 @@ pub extern "C" fn zevk_get(alloc: Global, file: &[u8], doc_id: u32, place: &mut 
     ensures damaged { result ≡ 7 → IsRefusedIn file.now doc_id (DamagedDocument doc_id) }
     ensures no_store { result ≢ 0 → result ≢ 6 → result ≢ 7 → RefusesUnopened file.now result }
 
+    ensures no_memory { result ≢ 10 }
     ensures kept { result ≢ 0 → place.new ≡ place.old }
 {
     let store = match StoreSlice::new(alloc, file) {
@@ -148,6 +149,7 @@ pub extern "C" fn zevk_get_run(
     ensures damaged { result ≡ 7 → IsRefusedIn file.now (first + count.new) (DamagedDocument (first + count.new)) }
     ensures no_store { result ≢ 0 → result ≢ 6 → result ≢ 7 → RefusesUnopened file.now result }
 
+    ensures no_memory { result ≢ 10 }
     ensures kept { drop count.new places.new ≡ drop count.new places.old }
 {
     let store = match StoreSlice::new(alloc, file) {
@@ -171,6 +173,7 @@ pub extern "C" fn zevk_get_run(
 pub extern "C" fn zevk_num_docs(alloc: Global, file: &[u8], num_docs: &mut u32) -> u32
     ensures done { result ≡ 0 → (s : IsSomeStore file.now) → num_docs.new ≡ count_of_store file.now s }
     ensures refused { result ≢ 0 → RefusesUnopened file.now result }
+    ensures no_memory { result ≢ 10 }
     ensures kept { result ≢ 0 → num_docs.new ≡ num_docs.old }
 {
     let store = match StoreSlice::new(alloc, file) {
