@@ -66,9 +66,39 @@ static uint8_t *last(guarded to, size_t len, const void *bytes) {
 
 static guarded files, tables, starts_pages, ends;
 
+/* A document by the end of a file and one block: as by zevk_get in a store's file, and within its block in any. */
+static void read_elsewhere(const uint8_t *file, size_t len, size_t tail_len, uint32_t id, int is_store) {
+    zevk_block_place block;
+    zevk_place place, same;
+    size_t wanted = 0;
+    uint32_t error = zevk_block_of(file + (len - tail_len), tail_len, len, id, &block, &wanted);
+    WANT(error != ZEVK_TAIL_TOO_SHORT || (tail_len < wanted && wanted <= len));
+    if (error != ZEVK_DONE) {
+        return;
+    }
+    WANT(block.first_doc <= id && id < block.end_doc && block.start <= len && block.len <= len - block.start);
+    error = zevk_get_in(file + block.start, block.len, &block, id, &place);
+    WANT(error == ZEVK_DONE || error == ZEVK_DAMAGED_DOCUMENT);
+    WANT(!is_store || zevk_get(file, len, id, &same) == error);
+    if (error == ZEVK_DONE) {
+        WANT(block.start <= place.start && place.len <= block.len - (place.start - block.start));
+        WANT(!is_store || (place.start == same.start && place.len == same.len));
+    }
+}
+
 /* Every call that reads, beside each other. */
 static void read_file(input from) {
-    compared(last(files, from.len, from.at), from.len);
+    const uint8_t *file = last(files, from.len, from.at);
+    uint32_t error = compared(file, from.len);
+    zevk_fault fault;
+    uint32_t checked = zevk_check(file, from.len, &fault);
+    WANT(checked == error || (error == ZEVK_DONE && checked == ZEVK_DAMAGED_DOCUMENT));
+    size_t tails[] = {from.len, from.len / 2, from.len < 28 ? from.len : 28};
+    for (size_t at = 0; at < sizeof tails / sizeof *tails; at++) {
+        for (uint32_t id = 0; id < 4; id++) {
+            read_elsewhere(file, from.len, tails[at], id * id * id, error == ZEVK_DONE);
+        }
+    }
 }
 
 /* The arrays of a writer. */
