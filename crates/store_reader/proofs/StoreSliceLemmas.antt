@@ -1,5 +1,5 @@
 -- A store in a slice of bytes: where its parts lie, and what a seek in its index finds.
-use Rattle.std.proofs.Common.{◌≡◌, ℕ, zero, suc, ◌+◌, ◌-◌, ◌<◌, ◌≤◌, ◌^◌, List, [], ◌∷◌, length, Option, Some, None, refl, sym, ap, ◌∙◌, subst, arith, inl, inr}
+use Rattle.std.proofs.Common.{◌≡◌, ℕ, zero, suc, ◌+◌, ◌*◌, ◌-◌, ◌<◌, ◌≤◌, ◌^◌, List, [], ◌∷◌, length, Option, Some, None, refl, sym, ap, ◌∙◌, subst, arith, inl, inr}
 use Rattle.std.specs.Prelude.{Result, Ok, Err, slice_range, slice_get}
 use Rattle.std.proofs.lemmas.List.{append-nil}
 use Rattle.store_base.specs.declared.error.StoreError.{StoreError}
@@ -7,7 +7,7 @@ use Rattle.store_base.specs.declared.error.StoreError.TheVariants.{BadIndex, Bad
 use Rattle.layered_index.specs.declared.index.Checkpoint.{Checkpoint}
 use Rattle.layered_index.specs.Checkpoint.{Covers, IsInLineFrom, docs_end, first_past}
 use Rattle.layered_index.specs.LineLemmas.{in_line_from}
-use Rattle.layered_index.specs.Layers.{index_part}
+use Rattle.layered_index.specs.Layers.{digit_count, index_part}
 use Rattle.layered_index.specs.IndexReading.{IsIndexPart, HasIndex}
 use Rattle.layered_index.specs.Sought.{IndexBytes}
 use Rattle.store_format.specs.declared.footer.DocStoreFooter.{DocStoreFooter}
@@ -236,6 +236,15 @@ exactly_true id (Some (doc bytes)) = refl
 -- what holds of the bytes inside holds of those that are seen
 pub seen_parts : (a b : List ℕ) (data_len : ℕ) (index : IndexBytes) (version : DocStoreVersion) → a ≡ b → IsStoreSlice a data_len index version → IsStoreSlice b data_len index version
 seen_parts a b data_len index version e h = subst (λ (bytes : List ℕ). IsStoreSlice bytes data_len index version) e h
+
+-- the bound on a seek in the index is that of the store
+pub looks_of_store : (a b : List ℕ) (data_len : ℕ) (index : IndexBytes) (version : DocStoreVersion) → a ≡ b → IsStoreSlice a data_len index version → (old new : ℕ)
+    → ((cs : List Checkpoint) → IsIndexPart index.period index.bytes cs → new ≤ old + index.period * digit_count index.period (length cs))
+    → (s : IsSomeStore b) → new ≤ old + s.period * digit_count s.period (length (checkpoints_of s.blocks))
+looks_of_store a b data_len index version e inv old new most s =
+    let laid = (seen_parts a b data_len index version e inv).laid_out s in
+    subst (λ (p : ℕ). new ≤ old + p * digit_count p (length (checkpoints_of s.blocks))) laid.period_is
+        (most (checkpoints_of s.blocks) (stored_index b data_len index (version_number version) s laid))
 
 -- each document of the block that a seek finds has its place there
 pub block_is_of : (bytes : List ℕ) (s : IsSomeStore bytes) (id : ℕ) (c : Checkpoint) → first_past (checkpoints_of s.blocks) id ≡ Some c

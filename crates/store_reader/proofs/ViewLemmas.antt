@@ -1,11 +1,11 @@
 -- Where the documents lie in a store over bytes that another holds.
-use Rattle.std.proofs.Common.{◌≡◌, ℕ, zero, suc, ◌+◌, ◌-◌, ◌<◌, ◌≤◌, true, false, List, [], ◌∷◌, ◌++◌, length, length-append, take, nat_lt, Some, None, refl, sym, ap, ◌∙◌, subst, arith}
+use Rattle.std.proofs.Common.{◌≡◌, ℕ, zero, suc, ◌+◌, ◌*◌, ◌-◌, ◌<◌, ◌≤◌, true, false, List, [], ◌∷◌, ◌++◌, length, length-append, take, nat_lt, Some, None, refl, sym, ap, ◌∙◌, subst, arith}
 use Rattle.std.specs.Prelude.{slice_range, slice_get}
 use Rattle.std.proofs.lemmas.Bool.{lt-ltb, le-ltb}
 use Rattle.store_base.proofs.Ranges.{part_of_part}
 use Rattle.layered_index.specs.declared.index.Checkpoint.{Checkpoint}
 use Rattle.layered_index.specs.Checkpoint.{IsInLineFrom, bytes_end, docs_end, first_past}
-use Rattle.layered_index.specs.Layers.{index_part}
+use Rattle.layered_index.specs.Layers.{digit_count, index_part}
 use Rattle.store_format.specs.declared.version.DocStoreVersion.{DocStoreVersion}
 use Rattle.store_format.specs.Block.{slot, start_of, end_of}
 use Rattle.store_format.specs.Footer.{footer, version_number}
@@ -134,6 +134,13 @@ block_none v cs id is view e =
 -- the checkpoints are those of the store
 pub checkpoints_are : (file : List ℕ) (cs : List Checkpoint) (period : ℕ) (version : DocStoreVersion) → IsView file cs period version → checkpoints_of (blocks_at cs (data_in file cs)) ≡ cs
 checkpoints_are file cs period version v = (store_seen (data_in file cs) cs v.covers).checkpoints_are
+
+-- the bound on a seek in the index is that of the store
+pub looks_of_view : (file : List ℕ) (cs : List Checkpoint) (period : ℕ) (version : DocStoreVersion) → IsView file cs period version → (old new : ℕ)
+    → ((p : ℕ) → 2 ≤ p → new ≤ old + p * digit_count p (length cs))
+    → (p : ℕ) → 2 ≤ p → new ≤ old + p * digit_count p (length (checkpoints_of (blocks_at cs (data_in file cs))))
+looks_of_view file cs period version view old new most p two =
+    subst (λ (xs : List Checkpoint). new ≤ old + p * digit_count p (length xs)) (sym (checkpoints_are file cs period version view)) (most p two)
 
 -- a document stands where its block's table says
 pub stands_at : (v : Viewing) (cs : List Checkpoint) (id : ℕ) (c : Checkpoint) (from to : ℕ) → v.store ≡ blocks_at cs (data_in v.file cs)

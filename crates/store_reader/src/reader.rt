@@ -1,13 +1,13 @@
 //! The reader of a store.
 ghost use Rattle.std.specs.Prelude.{◌≡◌, ◌<◌, ◌≤◌, Err, IsTrue, IfOk, IfErr, IfSome, IsErrOf, MatchResult, ◌⊎◌, ◌↔◌};
-ghost use Rattle.std.specs.Prelude.{◌-◌, length, slice_get, slice_range, take};
+ghost use Rattle.std.specs.Prelude.{ℕ, ◌+◌, ◌*◌, ◌-◌, length, slice_get, slice_range, take};
 ghost use Rattle.store_base.specs.Counts.{HasRisen};
 ghost use Rattle.store_reader.specs.GetAnswer.{IsAnswered, AnswersTruly};
 ghost use Rattle.layered_index.specs.Checkpoint.{Covers, first_past};
 ghost use Rattle.store_reader.specs.Documents.{document_version, IsGot, ReadsTruly};
 ghost use Rattle.store_format.specs.Footer.{version_number};
 ghost use Rattle.store_reader.specs.Kept.{last_key};
-ghost use Rattle.layered_index.specs.Layers.{index_part};
+ghost use Rattle.layered_index.specs.Layers.{digit_count, index_part};
 ghost use Rattle.store_reader.specs.Opening.{IsOpened, IsRefused, RefusesNoStore};
 ghost use Rattle.store_reader.specs.Reading.{IsReadOnce, IsSameStore, IsSeen, num_docs, store_of};
 ghost use Rattle.store_format.specs.Slots.{slots};
@@ -23,7 +23,7 @@ use crate::opening::read_store;
 use crate::share::Share;
 use crate::store_index::StoreIndex;
 use crate::walk::{DocWalk, first_walk};
-use layered_index::{Checkpoint, LayerCursor};
+use layered_index::{Checkpoint, LayerCursor, Steps};
 use std::alloc::Global;
 use std::marker::{Model, PhantomData};
 use std::ops::Range;
@@ -121,7 +121,35 @@ impl<H: FileHandle> StoreReader<H> {
             → HasRisen self.old.file.failures self.new.file.failures }
         ensures same_store { IsSameStore self.old self.new }
     {
-        let Some(checkpoint) = self.index.seek(doc_id) else {
+        let mut steps = Steps::new();
+        self.get_document_bytes_counted(alloc, doc_id, &mut steps)
+    }
+
+    /// Gets as `get_document_bytes` does, and counts each checkpoint that the seek looks at: at most p for each base-p
+    /// digit of their number, for every p from 2 on.
+    #[inline(always)]
+    pub fn get_document_bytes_counted(
+        &mut self,
+        alloc: Global,
+        doc_id: DocId,
+        steps: &mut Steps,
+    ) -> Result<OwnedBytes, StoreError>
+        ensures most { (p : ℕ) → 2 ≤ p
+            → steps.new ≤ steps.old + p * digit_count p (length self.old.checkpoints) }
+
+        // What `get_document_bytes` says.
+        ensures no_document { IsErrOf result (StoreError.InvalidArgument doc_id) ↔ (num_docs self.old ≤ doc_id) }
+        ensures no_read { num_docs self.old ≤ doc_id → self.new ≡ self.old }
+        ensures answered { doc_id < num_docs self.old → IsAnswered self.old doc_id result self.new }
+
+        // What follows.
+        ensures honest { IsTrue self.old.file.honest
+            → AnswersTruly doc_id (slice_get (slots (store_of self.old)) doc_id) result }
+        ensures failed { IsErrOf result StoreError.Read
+            → HasRisen self.old.file.failures self.new.file.failures }
+        ensures same_store { IsSameStore self.old self.new }
+    {
+        let Some(checkpoint) = self.index.seek_guided(doc_id, steps) else {
             return Err(StoreError::InvalidArgument(doc_id));
         };
         look_up(

@@ -1,11 +1,11 @@
 //! The index of a store, whose checkpoints cover the data.
-ghost use Rattle.std.specs.Prelude.{◌≡◌, ◌≤◌, length, MatchResult};
+ghost use Rattle.std.specs.Prelude.{◌≡◌, ◌≤◌, ◌+◌, ◌*◌, ℕ, length, MatchResult};
 ghost use Rattle.layered_index.specs.Checkpoint.{docs_end, first_past};
 ghost use Rattle.store_reader.specs.Covering.{IsIndexOf, HasIndexOf};
-ghost use Rattle.layered_index.specs.Layers.{Index, index_part};
+ghost use Rattle.layered_index.specs.Layers.{Index, digit_count, index_part};
 ghost use Rattle.layered_index.specs.Refusal.{RefusesOnlyUnless};
 
-use layered_index::{Checkpoint, LayerCursor, SkipIndex};
+use layered_index::{Checkpoint, LayerCursor, SkipIndex, Steps};
 use std::alloc::Global;
 use std::marker::Model;
 use store_base::{DocId, OwnedBytes, StoreError};
@@ -88,6 +88,16 @@ impl StoreIndex {
         ensures { result ≡ first_past self.now.checkpoints target }
     {
         self.index.seek(target)
+    }
+
+    /// Seeks as `seek` does, and counts each checkpoint that it looks at.
+    #[inline(always)]
+    pub fn seek_guided(&self, target: DocId, steps: &mut Steps) -> Option<Checkpoint>
+        ensures answer { result ≡ first_past self.now.checkpoints target }
+        ensures most { (p : ℕ) → 2 ≤ p → steps.new
+            ≤ steps.old + p * digit_count p (length self.now.checkpoints) }
+    {
+        self.index.seek_guided(target, steps)
     }
 
     /// The checkpoints, in order.

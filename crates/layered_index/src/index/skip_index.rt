@@ -138,14 +138,29 @@ impl SkipIndex {
     pub fn seek(&self, target: DocId) -> Option<Checkpoint>
         ensures { result ≡ first_past self.now.checkpoints target }
     {
+        let mut steps = Steps::new();
+        self.seek_guided(target, &mut steps)
+    }
+
+    /// Seeks as `seek` does, from where about the target is, and counts each checkpoint that it looks at. These are at
+    /// most p for each base-p digit of the number of checkpoints, for every p from 2 on, and mostly a few.
+    #[inline(always)]
+    pub fn seek_guided(&self, target: DocId, steps: &mut Steps) -> Option<Checkpoint>
+        ensures answer { result ≡ first_past self.now.checkpoints target }
+        ensures most { (p : ℕ) → 2 ≤ p → steps.new
+            ≤ steps.old + p * digit_count p (length self.now.checkpoints) }
+        ensures least { 0 < length self.now.checkpoints → raised steps.old 1 ≤ steps.new }
+    {
         let mut looks = TableLooks {
             tables: &self.tables,
             count: 0,
         };
-        seek_near(&mut looks, target, self.tables.guess(target))
+        let found = seek_near(&mut looks, target, self.tables.guess(target));
+        steps.add(looks.count);
+        found
     }
 
-    /// The same, and counts each checkpoint that is looked at.
+    /// Seeks by halving, without a guess, and counts each checkpoint that it looks at.
     pub fn seek_counted(&self, target: DocId, steps: &mut Steps) -> Option<Checkpoint>
         ensures answer { result ≡ first_past self.now.checkpoints target }
         ensures binary { steps.new ≤ steps.old + digit_count 2 (length self.now.checkpoints) }

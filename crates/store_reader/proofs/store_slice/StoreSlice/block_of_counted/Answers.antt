@@ -2,9 +2,21 @@ use Rattle.std.proofs.Common.{ℕ, ◌≡◌, List, Some, refl, sym, ap, ◌∙�
 use Rattle.std.specs.Prelude.{slice_range}
 use Rattle.layered_index.specs.Checkpoint.{first_past}
 use Rattle.store_format.specs.StoreFile.{checkpoints_of}
-use Rattle.store_reader.proofs.StoreSliceLemmas.{seen_parts, stored_index, block_placed, block_within, block_stored, err_not_ok, ok_is}
-use Rattle.store_reader.proofs.store_slice.StoreSlice.block_of.Goals as goal
-use Rattle.store_reader.proofs.store_slice.StoreSlice.block_of.Goals.{then-doc_id-docs-via-then-doc_id-docs, then-doc_id-docs-via-else-doc_id-docs+then-self-bytes}
+use Rattle.store_reader.proofs.StoreSliceLemmas.{seen_parts, stored_index, looks_of_store, block_placed, block_within, block_stored, err_not_ok, ok_is}
+use Rattle.store_reader.proofs.store_slice.StoreSlice.block_of_counted.Goals as goal
+use Rattle.store_reader.proofs.store_slice.StoreSlice.block_of_counted.Goals.{then-doc_id-docs-via-then-doc_id-docs, then-doc_id-docs-via-else-doc_id-docs+then-self-bytes}
+
+pub returns-in_err-checkpoint-clause-most : goal.returns-in_err-checkpoint-clause-most
+returns-in_err-checkpoint-clause-most c = looks_of_store _ _ _ _ _ c.self.view_is c.self.invariant _ _ c.seek_counted.ensures.most
+
+pub returns-in_default-clause-most : goal.returns-in_default-clause-most
+returns-in_default-clause-most c = looks_of_store _ _ _ _ _ c.self.view_is c.self.invariant _ _ c.seek_counted.ensures.most
+
+pub returns-then-doc_id-docs-clause-most : goal.returns-then-doc_id-docs-clause-most
+returns-then-doc_id-docs-clause-most c = looks_of_store _ _ _ _ _ c.self.view_is c.self.invariant _ _ c.seek_counted.ensures.most
+
+pub returns-clause-most : goal.returns-clause-most
+returns-clause-most c = looks_of_store _ _ _ _ _ c.self.view_is c.self.invariant _ _ c.seek_counted.ensures.most
 
 pub returns-in_err-checkpoint-clause-block : goal.returns-in_err-checkpoint-clause-block
 returns-in_err-checkpoint-clause-block c s =

@@ -7,15 +7,15 @@ use Rattle.store_reader.proofs.SeekLemmas.{IsWithin, within, none_past}
 use Rattle.store_reader.proofs.LookUpLemmas.{stays_honest, reader_after}
 use Rattle.store_reader.proofs.RecentLemmas.{same_store, same_as_it_is}
 use Rattle.store_reader.proofs.GetAnswerLemmas.{not_none_such, read_failed, answers_truly, none_truly}
-use Rattle.store_reader.proofs.reader.StoreReader.get_document_bytes.Goals as goal
+use Rattle.store_reader.proofs.reader.StoreReader.get_document_bytes_counted.Goals as goal
 
 -- where the document of a seek that found one lies
 place : (g : _) (c : goal.After-checkpoint-2-1 g) → IsWithin 0 0 c.self.inside.index.checkpoints c.args.doc_id c.in-Some.checkpoint
-place g c = within 0 0 c.self.inside.index.checkpoints c.args.doc_id c.in-Some.checkpoint (omega arith) c.self.invariant.covers.in_line (sym c.in-Some.ensures)
+place g c = within 0 0 c.self.inside.index.checkpoints c.args.doc_id c.in-Some.checkpoint (omega arith) c.self.invariant.covers.in_line (sym c.in-Some.ensures.answer)
 
 -- no seek finds one: the id is at or past the count
 past : (g : _) (c : goal.In_default g) → num_docs c.args.self.now ≤ c.args.doc_id
-past g c = rw (← c.self.view_is) (none_past 0 0 c.self.inside.index.checkpoints c.args.doc_id c.self.invariant.covers.in_line (sym c.in_default.ensures) (omega arith))
+past g c = rw (← c.self.view_is) (none_past 0 0 c.self.inside.index.checkpoints c.args.doc_id c.self.invariant.covers.in_line (sym c.in_default.ensures.answer) (omega arith))
 
 pub returns-in_default-clause-no_document : goal.returns-in_default-clause-no_document
 returns-in_default-clause-no_document g c = (λ _. past g c, λ _. refl)
@@ -35,12 +35,12 @@ look_up-requires-clause-within g c = let end = (place g c).end in omega (arith, 
 -- the document is below the count
 below : (g : _) (c : goal.After-look_up g) → c.args.doc_id < num_docs c.args.self.now
 below g c =
-    let w = within 0 0 c.self.inside.index.checkpoints c.args.doc_id c.in-Some.checkpoint (omega arith) c.self.invariant.covers.in_line (sym c.in-Some.ensures) in
+    let w = within 0 0 c.self.inside.index.checkpoints c.args.doc_id c.in-Some.checkpoint (omega arith) c.self.invariant.covers.in_line (sym c.in-Some.ensures.answer) in
     rw (← c.self.view_is) (let to = w.to in let last = w.last in omega arith)
 
 pub invariant_of-self : goal.invariant_of-self
 invariant_of-self g c = reader_after c.self.inside.file c.look_up.new.file c.self.inside.index.checkpoints c.self.inside.index.period c.args.doc_id c.in-Some.checkpoint c.self.inside.cache
-    c.look_up.new.cache c.look_up.ensures.0 c.self.invariant (sym c.in-Some.ensures) c.look_up.ensures.1
+    c.look_up.new.cache c.look_up.ensures.0 c.self.invariant (sym c.in-Some.ensures.answer) c.look_up.ensures.1
 
 answered : (g : _) (c : goal.After-look_up g) → IsAnswered c.args.self.now c.args.doc_id c.look_up.result
     (the_view (param 0 g.row.H) g.H.FileHandle (record {
@@ -55,11 +55,11 @@ answered g c = rw (← c.self.view_is) (record {
   checkpoint = c.in-Some.checkpoint;
   came = c.look_up.ensures.0;
   looked = record {
-    seeks = sym c.in-Some.ensures;
+    seeks = sym c.in-Some.ensures.answer;
     looks_up = c.look_up.ensures.1;
     stays = refl;
     honest = (stays_honest c.self.inside.file c.look_up.new.file c.self.inside.index.checkpoints c.self.inside.index.period c.args.doc_id c.in-Some.checkpoint c.self.inside.cache c.look_up.new.cache
-        c.look_up.ensures.0 c.self.invariant (sym c.in-Some.ensures) c.look_up.ensures.1).given;
+        c.look_up.ensures.0 c.self.invariant (sym c.in-Some.ensures.answer) c.look_up.ensures.1).given;
   };
   answer = c.look_up.ensures.2;
 })
