@@ -30,8 +30,9 @@ pub use store_format::{
     block_read_index,
 };
 pub use store_reader::{
-    AliveDocuments, AliveSliceDocuments, Answer, BlockSlice, CacheStats, DOCSTORE_CACHE_CAPACITY,
-    DataPart, DocIter, DocWalk, Documents, Items, RawIter, ReadCall, SliceDocuments, StoreReader,
-    StoreSlice, StoreTail, StoreView, TailError, Walk, answer_all, any_lacks_memory,
+    AliveDocuments, AliveSliceDocuments, Answer, BlockSlice, BlockSlices, CacheStats,
+    DOCSTORE_CACHE_CAPACITY, DataPart, DocIter, DocWalk, Documents, Items, RawIter, ReadCall,
+    SliceDocuments, StoreReader, StoreSlice, StoreTail, StoreView, TailError, Walk, answer_all,
+    any_lacks_memory,
 };
 pub use writer::StoreWriter;

@@ -100,7 +100,7 @@ uint32_t zevk_get(const uint8_t *file, size_t file_len, uint32_t doc_id, zevk_pl
 /* Finds the places of the documents from `first` on, up to `places_len` of them, and sets `count` to how many it
  * found. It stops before the first document that fails, number first + *count, and returns the error of that one; the
  * places before it are set all the same. So DONE means that all `places_len` were found, and the last part of a store
- * ends with NO_DOCUMENT, and mostly a count above 0. It seeks once for each block.
+ * ends with NO_DOCUMENT, and mostly a count above 0. It seeks once, and then reads on in the index.
  *
  * Errors: those of zevk_get. `count` is set in any case. */
 uint32_t zevk_get_run(const uint8_t *file, size_t file_len, uint32_t first, zevk_place *places, size_t places_len,

@@ -1,6 +1,6 @@
 -- Reading without opening: places in the bytes of a file, and refusals by their numbers.
-use Rattle.std.proofs.Common.{◌≡◌, ℕ, ◌+◌, ◌-◌, ◌<◌, ◌≤◌, inl, inr, List, length, Option, Some, None, sym, ap, ◌∙◌, subst, arith}
-use Rattle.std.specs.Prelude.{slice_get, slice_range, Result, Ok, Err, MatchResult, IfOk, IfErr}
+use Rattle.std.proofs.Common.{◌≡◌, ◌⊎◌, ℕ, ◌+◌, ◌-◌, ◌≤◌, inl, inr, List, length, Option, Some, None, sym, ap, ◌∙◌, subst, arith}
+use Rattle.std.specs.Prelude.{slice_get, slice_range, Result, Ok, Err}
 use Rattle.store_base.specs.Outcome.{number_of}
 use Rattle.store_base.specs.declared.error.StoreError.{StoreError}
 use Rattle.store_base.specs.declared.error.StoreError.TheVariants.{BadIndex, InvalidArgument, DamagedDocument}
@@ -8,12 +8,11 @@ use Rattle.layered_index.specs.Checkpoint.{first_past}
 use Rattle.store_format.specs.Block.{Slot, doc, damaged}
 use Rattle.store_format.specs.Slots.{slots}
 use Rattle.store_format.specs.StoreFile.{checkpoints_of}
-use Rattle.store_reader.specs.declared.block_slice.BlockSlice.{BlockSlice}
 use Rattle.store_reader.specs.CallAnswers.{exact_result}
 use Rattle.store_reader.specs.Opening.{IsSomeStore}
-use Rattle.store_reader.specs.StoreSlices.{document_in, count_of_store, IsBlockSlice, RefusesOne}
-use Rattle.store_reader.proofs.StoreSliceLemmas.{err_not_ok, ok_is, refused_is, few_stored, document_past}
-use Rattle.store_c.specs.Getting.{IsPlaceIn, IsRefusedIn, RefusesGet, HasBlock, RefusesUnopened}
+use Rattle.store_reader.specs.StoreSlices.{document_in, count_of_store, RefusesOne}
+use Rattle.store_reader.proofs.StoreSliceLemmas.{err_not_ok, ok_is, refused_is, document_past}
+use Rattle.store_c.specs.Getting.{IsPlaceIn, IsRefusedIn, RefusesGet, RefusesUnopened}
 
 -- ---- places
 
@@ -33,21 +32,20 @@ pub block_refused : (file : List ℕ) (id : ℕ) (e : StoreError) → RefusesOne
     → RefusesGet file id e
 block_refused file id e one h = (one, λ s. sym (refused_is file s id e (h s)))
 
--- what a seek finds is the block of its documents, or the document is refused
-pub block_found : (file : List ℕ) (id : ℕ) (r : Result BlockSlice StoreError)
-    → ((s : IsSomeStore file) → MatchResult r (λ b. (k : ℕ) → b.first ≤ k → k < b.end → IsBlockSlice file s k b.first b.end b.start b.bytes.now)
-    (λ e. (e ≡ InvalidArgument id) × (first_past (checkpoints_of s.blocks) id ≡ None)))
-    → IfOk r (λ b. b.start + length b.bytes.now ≤ length file) → IfErr r (RefusesOne id)
-    → MatchResult r (λ b. HasBlock file b.first b.end b.start b.bytes.now) (RefusesGet file id)
-block_found file id (Ok b) h within one = record { within = within; stored = h }
-block_found file id (Err e) h within one = block_refused file id e one h
+-- a run begins at no document
+pub begins_nowhere : (file : List ℕ) (id : ℕ) (e : StoreError) → (e ≡ InvalidArgument id) ⊎ (e ≡ BadIndex)
+    → ((s : IsSomeStore file) → (e ≡ InvalidArgument id) × (first_past (checkpoints_of s.blocks) id ≡ None)) → RefusesGet file id e
+begins_nowhere file id e one h = block_refused file id e (elim one [ inl none ↦ inl none | inr index ↦ inr (inr index) ]) h
 
 -- ---- refusals
 
--- no store has a document of the greatest number
-pub none_last : (file : List ℕ) (id : ℕ) → id ≡ 4294967295 → RefusesGet file id (InvalidArgument 4294967295)
-none_last file id e =
-    (inl (ap InvalidArgument (sym e)), λ s. document_past file s id (omega (arith, few_stored file s, e)) ∙ ap (λ (n : ℕ). Err (InvalidArgument n)) e)
+-- there is no document after the last
+pub none_after : (file : List ℕ) (id end : ℕ) → end ≡ id → ((s : IsSomeStore file) → end ≡ count_of_store file s) → RefusesGet file id (InvalidArgument end)
+none_after file id end e h = (inl (ap InvalidArgument e), λ s. document_past file s id (omega (arith, e, h s)) ∙ ap (λ (n : ℕ). Err (InvalidArgument n)) (sym e))
+
+-- the index was found damaged
+pub index_refused : (file : List ℕ) (id : ℕ) (e : StoreError) → e ≡ BadIndex → (IsSomeStore file → ⊥) → RefusesGet file id e
+index_refused file id e bad none = (inr (inr bad), λ s. absurd (none s))
 
 pub by_six : (file : List ℕ) (id : ℕ) (e : StoreError) → RefusesGet file id e → number_of e ≡ 6 → IsRefusedIn file id (InvalidArgument id)
 by_six file id e h six s = elim h.0 [

@@ -1,5 +1,5 @@
 -- The places of a run of documents.
-use Rattle.std.proofs.Common.{◌≡◌, ℕ, zero, suc, ◌+◌, ◌<◌, true, false, nat_lt, List, [], ◌∷◌, length, drop, set, Option, Some, IfSome, refl, sym, ap, ◌∙◌, subst, arith}
+use Rattle.std.proofs.Common.{◌≡◌, ℕ, zero, suc, ◌+◌, ◌-◌, ◌<◌, ◌≤◌, true, false, nat_lt, List, [], ◌∷◌, length, drop, set, Option, Some, IfSome, refl, sym, ap, ◌∙◌, subst, arith}
 use Rattle.std.proofs.Common.{drop-drop}
 use Rattle.std.specs.Prelude.{slice_get}
 use Rattle.std.proofs.lemmas.Bool.{ltb-true, ltb-false}
@@ -40,6 +40,12 @@ one_more file table first = one_more_of (λ j. IsPlace file table (first + j))
 pub one_more_in : (file : List ℕ) (first n : ℕ) (ps : List Place) (p : Place) → n < length ps → ArePlacesIn file first ps n → IsPlaceIn file (first + n) p
     → ArePlacesIn file first (set ps n p) (n + 1)
 one_more_in file first = one_more_of (λ j. IsPlaceIn file (first + j))
+
+-- what stays behind a place stays behind a later one
+pub further_stay : (n m : ℕ) (ps qs : List Place) → n ≤ m → drop n ps ≡ drop n qs → drop m ps ≡ drop m qs
+further_stay n m ps qs le e =
+    let whole : n + (m - n) ≡ m = omega arith in
+    subst (λ (k : ℕ). drop k ps ≡ drop k qs) whole (sym (drop-drop (m - n) n ps) ∙ ap (drop (m - n)) e ∙ drop-drop (m - n) n qs)
 
 -- those behind it stay
 pub behind_stay : (n : ℕ) (ps qs : List Place) (p : Place) → drop n ps ≡ drop n qs → drop (n + 1) (set ps n p) ≡ drop (n + 1) qs

@@ -1,7 +1,6 @@
 //! Reading without opening, as C calls it: by the bytes of the file alone. There is no table, no handle, and nothing to
 //! close, and no memory is taken.
-ghost use Rattle.std.specs.Prelude.{◌≡◌, ◌≢◌, ◌≤◌, ◌<◌, ◌+◌, ◌^◌, ℕ, List, length, drop, MatchResult, MatchOption};
-ghost use Rattle.std.specs.Prelude.{IfOk};
+ghost use Rattle.std.specs.Prelude.{◌≡◌, ◌≢◌, ◌≤◌, ◌<◌, ◌+◌, ◌^◌, ◌⊎◌, ℕ, List, length, drop, MatchResult, MatchOption};
 ghost use Rattle.store_base.specs.declared.error.StoreError.TheVariants.{InvalidArgument, DamagedDocument};
 ghost use Rattle.store_reader.specs.Opening.{IsSomeStore};
 ghost use Rattle.store_reader.specs.StoreSlices.{count_of_store};
@@ -31,25 +30,36 @@ fn place_in(block: &BlockSlice<'_>, doc_id: DocId) -> Result<Place, StoreError>
     })
 }
 
-// The block that has a document: this one if the document is not past it, otherwise the one that a seek finds.
-#[inline(always)]
-fn block_for<'a>(
-    store: &StoreSlice<'a>,
-    block: BlockSlice<'a>,
-    doc_id: DocId,
-) -> Result<BlockSlice<'a>, StoreError>
-    requires from { block.first ≤ doc_id }
-    requires held { HasBlock store.now block.first block.end block.start block.bytes.now }
-    requires fits { block.start + length block.bytes.now < 2 ^ 64 }
-    ensures has { IfOk result (λ b. (b.first ≤ doc_id) × (doc_id < b.end)) }
-    ensures fits { IfOk result (λ b. b.start + length b.bytes.now < 2 ^ 64) }
-    ensures held { MatchResult result (λ b. HasBlock store.now b.first b.end b.start b.bytes.now)
-        (RefusesGet store.now doc_id) }
+// Goes on with the places of a run by the documents of one block, up to its last or as many as there is room for. It
+// returns how many places the run has then, and the refusal of the document at which it stopped.
+fn places_on(
+    block: &BlockSlice<'_>,
+    first: DocId,
+    found: usize,
+    places: &mut [Place],
+) -> (usize, Option<StoreError>)
+    requires from { block.now.first ≤ first + found }
+    requires to { first + found ≤ block.now.end }
+    requires room { found ≤ length places.now }
+    requires fits { block.now.start + length block.now.bytes.now < 2 ^ 64 }
+    ensures found { (file : List ℕ) → HasBlock file block.now.first block.now.end block.now.start block.now.bytes.now
+        → ArePlacesIn file first places.old found → ArePlacesIn file first places.new result.0 }
+    ensures on { found ≤ result.0 }
+    ensures room { (result.0 ≤ length places.old) × (first + result.0 ≤ block.now.end) }
+    ensures next { MatchOption result.1 ((result.0 ≡ length places.old) ⊎ (first + result.0 ≡ block.now.end))
+        (λ e. (file : List ℕ) → HasBlock file block.now.first block.now.end block.now.start block.now.bytes.now
+        → RefusesGet file (first + result.0) e) }
+    ensures kept { drop result.0 places.new ≡ drop result.0 places.old }
+    ensures len { length places.new ≡ length places.old }
 {
-    if doc_id < block.end {
-        return Ok(block);
+    let end = places.len().min((block.end - first) as usize);
+    for at in found..end {
+        match place_in(block, first + at as u32) {
+            Ok(place) => places[at] = place,
+            Err(error) => return (at, Some(error)),
+        }
     }
-    store.block_of(doc_id)
+    (end, None)
 }
 
 // Where documents lie, in the order of their numbers from the first on: as many as there is room for, up to the first
@@ -64,28 +74,27 @@ fn places_from(
     ensures next { MatchOption result.1 (result.0 ≡ length places.old) (RefusesGet store.now (first + result.0)) }
     ensures kept { drop result.0 places.new ≡ drop result.0 places.old }
 {
-    let mut block = BlockSlice {
-        first: 0,
-        end: 0,
-        start: 0,
-        bytes: &[],
-    };
-    let room = places.len().min((u32::MAX - first) as usize);
-    for at in 0..room {
-        let doc_id = first + at as u32;
-        block = match block_for(store, block, doc_id) {
-            Ok(block) => block,
-            Err(error) => return (at, Some(error)),
-        };
-        match place_in(&block, doc_id) {
-            Ok(found) => places[at] = found,
-            Err(error) => return (at, Some(error)),
-        }
+    if places.is_empty() {
+        return (0, None);
     }
-    if room < places.len() {
-        (room, Some(StoreError::InvalidArgument(u32::MAX)))
-    } else {
-        (room, None)
+    let (mut block, mut blocks) = match store.blocks_from(first) {
+        Ok(begun) => begun,
+        Err(error) => return (0, Some(error)),
+    };
+    let mut found = 0;
+    loop {
+        let (count, refusal) = places_on(&block, first, found, places);
+        if refusal.is_some() || count == places.len() {
+            return (count, refusal);
+        }
+        found = count;
+        let Some(item) = blocks.next() else {
+            return (found, Some(StoreError::InvalidArgument(block.end)));
+        };
+        block = match item {
+            Ok(next) => next,
+            Err(error) => return (found, Some(error)),
+        };
     }
 }
 
@@ -131,7 +140,8 @@ pub extern "C" fn zevk_get(alloc: Global, file: &[u8], doc_id: u32, place: &mut 
 
 /// Sets `places` to where the documents lie from `first` on, in the order of their numbers and as many as there is room
 /// for, and `count` to how many these are. It stops before the first that is refused, and returns the number of that
-/// refusal, as `zevk_get` does. It seeks once for each block. The places after the first `count` are kept.
+/// refusal, as `zevk_get` does. It seeks once, and then reads on in the index. The places after the first `count` are
+/// kept.
 #[unsafe(no_mangle)]
 pub extern "C" fn zevk_get_run(
     alloc: Global,

@@ -68,7 +68,7 @@ pub extern "C" fn zevk_block_of(
 /// of `zevk_get`, and its bytes begin in the block at `place.start - at.start`.
 ///
 /// It is refused by 7 where the block doesn't say where the document lies, and by 37 where `at` doesn't have the
-/// document, or not so many bytes. A refusal keeps `place`.
+/// document, or where the block is not of the length that `at` says. A refusal keeps `place`.
 #[unsafe(no_mangle)]
 pub extern "C" fn zevk_get_in(block: &[u8], at: &BlockPlace, doc_id: u32, place: &mut Place) -> u32
     ensures behind { result ≡ 0 → at.now.start ≤ place.new.start }

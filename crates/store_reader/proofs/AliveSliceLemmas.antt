@@ -12,7 +12,7 @@ use Rattle.store_reader.specs.Viewing.{AreDead}
 
 -- the iteration is amid the store
 abbrev pub Amid : (bytes : List ℕ) → IsSomeStore bytes → SliceDocuments → Type 0
-Amid bytes s d = IsAmid bytes s d.data_len d.next d.block.first d.block.end d.block.bytes.now d.checkpoints d.failed
+Amid bytes s d = IsAmid bytes s d.next d.block.first d.block.end d.block.bytes.now d.blocks
 
 -- one step of it
 abbrev pub Step : SliceDocuments → Option (Result (Bor (List ℕ)) StoreError) → SliceDocuments → List ℕ → Type 0

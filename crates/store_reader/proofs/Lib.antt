@@ -27,6 +27,7 @@ pub mod FailedLemmas
 pub mod StoredLemmas
 pub mod OpenedCoverLemmas
 pub mod StoreSliceLemmas
+pub mod BlocksLeftLemmas
 pub mod AmidLemmas
 pub mod AliveSliceLemmas
 pub mod SliceGivenLemmas

@@ -1,11 +1,15 @@
 -- A store in a slice of bytes: where its parts lie, and what a seek in its index finds.
+<<<<<<< HEAD
 use Rattle.std.proofs.Common.{◌≡◌, ℕ, zero, suc, ◌+◌, ◌*◌, ◌-◌, ◌<◌, ◌≤◌, ◌^◌, List, [], ◌∷◌, length, Option, Some, None, refl, sym, ap, ◌∙◌, subst, arith, inl, inr}
+=======
+use Rattle.std.proofs.Common.{◌≡◌, ℕ, zero, suc, ◌+◌, ◌-◌, ◌<◌, ◌≤◌, List, [], ◌∷◌, length, Option, Some, None, refl, sym, ap, ◌∙◌, subst, arith, inl, inr}
+>>>>>>> 529a4dd8475a0f01b0eb77ba9010158ac7b99149
 use Rattle.std.specs.Prelude.{Result, Ok, Err, slice_range, slice_get}
 use Rattle.std.proofs.lemmas.List.{append-nil}
 use Rattle.store_base.specs.declared.error.StoreError.{StoreError}
 use Rattle.store_base.specs.declared.error.StoreError.TheVariants.{BadIndex, BadOffset, InvalidArgument, DamagedDocument}
 use Rattle.layered_index.specs.declared.index.Checkpoint.{Checkpoint}
-use Rattle.layered_index.specs.Checkpoint.{Covers, IsInLineFrom, docs_end, first_past}
+use Rattle.layered_index.specs.Checkpoint.{Covers, docs_end, first_past}
 use Rattle.layered_index.specs.LineLemmas.{in_line_from}
 use Rattle.layered_index.specs.Layers.{digit_count, index_part}
 use Rattle.layered_index.specs.IndexReading.{IsIndexPart, HasIndex}
@@ -262,14 +266,6 @@ none_stored bytes s id e =
     let seen = is_seen bytes s in
     let v : Viewing = record { file = bytes; period = s.period; version = seen.version; store = blocks_at (checkpoints_of s.blocks) (data_in bytes (checkpoints_of s.blocks)) } in
     subst (λ (bs : List StoreBlock). length (slots bs) ≤ id) seen.blocks (block_none v (checkpoints_of s.blocks) id refl seen.view e)
-
--- a store has fewer than 2^32 documents
-docs_small : (first byte : ℕ) (cs : List Checkpoint) → first < 2 ^ 32 → IsInLineFrom first byte cs → docs_end first cs < 2 ^ 32
-docs_small first byte [] lt h = lt
-docs_small first byte (c ∷ cs) lt h = docs_small c.doc_range.end c.byte_range.end cs h.2.doc_end h.3
-
-pub few_stored : (bytes : List ℕ) (s : IsSomeStore bytes) → count_of_store bytes s < 2 ^ 32
-few_stored bytes s = omega (arith, count_stored bytes s, docs_small 0 0 (checkpoints_of s.blocks) (omega arith) (checkpoints_cover s.blocks s.store.blocks).in_line)
 
 get_past : (xs : List Slot) (k : ℕ) → length xs ≤ k → slice_get xs k ≡ None
 get_past [] k le = refl

@@ -1,6 +1,6 @@
 -- A store in a slice of bytes.
-use Rattle.std.specs.Prelude.{◌≡◌, ◌⊎◌, ℕ, ◌-◌, ◌+◌, ◌<◌, ◌≤◌, Bool, true, false, List, ◌++◌, length, slice_get, slice_range, Option}
-use Rattle.std.specs.Prelude.{Some, None, Result}
+use Rattle.std.specs.Prelude.{◌≡◌, ◌⊎◌, ℕ, ◌-◌, ◌+◌, ◌^◌, ◌<◌, ◌≤◌, Bool, true, false, List, [], ◌∷◌, ◌++◌, length, slice_get, slice_range, Option}
+use Rattle.std.specs.Prelude.{Some, None, Result, Ok, Err}
 use Rattle.std.specs.Borrow.{Bor}
 use Rattle.store_base.specs.AliveBitSet.{is_alive_at}
 use Rattle.store_base.specs.declared.error.StoreError.{StoreError}
@@ -15,6 +15,7 @@ use Rattle.store_format.specs.Block.{slot}
 use Rattle.store_format.specs.Footer.{version_number}
 use Rattle.store_format.specs.Slots.{slots}
 use Rattle.store_format.specs.StoreFile.{data_of, checkpoints_of}
+use Rattle.store_reader.specs.declared.block_slice.BlockSlice.{BlockSlice}
 use Rattle.store_reader.specs.CallAnswers.{exact_result}
 use Rattle.store_reader.specs.Opening.{IsSomeStore}
 use Rattle.store_reader.specs.Viewing.{AreDead, given}
@@ -60,19 +61,78 @@ RefusesOne id e = (e ≡ InvalidArgument id) ⊎ (e ≡ DamagedDocument id) ⊎ 
 abbrev pub RefusesReading : ℕ → StoreError → Type 0
 RefusesReading id e = RefusesOne id e ⊎ (e ≡ BadDocument) ⊎ (e ≡ Memory)
 
--- ---- iterations
+-- ---- iterations over blocks
 
--- An iteration stands before the next document, which is in this block or in those of the checkpoints that are left.
-pub record IsAmid (bytes : List ℕ) (s : IsSomeStore bytes) (data_len next first end : ℕ) (block : List ℕ)
-    (left : List Checkpoint) (failed : Bool) : Type 0 where
+-- What is left of an iteration over blocks, as callers see it: the document with which the next block begins, and the
+-- checkpoints of the blocks, as the index has them. It has failed where the index was found damaged.
+pub record BlocksLeft : Type 0 where
+  pub bytes : List ℕ
+  pub data_len : ℕ
+  pub next : ℕ
+  pub checkpoints : List Checkpoint
+  pub failed : Bool
+
+-- The block is a part of these bytes. It begins with this document, and has at least one.
+pub record IsPartFrom (bytes : List ℕ) (next : ℕ) (b : BlockSlice) : Type 0 where
+  pub first_is : b.first ≡ next
+  pub some : b.first < b.end
+  pub within : b.start + length b.bytes.now ≤ length bytes
+  pub fits : b.start + length b.bytes.now < 2 ^ 64
+  pub part_is : b.bytes.now ≡ slice_range bytes b.start (b.start + length b.bytes.now)
+
+-- The checkpoint is that of a block in the data, which begins with this document and has at least one.
+pub record Follows (next data_len : ℕ) (c : Checkpoint) : Type 0 where
+  pub docs_start : c.doc_range.start ≡ next
+  pub some : next < c.doc_range.end
+  pub order : c.byte_range.start ≤ c.byte_range.end
+  pub within : c.byte_range.end ≤ data_len
+
+-- The block has the documents of the checkpoint, and lies where it says.
+pub record IsBlockAt (c : Checkpoint) (b : BlockSlice) : Type 0 where
+  pub first_is : b.first ≡ c.doc_range.start
+  pub end_is : b.end ≡ c.doc_range.end
+  pub start_is : b.start ≡ c.byte_range.start
+  pub behind : b.start + length b.bytes.now ≡ c.byte_range.end
+
+-- What comes next in any bytes, and what is left then: the block of the next checkpoint, if that follows; else the
+-- refusal of the index, after which there is none.
+abbrev pub GivesPart : BlocksLeft → Option (Result BlockSlice StoreError) → BlocksLeft → Type 0
+GivesPart left None left' = ((left.failed ≡ true) ⊎ (left.checkpoints ≡ [])) × (left' ≡ left)
+GivesPart left (Some (Ok b)) left' =
+    IsPartFrom left.bytes left.next b × (left.failed ≡ false)
+    × ((c : Checkpoint) × (left.checkpoints ≡ c ∷ left'.checkpoints) × IsBlockAt c b)
+    × (left' ≡ record left { next = b.end; checkpoints = left'.checkpoints })
+GivesPart left (Some (Err e)) left' =
+    (e ≡ BadIndex) × (left.failed ≡ false)
+    × ((c : Checkpoint) × (left.checkpoints ≡ c ∷ left'.checkpoints) × (Follows left.next left.data_len c → ⊥))
+    × (left' ≡ record left { failed = true; checkpoints = left'.checkpoints })
+
+-- The iteration stands between two blocks of the store, and has those of the checkpoints that are left.
+pub record AreLeft (bytes : List ℕ) (s : IsSomeStore bytes) (left : BlocksLeft) : Type 0 where
   pub before : List Checkpoint
-  pub parts : checkpoints_of s.blocks ≡ before ++ left
-  pub ended : docs_end 0 before ≡ end
+  pub parts : checkpoints_of s.blocks ≡ before ++ left.checkpoints
+  pub ended : docs_end 0 before ≡ left.next
+  pub bytes_is : left.bytes ≡ bytes
+  pub data_is : left.data_len ≡ length (data_of s.blocks)
+  pub well : left.failed ≡ false
+
+-- The next block of the store; none after the last, and no refusal.
+abbrev pub GivesBlock : (bytes : List ℕ) → IsSomeStore bytes → ℕ → Option (Result BlockSlice StoreError) → Type 0
+GivesBlock bytes s next None = next ≡ count_of_store bytes s
+GivesBlock bytes s next (Some (Ok b)) =
+    (id : ℕ) → b.first ≤ id → id < b.end → IsBlockSlice bytes s id b.first b.end b.start b.bytes.now
+GivesBlock bytes s next (Some (Err e)) = ⊥
+
+-- ---- iterations over documents
+
+-- An iteration stands before the next document, which is in this block or in those that are left.
+pub record IsAmid (bytes : List ℕ) (s : IsSomeStore bytes) (next first end : ℕ) (block : List ℕ)
+    (left : BlocksLeft) : Type 0 where
+  pub are_left : AreLeft bytes s left
+  pub ends : left.next ≡ end
   pub above : first ≤ next
   pub below : next ≤ end
   pub goes_on : (id : ℕ) → next ≤ id → id < end → slice_get (slots s.blocks) id ≡ Some (slot block (id - first))
-  pub data_is : data_len ≡ length (data_of s.blocks)
-  pub well : failed ≡ false
 
 -- The next of the documents, or its refusal; none after the last.
 abbrev pub GivesStored : (bytes : List ℕ) → IsSomeStore bytes → ℕ → Option (Result (Bor (List ℕ)) StoreError) → ℕ

@@ -19,22 +19,21 @@ impl<'v, 'a> Iterator for AliveSliceDocuments<'v, 'a> {
     type Item = (DocId, Result<&'a [u8], StoreError>);
 
     ghost can_next = { λ s. (s.documents.block.first ≤ s.documents.next)
-        × (s.documents.data_len ≤ length s.documents.file.now) };
+        × (s.documents.next ≤ s.documents.block.end) × (s.documents.blocks.next ≡ s.documents.block.end) };
 
-    ghost remaining = { λ s. at_most (length s.documents.checkpoints + (2 ^ 32 - s.documents.next)) };
+    ghost remaining = { λ s. at_most (length s.documents.blocks.checkpoints + (2 ^ 32 - s.documents.next)) };
 
-    ghost next_gives = { λ s r t. (t.documents.file.now ≡ s.documents.file.now) × (t.alive.now ≡ s.alive.now)
-        × ((z : IsSomeStore s.documents.file.now) → IsAmid s.documents.file.now z s.documents.data_len
-        s.documents.next s.documents.block.first s.documents.block.end s.documents.block.bytes.now
-        s.documents.checkpoints s.documents.failed
-        → GivesStoredAlive s.alive.now s.documents.file.now z s.documents.next r t.documents.next
-        × IsAmid s.documents.file.now z t.documents.data_len t.documents.next t.documents.block.first
-        t.documents.block.end t.documents.block.bytes.now t.documents.checkpoints t.documents.failed) };
+    ghost next_gives = { λ s r t. (t.documents.blocks.bytes ≡ s.documents.blocks.bytes) × (t.alive.now ≡ s.alive.now)
+        × ((z : IsSomeStore s.documents.blocks.bytes) → IsAmid s.documents.blocks.bytes z s.documents.next
+        s.documents.block.first s.documents.block.end s.documents.block.bytes.now s.documents.blocks
+        → GivesStoredAlive s.alive.now s.documents.blocks.bytes z s.documents.next r t.documents.next
+        × IsAmid s.documents.blocks.bytes z t.documents.next t.documents.block.first
+        t.documents.block.end t.documents.block.bytes.now t.documents.blocks) };
 
     fn next(&mut self) -> Option<(DocId, Result<&'a [u8], StoreError>)> {
         let mut doc_id = self.documents.next;
         while let Some(item) = self.documents.next() {
-            if self.documents.failed || self.alive.is_alive(doc_id) {
+            if self.documents.blocks.has_failed() || self.alive.is_alive(doc_id) {
                 return Some((doc_id, item));
             }
             doc_id = self.documents.next;

@@ -4,6 +4,7 @@
 pub mod alive_slice_documents;
 pub mod answers;
 pub mod block_slice;
+pub mod block_slices;
 mod cache;
 pub mod cache_stats;
 pub mod data_part;
@@ -29,6 +30,7 @@ pub mod walk;
 pub use alive_slice_documents::AliveSliceDocuments;
 pub use answers::{Answer, ReadCall, answer_all, any_lacks_memory};
 pub use block_slice::BlockSlice;
+pub use block_slices::BlockSlices;
 pub use cache_stats::CacheStats;
 pub use data_part::DataPart;
 pub use index_check::{IndexCheck, check_index};

@@ -11,14 +11,14 @@ ghost use Rattle.store_format.specs.StoreFile.{checkpoints_of, data_of};
 ghost use Rattle.store_reader.specs.Documents.{document_version, ReadsFrom, ReadsTruly};
 ghost use Rattle.store_reader.specs.Opening.{IsSomeStore};
 ghost use Rattle.store_reader.specs.Viewing.{Finds, given, placed_in};
-ghost use Rattle.store_reader.specs.StoreSlices.{document_in, count_of_store, IsBlockSlice, IsAmid};
+ghost use Rattle.store_reader.specs.StoreSlices.{document_in, count_of_store, IsBlockSlice, AreLeft, IsAmid};
 ghost use Rattle.store_reader.specs.StoreSlices.{RefusesOne, RefusesReading};
 
 use crate::alive_slice_documents::AliveSliceDocuments;
 use crate::block_slice::BlockSlice;
+use crate::block_slices::BlockSlices;
 use crate::documents::read_bytes;
 use crate::slice_documents::SliceDocuments;
-use crate::view_iter::ViewBlock;
 use crate::view_opening::footer_of;
 use layered_index::{IndexSlice, LayerCursor, Steps};
 use std::alloc::Global;
@@ -230,61 +230,23 @@ impl<'a> StoreSlice<'a> {
         self.index.checkpoints()
     }
 
-    /// The documents in the order of their ids. Each is a part of the file. It returns `BadIndex` where it can't find the
-    /// bottom layer of the index.
-    pub fn iter(&self) -> Result<SliceDocuments<'a>, StoreError>
-        ensures file { IfOk result (λ d. d.file.now ≡ self.now) }
-        ensures first { IfOk result (λ d. d.next ≡ 0) }
-        ensures can { IfOk result (λ d. (d.block.first ≤ d.next) × (d.data_len ≤ length d.file.now)) }
-        ensures amid { (s : IsSomeStore self.now) → IsOkAnd result (λ d. IsAmid self.now s d.data_len d.next
-            d.block.first d.block.end d.block.bytes.now d.checkpoints d.failed) }
-        ensures refused { IfErr result (λ e. e ≡ StoreError.BadIndex) }
-    {
-        let checkpoints = self.index.checkpoints()?;
-        Ok(SliceDocuments {
-            file: self.file,
-            data_len: self.data_len,
-            checkpoints,
-            next: 0,
-            block: ViewBlock {
-                first: 0,
-                end: 0,
-                bytes: &[],
-            },
-            failed: false,
-        })
-    }
-
-    /// The documents that are alive, in the order of their ids, each with its id. Those at or past the end of the set are
-    /// not alive. It returns `BadIndex` where it can't find the bottom layer of the index.
-    pub fn iter_alive<'v>(
+    /// The block that has a document, and those after it. It seeks once; then each checkpoint of the bottom layer is
+    /// decoded once. It returns `InvalidArgument` where there is no such document, and `BadIndex` where it finds the index
+    /// damaged.
+    pub fn blocks_from(
         &self,
-        alive: &'v AliveBitSet,
-    ) -> Result<AliveSliceDocuments<'v, 'a>, StoreError>
-        ensures alive { IfOk result (λ d. d.alive.now ≡ alive.entry.now) }
-        ensures file { IfOk result (λ d. d.documents.file.now ≡ self.now) }
-        ensures first { IfOk result (λ d. d.documents.next ≡ 0) }
-        ensures can { IfOk result (λ d. (d.documents.block.first ≤ d.documents.next)
-            × (d.documents.data_len ≤ length d.documents.file.now)) }
-        ensures amid { (s : IsSomeStore self.now) → IsOkAnd result (λ d. IsAmid self.now s d.documents.data_len
-            d.documents.next d.documents.block.first d.documents.block.end d.documents.block.bytes.now
-            d.documents.checkpoints d.documents.failed) }
-        ensures refused { IfErr result (λ e. e ≡ StoreError.BadIndex) }
-    {
-        let documents = self.iter()?;
-        Ok(AliveSliceDocuments { documents, alive })
-    }
-
-    /// The documents from this one on, in the order of their ids. It seeks the block of the document, and then decodes
-    /// each checkpoint of the bottom layer once. It returns `InvalidArgument` where there is no such document, and
-    /// `BadIndex` where it finds the index damaged.
-    pub fn iter_from(&self, doc_id: DocId) -> Result<SliceDocuments<'a>, StoreError>
-        ensures file { IfOk result (λ d. d.file.now ≡ self.now) }
-        ensures first { IfOk result (λ d. d.next ≡ doc_id) }
-        ensures can { IfOk result (λ d. (d.block.first ≤ d.next) × (d.data_len ≤ length d.file.now)) }
-        ensures amid { (s : IsSomeStore self.now) → MatchResult result
-            (λ d. IsAmid self.now s d.data_len d.next d.block.first d.block.end d.block.bytes.now d.checkpoints d.failed)
-            (λ e. (e ≡ StoreError.InvalidArgument doc_id) × (count_of_store self.now s ≤ doc_id)) }
+        doc_id: DocId,
+    ) -> Result<(BlockSlice<'a>, BlockSlices<'a>), StoreError>
+        ensures block { (s : IsSomeStore self.now) → MatchResult result (λ x. (id : ℕ) → x.0.first ≤ id → id < x.0.end
+            → IsBlockSlice self.now s id x.0.first x.0.end x.0.start x.0.bytes.now)
+            (λ e. (e ≡ StoreError.InvalidArgument doc_id) × (first_past (checkpoints_of s.blocks) doc_id ≡ None)) }
+        ensures has { IfOk result (λ x. (x.0.first ≤ doc_id) × (doc_id < x.0.end)) }
+        ensures part { IfOk result (λ x. x.0.bytes.now
+            ≡ slice_range self.now x.0.start (x.0.start + length x.0.bytes.now)) }
+        ensures within { IfOk result (λ x. x.0.start + length x.0.bytes.now ≤ length self.now) }
+        ensures fits { IfOk result (λ x. x.0.start + length x.0.bytes.now < 2 ^ 64) }
+        ensures next { IfOk result (λ x. (x.1.bytes ≡ self.now) × (x.1.next ≡ x.0.end)) }
+        ensures left { (s : IsSomeStore self.now) → IfOk result (λ x. AreLeft self.now s x.1) }
         ensures refused { IfErr result (λ e. (e ≡ StoreError.InvalidArgument doc_id) ⊎ (e ≡ StoreError.BadIndex)) }
     {
         let Some((checkpoint, checkpoints)) = self.index.seek_on(doc_id)? else {
@@ -295,17 +257,77 @@ impl<'a> StoreSlice<'a> {
         if docs.start > doc_id || bytes.end > self.data_len {
             return Err(StoreError::BadIndex);
         }
+        let block = BlockSlice {
+            first: docs.start,
+            end: docs.end,
+            start: bytes.start,
+            bytes: part(self.file, bytes.start, bytes.end),
+        };
+        let blocks = BlockSlices::new(self.file, self.data_len, docs.end, checkpoints);
+        Ok((block, blocks))
+    }
+
+    /// The documents in the order of their ids. Each is a part of the file. It returns `BadIndex` where it can't find the
+    /// bottom layer of the index.
+    pub fn iter(&self) -> Result<SliceDocuments<'a>, StoreError>
+        ensures file { IfOk result (λ d. d.blocks.bytes ≡ self.now) }
+        ensures first { IfOk result (λ d. d.next ≡ 0) }
+        ensures can { IfOk result (λ d. (d.block.first ≤ d.next) × (d.next ≤ d.block.end)
+            × (d.blocks.next ≡ d.block.end)) }
+        ensures amid { (s : IsSomeStore self.now) → IsOkAnd result (λ d. IsAmid self.now s d.next
+            d.block.first d.block.end d.block.bytes.now d.blocks) }
+        ensures refused { IfErr result (λ e. e ≡ StoreError.BadIndex) }
+    {
+        let checkpoints = self.index.checkpoints()?;
         Ok(SliceDocuments {
-            file: self.file,
-            data_len: self.data_len,
-            checkpoints,
-            next: doc_id,
-            block: ViewBlock {
-                first: docs.start,
-                end: docs.end,
-                bytes: part(self.file, bytes.start, bytes.end),
+            blocks: BlockSlices::new(self.file, self.data_len, 0, checkpoints),
+            next: 0,
+            block: BlockSlice {
+                first: 0,
+                end: 0,
+                start: 0,
+                bytes: &[],
             },
-            failed: false,
+        })
+    }
+
+    /// The documents that are alive, in the order of their ids, each with its id. Those at or past the end of the set are
+    /// not alive. It returns `BadIndex` where it can't find the bottom layer of the index.
+    pub fn iter_alive<'v>(
+        &self,
+        alive: &'v AliveBitSet,
+    ) -> Result<AliveSliceDocuments<'v, 'a>, StoreError>
+        ensures alive { IfOk result (λ d. d.alive.now ≡ alive.entry.now) }
+        ensures file { IfOk result (λ d. d.documents.blocks.bytes ≡ self.now) }
+        ensures first { IfOk result (λ d. d.documents.next ≡ 0) }
+        ensures can { IfOk result (λ d. (d.documents.block.first ≤ d.documents.next)
+            × (d.documents.next ≤ d.documents.block.end) × (d.documents.blocks.next ≡ d.documents.block.end)) }
+        ensures amid { (s : IsSomeStore self.now) → IsOkAnd result (λ d. IsAmid self.now s d.documents.next
+            d.documents.block.first d.documents.block.end d.documents.block.bytes.now d.documents.blocks) }
+        ensures refused { IfErr result (λ e. e ≡ StoreError.BadIndex) }
+    {
+        let documents = self.iter()?;
+        Ok(AliveSliceDocuments { documents, alive })
+    }
+
+    /// The documents from this one on, in the order of their ids. It seeks the block of the document, and then decodes
+    /// each checkpoint of the bottom layer once. It returns `InvalidArgument` where there is no such document, and
+    /// `BadIndex` where it finds the index damaged.
+    pub fn iter_from(&self, doc_id: DocId) -> Result<SliceDocuments<'a>, StoreError>
+        ensures file { IfOk result (λ d. d.blocks.bytes ≡ self.now) }
+        ensures first { IfOk result (λ d. d.next ≡ doc_id) }
+        ensures can { IfOk result (λ d. (d.block.first ≤ d.next) × (d.next ≤ d.block.end)
+            × (d.blocks.next ≡ d.block.end)) }
+        ensures amid { (s : IsSomeStore self.now) → MatchResult result
+            (λ d. IsAmid self.now s d.next d.block.first d.block.end d.block.bytes.now d.blocks)
+            (λ e. (e ≡ StoreError.InvalidArgument doc_id) × (count_of_store self.now s ≤ doc_id)) }
+        ensures refused { IfErr result (λ e. (e ≡ StoreError.InvalidArgument doc_id) ⊎ (e ≡ StoreError.BadIndex)) }
+    {
+        let (block, blocks) = self.blocks_from(doc_id)?;
+        Ok(SliceDocuments {
+            blocks,
+            next: doc_id,
+            block,
         })
     }
 }

@@ -36,7 +36,7 @@ impl<'a> Model for StoreTail<'a> {
 }
 
 impl<'a> StoreTail<'a> {
-    /// The store whose file has so many bytes, of which these are the last. It returns `Short` where they lack the
+    /// The store with a file of `file_len` bytes, of which these are the last. It returns `Short` where they lack the
     /// footer or a part of the index, with how many are wanted. So one read of the end and at most one more open a
     /// store, if the first has the footer. It returns the errors of `StoreSlice::new` for the whole file, and
     /// `ShortFile` also where there are more bytes than the file has.

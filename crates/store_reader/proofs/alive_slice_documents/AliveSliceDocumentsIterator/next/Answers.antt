@@ -1,12 +1,12 @@
 use Rattle.std.proofs.Common.{rules, ◌≡◌, true, false, List, Bool, Some, None, refl, sym, ap, ◌∙◌}
 use Rattle.store_base.specs.AliveBitSet.{is_alive_at}
-use Rattle.store_reader.proofs.AmidLemmas.{not_true}
+use Rattle.store_reader.proofs.BlocksLeftLemmas.{not_true}
 use Rattle.store_reader.proofs.AliveSliceLemmas.{moved, alive_given, dead_on, alive_ends}
 use Rattle.store_reader.proofs.alive_slice_documents.AliveSliceDocumentsIterator.next.Goals as goal
-use Rattle.store_reader.proofs.alive_slice_documents.AliveSliceDocumentsIterator.next.Goals.{then-self-via-then-self, then-self-via-else-self+then-is_alive}
+use Rattle.store_reader.proofs.alive_slice_documents.AliveSliceDocumentsIterator.next.Goals.{then-has_failed-via-then-has_failed, then-has_failed-via-else-has_failed+then-is_alive}
 
-pub returns-then-self-clause-steps : goal.returns-then-self-clause-steps
-returns-then-self-clause-steps c =
+pub returns-then-has_failed-clause-steps : goal.returns-then-has_failed-clause-steps
+returns-then-has_failed-clause-steps c =
     let l = c.loop-item in
     let i = l.invariant in
     let d = l.self.documents in
@@ -16,9 +16,9 @@ returns-then-self-clause-steps c =
       λ z amid.
           let here = i.amid z amid in
           let step = moved d t (Some c.in-Some.item) _ _ i.file c.in-Some.ensures.steps.1 in
-          elim c.then-self.branch [
-            | then-self-via-then-self w ↦ absurd (not_true (sym (step z here.0).1.well ∙ w.if-self.true))
-            | then-self-via-else-self+then-is_alive w ↦
+          elim c.then-has_failed.branch [
+            | then-has_failed-via-then-has_failed w ↦ absurd (not_true (sym (step z here.0).1.are_left.well ∙ sym c.has_failed.ensures ∙ w.if-has_failed.true))
+            | then-has_failed-via-else-has_failed+then-is_alive w ↦
                 let alive : is_alive_at c.args.self.now.alive.now l.doc_id ≡ true = ap (λ (x : List Bool). is_alive_at x l.doc_id) (sym i.set) ∙ sym w.is_alive.ensures ∙ w.if-is_alive.true in
                 alive_given _ z c.args.self.now.alive.now c.args.self.now.documents.next l.doc_id d t c.in-Some.item step here.0 here.1 here.2 i.here alive
           ],
@@ -35,7 +35,8 @@ loop-item-preserved c =
       file = c.in-Some.ensures.steps.0 ∙ i.file;
       set = i.set;
       above = search rules;
-      within = search rules;
+      below = search rules;
+      ends = search rules;
       left = search rules;
       amid = λ z amid.
           let here = i.amid z amid in
