@@ -67,10 +67,10 @@ head_left bytes count ends texts ts head behind e =
 
 -- ---- numbers passed over
 
-abbrev put_front : ℕ → Option (List ℕ × List ℕ) → Option (List ℕ × List ℕ)
+abbrev pub put_front : ℕ → Option (List ℕ × List ℕ) → Option (List ℕ × List ℕ)
 put_front n o = o >>= λ x. Some (n ∷ x.0, x.1)
 
-abbrev rest_of : Option (List ℕ × List ℕ) → Option (List ℕ)
+abbrev pub rest_of : Option (List ℕ × List ℕ) → Option (List ℕ)
 rest_of o = o >>= λ ns. Some ns.1
 
 pub pass_more : (count i : ℕ) (bytes : List ℕ) (n : ℕ) (after : List ℕ) (total : Option (List ℕ)) → i < count → number_below (2 ^ 64) bytes ≡ Some (n, after)

@@ -34,4 +34,8 @@ pub mod IndexHeadLemmas
 pub mod RestOfLayerLemmas
 pub mod DescentLemmas
 pub mod FoundLemmas
+pub mod CutOffLemmas
+pub mod FileHeadLemmas
+pub mod FoundAnswerLemmas
+pub mod FileSeekLemmas
 pub mod OuterLayersLemmas

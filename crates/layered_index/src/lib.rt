@@ -6,6 +6,7 @@ pub mod laws;
 
 pub use index::block::CheckpointBlock;
 pub use index::index_fault::IndexFault;
+pub use index::index_head::IndexHead;
 pub use index::index_slice::IndexSlice;
 pub use index::layer_cursor::LayerCursor;
 pub use index::looks::{Looks, Steps, seek_near, seek_over};

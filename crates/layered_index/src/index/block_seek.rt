@@ -135,7 +135,7 @@ fn scan_block(
 }
 
 // The first checkpoint past the target of a layer that has one block.
-fn seek_top(
+pub(crate) fn seek_top(
     whole: bool,
     period: usize,
     target: DocId,
@@ -159,7 +159,7 @@ fn seek_top(
 }
 
 // The first checkpoint past the target of the run that a pointer points to. The run has the pointer's documents.
-fn seek_pointed(
+pub(crate) fn seek_pointed(
     whole: bool,
     period: usize,
     target: DocId,

@@ -17,7 +17,7 @@ use std::marker::Model;
 use store_base::{DocId, StoreError, first_number};
 
 // No list has more layers: its length is below 2^64.
-const MOST_LAYERS: u64 = 64;
+pub(crate) const MOST_LAYERS: u64 = 64;
 
 /// The index part of a store, in a slice of bytes. `new` reads how many layers it has. A seek decodes one run of each
 /// layer, from the top layer down, and checks the bytes that it decodes. No call takes memory.
@@ -41,7 +41,7 @@ impl<'a> Model for IndexSlice<'a> {
 }
 
 // The bytes after `count` numbers.
-fn pass_numbers(count: usize, bytes: &[u8]) -> Option<&[u8]>
+pub(crate) fn pass_numbers(count: usize, bytes: &[u8]) -> Option<&[u8]>
     ensures { option_map (λ x. x.now) result ≡ after_numbers count bytes.now }
 {
     let mut rest = bytes;

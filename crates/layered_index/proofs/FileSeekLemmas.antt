@@ -1,0 +1,203 @@
+-- A seek in a file finds, layer by layer, what is found in the bytes of its index.
+use Rattle.std.proofs.Common.{◌≡◌, ℕ, ◌+◌, ◌-◌, ◌<◌, ◌≤◌, ◌^◌, ◌⊎◌, inl, inr, Bool, true, false, eqb, ltb, List, ◌++◌, length, take, drop, Option, Some, None, Result}
+use Rattle.std.proofs.Common.{Ok, Err, refl, sym, ◌∙◌, ap, subst, arith}
+use Rattle.std.proofs.lemmas.Bool.{lt-ltb, le-ltb, cond-true, cond-false, ne_eqb}
+use Rattle.std.proofs.lemmas.List.{length-take, length-drop, drop-drop}
+use Rattle.std.proofs.Common.{eq-eqb}
+use Rattle.std.specs.Prelude.{slice_range, is_some, MatchResult, IsTrue}
+use Rattle.store_base.proofs.Ranges.{part_of_part}
+use Rattle.store_base.specs.Counts.{HasRisen}
+use Rattle.store_base.specs.Files.{Part}
+use Rattle.store_base.specs.VInt.{number_below}
+use Rattle.store_base.specs.ReadingLemmas.{some_is}
+use Rattle.store_base.specs.declared.error.StoreError.{StoreError}
+use Rattle.layered_index.specs.declared.index.Checkpoint.{Checkpoint}
+use Rattle.layered_index.specs.Checkpoint.{first_past}
+use Rattle.layered_index.specs.Layers.{digit_count}
+use Rattle.layered_index.specs.IndexReading.{IsIndexPart}
+use Rattle.layered_index.specs.IndexHeads.{longest_head, HeadBytes, index_in, ReadsAtMost, RefusesRead, AnswersByReads}
+use Rattle.layered_index.specs.Sought.{IndexBytes, next_layer, after_numbers, found_in, found_in_index}
+use Rattle.layered_index.proofs.CutOffLemmas.{below_grown}
+use Rattle.layered_index.proofs.FileHeadLemmas.{Heads}
+use Rattle.layered_index.proofs.FoundAnswerLemmas.{found_answer}
+use Rattle.layered_index.proofs.FoundLemmas.{Finds, found_first, found_no_layer, found_next, found_nothing, found_goes_on, found_last}
+use Rattle.layered_index.proofs.IndexHeadLemmas.{head_digits, pass_ends, none_is_some}
+
+-- what is found in all
+abbrev pub found_of : List ℕ → HeadBytes → ℕ → Option (Option Checkpoint)
+found_of content head target = found_in_index false head.period target (index_in content head)
+
+-- what is still to be found is what is found in all
+abbrev pub Seeks : List ℕ → HeadBytes → ℕ → ℕ → ℕ → ℕ → List ℕ → ℕ → Option Checkpoint → Type 0
+Seeks content head target count i place ends texts found = Finds false head.period target count i place (ends ++ drop longest_head (index_in content head))
+    (drop place (slice_range content texts head.end)) found (found_of content head target)
+
+pub seek_begins : (content : List ℕ) (head : HeadBytes) (target count ends texts : ℕ) (numbers : List ℕ) → numbers ≡ drop ends head.front → Heads content head count ends texts
+    → Seeks content head target count 0 0 numbers texts None
+seek_begins content head target count ends texts numbers same heads =
+    let seen : IndexBytes = record { period = head.period; bytes = index_in content head } in
+    subst (λ (t : List ℕ). Seeks content head target count 0 0 t texts None) (sym same) (found_first seen seen false target count _ _ refl heads.headed)
+
+-- what was sought in the file as it is now was sought in it as it was
+pub layer_sought : (i : ℕ) (old now : Part) (u v : HeadBytes) (target start end : ℕ) (found : Option Checkpoint)
+    (result : Result (Option Checkpoint) StoreError) → ReadsAtMost i old now → u ≡ v → IsTrue old.honest
+    → (IsTrue now.honest → AnswersByReads (found_in false u.period target found (slice_range now.content start end)) result)
+    → AnswersByReads (found_in false v.period target found (slice_range old.content start end)) result
+layer_sought i old now u v target start end found result kept same honest answers =
+    subst (λ (w : HeadBytes). AnswersByReads (found_in false w.period target found (slice_range old.content start end)) result) same
+    (subst (λ (content : List ℕ). AnswersByReads (found_in false u.period target found (slice_range content start end)) result) kept.content
+    (answers (subst (λ (b : Bool). IsTrue b) (sym kept.honest) honest)))
+
+-- ---- the next layer
+
+-- the numbers that are left can be read
+pub some_end : (count i : ℕ) (ends rest : List ℕ) → i < count → number_below (2 ^ 64) ends ≡ None → after_numbers (count - i) ends ≡ Some rest → ⊥
+some_end count i ends rest lt none left = none_is_some (after_numbers (count - i) ends) (left ∙ pass_ends count i ends (Some rest) lt none left) left
+
+length-texts : (content : List ℕ) (start end : ℕ) → end ≤ length content → length (slice_range content start end) ≡ end - start
+length-texts content start end within = omega (arith, length-take (end - start) (drop start content), length-drop start content)
+
+next_before : (content back ends : List ℕ) (texts end place n : ℕ) (more : List ℕ) → number_below (2 ^ 64) ends ≡ Some (n, more) → n < place
+    → next_layer place (ends ++ back) (drop place (slice_range content texts end)) ≡ None
+unfolding next_layer
+next_before content back ends texts end place n more read lt =
+    let grown = below_grown (2 ^ 64) ends back n more read in
+    let test : ltb n place ≡ true = lt-ltb _ _ lt in
+    rw (grown, test) refl
+
+next_behind : (content back ends : List ℕ) (texts end place n : ℕ) (more : List ℕ)
+    → end ≤ length content → number_below (2 ^ 64) ends ≡ Some (n, more) → place ≤ n → place ≤ end - texts → end - texts < n
+    → next_layer place (ends ++ back) (drop place (slice_range content texts end)) ≡ None
+unfolding next_layer
+next_behind content back ends texts end place n more within read le here long =
+    let all = slice_range content texts end in
+    let grown = below_grown (2 ^ 64) ends back n more read in
+    let test : ltb n place ≡ false = le-ltb _ _ le in
+    let size : length (drop place all) < n - place = omega (arith, length-drop place all, length-texts content texts end within) in
+    let far : ltb (length (drop place all)) (n - place) ≡ true = lt-ltb _ _ size in
+    rw (grown, test, far) refl
+
+next_here : (content back ends : List ℕ) (texts end place n : ℕ) (more : List ℕ) → end ≤ length content → number_below (2 ^ 64) ends ≡ Some (n, more) → place ≤ n → n ≤ end - texts → texts ≤ end
+    → next_layer place (ends ++ back) (drop place (slice_range content texts end)) ≡ Some (slice_range content (texts + place) (texts + n), n, more ++ back, drop n (slice_range content texts end))
+unfolding next_layer
+next_here content back ends texts end place n more within read le fits order =
+    let all = slice_range content texts end in
+    let grown = below_grown (2 ^ 64) ends back n more read in
+    let test : ltb n place ≡ false = le-ltb _ _ le in
+    let size : n - place ≤ length (drop place all) = omega (arith, length-drop place all, length-texts content texts end within) in
+    let near : ltb (length (drop place all)) (n - place) ≡ false = le-ltb _ _ size in
+    let layer : take (n - place) (drop place all) ≡ slice_range content (texts + place) (texts + n) =
+    sym (part_of_part content all texts end place n refl order within le (omega (arith, length-texts content texts end within))) in
+    let sum : place + (n - place) ≡ n = omega arith in
+    let behind : drop (n - place) (drop place all) ≡ drop n all = drop-drop (n - place) place all ∙ ap (λ (k : ℕ). drop k all) sum in
+    rw (grown, test, near) (λ i. Some (layer i, n, more ++ back, behind i))
+
+-- ---- a layer is found bad, or sought
+
+pub bad_layer : (content ends : List ℕ) (head : HeadBytes) (target count i place texts n : ℕ) (more : List ℕ) (found : Option Checkpoint) → i < count → head.end ≤ length content
+    → number_below (2 ^ 64) ends ≡ Some (n, more) → place ≤ head.end - texts → (n < place) ⊎ ((place ≤ n) × (head.end - texts < n))
+    → Seeks content head target count i place ends texts found → found_of content head target ≡ None
+bad_layer content ends head target count i place texts n more found lt within read here off so_far =
+    let back = drop longest_head (index_in content head) in
+    let none : next_layer place (ends ++ back) (drop place (slice_range content texts head.end)) ≡ None = elim off [
+      | inl before ↦ next_before content back ends texts head.end place n more read before
+      | inr behind ↦ next_behind content back ends texts head.end place n more within read behind.0 here behind.1
+    ] in
+    found_no_layer false head.period target count i place (ends ++ back) (drop place (slice_range content texts head.end)) found (found_of content head target) lt none so_far
+
+pub layer_answers : (content ends : List ℕ) (head : HeadBytes) (target count i place texts n : ℕ) (more : List ℕ) (found : Option Checkpoint) (e : StoreError) → i < count → head.end ≤ length content
+    → texts ≤ head.end → number_below (2 ^ 64) ends ≡ Some (n, more) → place ≤ n → n ≤ head.end - texts → Seeks content head target count i place ends texts found
+    → AnswersByReads (found_in false head.period target found (slice_range content (texts + place) (texts + n))) (Err e) → AnswersByReads (found_of content head target) (Err e)
+layer_answers content ends head target count i place texts n more found e lt within order read le fits so_far (inr failed) = inr failed
+layer_answers content ends head target count i place texts n more found e lt within order read le fits so_far (inl bad) =
+    let back = drop longest_head (index_in content head) in
+    let all = slice_range content texts head.end in
+    inl (
+      bad.0,
+      sym (found_next false head.period target count i place (ends ++ back) (drop place all) found (found_of content head target) (slice_range content (texts + place) (texts + n)) n
+          (more ++ back) (drop n all) None lt (next_here content back ends texts head.end place n more within read le fits order) (sym bad.1) so_far),
+    )
+
+pub layer_has_none : (content ends : List ℕ) (head : HeadBytes) (target count i place texts n : ℕ) (more : List ℕ) (found next : Option Checkpoint) → i < count → head.end ≤ length content
+    → texts ≤ head.end → number_below (2 ^ 64) ends ≡ Some (n, more) → place ≤ n → n ≤ head.end - texts → is_some next ≡ false → Seeks content head target count i place ends texts found
+    → AnswersByReads (found_in false head.period target found (slice_range content (texts + place) (texts + n))) (Ok next) → found_of content head target ≡ Some None
+layer_has_none content ends head target count i place texts n more found next lt within order read le fits none so_far answers =
+    let back = drop longest_head (index_in content head) in
+    let all = slice_range content texts head.end in
+    found_nothing false head.period target (count - (i + 1)) n (more ++ back) (drop n all) next (found_of content head target) none
+    (found_next false head.period target count i place (ends ++ back) (drop place all) found (found_of content head target) (slice_range content (texts + place) (texts + n)) n
+    (more ++ back) (drop n all) (Some next) lt (next_here content back ends texts head.end place n more within read le fits order) (sym answers) so_far)
+
+pub layer_goes_on : (content ends : List ℕ) (head : HeadBytes) (target count i place texts n : ℕ) (more : List ℕ) (found next : Option Checkpoint) → i < count → head.end ≤ length content
+    → texts ≤ head.end → number_below (2 ^ 64) ends ≡ Some (n, more) → place ≤ n → n ≤ head.end - texts → is_some next ≡ true → Seeks content head target count i place ends texts found
+    → AnswersByReads (found_in false head.period target found (slice_range content (texts + place) (texts + n))) (Ok next) → Seeks content head target count (i + 1) n more texts next
+layer_goes_on content ends head target count i place texts n more found next lt within order read le fits some so_far answers =
+    let back = drop longest_head (index_in content head) in
+    let all = slice_range content texts head.end in
+    found_goes_on false head.period target (count - (i + 1)) n (more ++ back) (drop n all) next (found_of content head target) some
+    (found_next false head.period target count i place (ends ++ back) (drop place all) found (found_of content head target) (slice_range content (texts + place) (texts + n)) n
+    (more ++ back) (drop n all) (Some next) lt (next_here content back ends texts head.end place n more within read le fits order) (sym answers) so_far)
+
+-- ---- behind the last layer
+
+pub bytes_left : (content ends : List ℕ) (head : HeadBytes) (target count i place texts : ℕ) (found : Option Checkpoint) → count ≤ i → head.end ≤ length content → place < head.end - texts
+    → Seeks content head target count i place ends texts found → found_of content head target ≡ None
+bytes_left content ends head target count i place texts found le within more so_far =
+    let all = slice_range content texts head.end in
+    let rest = drop place all in
+    let size : 0 < length rest = omega (arith, length-drop place all, length-texts content texts head.end within) in
+    found_last false head.period target count i place _ rest found (found_of content head target) le so_far
+    ∙ cond-false (eqb (length rest) 0) (Some found) None (ne_eqb (length rest) 0 (λ e. omega arith))
+
+pub none_is_left : (content ends : List ℕ) (head : HeadBytes) (target count i place texts : ℕ) (found : Option Checkpoint) → count ≤ i → head.end ≤ length content → head.end - texts ≤ place
+    → Seeks content head target count i place ends texts found → found_of content head target ≡ Some found
+none_is_left content ends head target count i place texts found le within all_read so_far =
+    let all = slice_range content texts head.end in
+    let rest = drop place all in
+    let size : length rest ≡ 0 = omega (arith, length-drop place all, length-texts content texts head.end within) in
+    found_last false head.period target count i place _ rest found (found_of content head target) le so_far ∙ cond-true (eqb (length rest) 0) (Some found) None (eq-eqb (length rest) 0 size)
+
+-- ---- the answer
+
+-- the index part of a list is sought as its definition says
+pub answers_truly : (content : List ℕ) (head : HeadBytes) (target count ends texts : ℕ) (cs : List Checkpoint) (result : Result (Option Checkpoint) StoreError) → Heads content head count ends texts
+    → head.end < 2 ^ 64 → IsIndexPart head.period (index_in content head) cs → AnswersByReads (found_of content head target) result
+    → MatchResult result (λ found. found ≡ first_past cs target) RefusesRead
+answers_truly content head target count ends texts cs result heads fits is answers = by_result result answers
+  where
+    size : length (index_in content head) < 2 ^ 64
+    size = omega (arith, length-take (head.end - head.start) (drop head.start content))
+
+    found : found_of content head target ≡ Some (first_past cs target)
+    found = found_answer head.period target (index_in content head) count _ _ cs heads.headed size is
+
+    by_result : (r : Result (Option Checkpoint) StoreError) → AnswersByReads (found_of content head target) r → MatchResult r (λ f. f ≡ first_past cs target) RefusesRead
+    by_result (Ok f) a = some_is f (first_past cs target) (sym a ∙ found)
+    by_result (Err e) (inl bad) = absurd (none_is_some (found_of content head target) bad.1 found)
+    by_result (Err e) (inr failed) = failed
+
+-- ---- counts of reads
+
+pub reads_fewer : (i j : ℕ) (old new : Part) → i ≤ j → ReadsAtMost i old new → ReadsAtMost j old new
+reads_fewer i j old new le r = record { content = r.content; honest = r.honest; reads = omega (arith, r.reads); failures = r.failures }
+
+pub reads_more : (i : ℕ) (old mid new : Part) → ReadsAtMost i old mid → ReadsAtMost 1 mid new → ReadsAtMost (i + 1) old new
+reads_more i old mid new p q = record {
+  content = q.content ∙ p.content;
+  honest = q.honest ∙ p.honest;
+  reads = omega (arith, p.reads, q.reads);
+  failures = omega (arith, p.failures, q.failures);
+}
+
+pub none_read : (old : Part) → ReadsAtMost 0 old old
+none_read old = record { content = refl; honest = refl; reads = omega arith; failures = omega arith }
+
+pub risen_later : (old mid new : ℕ) → old ≤ mid → HasRisen mid new → HasRisen old new
+risen_later old mid new le r = record { no_lower = omega (arith, r.no_lower); risen = λ lt. omega (arith, r.risen lt) }
+
+-- as many as the layers of the list
+pub reads_by_digits : (content : List ℕ) (head : HeadBytes) (count ends texts i : ℕ) (old new : Part) (cs : List Checkpoint) → Heads content head count ends texts → i ≤ count
+    → IsIndexPart head.period (index_in content head) cs → ReadsAtMost i old new → new.reads ≤ old.reads + digit_count head.period (length cs)
+reads_by_digits content head count ends texts i old new cs heads le is r =
+    let digits = head_digits head.period (index_in content head) count _ _ cs heads.headed is in
+    subst (λ (n : ℕ). new.reads ≤ old.reads + n) digits (reads_fewer i count old new le r).reads

@@ -1,0 +1,69 @@
+-- Seeks in an index that lies in a file: its head, which is read once, and the runs that are read on the way down.
+use Rattle.std.specs.Prelude.{◌≡◌, ◌⊎◌, ℕ, ◌+◌, ◌*◌, ◌^◌, ◌<◌, ◌≤◌, List, length, take, drop, slice_range}
+use Rattle.std.specs.Prelude.{Option, Some, None, Result, Ok, Err}
+use Rattle.store_base.specs.Files.{Part}
+use Rattle.store_base.specs.VInt.{number_below}
+use Rattle.store_base.specs.declared.error.StoreError.{StoreError}
+use Rattle.store_base.specs.declared.error.StoreError.TheVariants.{BadIndex, Read, Memory}
+use Rattle.layered_index.specs.declared.index.Checkpoint.{Checkpoint}
+use Rattle.layered_index.specs.Sought.{after_numbers}
+
+-- No head of an index has more bytes: a number below 65, and then at most 64 numbers of at most ten bytes.
+abbrev pub longest_head : ℕ
+longest_head = 641
+
+-- No run of so many checkpoints has more bytes: numbers of ten, five and ten bytes, and two of five for each.
+abbrev pub longest_run : ℕ → ℕ
+longest_run period = 25 + 10 * period
+
+-- a head of an index as its callers see it: where the index begins and ends in its file, and the bytes that were read
+pub record HeadBytes : Type 0 where
+  pub period : ℕ
+  pub start : ℕ
+  pub end : ℕ
+  pub front : List ℕ
+
+-- The index is these bytes of the file.
+abbrev pub index_in : List ℕ → HeadBytes → List ℕ
+index_in file head = slice_range file head.start head.end
+
+-- The head has the bytes that the file has there.
+abbrev pub IsHeadOf : List ℕ → HeadBytes → Type 0
+IsHeadOf file head = head.front ≡ take longest_head (index_in file head)
+
+-- How many layers there are, where the numbers begin that say where they end, and where in the file the layers begin.
+pub record IsHead (head : HeadBytes) (count ends texts : ℕ) : Type 0 where
+  pub two : 2 ≤ head.period
+  pub few : head.period ≤ 64
+  pub within : head.start + length head.front ≤ head.end
+  pub fits : head.end < 2 ^ 64
+  pub inside : ends ≤ length head.front
+  pub counted : number_below 65 head.front ≡ Some (count, drop ends head.front)
+  pub rest : List ℕ
+  pub behind : after_numbers count (drop ends head.front) ≡ Some rest
+  pub placed : texts + length rest ≡ head.start + length head.front
+
+-- The bytes don't begin with a number below 65 and then so many numbers.
+abbrev pub HasNoHead : List ℕ → Type 0
+HasNoHead bytes = (count : ℕ) (ends rest : List ℕ) → number_below 65 bytes ≡ Some (count, ends)
+    → after_numbers count ends ≡ Some rest → ⊥
+
+-- what at most so many reads leave of a file
+pub record ReadsAtMost (most : ℕ) (old new : Part) : Type 0 where
+  pub content : new.content ≡ old.content
+  pub honest : new.honest ≡ old.honest
+  pub reads : new.reads ≤ old.reads + most
+  pub failures : old.failures ≤ new.failures
+
+-- a read failed, or memory ran out
+abbrev pub RefusesRead : StoreError → Type 0
+RefusesRead e = (e ≡ Read) ⊎ (e ≡ Memory)
+
+-- the same, or the index is found damaged
+abbrev pub RefusesSeek : StoreError → Type 0
+RefusesSeek e = (e ≡ BadIndex) ⊎ RefusesRead e
+
+-- The answer of a seek is what is found, or `BadIndex` where nothing is; or a read failed or memory ran out.
+abbrev pub AnswersByReads : Option (Option Checkpoint) → Result (Option Checkpoint) StoreError → Type 0
+AnswersByReads found (Ok c) = found ≡ Some c
+AnswersByReads found (Err e) = ((e ≡ BadIndex) × (found ≡ None)) ⊎ RefusesRead e
