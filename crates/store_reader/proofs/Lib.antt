@@ -31,3 +31,4 @@ pub mod AmidLemmas
 pub mod AliveSliceLemmas
 pub mod SliceGivenLemmas
 pub mod StoreTailLemmas
+pub mod SeekingLemmas

@@ -262,7 +262,7 @@ docs_small first byte (c ∷ cs) lt h = docs_small c.doc_range.end c.byte_range.
 pub few_stored : (bytes : List ℕ) (s : IsSomeStore bytes) → count_of_store bytes s < 2 ^ 32
 few_stored bytes s = omega (arith, count_stored bytes s, docs_small 0 0 (checkpoints_of s.blocks) (omega arith) (checkpoints_cover s.blocks s.store.blocks).in_line)
 
-get_past : (xs : List Slot) (k : ℕ) → length xs ≤ k → slice_get xs k ≡ None
+pub get_past : (xs : List Slot) (k : ℕ) → length xs ≤ k → slice_get xs k ≡ None
 get_past [] k le = refl
 get_past (x ∷ xs) zero le = absurd (omega arith)
 get_past (x ∷ xs) (suc k) le = get_past xs k (omega arith)
