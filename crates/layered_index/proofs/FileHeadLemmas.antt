@@ -226,3 +226,7 @@ heads content head count ends texts is same =
       left = is.behind;
       before = omega (arith, place, later);
     }
+
+-- what holds of the head inside holds of the head that is seen
+pub seen_head : (u v : HeadBytes) (count ends texts : ℕ) → u ≡ v → IsHead u count ends texts → IsHead v count ends texts
+seen_head u v count ends texts same is = subst (λ (h : HeadBytes). IsHead h count ends texts) same is

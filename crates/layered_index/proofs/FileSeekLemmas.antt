@@ -65,7 +65,7 @@ next_before content back ends texts end place n more read lt =
     let test : ltb n place ≡ true = lt-ltb _ _ lt in
     rw (grown, test) refl
 
-next_behind : (content back ends : List ℕ) (texts end place n : ℕ) (more : List ℕ)
+pub next_behind : (content back ends : List ℕ) (texts end place n : ℕ) (more : List ℕ)
     → end ≤ length content → number_below (2 ^ 64) ends ≡ Some (n, more) → place ≤ n → place ≤ end - texts → end - texts < n
     → next_layer place (ends ++ back) (drop place (slice_range content texts end)) ≡ None
 unfolding next_layer
@@ -77,7 +77,7 @@ next_behind content back ends texts end place n more within read le here long =
     let far : ltb (length (drop place all)) (n - place) ≡ true = lt-ltb _ _ size in
     rw (grown, test, far) refl
 
-next_here : (content back ends : List ℕ) (texts end place n : ℕ) (more : List ℕ) → end ≤ length content → number_below (2 ^ 64) ends ≡ Some (n, more) → place ≤ n → n ≤ end - texts → texts ≤ end
+pub next_here : (content back ends : List ℕ) (texts end place n : ℕ) (more : List ℕ) → end ≤ length content → number_below (2 ^ 64) ends ≡ Some (n, more) → place ≤ n → n ≤ end - texts → texts ≤ end
     → next_layer place (ends ++ back) (drop place (slice_range content texts end)) ≡ Some (slice_range content (texts + place) (texts + n), n, more ++ back, drop n (slice_range content texts end))
 unfolding next_layer
 next_here content back ends texts end place n more within read le fits order =
@@ -159,22 +159,19 @@ none_is_left content ends head target count i place texts found le within all_re
 
 -- ---- the answer
 
+-- what is found is answered
+pub truly : {A : Type 0} (found : Option A) (x : A) (result : Result A StoreError) → found ≡ Some x → AnswersByReads found result → MatchResult result (λ y. y ≡ x) RefusesRead
+truly found x (Ok y) e a = some_is y x (sym a ∙ e)
+truly found x (Err f) e (inl bad) = absurd (none_is_some found bad.1 e)
+truly found x (Err f) e (inr failed) = failed
+
 -- the index part of a list is sought as its definition says
 pub answers_truly : (content : List ℕ) (head : HeadBytes) (target count ends texts : ℕ) (cs : List Checkpoint) (result : Result (Option Checkpoint) StoreError) → Heads content head count ends texts
     → head.end < 2 ^ 64 → IsIndexPart head.period (index_in content head) cs → AnswersByReads (found_of content head target) result
     → MatchResult result (λ found. found ≡ first_past cs target) RefusesRead
-answers_truly content head target count ends texts cs result heads fits is answers = by_result result answers
-  where
-    size : length (index_in content head) < 2 ^ 64
-    size = omega (arith, length-take (head.end - head.start) (drop head.start content))
-
-    found : found_of content head target ≡ Some (first_past cs target)
-    found = found_answer head.period target (index_in content head) count _ _ cs heads.headed size is
-
-    by_result : (r : Result (Option Checkpoint) StoreError) → AnswersByReads (found_of content head target) r → MatchResult r (λ f. f ≡ first_past cs target) RefusesRead
-    by_result (Ok f) a = some_is f (first_past cs target) (sym a ∙ found)
-    by_result (Err e) (inl bad) = absurd (none_is_some (found_of content head target) bad.1 found)
-    by_result (Err e) (inr failed) = failed
+answers_truly content head target count ends texts cs result heads fits is answers =
+    let size : length (index_in content head) < 2 ^ 64 = omega (arith, length-take (head.end - head.start) (drop head.start content)) in
+    truly (found_of content head target) (first_past cs target) result (found_answer head.period target (index_in content head) count _ _ cs heads.headed size is) answers
 
 -- ---- counts of reads
 

@@ -38,4 +38,5 @@ pub mod CutOffLemmas
 pub mod FileHeadLemmas
 pub mod FoundAnswerLemmas
 pub mod FileSeekLemmas
+pub mod FileTopLemmas
 pub mod OuterLayersLemmas

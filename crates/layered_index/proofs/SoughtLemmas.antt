@@ -103,7 +103,7 @@ sought_past most target bytes s fits e =
 -- ---- a layer
 
 -- a layer of one run is one block
-one_block : (period : ℕ) (cs : List Checkpoint) → 0 < length cs → length cs ≤ period → layer_text period cs ≡ checkpoint_block cs
+pub one_block : (period : ℕ) (cs : List Checkpoint) → 0 < length cs → length cs ≤ period → layer_text period cs ≡ checkpoint_block cs
 one_block period cs some few = ap (flat_map checkpoint_block) (groups_one period cs some few) ∙ append-nil (checkpoint_block cs)
 
 pub top_sought : (period target : ℕ) (layer : List ℕ) (cs : List Checkpoint) (read : Option Sought) → period ≤ 64 → IsInLine cs → layer ≡ layer_text period cs → IsFoundAbove period target None cs

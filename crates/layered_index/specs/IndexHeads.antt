@@ -2,11 +2,10 @@
 use Rattle.std.specs.Prelude.{◌≡◌, ◌⊎◌, ℕ, ◌+◌, ◌*◌, ◌^◌, ◌<◌, ◌≤◌, List, length, take, drop, slice_range}
 use Rattle.std.specs.Prelude.{Option, Some, None, Result, Ok, Err}
 use Rattle.store_base.specs.Files.{Part}
-use Rattle.store_base.specs.VInt.{number_below}
+use Rattle.store_base.specs.VInt.{◌>>=◌, number_below}
 use Rattle.store_base.specs.declared.error.StoreError.{StoreError}
 use Rattle.store_base.specs.declared.error.StoreError.TheVariants.{BadIndex, Read, Memory}
-use Rattle.layered_index.specs.declared.index.Checkpoint.{Checkpoint}
-use Rattle.layered_index.specs.Sought.{after_numbers}
+use Rattle.layered_index.specs.Sought.{sought_at, after_numbers}
 
 -- No head of an index has more bytes: a number below 65, and then at most 64 numbers of at most ten bytes.
 abbrev pub longest_head : ℕ
@@ -15,6 +14,10 @@ longest_head = 641
 -- No run of so many checkpoints has more bytes: numbers of ten, five and ten bytes, and two of five for each.
 abbrev pub longest_run : ℕ → ℕ
 longest_run period = 25 + 10 * period
+
+-- where the documents of a run end, if its bytes are a block of at most so many checkpoints
+abbrev pub run_end : ℕ → List ℕ → Option ℕ
+run_end most run = sought_at most 0 (take (longest_run most) run) >>= λ s. Some s.doc_end
 
 -- a head of an index as its callers see it: where the index begins and ends in its file, and the bytes that were read
 pub record HeadBytes : Type 0 where
@@ -63,7 +66,7 @@ RefusesRead e = (e ≡ Read) ⊎ (e ≡ Memory)
 abbrev pub RefusesSeek : StoreError → Type 0
 RefusesSeek e = (e ≡ BadIndex) ⊎ RefusesRead e
 
--- The answer of a seek is what is found, or `BadIndex` where nothing is; or a read failed or memory ran out.
-abbrev pub AnswersByReads : Option (Option Checkpoint) → Result (Option Checkpoint) StoreError → Type 0
+-- The answer is what is found, or `BadIndex` where nothing is; or a read failed or memory ran out.
+abbrev pub AnswersByReads : {A : Type 0} → Option A → Result A StoreError → Type 0
 AnswersByReads found (Ok c) = found ≡ Some c
 AnswersByReads found (Err e) = ((e ≡ BadIndex) × (found ≡ None)) ⊎ RefusesRead e

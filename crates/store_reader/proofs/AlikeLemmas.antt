@@ -38,10 +38,10 @@ abbrev pub IsFailure : StoreError → Type 0
 IsFailure e = (e ≡ Read) ⊎ (e ≡ Memory)
 
 -- the footer that the bytes say, or no bytes came
-abbrev IsFoundOrFails : List ℕ → Result DocStoreFooter StoreError → Type 0
+abbrev pub IsFoundOrFails : List ℕ → Result DocStoreFooter StoreError → Type 0
 IsFoundOrFails bytes said = FindsFooter bytes said ⊎ ((d : StoreError) × (said ≡ Err d) × IsFailure d)
 
-footer_found : (old mid : Part) (said : Result DocStoreFooter StoreError) → IsTrue old.honest → ExtractsFooter old said mid → IsFoundOrFails old.content said
+pub footer_found : (old mid : Part) (said : Result DocStoreFooter StoreError) → IsTrue old.honest → ExtractsFooter old said mid → IsFoundOrFails old.content said
 footer_found old mid said honest r = (elim (nat_lt (length old.content) 28) as (λ y. nat_lt (length old.content) 28 ≡ y → IsFoundOrFails old.content said) [
   | true ↦ λ t. let lt = ltb-true _ _ t in inl (record { short = λ _. (r.short lt).0; long = λ le. absurd (omega arith) })
   | false ↦ λ t. let le = ltb-false _ _ t in let long = r.long le in go le long.0 long.1 long.2

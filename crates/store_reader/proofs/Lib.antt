@@ -32,3 +32,4 @@ pub mod AmidLemmas
 pub mod AliveSliceLemmas
 pub mod SliceGivenLemmas
 pub mod StoreTailLemmas
+pub mod SeekingLemmas

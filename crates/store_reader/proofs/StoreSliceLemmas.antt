@@ -2,6 +2,7 @@
 use Rattle.std.proofs.Common.{◌≡◌, ℕ, zero, suc, ◌+◌, ◌*◌, ◌-◌, ◌<◌, ◌≤◌, List, [], ◌∷◌, length, Option, Some, None, refl, sym, ap, ◌∙◌, subst, arith, inl, inr}
 use Rattle.std.specs.Prelude.{Result, Ok, Err, slice_range, slice_get}
 use Rattle.std.proofs.lemmas.List.{append-nil}
+use Rattle.std.proofs.lemmas.Option.{slice_get_past}
 use Rattle.store_base.specs.declared.error.StoreError.{StoreError}
 use Rattle.store_base.specs.declared.error.StoreError.TheVariants.{BadIndex, BadOffset, InvalidArgument, DamagedDocument}
 use Rattle.layered_index.specs.declared.index.Checkpoint.{Checkpoint}
@@ -263,11 +264,6 @@ none_stored bytes s id e =
     let v : Viewing = record { file = bytes; period = s.period; version = seen.version; store = blocks_at (checkpoints_of s.blocks) (data_in bytes (checkpoints_of s.blocks)) } in
     subst (λ (bs : List StoreBlock). length (slots bs) ≤ id) seen.blocks (block_none v (checkpoints_of s.blocks) id refl seen.view e)
 
-get_past : (xs : List Slot) (k : ℕ) → length xs ≤ k → slice_get xs k ≡ None
-get_past [] k le = refl
-get_past (x ∷ xs) zero le = absurd (omega arith)
-get_past (x ∷ xs) (suc k) le = get_past xs k (omega arith)
-
 -- no document stands at or past the count
 pub document_past : (bytes : List ℕ) (s : IsSomeStore bytes) (id : ℕ) → count_of_store bytes s ≤ id → document_in bytes s id ≡ Err (InvalidArgument id)
-document_past bytes s id le = ap (exact_result id) (get_past (slots s.blocks) id le)
+document_past bytes s id le = ap (exact_result id) (slice_get_past (slots s.blocks) id le)

@@ -3,6 +3,7 @@ use Rattle.std.proofs.Common.{◌≡◌, ℕ, zero, suc, ◌+◌, ◌-◌, ◌<�
 use Rattle.std.specs.Prelude.{slice_get}
 use Rattle.std.specs.List.{range_with_len}
 use Rattle.std.proofs.lemmas.Bool.{ltb-true, ltb-false}
+use Rattle.std.proofs.lemmas.Option.{slice_get_past}
 use Rattle.layered_index.specs.declared.index.Checkpoint.{Checkpoint}
 use Rattle.layered_index.specs.Checkpoint.{IsInLineFrom, docs_end, doc_count, first_past}
 use Rattle.store_format.specs.Block.{Slot, slot}
@@ -40,11 +41,6 @@ get_back : (xs ys : List Slot) (k : ℕ) → slice_get (xs ++ ys) (length xs + k
 get_back [] ys k = ap (slice_get ys) (omega arith)
 get_back (x ∷ xs) ys k = let e : suc (length xs) + k ≡ suc (length xs + k) = omega arith in rw e (get_back xs ys k)
 
-get_past : (xs : List Slot) (k : ℕ) → length xs ≤ k → slice_get xs k ≡ None
-get_past [] k le = refl
-get_past (x ∷ xs) zero le = absurd (omega arith)
-get_past (x ∷ xs) (suc k) le = get_past xs k (omega arith)
-
 -- the slot of a document is that of its place in the block that a seek finds
 pub slot_sought : (content : List ℕ) (doc byte : ℕ) (cs : List Checkpoint) (id : ℕ) (c : Checkpoint) → IsInLineFrom doc byte cs → doc ≤ id → first_past cs id ≡ Some c
     → slice_get (slots (blocks_of content cs)) (id - doc) ≡ Some (slot (part_of content c) (id - c.doc_range.start))
@@ -80,4 +76,4 @@ length-slots_of content doc byte (c ∷ cs) r =
 
 -- there is none at or past the count
 pub slot_past : (content : List ℕ) (byte : ℕ) (cs : List Checkpoint) (id : ℕ) → IsInLineFrom 0 byte cs → docs_end 0 cs ≤ id → slice_get (slots (blocks_of content cs)) id ≡ None
-slot_past content byte cs id r le = get_past (slots (blocks_of content cs)) id (omega (arith, length-slots_of content 0 byte cs r))
+slot_past content byte cs id r le = slice_get_past (slots (blocks_of content cs)) id (omega (arith, length-slots_of content 0 byte cs r))

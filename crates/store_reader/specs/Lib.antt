@@ -21,3 +21,4 @@ pub mod StoreSlices
 pub mod SliceLaws
 pub mod IndexChecks
 pub mod StoreTails
+pub mod SeekingReaders

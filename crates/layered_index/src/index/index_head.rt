@@ -4,7 +4,7 @@ ghost use Rattle.std.specs.Prelude.{slice_range, false};
 ghost use Rattle.store_base.specs.Counts.{HasRisen};
 ghost use Rattle.store_base.specs.Files.{ReadsOnce};
 ghost use Rattle.layered_index.specs.declared.index.Checkpoint.{Checkpoint};
-ghost use Rattle.layered_index.specs.Checkpoint.{first_past};
+ghost use Rattle.layered_index.specs.Checkpoint.{docs_end, first_past};
 ghost use Rattle.layered_index.specs.Layers.{digit_count};
 ghost use Rattle.layered_index.specs.IndexReading.{IsIndexPart, HasIndex};
 ghost use Rattle.layered_index.specs.IndexHeads.{index_in, IsHeadOf, HasNoHead, ReadsAtMost};
@@ -13,7 +13,7 @@ ghost use Rattle.layered_index.specs.Sought.{found_in_index, IsPast};
 
 use crate::index::Checkpoint;
 use crate::index::index_slice::{MOST_LAYERS, pass_numbers};
-use crate::index::run_in_file::seek_layer_in;
+use crate::index::run_in_file::{docs_end_in, seek_layer_in};
 use std::alloc::Global;
 use std::marker::Model;
 use store_base::{DocId, FileHandle, FileSlice, OwnedBytes, StoreError, first_number};
@@ -111,6 +111,35 @@ impl IndexHead {
         ensures few { result ≤ 64 }
     {
         self.period
+    }
+
+    /// The id after the last document, by one read of the top layer, or none where there is no layer. It returns
+    /// `BadIndex` where the top layer isn't one run.
+    pub fn docs_end<H: FileHandle>(
+        &self,
+        alloc: Global,
+        file: &mut FileSlice<H>,
+    ) -> Result<DocId, StoreError>
+        requires within { self.now.end ≤ length file.old.content }
+        ensures answer { IsTrue file.old.honest → IsHeadOf file.old.content self.now
+            → (cs : List Checkpoint) → IsIndexPart self.now.period (index_in file.old.content self.now) cs
+            → MatchResult result (λ end. end ≡ docs_end 0 cs) RefusesRead }
+        ensures refused { IfErr result RefusesSeek }
+        ensures device { IsErrOf result StoreError.Read → HasRisen file.old.failures file.new.failures }
+        ensures once { ReadsAtMost 1 file.old file.new }
+    {
+        if self.count == 0 {
+            return Ok(0);
+        }
+        let ends = &self.front.as_slice()[self.ends..];
+        let Some((end, _)) = first_number(ends, u64::MAX) else {
+            return Err(StoreError::BadIndex);
+        };
+        if self.end - self.texts < end {
+            return Err(StoreError::BadIndex);
+        }
+        let layer = self.texts..self.texts + end;
+        docs_end_in(alloc, file, self.period as usize, layer)
     }
 
     /// The first checkpoint whose documents end past the target, or `None` where there is none. It takes at most one

@@ -2,11 +2,12 @@
 ghost use Rattle.std.specs.Prelude.{◌≡◌, ◌≤◌, IsTrue, IfOk, IfErr, IfSome, IsErrOf, length, slice_range, take, false};
 ghost use Rattle.store_base.specs.Counts.{HasRisen};
 ghost use Rattle.store_base.specs.Files.{ReadsOnce};
-ghost use Rattle.layered_index.specs.IndexHeads.{longest_run, ReadsAtMost, RefusesRead, RefusesSeek, AnswersByReads};
+ghost use Rattle.layered_index.specs.IndexHeads.{longest_run, run_end, ReadsAtMost, RefusesRead, RefusesSeek};
+ghost use Rattle.layered_index.specs.IndexHeads.{AnswersByReads};
 ghost use Rattle.layered_index.specs.Sought.{found_on_top, found_in_run, found_in, IsPast};
 
 use crate::index::Checkpoint;
-use crate::index::block_seek::{seek_pointed, seek_top};
+use crate::index::block_seek::{seek_block, seek_pointed, seek_top};
 use crate::index::looks::Steps;
 use std::alloc::Global;
 use std::ops::Range;
@@ -83,6 +84,30 @@ fn seek_pointed_run<H: FileHandle>(
     let mut steps = Steps::new();
     match seek_pointed(false, period, target, bytes.as_slice(), pointer, &mut steps) {
         Some(found) => Ok(found),
+        None => Err(StoreError::BadIndex),
+    }
+}
+
+/// Where the documents of the layer end that has these bytes of the file, and is one run. It takes one read.
+pub(crate) fn docs_end_in<H: FileHandle>(
+    alloc: Global,
+    file: &mut FileSlice<H>,
+    period: usize,
+    layer: Range<u64>,
+) -> Result<DocId, StoreError>
+    requires few { period ≤ 64 }
+    requires order { layer.start ≤ layer.end }
+    requires within { layer.end ≤ length file.old.content }
+    ensures exact { IsTrue file.old.honest → AnswersByReads
+        (run_end period (slice_range file.old.content layer.start layer.end)) result }
+    ensures refused { IfErr result RefusesSeek }
+    ensures device { IsErrOf result StoreError.Read → HasRisen file.old.failures file.new.failures }
+    ensures once { ReadsOnce file.old file.new }
+{
+    let bytes = read_run(alloc, file, period, layer)?;
+    let mut steps = Steps::new();
+    match seek_block(period, 0, bytes.as_slice(), &mut steps) {
+        Some(sought) => Ok(sought.doc_end),
         None => Err(StoreError::BadIndex),
     }
 }

@@ -1,26 +1,22 @@
-use Rattle.std.proofs.Common.{◌≡◌, ◌≤◌, ◌<◌, ◌+◌, ◌-◌, ◌⊎◌, inl, inr, ℕ, length, take, drop, Some, None, Ok, Err, refl, sym, ◌∙◌, ap, subst, not, arith}
+use Rattle.std.proofs.Common.{◌≡◌, ◌≤◌, ◌<◌, ◌+◌, ◌-◌, ◌⊎◌, inl, inr, ℕ, length, take, drop, Some, None, Ok, Err, refl, sym, ◌∙◌, ap, not, arith}
 use Rattle.std.proofs.lemmas.List.{take_rest}
 use Rattle.std.proofs.lemmas.Result.{err_from_is_err_and}
 use Rattle.store_base.specs.declared.error.StoreError.TheVariants.{BadIndex}
-use Rattle.layered_index.specs.IndexHeads.{HeadBytes, IsHead}
+use Rattle.layered_index.specs.IndexHeads.{HeadBytes}
 use Rattle.layered_index.specs.Sought.{after_numbers}
 use Rattle.layered_index.proofs.IndexHeadLemmas.{pass_more}
-use Rattle.layered_index.proofs.FileHeadLemmas.{heads}
+use Rattle.layered_index.proofs.FileHeadLemmas.{heads, seen_head}
 use Rattle.layered_index.proofs.FileSeekLemmas.{seek_begins, layer_sought, some_end, bad_layer, layer_answers, layer_has_none, layer_goes_on}
 use Rattle.layered_index.proofs.FileSeekLemmas.{bytes_left, none_is_left, answers_truly, reads_more, none_read, reads_by_digits}
 use Rattle.layered_index.proofs.index.index_head.IndexHead.seek.Goals as goal
 use Rattle.layered_index.proofs.index.index_head.IndexHead.seek.Goals.{then-end-place-via-then-end-place, then-end-place-via-else-end-place+then-texts_len-end}
-
--- what holds of the head inside holds of the head that is seen
-seen : (u v : HeadBytes) (count ends texts : ℕ) → u ≡ v → IsHead u count ends texts → IsHead v count ends texts
-seen u v count ends texts same is = subst (λ (h : HeadBytes). IsHead h count ends texts) same is
 
 pub loop-init : goal.loop-init
 loop-init g c =
     let content = c.args.file.now.content in
     let head = c.args.self.now in
     let s = c.self.inside in
-    let is = seen _ head s.count s.ends s.texts c.self.view_is c.self.invariant in
+    let is = seen_head _ head s.count s.ends s.texts c.self.view_is c.self.invariant in
     let numbers = take (length c.as_slice.result.now - s.ends) (drop s.ends c.as_slice.result.now) in
     let same : numbers ≡ drop s.ends head.front = take_rest c.as_slice.result.now s.ends ∙ ap (drop s.ends) (c.as_slice.ensures ∙ ap (λ (h : HeadBytes). h.front) c.self.view_is) in
     let all : s.count - 0 ≡ s.count = omega arith in
@@ -69,7 +65,7 @@ returns-then-end-place-clause-answer g c honest of cs part =
     let content = c.args.file.now.content in
     let head = c.args.self.now in
     let s = c.self.inside in
-    let is = seen _ head s.count s.ends s.texts c.self.view_is c.self.invariant in
+    let is = seen_head _ head s.count s.ends s.texts c.self.view_is c.self.invariant in
     answers_truly content head c.args.target s.count s.ends s.texts cs (Err BadIndex) (heads content head s.count s.ends s.texts is of) is.fits part
     (returns-then-end-place-clause-exact g c honest of)
 
@@ -78,7 +74,7 @@ returns-then-end-place-clause-reads g c honest of cs part =
     let content = c.args.file.now.content in
     let head = c.args.self.now in
     let s = c.self.inside in
-    let is = seen _ head s.count s.ends s.texts c.self.view_is c.self.invariant in
+    let is = seen_head _ head s.count s.ends s.texts c.self.view_is c.self.invariant in
     reads_by_digits content head s.count s.ends s.texts c.loop.counter c.args.file.now c.loop.file cs (heads content head s.count s.ends s.texts is of)
     (omega arith) part c.loop.invariant.kept
 
@@ -95,7 +91,7 @@ returns-in_err-next-clause-exact g c honest of =
     let l = c.loop in
     let s = c.self.inside in
     let end_is = ap (λ (h : HeadBytes). h.end) c.self.view_is in
-    let is = seen _ head s.count s.ends s.texts c.self.view_is c.self.invariant in
+    let is = seen_head _ head s.count s.ends s.texts c.self.view_is c.self.invariant in
     let given = err_from_is_err_and c.from_residual.result c.from_residual.ensures.1 in
     let sought = layer_sought l.counter c.args.file.now l.file _ head c.args.target (s.texts + l.place) (s.texts + c.in-Some.end) l.found (Err c.in_err-next.field-0.0) l.invariant.kept
     c.self.view_is honest c.in_err-next.ensures.exact in
@@ -108,7 +104,7 @@ returns-in_err-next-clause-answer g c honest of cs part =
     let content = c.args.file.now.content in
     let head = c.args.self.now in
     let s = c.self.inside in
-    let is = seen _ head s.count s.ends s.texts c.self.view_is c.self.invariant in
+    let is = seen_head _ head s.count s.ends s.texts c.self.view_is c.self.invariant in
     answers_truly content head c.args.target s.count s.ends s.texts cs c.from_residual.result (heads content head s.count s.ends s.texts is of) is.fits part
     (returns-in_err-next-clause-exact g c honest of)
 
@@ -117,7 +113,7 @@ returns-in_err-next-clause-reads g c honest of cs part =
     let content = c.args.file.now.content in
     let head = c.args.self.now in
     let s = c.self.inside in
-    let is = seen _ head s.count s.ends s.texts c.self.view_is c.self.invariant in
+    let is = seen_head _ head s.count s.ends s.texts c.self.view_is c.self.invariant in
     reads_by_digits content head s.count s.ends s.texts (c.loop.counter + 1) c.args.file.now c.seek_layer_in.new.file cs
     (heads content head s.count s.ends s.texts is of) (omega arith) part
     (reads_more c.loop.counter c.args.file.now c.loop.file c.seek_layer_in.new.file c.loop.invariant.kept c.seek_layer_in.ensures.once)
@@ -129,7 +125,7 @@ returns-then-is_none-clause-exact g c honest of =
     let l = c.loop in
     let s = c.self.inside in
     let end_is = ap (λ (h : HeadBytes). h.end) c.self.view_is in
-    let is = seen _ head s.count s.ends s.texts c.self.view_is c.self.invariant in
+    let is = seen_head _ head s.count s.ends s.texts c.self.view_is c.self.invariant in
     let sought = layer_sought l.counter c.args.file.now l.file _ head c.args.target (s.texts + l.place) (s.texts + c.in-Some.end) l.found (Ok c.in_ok-next.next) l.invariant.kept c.self.view_is honest
     c.in_ok-next.ensures.exact in
     layer_has_none content l.ends.now head c.args.target s.count l.counter l.place s.texts c.in-Some.end c.in-Some.more_ends.now l.found c.in_ok-next.next c.loop-test.true
@@ -141,7 +137,7 @@ returns-then-is_none-clause-answer g c honest of cs part =
     let content = c.args.file.now.content in
     let head = c.args.self.now in
     let s = c.self.inside in
-    let is = seen _ head s.count s.ends s.texts c.self.view_is c.self.invariant in
+    let is = seen_head _ head s.count s.ends s.texts c.self.view_is c.self.invariant in
     answers_truly content head c.args.target s.count s.ends s.texts cs (Ok None) (heads content head s.count s.ends s.texts is of) is.fits part
     (returns-then-is_none-clause-exact g c honest of)
 
@@ -150,7 +146,7 @@ returns-then-is_none-clause-reads g c honest of cs part =
     let content = c.args.file.now.content in
     let head = c.args.self.now in
     let s = c.self.inside in
-    let is = seen _ head s.count s.ends s.texts c.self.view_is c.self.invariant in
+    let is = seen_head _ head s.count s.ends s.texts c.self.view_is c.self.invariant in
     reads_by_digits content head s.count s.ends s.texts (c.loop.counter + 1) c.args.file.now c.seek_layer_in.new.file cs
     (heads content head s.count s.ends s.texts is of) (omega arith) part
     (reads_more c.loop.counter c.args.file.now c.loop.file c.seek_layer_in.new.file c.loop.invariant.kept c.seek_layer_in.ensures.once)
@@ -162,7 +158,7 @@ loop-preserved g c =
     let l = c.loop in
     let s = c.self.inside in
     let end_is = ap (λ (h : HeadBytes). h.end) c.self.view_is in
-    let is = seen _ head s.count s.ends s.texts c.self.view_is c.self.invariant in
+    let is = seen_head _ head s.count s.ends s.texts c.self.view_is c.self.invariant in
     record {
       exact = λ honest of. layer_goes_on content l.ends.now head c.args.target s.count l.counter l.place s.texts c.in-Some.end c.in-Some.more_ends.now l.found c.in_ok-next.next
           c.loop-test.true c.requires.within (heads content head s.count s.ends s.texts is of).before (sym c.in-Some.ensures.read) c.if-end-place.false
@@ -197,7 +193,7 @@ returns-then-place-texts_len-clause-answer g c honest of cs part =
     let content = c.args.file.now.content in
     let head = c.args.self.now in
     let s = c.self.inside in
-    let is = seen _ head s.count s.ends s.texts c.self.view_is c.self.invariant in
+    let is = seen_head _ head s.count s.ends s.texts c.self.view_is c.self.invariant in
     answers_truly content head c.args.target s.count s.ends s.texts cs (Err BadIndex) (heads content head s.count s.ends s.texts is of) is.fits part
     (returns-then-place-texts_len-clause-exact g c honest of)
 
@@ -206,7 +202,7 @@ returns-then-place-texts_len-clause-reads g c honest of cs part =
     let content = c.args.file.now.content in
     let head = c.args.self.now in
     let s = c.self.inside in
-    let is = seen _ head s.count s.ends s.texts c.self.view_is c.self.invariant in
+    let is = seen_head _ head s.count s.ends s.texts c.self.view_is c.self.invariant in
     reads_by_digits content head s.count s.ends s.texts c.loop.counter c.args.file.now c.loop.file cs (heads content head s.count s.ends s.texts is of)
     (omega arith) part c.loop.invariant.kept
 
@@ -225,7 +221,7 @@ returns-clause-answer g c honest of cs part =
     let content = c.args.file.now.content in
     let head = c.args.self.now in
     let s = c.self.inside in
-    let is = seen _ head s.count s.ends s.texts c.self.view_is c.self.invariant in
+    let is = seen_head _ head s.count s.ends s.texts c.self.view_is c.self.invariant in
     answers_truly content head c.args.target s.count s.ends s.texts cs (Ok c.loop.found) (heads content head s.count s.ends s.texts is of) is.fits part
     (returns-clause-exact g c honest of)
 
@@ -234,6 +230,6 @@ returns-clause-reads g c honest of cs part =
     let content = c.args.file.now.content in
     let head = c.args.self.now in
     let s = c.self.inside in
-    let is = seen _ head s.count s.ends s.texts c.self.view_is c.self.invariant in
+    let is = seen_head _ head s.count s.ends s.texts c.self.view_is c.self.invariant in
     reads_by_digits content head s.count s.ends s.texts c.loop.counter c.args.file.now c.loop.file cs (heads content head s.count s.ends s.texts is of)
     (omega arith) part c.loop.invariant.kept
