@@ -16,6 +16,7 @@ static void open_all(const uint8_t *file, size_t file_len) {
         WANT(table != NULL);
         for (size_t i = 0; i < room; i++) {
             table[i].end_doc = 5;
+            table[i].guide = 7;
             table[i].end_byte = 6;
         }
         count = num_docs = 0;
@@ -24,6 +25,7 @@ static void open_all(const uint8_t *file, size_t file_len) {
         for (size_t i = 0; i < room; i++) {
             WANT(table[i].end_doc == (i < BLOCKS ? whole[i].end_doc : 5));
             WANT(table[i].end_byte == (i < BLOCKS ? whole[i].end_byte : 6));
+            WANT(i < BLOCKS || table[i].guide == 7);
         }
         free(table);
     }
@@ -51,6 +53,25 @@ static void read_all(const uint8_t *file, size_t file_len) {
     }
     WANT(zevk_locate_run(file, file_len, table, count, UINT32_MAX, run, 7, &found) == ZEVK_NO_DOCUMENT && found == 0);
     WANT(zevk_locate_run(file, file_len, table, count, 0, run, 0, &found) == ZEVK_DONE && found == 0);
+    free(table);
+}
+
+/* Whatever the guides of a table are, each document is found. */
+static void any_guides(const uint8_t *file, size_t file_len) {
+    size_t count = 0;
+    zevk_place place;
+    zevk_block *table = table_of(file, file_len, &count);
+    srand(2);
+    for (int round = 0; round < 100; round++) {
+        for (size_t i = 0; i < count; i++) {
+            table[i].guide = round == 0 ? 0 : round % 2 == 0 ? UINT32_MAX - (uint32_t)(rand() % 3) : (uint32_t)rand() % 80;
+        }
+        for (uint32_t id = 0; id < DOCUMENTS; id++) {
+            WANT(zevk_locate(file, file_len, table, count, id, &place) == ZEVK_DONE);
+            WANT(is_document(file, file_len, place, id));
+        }
+        WANT(zevk_locate(file, file_len, table, count, DOCUMENTS, &place) == ZEVK_NO_DOCUMENT);
+    }
     free(table);
 }
 
@@ -130,6 +151,9 @@ static void other_bytes(const uint8_t *file, size_t len) {
                 rows[i].end_doc = rand() % 4 == 0 ? UINT32_MAX - (uint32_t)(rand() % 3) : (uint32_t)(rand() % 80);
             }
             if (rand() % 4 == 0) {
+                rows[i].guide = (uint32_t)rand();
+            }
+            if (rand() % 4 == 0) {
                 rows[i].end_byte = rand() % 4 == 0 ? SIZE_MAX - (size_t)(rand() % 3) : (size_t)rand() % (len + 9);
             }
         }
@@ -164,6 +188,7 @@ int main(int argc, char **argv) {
     texts();
     open_all(file, len);
     read_all(file, len);
+    any_guides(file, len);
     cut_and_changed(file, len);
     other_bytes(file, len);
     free(file);

@@ -176,9 +176,11 @@ uint32_t zevk_check(const uint8_t *file, size_t file_len, zevk_fault *fault);
 
 /* ---- reading by a table */
 
-/* A row of a table: where a block of documents ends. A block begins where the one before it ends. */
+/* A row of a table: where a block of documents ends. A block begins where the one before it ends. `guide` makes gets
+ * quick: zevk_open sets it, and no answer depends on it, so it may hold anything. */
 typedef struct zevk_block {
     uint32_t end_doc;  /* one more than the number of its last document */
+    uint32_t guide;    /* about how many blocks end before a part of the documents, or 0 */
     size_t end_byte;   /* the offset in the file at which it ends */
 } zevk_block;
 

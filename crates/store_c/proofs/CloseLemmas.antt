@@ -1,6 +1,6 @@
 -- The end of the file of a writer's memory.
 use Rattle.std.proofs.Common.{◌≡◌, ℕ, ◌≤◌, List, ◌++◌, length, take, map, sym, ap, ◌∙◌, subst, append_assoc}
-use Rattle.std.proofs.lemmas.List.{append-nil}
+use Rattle.std.proofs.lemmas.List.{append-nil, take-map}
 use Rattle.std.specs.List.{concat}
 use Rattle.layered_index.specs.Layers.{index_part}
 use Rattle.store_format.specs.Footer.{footer}
@@ -11,21 +11,22 @@ use Rattle.docstore.specs.Writer.{Writing}
 use Rattle.store_c.specs.declared.block.Block.{Block}
 use Rattle.store_c.specs.declared.writer.Writer.{Writer}
 use Rattle.store_c.specs.declared.writer_refusal.WriterRefusal.TheVariants.{OtherWriter}
-use Rattle.store_c.specs.Calls.{ends_of}
+use Rattle.store_c.specs.Calls.{end_of, ends_in, ends_of}
 use Rattle.store_c.specs.Writing.{memory, Holds, IsOther, IsEndOf, EndsFile, RefusesIndex}
 use Rattle.store_c.proofs.MemoryLemmas.{none_pending}
 
 -- the ends of a writer's blocks
 rows_are : (writer : Writer) (table ends : List Block) (starts text : List ℕ) (w : Writing) → ends ≡ take writer.blocks table → Holds (memory writer starts table) text w
-    → ends ≡ map ends_of (checkpoints_of w.output.finished)
-rows_are writer table ends starts text w is h = is ∙ ap (λ (n : ℕ). take n table) h.blocks ∙ h.rows
+    → ends_in ends ≡ map ends_of (checkpoints_of w.output.finished)
+rows_are writer table ends starts text w is h =
+    ap ends_in is ∙ sym (take-map end_of writer.blocks table) ∙ ap (λ (n : ℕ). take n (ends_in table)) h.blocks ∙ h.rows
 
 -- where no blocks end so, no writer has them
-pub other_index : (writer : Writer) (table ends : List Block) → ends ≡ take writer.blocks table → RefusesIndex ends OtherWriter → IsOther writer table
+pub other_index : (writer : Writer) (table ends : List Block) → ends ≡ take writer.blocks table → RefusesIndex (ends_in ends) OtherWriter → IsOther writer table
 other_index writer table ends is refused starts text w h =
     refused (checkpoints_of w.output.finished) (checkpoints_cover w.output.finished (h.sound.output.works h.works).blocks).in_line (rows_are writer table ends starts text w is h)
 
-pub closed : (writer : Writer) (table ends : List Block) (period : ℕ) (end : List ℕ) → writer.docs ≡ 0 → ends ≡ take writer.blocks table → 2 ≤ period → period ≤ 64 → IsEndOf period ends end
+pub closed : (writer : Writer) (table ends : List Block) (period : ℕ) (end : List ℕ) → writer.docs ≡ 0 → ends ≡ take writer.blocks table → 2 ≤ period → period ≤ 64 → IsEndOf period (ends_in ends) end
     → EndsFile period end writer table
 closed writer table ends period end none is least most made starts text w h =
     let bs = w.output.finished in

@@ -1,4 +1,5 @@
 pub mod TableLemmas
+pub mod TableSeekLemmas
 pub mod TableViewLemmas
 pub mod PlacesLemmas
 pub mod GettingLemmas

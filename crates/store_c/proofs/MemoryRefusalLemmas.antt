@@ -8,10 +8,10 @@ use Rattle.store_format.specs.StoreFile.{block_of, data_of, docs_in}
 use Rattle.store_format.proofs.BlockLemmas.{concat-append, length-block}
 use Rattle.store_format.proofs.StoreLemmas.{length-data_of-cons, data_of-append, data_fits}
 use Rattle.docstore.specs.Writer.{Writing}
-use Rattle.store_c.specs.declared.block.Block.{Block}
+use Rattle.store_c.specs.declared.block.BlockEnd.{BlockEnd}
 use Rattle.store_c.specs.declared.writer_refusal.WriterRefusal.{WriterRefusal}
 use Rattle.store_c.specs.declared.writer_refusal.WriterRefusal.TheVariants.{NoMemory, OldVersion, BlockTooLarge, TooManyDocs, BadPeriod, NoRoom, OpenBlock, OtherWriter}
-use Rattle.store_c.specs.Calls.{start_in}
+use Rattle.store_c.specs.Calls.{ends_in, start_in}
 use Rattle.store_c.specs.Writing.{Memory, memory, Holds, RefusesEnd, RefusesLength, IsOther}
 use Rattle.store_c.proofs.TableLemmas.{zero_block}
 use Rattle.store_c.proofs.MemoryLemmas.{has_finished, open_at, blocks_with}
@@ -30,15 +30,15 @@ has_place m text w docs h some short few =
     )
 
 pub put_refused : (m : Memory) (len sum : ℕ) (refusal : WriterRefusal) → sum ≡ min (m.writer.bytes + len) 18446744073709551615
-    → RefusesEnd (start_in zero_block m.table m.writer.blocks) (m.writer.docs + 1) sum refusal → RefusesLength len m refusal
+    → RefusesEnd (start_in zero_block (ends_in m.table) m.writer.blocks) (m.writer.docs + 1) sum refusal → RefusesLength len m refusal
 put_refused m len sum TooManyDocs is r = λ text w h.
-    let first = ap (λ (x : Block). x.end_doc) (open_at m w (has_finished m text w h)) in
+    let first = ap (λ (x : BlockEnd). x.end_doc) (open_at m w (has_finished m text w h)) in
     let ids = h.sound.ids in
     omega (arith, r, h.docs)
 put_refused m len sum BlockTooLarge is r = λ text w d size h.
     let first = open_at m w (has_finished m text w h) in
-    let first_doc = ap (λ (x : Block). x.end_doc) first in
-    let first_byte = ap (λ (x : Block). x.end_byte) first in
+    let first_doc = ap (λ (x : BlockEnd). x.end_doc) first in
+    let first_byte = ap (λ (x : BlockEnd). x.end_byte) first in
     let more = w.pending ++ d ∷ [] in
     let docs : length more ≡ m.writer.docs + 1 = omega (arith, length-append w.pending (d ∷ []), h.docs) in
     let long : length (block more) ≡ m.writer.bytes + len + 4 * (m.writer.docs + 1) + 4 =
@@ -60,16 +60,16 @@ put_refused m len sum NoRoom is r = absurd r
 put_refused m len sum OpenBlock is r = absurd r
 put_refused m len sum OtherWriter is r = absurd r
 
-pub end_refused : (m : Memory) (refusal : WriterRefusal) → 0 < m.writer.docs → RefusesEnd (start_in zero_block m.table m.writer.blocks) m.writer.docs m.writer.bytes refusal
+pub end_refused : (m : Memory) (refusal : WriterRefusal) → 0 < m.writer.docs → RefusesEnd (start_in zero_block (ends_in m.table) m.writer.blocks) m.writer.docs m.writer.bytes refusal
     → IsOther m.writer m.table
 end_refused m TooManyDocs some r = λ starts text w h.
-    let first = ap (λ (x : Block). x.end_doc) (open_at (memory m.writer starts m.table) w (has_finished (memory m.writer starts m.table) text w h)) in
+    let first = ap (λ (x : BlockEnd). x.end_doc) (open_at (memory m.writer starts m.table) w (has_finished (memory m.writer starts m.table) text w h)) in
     let ids = h.sound.ids in
     omega (arith, r, h.docs)
 end_refused m BlockTooLarge some r = λ starts text w h.
     let first = open_at (memory m.writer starts m.table) w (has_finished (memory m.writer starts m.table) text w h) in
-    let first_doc = ap (λ (x : Block). x.end_doc) first in
-    let first_byte = ap (λ (x : Block). x.end_byte) first in
+    let first_doc = ap (λ (x : BlockEnd). x.end_doc) first in
+    let first_byte = ap (λ (x : BlockEnd). x.end_byte) first in
     let long = length-block w.pending in
     let fits = h.fits in
     let docs = h.docs in

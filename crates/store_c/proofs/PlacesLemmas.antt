@@ -48,5 +48,8 @@ further_stay n m ps qs le e =
     subst (λ (k : ℕ). drop k ps ≡ drop k qs) whole (sym (drop-drop (m - n) n ps) ∙ ap (drop (m - n)) e ∙ drop-drop (m - n) n qs)
 
 -- those behind it stay
-pub behind_stay : (n : ℕ) (ps qs : List Place) (p : Place) → drop n ps ≡ drop n qs → drop (n + 1) (set ps n p) ≡ drop (n + 1) qs
-behind_stay n ps qs p e = drop-set-lt (n + 1) ps n p (omega arith) ∙ sym (drop-drop 1 n ps) ∙ ap (drop 1) e ∙ drop-drop 1 n qs
+pub fewer_stay : {X : Type 0} (n : ℕ) (xs ys : List X) → drop n xs ≡ drop n ys → drop (n + 1) xs ≡ drop (n + 1) ys
+fewer_stay n xs ys e = sym (drop-drop 1 n xs) ∙ ap (drop 1) e ∙ drop-drop 1 n ys
+
+pub behind_stay : {X : Type 0} (n : ℕ) (xs ys : List X) (x : X) → drop n xs ≡ drop n ys → drop (n + 1) (set xs n x) ≡ drop (n + 1) ys
+behind_stay n xs ys x e = drop-set-lt (n + 1) xs n x (omega arith) ∙ fewer_stay n xs ys e

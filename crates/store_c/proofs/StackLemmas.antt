@@ -1,6 +1,6 @@
 -- The caller's memory of a writer once a store is put behind it.
 use Rattle.std.proofs.Common.{◌≡◌, ℕ, suc, ◌+◌, ◌-◌, ◌^◌, ◌<◌, ◌≤◌, List, [], ◌∷◌, ◌++◌, length, take, map, refl, sym, ap, ◌∙◌, subst, arith, append_assoc, length-append}
-use Rattle.std.proofs.lemmas.List.{append-nil, map-append, length-map, length-take, length-take-le, take-append-drop, take_all}
+use Rattle.std.proofs.lemmas.List.{append-nil, map-append, take-map, drop-map, length-map, length-take, length-take-le, take-append-drop, take_all}
 use Rattle.std.proofs.lemmas.Slice.{take-put_mid}
 use Rattle.std.proofs.Math.Seq.{take-append_seam}
 use Rattle.std.specs.Prelude.{drop}
@@ -19,8 +19,9 @@ use Rattle.docstore.specs.Writer.{Writing, blocks_of}
 use Rattle.docstore.proofs.ShiftedCheckpointLemmas.{shifted_behind}
 use Rattle.docstore.proofs.TakenLemmas.{length-slots}
 use Rattle.store_c.specs.declared.block.Block.{Block}
+use Rattle.store_c.specs.declared.block.BlockEnd.{BlockEnd}
 use Rattle.store_c.specs.declared.writer.Writer.{Writer}
-use Rattle.store_c.specs.Calls.{ends_of, ends_behind, start_in, with_front}
+use Rattle.store_c.specs.Calls.{end_of, ends_in, ends_of, ends_behind, start_in, with_front}
 use Rattle.store_c.specs.Writing.{memory, Holds, PutsBlocks, IsOther}
 use Rattle.store_c.proofs.TableLemmas.{zero_block, length-front}
 use Rattle.store_c.proofs.MemoryLemmas.{has_finished, open_at, none_pending}
@@ -33,12 +34,12 @@ pub in_line_behind : (docs bytes : ℕ) (cs : List Checkpoint) (bs : List StoreB
 in_line_behind docs bytes cs bs is each few fits =
     subst (IsInLineFrom docs bytes) (sym (shifted_behind docs bytes cs bs is)) (checkpoints_in_line_from docs bytes bs each few fits)
 
-ends_joined : (start : Block) (cs : List Checkpoint) → map (ends_behind start) cs ≡ map ends_of (map (shifted start.end_doc start.end_byte) cs)
+ends_joined : (start : BlockEnd) (cs : List Checkpoint) → map (ends_behind start) cs ≡ map ends_of (map (shifted start.end_doc start.end_byte) cs)
 ends_joined start [] = refl
-ends_joined start (c ∷ cs) = ap (λ (bs : List Block). ends_behind start c ∷ bs) (ends_joined start cs)
+ends_joined start (c ∷ cs) = ap (λ (bs : List BlockEnd). ends_behind start c ∷ bs) (ends_joined start cs)
 
 -- where they end
-ends_there : (start : Block) (cs : List Checkpoint) (bs : List StoreBlock) → cs ≡ checkpoints_of bs → map (ends_behind start) cs ≡ map ends_of (checkpoints_from start.end_doc start.end_byte bs)
+ends_there : (start : BlockEnd) (cs : List Checkpoint) (bs : List StoreBlock) → cs ≡ checkpoints_of bs → map (ends_behind start) cs ≡ map ends_of (checkpoints_from start.end_doc start.end_byte bs)
 ends_there start cs bs is = ends_joined start cs ∙ ap (map ends_of) (shifted_behind start.end_doc start.end_byte cs bs is)
 
 -- ---- a writer without an open block
@@ -58,33 +59,40 @@ length-checkpoints id byte (b ∷ bs) = ap suc (length-checkpoints (id + b.count
 pub rows_fit : (writer : Writer) (table : List Block) → length table < writer.blocks → IsOther writer table
 rows_fit writer table short starts text w h =
     let size = length-map (checkpoints_of w.output.finished) ends_of in
-    omega (arith, h.blocks, ap length h.rows, length-checkpoints 0 0 w.output.finished, size, length-take (length w.output.finished) table)
+    omega (arith, h.blocks, ap length h.rows, length-checkpoints 0 0 w.output.finished, size, length-take (length w.output.finished) (ends_in table), length-map table end_of)
 
 -- ---- the table with more rows
 
 -- the rows so far, and those of more blocks written behind them
-rows_written : (table mid ys rs : List Block) (from k n : ℕ) → from ≤ length table → ys ≡ with_front rs mid → length rs ≤ length ys → n ≡ from + length rs
+rows_written : (table mid ys rs : List BlockEnd) (from k n : ℕ) → from ≤ length table → ys ≡ with_front rs mid → length rs ≤ length ys → n ≡ from + length rs
     → take n (put_mid from k table ys) ≡ take from table ++ rs
 rows_written table mid ys rs from k n fits is room size =
     let all = put_mid from k table ys in
     let rest = drop (length rs) mid in
     let end = from + length ys in
     let short : length rs ≤ length mid = omega (arith, ap length is, length-front rs mid) in
-    let parts : ys ≡ rs ++ rest = is ∙ ap (λ (xs : List Block). xs ++ rest) (take_all (length mid) rs short) in
+    let parts : ys ≡ rs ++ rest = is ∙ ap (λ (xs : List BlockEnd). xs ++ rest) (take_all (length mid) rs short) in
     let cut : all ≡ (take from table ++ rs) ++ (rest ++ drop end all) =
     sym (take-append-drop end all)
-    ∙ ap (λ (xs : List Block). xs ++ drop end all) (take-put_mid from k table ys end refl fits ∙ ap (λ (xs : List Block). take from table ++ xs) parts ∙ sym (append_assoc (take from table) rs rest))
+    ∙ ap (λ (xs : List BlockEnd). xs ++ drop end all) (take-put_mid from k table ys end refl fits ∙ ap (λ (xs : List BlockEnd). take from table ++ xs) parts ∙ sym (append_assoc (take from table) rs rest))
     ∙ append_assoc (take from table ++ rs) rest (drop end all) in
     let len : n ≡ length (take from table ++ rs) = omega (arith, length-append (take from table) rs, length-take-le from table fits) in
     ap (λ (i : ℕ). take i all) len ∙ ap (take (length (take from table ++ rs))) cut ∙ take-append_seam (take from table ++ rs) (rest ++ drop end all)
+
+-- the ends of a table in which a part was written
+ends_written : (from k : ℕ) (table ys : List Block) → ends_in (put_mid from k table ys) ≡ put_mid from k (ends_in table) (ends_in ys)
+ends_written from k table ys =
+    let rest = drop k (drop from table) in
+    let same : map end_of rest ≡ drop k (drop from (ends_in table)) = sym (ap (drop k) (drop-map end_of from table) ∙ drop-map end_of k (drop from table)) in
+    map-append end_of (take from table) (ys ++ rest) ∙ (λ i. sym (take-map end_of from table) i ++ (map-append end_of ys rest ∙ ap (λ (xs : List BlockEnd). ends_in ys ++ xs) same) i)
 
 -- the numbers with so many more blocks
 abbrev pub with_more : Writer → ℕ → Writer
 with_more writer count = record { block_size = writer.block_size; blocks = writer.blocks + count; docs = writer.docs; bytes = writer.bytes }
 
-module _ (writer : Writer) (table mid ys : List Block) (k count : ℕ) (start : Block) (cs : List Checkpoint) (view : Viewing)
+module _ (writer : Writer) (table mid ys : List Block) (k count : ℕ) (start : BlockEnd) (cs : List Checkpoint) (view : Viewing)
     (store : IsStore view.period view.file (version_number view.version) view.store)
-    (are : cs ≡ checkpoints_of view.store) (closed : writer.docs ≡ 0) (fits : writer.blocks ≤ length table) (from : start ≡ start_in zero_block table writer.blocks)
+    (are : cs ≡ checkpoints_of view.store) (closed : writer.docs ≡ 0) (fits : writer.blocks ≤ length table) (from : start ≡ start_in zero_block (ends_in table) writer.blocks)
     (few : count_in view ≤ 4294967295 - start.end_doc) where
   -- what is known of a writer of this memory
   record IsBehind (text : List ℕ) (w : Writing) : Type 0 where
@@ -97,12 +105,12 @@ module _ (writer : Writer) (table mid ys : List Block) (k count : ℕ) (start : 
   behind starts text w h =
       let m = memory writer starts table in
       let at = from ∙ open_at m w (has_finished m text w h) in
-      let doc = ap (λ (b : Block). b.end_doc) at in
+      let doc = ap (λ (b : BlockEnd). b.end_doc) at in
       let finished = (h.sound.output.works h.works).blocks in
       record {
         none = none_pending w.pending (sym h.docs ∙ closed);
         doc = doc;
-        byte = ap (λ (b : Block). b.end_byte) at;
+        byte = ap (λ (b : BlockEnd). b.end_byte) at;
         blocks = AreBlocks-append w.output.finished view.store finished store.blocks.each (omega (arith, doc, few, length-slots view.store, finished.few_docs));
       }
 
@@ -118,7 +126,7 @@ module _ (writer : Writer) (table mid ys : List Block) (k count : ℕ) (start : 
         length-append (data_of w.output.finished) (data_of view.store),
       )
 
-  pub stacked : ys ≡ with_front (map (ends_behind start) cs) mid → count ≡ length cs → count ≤ length ys → PutsBlocks view writer table (with_more writer count) (put_mid writer.blocks k table ys)
+  pub stacked : ends_in ys ≡ with_front (map (ends_behind start) cs) (ends_in mid) → count ≡ length cs → count ≤ length ys → PutsBlocks view writer table (with_more writer count) (put_mid writer.blocks k table ys)
   stacked is counted room starts text w h =
       let b = behind starts text w h in
       let bs = w.output.finished in
@@ -153,9 +161,10 @@ module _ (writer : Writer) (table mid ys : List Block) (k count : ℕ) (start : 
         bytes = omega (arith, h.bytes, ap (λ (docs : List (List ℕ)). length (concat docs)) b.none);
         starts = refl;
         blocks = omega (arith, h.blocks, counted, blocks, length-append bs view.store);
-        rows = rows_written table mid ys rs writer.blocks k (length (bs ++ view.store)) fits is (omega (arith, size, room))
-            (omega (arith, size, counted, blocks, h.blocks, length-append bs view.store))
-            ∙ (λ i. (ap (λ (n : ℕ). take n table) h.blocks ∙ h.rows) i ++ rows i)
+        rows = ap (take (length (bs ++ view.store))) (ends_written writer.blocks k table ys)
+            ∙ rows_written (ends_in table) (ends_in mid) (ends_in ys) rs writer.blocks k (length (bs ++ view.store)) (omega (arith, fits, length-map table end_of)) is
+            (omega (arith, size, room, length-map ys end_of)) (omega (arith, size, counted, blocks, h.blocks, length-append bs view.store))
+            ∙ (λ i. (ap (λ (n : ℕ). take n (ends_in table)) h.blocks ∙ h.rows) i ++ rows i)
             ∙ sym (map-append ends_of (checkpoints_of bs) (checkpoints_from (0 + docs_in bs) (0 + length (data_of bs)) view.store))
             ∙ ap (map ends_of) (sym (checkpoints_from-append 0 0 bs view.store));
         written = (λ i. (h.written ∙ ap (λ (docs : List (List ℕ)). data_of bs ++ concat docs) b.none ∙ append-nil (data_of bs)) i ++ data_of view.store)

@@ -18,7 +18,7 @@ use Rattle.store_reader.proofs.SeekLemmas.{IsWithin, within}
 use Rattle.store_reader.proofs.ViewLemmas.{count_is, seek_stays, slot_none, slot_placed}
 use Rattle.store_c.specs.declared.block.Block.{Block}
 use Rattle.store_c.specs.declared.place.Place.{Place}
-use Rattle.store_c.specs.Calls.{ends_of, IsTableOf, HasSlot, IsPlace, IsTableBlock}
+use Rattle.store_c.specs.Calls.{ends_of, ends_in, IsTableOf, HasSlot, IsPlace, IsTableBlock}
 use Rattle.store_c.proofs.TableLemmas.{few_blocks}
 
 -- ---- the parts of a file
@@ -98,7 +98,7 @@ module _ (file : List ℕ) (v : Viewing) (of : IsViewOf file v) where
 -- ---- places in any bytes, by any table
 
 -- what a seek in the table finds is what one in the store's checkpoints does
-pub sought : (file : List ℕ) (table : List Block) (id : ℕ) (o : Option Checkpoint) → ((cs : List Checkpoint) → table ≡ map ends_of cs → IsInLineFrom 0 0 cs → o ≡ first_past cs id)
+pub sought : (file : List ℕ) (table : List Block) (id : ℕ) (o : Option Checkpoint) → ((cs : List Checkpoint) → ends_in table ≡ map ends_of cs → IsInLineFrom 0 0 cs → o ≡ first_past cs id)
     → (known : IsTableOf file table) → first_past (checkpoints_of known.view.store) id ≡ o
 sought file table id o e known = sym (e _ known.ends (in_line file known.view known.of))
 

@@ -12,47 +12,61 @@ use Rattle.store_reader.specs.Opening.{IsSomeStore}
 use Rattle.store_reader.specs.Viewing.{Viewing, IsViewOf, Finds, slot_of, count_in}
 use Rattle.std.specs.declared.result.Result.TheVariants.{Err}
 use Rattle.store_c.specs.declared.block.Block.{Block}
+use Rattle.store_c.specs.declared.block.BlockEnd.{BlockEnd}
 use Rattle.store_c.specs.declared.place.Place.{Place}
 use Rattle.store_c.specs.declared.refusal.Refusal.{Refusal}
 use Rattle.store_c.specs.declared.refusal.Refusal.TheVariants.{NoDocument, Damaged, OtherTable}
 
 -- ---- tables
 
+-- where the block of a row ends
+abbrev pub end_of : Block → BlockEnd
+end_of row = record { end_doc = row.end_doc; end_byte = row.end_byte }
+
+-- the row of a block that ends here, with no guide
+abbrev pub row_of : BlockEnd → Block
+row_of end = record { end_doc = end.end_doc; guide = 0; end_byte = end.end_byte }
+
+-- where the blocks of a table end: all that it tells, whatever its guides are
+abbrev pub ends_in : List Block → List BlockEnd
+ends_in table = map end_of table
+
 -- where a block ends
-abbrev pub ends_of : Checkpoint → Block
+abbrev pub ends_of : Checkpoint → BlockEnd
 ends_of c = record { end_doc = c.doc_range.end; end_byte = c.byte_range.end }
 
 -- where it ends behind this place
-abbrev pub ends_behind : Block → Checkpoint → Block
+abbrev pub ends_behind : BlockEnd → Checkpoint → BlockEnd
 ends_behind start c = record {
   end_doc = c.doc_range.end + start.end_doc;
   end_byte = c.byte_range.end + start.end_byte;
 }
 
 -- where the block at a position begins: at the end of the one before it, the first one here
-abbrev pub start_in : Block → List Block → ℕ → Block
-start_in start table zero = start
+abbrev pub start_in : BlockEnd → List BlockEnd → ℕ → BlockEnd
+start_in start ends zero = start
 start_in start [] (suc at) = start
-start_in start (b ∷ table) (suc at) = start_in b table at
+start_in start (end ∷ ends) (suc at) = start_in end ends at
 
--- a table written over the front of this one, as far as there is room
-abbrev pub with_front : List Block → List Block → List Block
-with_front table old = take (length old) table ++ drop (length table) old
+-- ends written over the front of these, as far as there is room
+abbrev pub with_front : List BlockEnd → List BlockEnd → List BlockEnd
+with_front ends old = take (length old) ends ++ drop (length ends) old
 
 -- These bytes are the file of a store, and this is the table of its blocks.
 pub record IsTableOf (file : List ℕ) (table : List Block) : Type 0 where
   pub view : Viewing
   pub of : IsViewOf file view
-  pub ends : table ≡ map ends_of (checkpoints_of view.store)
+  pub ends : ends_in table ≡ map ends_of (checkpoints_of view.store)
 
 -- These bytes are the file of a store, which has so many blocks and documents. Its table goes over the front of this
--- one.
+-- one, and the rows behind it stay.
 pub record Fills (file : List ℕ) (old new : List Block) (count num_docs : ℕ) : Type 0 where
   pub view : Viewing
   pub of : IsViewOf file view
   pub blocks : count ≡ length (checkpoints_of view.store)
   pub docs : num_docs ≡ count_in view
-  pub filled : new ≡ with_front (map ends_of (checkpoints_of view.store)) old
+  pub filled : ends_in new ≡ with_front (map ends_of (checkpoints_of view.store)) (ends_in old)
+  pub behind : drop count new ≡ drop count old
 
 -- The refusal with this number is the first of these bytes, and they are no store's.
 pub record RefusesFile (file : List ℕ) (number : ℕ) : Type 0 where

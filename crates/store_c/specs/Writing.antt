@@ -18,12 +18,13 @@ use Rattle.docstore.specs.Writer.{Writing, IsStoreWriter, IsTooLarge, new_writin
 use Rattle.docstore.specs.Writer.{with_document}
 use Rattle.docstore.specs.Stacking.{with_store}
 use Rattle.store_c.specs.declared.block.Block.{Block}
+use Rattle.store_c.specs.declared.block.BlockEnd.{BlockEnd}
 use Rattle.store_c.specs.declared.writer.Writer.{Writer}
 use Rattle.store_c.specs.declared.writer_refusal.WriterRefusal.{WriterRefusal}
 use Rattle.store_c.specs.declared.writer_refusal.WriterRefusal.TheVariants.{NoMemory, OldVersion, BlockTooLarge}
 use Rattle.store_c.specs.declared.writer_refusal.WriterRefusal.TheVariants.{TooManyDocs, NoRoom, OpenBlock}
 use Rattle.store_c.specs.declared.writer_refusal.WriterRefusal.TheVariants.{OtherWriter}
-use Rattle.store_c.specs.Calls.{ends_of}
+use Rattle.store_c.specs.Calls.{ends_of, ends_in}
 
 -- ---- memory
 
@@ -47,7 +48,7 @@ pub record Holds (m : Memory) (text : List ℕ) (w : Writing) : Type 0 where
   pub bytes : m.writer.bytes ≡ length (concat w.pending)
   pub starts : take (length w.pending) m.starts ≡ starts_from 0 w.pending
   pub blocks : m.writer.blocks ≡ length w.output.finished
-  pub rows : take (length w.output.finished) m.table ≡ map ends_of (checkpoints_of w.output.finished)
+  pub rows : take (length w.output.finished) (ends_in m.table) ≡ map ends_of (checkpoints_of w.output.finished)
   pub written : text ≡ data_of w.output.finished ++ concat w.pending
 
 -- ---- what the calls make of it
@@ -165,14 +166,14 @@ RefusesBlocks view writer table _ = ⊥
 -- ---- blocks and their ends
 
 -- A block that begins here and has so many documents of so many bytes ends here, and has its place in 32 bits.
-pub record EndsAt (start : Block) (docs bytes : ℕ) (end : Block) : Type 0 where
+pub record EndsAt (start : BlockEnd) (docs bytes : ℕ) (end : BlockEnd) : Type 0 where
   pub doc : end.end_doc ≡ start.end_doc + docs
   pub byte : end.end_byte ≡ start.end_byte + (bytes + 4 * docs + 4)
   pub few_docs : start.end_doc + docs < 2 ^ 32
   pub few_bytes : bytes + 4 * docs + 4 < 2 ^ 32
 
 -- why there is no such place
-abbrev pub RefusesEnd : Block → ℕ → ℕ → WriterRefusal → Type 0
+abbrev pub RefusesEnd : BlockEnd → ℕ → ℕ → WriterRefusal → Type 0
 RefusesEnd start docs bytes TooManyDocs = 2 ^ 32 ≤ start.end_doc + docs
 RefusesEnd start docs bytes BlockTooLarge =
     (start.end_doc + docs < 2 ^ 32)
@@ -180,23 +181,23 @@ RefusesEnd start docs bytes BlockTooLarge =
 RefusesEnd start docs bytes _ = ⊥
 
 -- from the one end to the other
-abbrev pub between : Block → Block → Checkpoint
+abbrev pub between : BlockEnd → BlockEnd → Checkpoint
 between start end = checkpoint start.end_doc end.end_doc start.end_byte end.end_byte
 
 -- the index of blocks that end so
-pub record IsIndexOf (period : ℕ) (ends : List Block) (index : Index) : Type 0 where
+pub record IsIndexOf (period : ℕ) (ends : List BlockEnd) (index : Index) : Type 0 where
   pub period_is : index.period ≡ period
   pub ends_are : map ends_of index.checkpoints ≡ ends
   pub in_line : IsInLineFrom 0 0 index.checkpoints
 
 -- the index and the footer of blocks that end so, if blocks can
-abbrev pub IsEndOf : ℕ → List Block → List ℕ → Type 0
+abbrev pub IsEndOf : ℕ → List BlockEnd → List ℕ → Type 0
 IsEndOf period ends end =
     (cs : List Checkpoint) → IsInLineFrom 0 0 cs → ends ≡ map ends_of cs
     → end ≡ index_part period cs ++ footer 3 (bytes_end 0 cs) 0 (reserved_of period 3)
 
 -- why there is none: no blocks end so, or memory ran out
-abbrev pub RefusesIndex : List Block → WriterRefusal → Type 0
+abbrev pub RefusesIndex : List BlockEnd → WriterRefusal → Type 0
 RefusesIndex ends OtherWriter = (cs : List Checkpoint) → IsInLineFrom 0 0 cs → ends ≡ map ends_of cs → ⊥
 RefusesIndex ends NoMemory = Unit {0}
 RefusesIndex ends _ = ⊥

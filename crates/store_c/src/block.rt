@@ -1,11 +1,48 @@
 //! A row of the table of a store's blocks.
+ghost use Rattle.std.specs.Prelude.{◌≡◌};
+ghost use Rattle.store_c.specs.Calls.{end_of, row_of};
 
 /// Where a block of documents ends. It begins where the block before it ends, and the first one at 0.
-#[repr(C)]
 #[derive(Clone, Copy)]
-pub struct Block {
+pub(crate) struct BlockEnd {
     /// The number behind that of its last document.
     pub end_doc: u32,
     /// How many bytes of the file stand before its end.
     pub end_byte: usize,
+}
+
+/// A row of the table: where a block of documents ends, and a number that makes seeks quick.
+#[repr(C)]
+#[derive(Clone, Copy)]
+pub struct Block {
+    /// The number behind that of the block's last document.
+    pub end_doc: u32,
+    /// How many blocks end before a stretch of the documents: that with the row's index, of those into which the seek
+    /// parts them. A seek begins there. It may be anything; where it is 0 a seek begins elsewhere.
+    pub guide: u32,
+    /// How many bytes of the file stand before the block's end.
+    pub end_byte: usize,
+}
+
+impl Block {
+    /// The row of a block that ends here, with no guide.
+    pub(crate) fn new(end: BlockEnd) -> Block
+        ensures { result ≡ row_of end }
+    {
+        Block {
+            end_doc: end.end_doc,
+            guide: 0,
+            end_byte: end.end_byte,
+        }
+    }
+
+    /// Where the block ends.
+    pub(crate) fn end(&self) -> BlockEnd
+        ensures { result ≡ end_of self.now }
+    {
+        BlockEnd {
+            end_doc: self.end_doc,
+            end_byte: self.end_byte,
+        }
+    }
 }

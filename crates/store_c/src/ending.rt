@@ -1,10 +1,11 @@
 //! The end of a file: the index of its blocks, and its footer.
 ghost use Rattle.std.specs.Prelude.{◌≡◌, ◌≤◌, IfOk, IfErr, MatchOption};
 ghost use Rattle.layered_index.specs.Checkpoint.{IsWithinLimits};
+ghost use Rattle.store_c.specs.Calls.{ends_in};
 ghost use Rattle.store_c.specs.Writing.{between, IsIndexOf, IsEndOf, RefusesIndex};
 
-use crate::block::Block;
-use crate::locating::start_of;
+use crate::block::{Block, BlockEnd};
+use crate::table::start_of;
 use crate::writer_refusal::WriterRefusal;
 use layered_index::{Checkpoint, SkipIndexBuilder};
 use std::alloc::Global;
@@ -15,7 +16,7 @@ use store_format::{DOC_STORE_VERSION, Decompressor, DocStoreFooter};
 const BLOCK_LIMIT: usize = 0x1_0000_0000;
 
 // The checkpoint of a block from the one end to the other, if a block can be so.
-fn checkpoint_between(start: Block, end: Block) -> Option<Checkpoint>
+fn checkpoint_between(start: BlockEnd, end: BlockEnd) -> Option<Checkpoint>
     ensures { MatchOption result (IsWithinLimits (between start end) → ⊥)
         (λ c. (c ≡ between start end) × IsWithinLimits c) }
 {
@@ -35,22 +36,23 @@ fn checkpoint_between(start: Block, end: Block) -> Option<Checkpoint>
 fn index_of(alloc: Global, ends: &[Block], period: u8) -> Result<SkipIndexBuilder, WriterRefusal>
     requires least { 2 ≤ period }
     requires most { period ≤ 64 }
-    ensures index { IfOk result (IsIndexOf period ends.now) }
-    ensures refused { IfErr result (RefusesIndex ends.now) }
+    ensures index { IfOk result (IsIndexOf period (ends_in ends.now)) }
+    ensures refused { IfErr result (RefusesIndex (ends_in ends.now)) }
 {
     let mut index = SkipIndexBuilder::with_period(alloc, period);
-    let mut start = Block {
+    let mut start = BlockEnd {
         end_doc: 0,
         end_byte: 0,
     };
-    for end in ends {
-        let Some(checkpoint) = checkpoint_between(start, *end) else {
+    for row in ends {
+        let end = row.end();
+        let Some(checkpoint) = checkpoint_between(start, end) else {
             return Err(WriterRefusal::OtherWriter);
         };
         if index.insert(checkpoint).is_err() {
             return Err(WriterRefusal::NoMemory);
         }
-        start = *end;
+        start = end;
     }
     Ok(index)
 }
@@ -63,8 +65,8 @@ pub(crate) fn end_of_file(
 ) -> Result<Vec<u8>, WriterRefusal>
     requires least { 2 ≤ period }
     requires most { period ≤ 64 }
-    ensures end { IfOk result (λ end. IsEndOf period ends.now end.items) }
-    ensures refused { IfErr result (RefusesIndex ends.now) }
+    ensures end { IfOk result (λ end. IsEndOf period (ends_in ends.now) end.items) }
+    ensures refused { IfErr result (RefusesIndex (ends_in ends.now)) }
 {
     let index = index_of(alloc, ends, period)?;
     let last = start_of(ends, ends.len());

@@ -1,30 +1,55 @@
 //! Filling the table of a store's blocks.
-ghost use Rattle.std.specs.Prelude.{◌≡◌, ◌<◌, ◌^◌, length, map};
+ghost use Rattle.std.specs.Prelude.{◌≡◌, ◌<◌, ◌^◌, length, drop, map};
 ghost use Rattle.layered_index.specs.Checkpoint.{IsInLineFrom};
 ghost use Rattle.docstore.specs.Stacking.{shifted};
-ghost use Rattle.store_c.specs.Calls.{ends_behind, with_front};
+ghost use Rattle.store_c.specs.Calls.{ends_in, ends_of, ends_behind, with_front};
 
-use crate::block::Block;
+use crate::block::{Block, BlockEnd};
+use crate::guiding::write_guides;
 use layered_index::LayerCursor;
+
+// Where the first block begins.
+const FIRST: BlockEnd = BlockEnd {
+    end_doc: 0,
+    end_byte: 0,
+};
 
 /// Writes where blocks end that stand behind this place to the front of a table, as many as it has room for. It answers
 /// how many there are.
-pub(crate) fn fill(checkpoints: LayerCursor<'_>, start: Block, table: &mut [Block]) -> usize
+pub(crate) fn fill(checkpoints: LayerCursor<'_>, start: BlockEnd, table: &mut [Block]) -> usize
     requires few { length checkpoints < 2 ^ 32 }
     requires in_line { IsInLineFrom start.end_doc start.end_byte
         (map (shifted start.end_doc start.end_byte) checkpoints) }
     ensures count { result ≡ length checkpoints.entry }
-    ensures filled { table.new ≡ with_front (map (ends_behind start) checkpoints.entry) table.old }
+    ensures filled { ends_in table.new ≡ with_front (map (ends_behind start) checkpoints.entry) (ends_in table.old) }
+    ensures behind { drop result table.new ≡ drop result table.old }
 {
     let mut count = 0;
     for checkpoint in checkpoints {
         if count < table.len() {
-            table[count] = Block {
+            table[count] = Block::new(BlockEnd {
                 end_doc: checkpoint.doc_range.end + start.end_doc,
                 end_byte: checkpoint.byte_range.end + start.end_byte,
-            };
+            });
         }
         count += 1;
     }
+    count
+}
+
+/// Fills a table of the blocks that a file begins with, as `fill` does, and the guides of its rows where it has room
+/// for all.
+pub(crate) fn fill_table(checkpoints: LayerCursor<'_>, table: &mut [Block]) -> usize
+    requires few { length checkpoints < 2 ^ 32 }
+    requires in_line { IsInLineFrom 0 0 checkpoints }
+    ensures count { result ≡ length checkpoints.entry }
+    ensures filled { ends_in table.new ≡ with_front (map ends_of checkpoints.entry) (ends_in table.old) }
+    ensures behind { drop result table.new ≡ drop result table.old }
+{
+    let count = fill(checkpoints, FIRST, table);
+    if count > table.len() {
+        return count;
+    }
+    write_guides(&mut table[..count]);
     count
 }

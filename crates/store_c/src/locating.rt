@@ -1,54 +1,18 @@
 //! Where documents lie, by the table of their store's blocks.
 ghost use Rattle.std.specs.Prelude.{◌≡◌, ◌+◌, ◌≤◌, ◌<◌, List, length, drop, map, IfOk, MatchOption, MatchResult};
 ghost use Rattle.layered_index.specs.declared.index.Checkpoint.{Checkpoint as CheckpointOf};
-ghost use Rattle.layered_index.specs.Checkpoint.{IsInLineFrom, docs_end, first_past};
-ghost use Rattle.store_c.specs.Calls.{ends_of, start_in, IsPlace, ArePlaces, IsTableBlock, RefusesDocument};
+ghost use Rattle.layered_index.specs.Checkpoint.{docs_end};
+ghost use Rattle.store_c.specs.Calls.{ends_of, ends_in, IsPlace, ArePlaces, IsTableBlock, RefusesDocument};
 ghost use Rattle.store_c.specs.declared.block.Block.{Block as BlockOf};
 
 use crate::block::Block;
 use crate::place::Place;
 use crate::refusal::Refusal;
+use crate::seeking::seek;
+use crate::table::num_docs;
 use layered_index::Checkpoint;
 use store_base::DocId;
 use store_format::{likely_read_index, part};
-
-/// Where the block at a position of a table begins.
-pub(crate) fn start_of(table: &[Block], at: usize) -> Block
-    requires { at ≤ length table.now }
-    ensures { result ≡ start_in (record { end_doc = 0; end_byte = 0 }) table.now at }
-{
-    match at.checked_sub(1) {
-        Some(before) => table[before],
-        None => Block {
-            end_doc: 0,
-            end_byte: 0,
-        },
-    }
-}
-
-// The first block whose documents end past the target.
-fn seek(table: &[Block], target: DocId) -> Option<Checkpoint>
-    ensures { (cs : List CheckpointOf) → table.now ≡ map ends_of cs → IsInLineFrom 0 0 cs
-        → result ≡ first_past cs target }
-{
-    let at = table.partition_point(|block| block.end_doc <= target);
-    let end = table.get(at)?;
-    let start = start_of(table, at);
-    Some(Checkpoint {
-        doc_range: start.end_doc..end.end_doc,
-        byte_range: start.end_byte..end.end_byte,
-    })
-}
-
-// How many documents the blocks have.
-fn num_docs(table: &[Block]) -> DocId
-    ensures { (cs : List CheckpointOf) → table.now ≡ map ends_of cs → result ≡ docs_end 0 cs }
-{
-    match table.last() {
-        Some(last) => last.end_doc,
-        None => 0,
-    }
-}
 
 // The block that has a document, by the table.
 fn block_of(file: &[u8], table: &[Block], doc_id: DocId) -> Result<Checkpoint, Refusal>

@@ -1,10 +1,11 @@
 //! The open block of a store that is written.
 ghost use Rattle.std.specs.Prelude.{◌≡◌, ◌+◌, ◌*◌, ◌<◌, ◌≤◌, ◌^◌, ◌⊎◌, length, set, IfOk, IfErr, OnErr};
+ghost use Rattle.store_c.specs.Calls.{row_of};
 ghost use Rattle.store_c.specs.Writing.{memory, EndsAt, RefusesEnd, PutsDocument, EndsBlock, RefusesLength};
 ghost use Rattle.store_c.specs.Writing.{RefusesBlock};
 
-use crate::block::Block;
-use crate::locating::start_of;
+use crate::block::{Block, BlockEnd};
+use crate::table::start_of;
 use crate::writer::Writer;
 use crate::writer_refusal::WriterRefusal;
 
@@ -12,7 +13,7 @@ use crate::writer_refusal::WriterRefusal;
 const BLOCK_LIMIT: usize = 0x1_0000_0000;
 
 /// Where a block ends that begins here and has so many documents of so many bytes.
-pub(crate) fn end_of(start: Block, docs: usize, bytes: usize) -> Result<Block, WriterRefusal>
+pub(crate) fn end_of(start: BlockEnd, docs: usize, bytes: usize) -> Result<BlockEnd, WriterRefusal>
     requires few { docs < 2 ^ 61 }
     ensures end { IfOk result (EndsAt start docs bytes) }
     ensures refused { IfErr result (RefusesEnd start docs bytes) }
@@ -26,7 +27,7 @@ pub(crate) fn end_of(start: Block, docs: usize, bytes: usize) -> Result<Block, W
         return Err(WriterRefusal::BlockTooLarge);
     }
     match start.end_byte.checked_add(bytes + table) {
-        Some(end_byte) => Ok(Block {
+        Some(end_byte) => Ok(BlockEnd {
             end_doc: end_doc as u32,
             end_byte,
         }),
@@ -40,14 +41,14 @@ pub(crate) fn finish(
     writer: &mut Writer,
     starts: &mut [u32],
     table: &mut [Block],
-    end: Block,
+    end: BlockEnd,
 ) -> usize
     requires docs { writer.old.docs < length starts.old }
     requires few { writer.old.docs < 2 ^ 32 }
     requires blocks { writer.old.blocks < length table.old }
     ensures count { result ≡ writer.old.docs + 1 }
     ensures starts { starts.new ≡ set starts.old writer.old.docs writer.old.docs }
-    ensures table { table.new ≡ set table.old writer.old.blocks end }
+    ensures table { table.new ≡ set table.old writer.old.blocks (row_of end) }
     ensures writer { writer.new ≡ record {
       block_size = writer.old.block_size;
       blocks = writer.old.blocks + 1;
@@ -57,7 +58,7 @@ pub(crate) fn finish(
 {
     let docs = writer.docs;
     starts[docs] = docs as u32;
-    table[writer.blocks] = end;
+    table[writer.blocks] = Block::new(end);
     writer.blocks += 1;
     writer.docs = 0;
     writer.bytes = 0;

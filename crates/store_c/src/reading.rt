@@ -5,7 +5,7 @@ ghost use Rattle.store_format.specs.Block.{damaged};
 ghost use Rattle.store_c.specs.Calls.{IsTableOf, Fills, IsPlace, ArePlaces, HasSlot, RefusesFile};
 
 use crate::block::Block;
-use crate::filling::fill;
+use crate::filling::fill_table;
 use crate::locating;
 use crate::place::Place;
 use crate::refusal::Refusal;
@@ -13,12 +13,6 @@ use std::alloc::Global;
 use store_reader::StoreView;
 
 const DONE: u32 = 0;
-
-// Where the first block begins.
-const FIRST: Block = Block {
-    end_doc: 0,
-    end_byte: 0,
-};
 
 /// Opens the store whose file these bytes are: fills the table of its blocks, and tells how many blocks and how many
 /// documents there are. It is refused by 32 where the table has no room for all blocks; then the table has the first of
@@ -48,7 +42,7 @@ pub extern "C" fn zevk_open(
         Err(error) => return error.number(),
     };
     *num_docs = view.num_docs();
-    *count = fill(view.block_checkpoints(), FIRST, table);
+    *count = fill_table(view.block_checkpoints(), table);
     if *count <= table.len() {
         DONE
     } else {

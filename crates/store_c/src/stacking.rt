@@ -6,7 +6,7 @@ ghost use Rattle.store_c.specs.Writing.{PutsBlocks, RefusesBlocks};
 
 use crate::block::Block;
 use crate::filling::fill;
-use crate::locating::start_of;
+use crate::table::start_of;
 use crate::writer::Writer;
 use crate::writer_refusal::WriterRefusal;
 use store_format::DocStoreVersion;

@@ -12,9 +12,9 @@ from typing import Union
 
 
 class Block(ctypes.Structure):
-    """Where a block of documents ends."""
+    """Where a block of documents ends, and a number that makes gets quick."""
 
-    _fields_ = [("end_doc", ctypes.c_uint32), ("end_byte", ctypes.c_size_t)]
+    _fields_ = [("end_doc", ctypes.c_uint32), ("guide", ctypes.c_uint32), ("end_byte", ctypes.c_size_t)]
 
 
 class Place(ctypes.Structure):

@@ -1,10 +1,11 @@
 //! The library's calls, as include/zevkhadun.h declares them.
 
-/// Where a block of documents ends.
+/// Where a block of documents ends, and a number that makes gets quick.
 #[repr(C)]
 #[derive(Clone, Copy, Default)]
 pub(crate) struct Block {
     pub(crate) end_doc: u32,
+    guide: u32,
     end_byte: usize,
 }
 

@@ -1,20 +1,21 @@
-use Rattle.std.proofs.Common.{◌≡◌, List, [], ◌∷◌, ◌++◌, length, map, set, sym, ap, ◌∙◌, arith, append_assoc, length-append}
-use Rattle.std.proofs.lemmas.List.{map-append, length-map}
+use Rattle.std.proofs.Common.{◌≡◌, ◌+◌, List, [], ◌∷◌, ◌++◌, length, drop, map, set, sym, ap, ◌∙◌, arith, append_assoc, length-append}
+use Rattle.std.proofs.lemmas.List.{map-append, map-set, length-map}
 use Rattle.layered_index.specs.declared.index.Checkpoint.{Checkpoint}
-use Rattle.store_c.specs.declared.block.Block.{Block}
-use Rattle.store_c.specs.Calls.{ends_behind, with_front}
+use Rattle.store_c.specs.declared.block.BlockEnd.{BlockEnd}
+use Rattle.store_c.specs.Calls.{end_of, ends_in, ends_behind, with_front}
 use Rattle.store_c.proofs.TableLemmas.{front_more, front_full, length-front, limits_of}
+use Rattle.store_c.proofs.PlacesLemmas.{fewer_stay, behind_stay}
 use Rattle.store_c.proofs.filling.fill.Goals.{then-count-table, else-count-table}
 use Rattle.store_c.proofs.filling.fill.Goals as goal
 
-pub overflow_add-table : goal.overflow_add-table
-overflow_add-table c =
+pub overflow_add-checkpoint : goal.overflow_add-checkpoint
+overflow_add-checkpoint c =
     let within = limits_of c.args.start.end_doc c.args.start.end_byte c.loop-checkpoint.invariant.0 c.next.new.self _ c.in-Some.checkpoint
     (ap (λ (xs : List Checkpoint). c.loop-checkpoint.invariant.0 ++ xs) (sym c.in-Some.ensures.steps) ∙ c.loop-checkpoint.invariant.1) c.requires.in_line in
     let end = within.doc_end in omega arith
 
-pub overflow_add-table-then-count-table : goal.overflow_add-table-then-count-table
-overflow_add-table-then-count-table c =
+pub overflow_add-checkpoint-then-count-table : goal.overflow_add-checkpoint-then-count-table
+overflow_add-checkpoint-then-count-table c =
     let within = limits_of c.args.start.end_doc c.args.start.end_byte c.loop-checkpoint.invariant.0 c.next.new.self _ c.in-Some.checkpoint
     (ap (λ (xs : List Checkpoint). c.loop-checkpoint.invariant.0 ++ xs) (sym c.in-Some.ensures.steps) ∙ c.loop-checkpoint.invariant.1) c.requires.in_line in
     let end = within.byte_end in omega arith
@@ -22,21 +23,29 @@ overflow_add-table-then-count-table c =
 pub loop-checkpoint-preserved : goal.loop-checkpoint-preserved
 loop-checkpoint-preserved c =
     let done = c.loop-checkpoint.invariant.0 in
-    let old = c.args.table.now in
+    let old = ends_in c.args.table.now in
     let next = c.in-Some.checkpoint in
     let count = c.loop-checkpoint.invariant.2 in
     let table = c.loop-checkpoint.invariant.3 in
-    let behind : Checkpoint → Block = ends_behind c.args.start in
+    let rest = c.loop-checkpoint.invariant.4 in
+    let behind : Checkpoint → BlockEnd = ends_behind c.args.start in
     let size : length (map behind done) ≡ length done = length-map done behind in
-    let room : length c.loop-checkpoint.table ≡ length old = ap length table ∙ length-front (map behind done) old in
+    let rows : length (ends_in c.loop-checkpoint.table) ≡ length c.loop-checkpoint.table = length-map c.loop-checkpoint.table end_of in
+    let room : length (ends_in c.loop-checkpoint.table) ≡ length old = ap length table ∙ length-front (map behind done) old in
     let more : map behind (done ++ next ∷ []) ≡ map behind done ++ behind next ∷ [] = map-append behind done (next ∷ []) in
     let place : length (map behind done) ≡ c.loop-checkpoint.count = omega arith in (
       done ++ next ∷ [],
       append_assoc done (next ∷ []) c.next.new.self ∙ ap (λ (xs : List Checkpoint). done ++ xs) (sym c.in-Some.ensures.steps) ∙ c.loop-checkpoint.invariant.1,
       omega (arith, length-append done (next ∷ [])),
       elim c.if-count-table.branch [
-        | then-count-table w ↦ w.table-is ∙ (λ i. set (table i) (sym place i) (behind next)) ∙ sym (front_more (map behind done) old (behind next) (omega (arith, w.if-count-table)))
-            ∙ ap (λ (t : List _). with_front t old) (sym more)
-        | else-count-table w ↦ w.table-is ∙ table ∙ sym (front_full (map behind done) old (behind next) (omega (arith, w.if-count-table))) ∙ ap (λ (t : List _). with_front t old) (sym more)
+        | then-count-table w ↦ ap ends_in w.table-is ∙ map-set end_of c.loop-checkpoint.table c.loop-checkpoint.count w.new.result
+            ∙ (λ i. set (table i) (sym place i) (end_of (w.new.ensures i)))
+            ∙ sym (front_more (map behind done) old (behind next) (omega (arith, rows, w.if-count-table))) ∙ ap (λ (t : List BlockEnd). with_front t old) (sym more)
+        | else-count-table w ↦ ap ends_in w.table-is ∙ table ∙ sym (front_full (map behind done) old (behind next) (omega (arith, rows, w.if-count-table)))
+            ∙ ap (λ (t : List BlockEnd). with_front t old) (sym more)
+      ],
+      elim c.if-count-table.branch [
+        | then-count-table w ↦ ap (drop (c.loop-checkpoint.count + 1)) w.table-is ∙ behind_stay c.loop-checkpoint.count c.loop-checkpoint.table c.args.table.now w.new.result rest
+        | else-count-table w ↦ ap (drop (c.loop-checkpoint.count + 1)) w.table-is ∙ fewer_stay c.loop-checkpoint.count c.loop-checkpoint.table c.args.table.now rest
       ],
     )

@@ -1,6 +1,6 @@
 use Rattle.std.proofs.Common.{◌≡◌, ◌+◌, subst, arith}
 use Rattle.std.proofs.lemmas.Result.{err_from_is_err_and}
-use Rattle.store_c.specs.declared.block.Block.{Block}
+use Rattle.store_c.specs.declared.block.BlockEnd.{BlockEnd}
 use Rattle.store_c.specs.Writing.{Memory, memory, RefusesEnd}
 use Rattle.store_c.proofs.MemoryLemmas.{exact_sum, exact_end, put_open, put_full}
 use Rattle.store_c.proofs.MemoryRefusalLemmas.{put_refused}
@@ -10,7 +10,7 @@ pub returns-in_err-end-clause-refused : goal.returns-in_err-end-clause-refused
 returns-in_err-end-clause-refused c =
     let p = err_from_is_err_and c.from_residual.result c.from_residual.ensures.1 in
     rw (p.1, p.2) (put_refused (memory c.args.writer.now c.args.starts.now c.args.table.now) c.args.len c.saturating_add-bytes.result c.in_err-end.field-0.0 c.saturating_add-bytes.ensures
-    (subst (λ (b : Block). RefusesEnd b (c.args.writer.now.docs + 1) c.saturating_add-bytes.result c.in_err-end.field-0.0) c.start_of-start.ensures c.in_err-end.ensures.refused))
+    (subst (λ (b : BlockEnd). RefusesEnd b (c.args.writer.now.docs + 1) c.saturating_add-bytes.result c.in_err-end.field-0.0) c.start_of-start.ensures c.in_err-end.ensures.refused))
 
 pub returns-then-bytes-writer-clause-put : goal.returns-then-bytes-writer-clause-put
 returns-then-bytes-writer-clause-put c written w document size h =

@@ -1,0 +1,48 @@
+-- What looks at the rows of a table tell of where a seek's answer lies.
+use Rattle.std.proofs.Common.{◌≡◌, ℕ, ◌+◌, ◌<◌, ◌≤◌, List, length, map, get_or, sym, ap, ◌∙◌, subst, arith}
+use Rattle.std.specs.Prelude.{slice_get}
+use Rattle.std.proofs.lemmas.List.{length-map}
+use Rattle.layered_index.specs.declared.index.Checkpoint.{Checkpoint}
+use Rattle.layered_index.specs.Checkpoint.{IsInLineFrom, first_past}
+use Rattle.layered_index.specs.LineLemmas.{in_line_from}
+use Rattle.layered_index.specs.Seeking.{EndsPast, LiesBetween}
+use Rattle.layered_index.proofs.HalvingLemmas.{first_at, none_up_to, past_end}
+use Rattle.store_c.specs.declared.block.Block.{Block}
+use Rattle.store_c.specs.declared.block.BlockEnd.{BlockEnd}
+use Rattle.store_c.specs.Calls.{end_of, ends_in, ends_of}
+use Rattle.store_c.proofs.TableLemmas.{row_is}
+
+module _ (table : List Block) (cs : List Checkpoint) (is : ends_in table ≡ map ends_of cs) (target : ℕ) where
+  pub size : length table ≡ length cs
+  size = sym (length-map table end_of) ∙ ap length is ∙ length-map cs ends_of
+
+  -- it is in the table, or past its end
+  pub anywhere : LiesBetween cs target 0 (length table)
+  anywhere = record { order = omega arith; within = omega (arith, size); before = λ i c lt e. absurd (omega arith); past = past_end cs target (length table) (omega (arith, size)) }
+
+  -- no later than a row that ends past the target
+  pub up_to_here : (low high at : ℕ) (d : Block) → LiesBetween cs target low high → low ≤ at → at < length table → target < (get_or table at d).end_doc → LiesBetween cs target low at
+  up_to_here low high at d known order lt past =
+      let row = row_is table cs at d is lt in
+      record {
+        order = order;
+        within = omega (arith, size);
+        before = known.before;
+        past = subst (EndsPast target) (sym row.1) (omega (arith, past, ap (λ (e : BlockEnd). e.end_doc) row.2));
+      }
+
+  -- past one that doesn't
+  pub from_the_next : (low high at : ℕ) (d : Block) → IsInLineFrom 0 0 cs → LiesBetween cs target low high → at < high → at < length table → (get_or table at d).end_doc ≤ target
+      → LiesBetween cs target (at + 1) high
+  from_the_next low high at d line known order lt before =
+      let row = row_is table cs at d is lt in
+      record {
+        order = omega arith;
+        within = known.within;
+        before = none_up_to cs target at row.0 (in_line_from 0 0 cs line) row.1 (omega (arith, before, ap (λ (e : BlockEnd). e.end_doc) row.2));
+        past = known.past;
+      }
+
+-- where nothing is left between, it is found
+pub found_there : (cs : List Checkpoint) (target low high : ℕ) → low ≡ high → LiesBetween cs target low high → slice_get cs low ≡ first_past cs target
+found_there cs target low high met k = ap (slice_get cs) met ∙ sym (first_at cs target high (λ i c lt e. k.before i c (omega (arith, met)) e) k.past)

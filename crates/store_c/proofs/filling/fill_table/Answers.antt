@@ -1,0 +1,22 @@
+use Rattle.std.proofs.Common.{List, sym, ap, ◌∙◌, subst, arith}
+use Rattle.layered_index.specs.Checkpoint.{IsInLineFrom}
+use Rattle.store_c.specs.declared.block.BlockEnd.{BlockEnd}
+use Rattle.store_c.specs.Calls.{ends_in, with_front}
+use Rattle.store_c.proofs.TableLemmas.{first_shifted, first_ends, same_ends, same_rest}
+use Rattle.store_c.proofs.filling.fill_table.Goals as goal
+
+pub fill-count-requires-clause-in_line : goal.fill-count-requires-clause-in_line
+fill-count-requires-clause-in_line c = subst (IsInLineFrom 0 0) (sym (first_shifted c.args.checkpoints)) c.requires.in_line
+
+pub returns-then-count-table-clause-filled : goal.returns-then-count-table-clause-filled
+returns-then-count-table-clause-filled c =
+    c.fill-count.ensures.filled ∙ ap (λ (ends : List BlockEnd). with_front ends (ends_in c.args.table.now)) (first_ends c.args.checkpoints)
+
+pub returns-clause-filled : goal.returns-clause-filled
+returns-clause-filled c =
+    same_ends c.fill-count.result c.fill-count.new.table c.write_guides.new.table c.write_guides.ensures
+    ∙ c.fill-count.ensures.filled ∙ ap (λ (ends : List BlockEnd). with_front ends (ends_in c.args.table.now)) (first_ends c.args.checkpoints)
+
+pub returns-clause-behind : goal.returns-clause-behind
+returns-clause-behind c =
+    same_rest c.fill-count.result c.fill-count.new.table c.write_guides.new.table (omega (arith, c.if-count-table.false)) c.write_guides.ensures ∙ c.fill-count.ensures.behind

@@ -1,0 +1,57 @@
+//! About where a table has a document. A seek begins there, and no answer depends on it.
+ghost use Rattle.std.specs.Prelude.{◌≡◌, ◌<◌};
+ghost use Rattle.store_c.specs.Calls.{ends_in};
+
+use crate::block::Block;
+use crate::table::num_docs;
+use store_base::DocId;
+
+// The documents are parted into stretches of equally many, a power of two: fewer stretches than there are rows, and at
+// least a quarter of that. How many documents a stretch has is told by its exponent.
+fn stretch_exponent(rows: usize, docs: DocId) -> u32
+    ensures { result < 32 }
+{
+    let doc_digits = u32::BITS - docs.leading_zeros();
+    let row_digits = usize::BITS - rows.leading_zeros();
+    (doc_digits + 1)
+        .saturating_sub(row_digits)
+        .min(u32::BITS - 1)
+}
+
+// How many blocks end before a document or with it, where so many are known to.
+fn ends_before(table: &[Block], known: usize, doc: u64) -> usize {
+    let mut count = known;
+    while count < table.len() && u64::from(table[count].end_doc) <= doc {
+        count += 1;
+    }
+    count
+}
+
+/// Writes the guide of each row.
+pub(crate) fn write_guides(table: &mut [Block])
+    ensures { ends_in table.new ≡ ends_in table.old }
+{
+    let exponent = stretch_exponent(table.len(), num_docs(table));
+    let mut count = 0;
+    for stretch in 0..table.len() {
+        count = ends_before(table, count, (stretch as u64) << exponent);
+        table[stretch].guide = u32::try_from(count).unwrap_or(0);
+    }
+}
+
+// How many blocks end before a document, if all blocks have equally many.
+fn even_share(rows: usize, docs: DocId, doc: DocId) -> usize {
+    let share = u64::from(doc).saturating_mul(rows as u64) / u64::from(docs.max(1));
+    share as usize
+}
+
+/// About how many blocks end before a document: what the guide of its stretch says, or an even share where there is
+/// none.
+pub(crate) fn guess(table: &[Block], doc: DocId) -> usize {
+    let docs = num_docs(table);
+    let stretch = doc >> stretch_exponent(table.len(), docs);
+    match table.get(stretch as usize) {
+        Some(row) if row.guide > 0 => row.guide as usize,
+        _ => even_share(table.len(), docs, doc),
+    }
+}
