@@ -12,26 +12,21 @@
  *         return error;
  *     }
  *
+ * Which calls do what:
+ *
+ * - A document, or some in a row: zevk_get, zevk_get_run, zevk_num_docs. Nothing is opened.
+ * - Many documents of one store: zevk_open fills a table in your memory; zevk_locate and zevk_locate_run read by it.
+ * - A store in object storage or on a web server: zevk_block_of and zevk_get_in, by reads of ranges of the file.
+ * - Whether a file is sound, and where it is not: zevk_check.
+ * - A new store: from zevk_writer_begin to zevk_writer_close. You write the file.
+ *
  * A call returns ZEVK_DONE, which is 0, or the number of an error. A call that fails leaves everything that its
  * pointers point to unchanged, unless its comment says otherwise. If several errors apply, any of them may come,
- * unless an order is given.
+ * unless an order is given. The rules for callers are at the end of this file.
  *
- * The library is proved: for every argument that keeps the rules below, a call reads and writes no byte outside what
- * it is given, and meets its contract in crates/store_c/src. This header says the same in words, by hand; it marks
- * what is tested and not proved. A few lines of C are only tested: they replace the address of an array of length 0
- * before each proved call (examples/c/null_arrays.c).
- *
- * Rules for callers, which no call can check:
- *
- * - A pointer is aligned for its type, and is not null; with a length of 0 it may be null. A length counts elements
- *   that are there, and they take less than 2^63 bytes.
- * - Memory that a call writes to overlaps nothing else that the call is given. What a call reads doesn't change during
- *   the call. A mapped file that another process cuts ends the program with SIGBUS.
- * - malloc, realloc and free belong to one allocator, whose blocks are aligned for any type. zevk_open,
- *   zevk_writer_stack and zevk_writer_close take memory and free it before they return: don't call them in a signal
- *   handler, or in the child after a fork of a process with threads.
- * - Any number of threads may read one file at once, also with one table, while none writes to either. One thread at a
- *   time uses a writer.
+ * The library is proved: for every argument that keeps these rules, a call reads and writes no byte outside what it is
+ * given, and meets its contract in crates/store_c/src. This header says the same in words, by hand. A few lines of C
+ * are only tested: they replace the address of an array of length 0 before each proved call (examples/c/null_arrays.c).
  */
 #ifndef ZEVKHADUN_H
 #define ZEVKHADUN_H
@@ -45,27 +40,30 @@ extern "C" {
 
 /* ---- errors */
 
-/* The numbers up to 16 are the store's own in every language, the others are this library's. They never change. */
+/* The numbers up to 16 are the store's own in every language, the others are this library's. They never change.
+ *
+ * Those marked "file" are the file errors: the bytes are not the file of a store. A call returns the first of them that
+ * it finds, in this order: SHORT_FILE, BAD_VERSION, BAD_BLOCK_KIND, BAD_PERIOD, BAD_OFFSET, BAD_INDEX. */
 enum zevk_refusal {
     ZEVK_DONE = 0,
-    ZEVK_SHORT_FILE = 1,        /* the file has fewer bytes than a footer */
-    ZEVK_BAD_VERSION = 2,       /* the footer has an unknown version */
-    ZEVK_BAD_BLOCK_KIND = 3,    /* the blocks are compressed */
-    ZEVK_BAD_OFFSET = 4,        /* the index would begin after the footer's first byte */
-    ZEVK_BAD_INDEX = 5,         /* the index is not one of blocks that cover the data */
+    ZEVK_SHORT_FILE = 1,        /* file: it has fewer bytes than a footer */
+    ZEVK_BAD_VERSION = 2,       /* file: the footer has an unknown version */
+    ZEVK_BAD_BLOCK_KIND = 3,    /* file: the blocks are compressed */
+    ZEVK_BAD_OFFSET = 4,        /* file: the index would begin after the footer's first byte */
+    ZEVK_BAD_INDEX = 5,         /* file: the index is not one of blocks that cover the data */
     ZEVK_NO_DOCUMENT = 6,       /* the store has no document of this number */
     ZEVK_DAMAGED_DOCUMENT = 7,  /* the block's table doesn't say where the document is */
     ZEVK_NO_MEMORY = 10,        /* out of memory */
     ZEVK_OLD_VERSION = 11,      /* a store of version 1 can't be stacked */
     ZEVK_BLOCK_TOO_LARGE = 13,  /* a block would have 2^32 bytes or more */
     ZEVK_TOO_MANY_DOCS = 14,    /* there would be 2^32 documents or more */
-    ZEVK_BAD_PERIOD = 16,       /* a period below 2 or above 64 */
+    ZEVK_BAD_PERIOD = 16,       /* file, or an argument: a period below 2 or above 64 */
     ZEVK_NO_ROOM = 32,          /* an array of the caller's is too short */
     ZEVK_OTHER_TABLE = 33,      /* the table is not the one of the file */
     ZEVK_OPEN_BLOCK = 34,       /* the open block has documents; end it first */
     ZEVK_OTHER_WRITER = 35,     /* the writer or its table is not as these calls left it */
     ZEVK_TAIL_TOO_SHORT = 36,   /* the end of the file lacks the footer or a part of the index */
-    ZEVK_OTHER_BLOCK = 37       /* the block's place doesn't have the document, or not so many bytes */
+    ZEVK_OTHER_BLOCK = 37       /* the block doesn't have the document, or has another length */
 };
 
 /* How many bytes hold the text of any error and the zero byte after it. */
@@ -77,12 +75,9 @@ size_t zevk_refusal_text(uint32_t number, uint8_t *text, size_t text_len);
 
 /* ---- reading
  *
- * zevk_get, zevk_get_run and zevk_num_docs take the bytes of the file and nothing else: no table, and no memory. Each
- * reads the footer and the part of the index that it needs, and finds damage only there: with a damaged index it may
- * give another place, which lies within the bytes all the same, or another number of documents.
- *
- * zevk_open checks the whole index, which takes time by the number of blocks. With its table a get is quicker: it is
- * the way to many documents of one store. */
+ * These take the bytes of the file and nothing else: no table, and no memory. Each reads the footer and the part of the
+ * index that it needs, and finds damage only there: with a damaged index it may give another place, which lies within
+ * the bytes all the same, or another number of documents. zevk_check and zevk_open check the whole index. */
 
 /* Where a document lies in its file. */
 typedef struct zevk_place {
@@ -92,30 +87,61 @@ typedef struct zevk_place {
 
 /* Sets `place` to where a document lies in the file: its bytes begin at file[place->start].
  *
- * Errors: NO_DOCUMENT, for a store's file if and only if it has no document of this number; DAMAGED_DOCUMENT. If the
- * bytes are not a store's file, also the first of SHORT_FILE, BAD_VERSION, BAD_BLOCK_KIND, BAD_PERIOD, BAD_OFFSET and
- * BAD_INDEX that the call finds. */
+ * Errors: NO_DOCUMENT, for a store's file if and only if it has no document of this number; DAMAGED_DOCUMENT; the file
+ * errors. */
 uint32_t zevk_get(const uint8_t *file, size_t file_len, uint32_t doc_id, zevk_place *place);
 
-/* Finds the places of the documents from `first` on, up to `places_len` of them, and sets `count` to how many it
- * found. It stops before the first document that fails, number first + *count, and returns the error of that one; the
- * places before it are set all the same. So DONE means that all `places_len` were found, and the last part of a store
- * ends with NO_DOCUMENT, and mostly a count above 0. It seeks once, and then reads on in the index.
+/* Sets `places` to where the documents lie from `first` on, up to `places_len` of them, and `count` to how many it
+ * found. It stops before the first document that fails, number first + *count, and returns the error that zevk_get
+ * returns for it: a run up to the end of the store ends with NO_DOCUMENT. It seeks once.
  *
- * Errors: those of zevk_get. `count` is set in any case. */
+ * Errors: those of zevk_get. `count` and the places before it are set in any case. */
 uint32_t zevk_get_run(const uint8_t *file, size_t file_len, uint32_t first, zevk_place *places, size_t places_len,
                       size_t *count);
 
 /* Sets `num_docs` to the number of documents, by the footer and the top layer of the index.
  *
- * Errors: those of zevk_get, but no NO_DOCUMENT and no DAMAGED_DOCUMENT; so it never fails for a store's file. */
+ * Errors: the file errors. */
 uint32_t zevk_num_docs(const uint8_t *file, size_t file_len, uint32_t *num_docs);
+
+/* ---- reading by a table
+ *
+ * A store that is asked often is opened once. Its table has a row for each block; a get looks at a few of them. */
+
+/* A row of a table: where a block of documents ends. A block begins where the one before it ends. `guide` makes gets
+ * quick: zevk_open sets it, and no answer depends on it, so it may hold anything. */
+typedef struct zevk_block {
+    uint32_t end_doc;  /* one more than the number of its last document */
+    uint32_t guide;    /* about how many blocks end before a part of the documents, or 0 */
+    size_t end_byte;   /* the offset in the file at which it ends */
+} zevk_block;
+
+/* Checks the footer and the whole index, fills a row of the table for each block, and sets `count` to the number of
+ * blocks and `num_docs` to the number of documents. Other calls take the first `count` rows. You keep the table.
+ *
+ * Errors: the file errors; NO_MEMORY; NO_ROOM, if the table has fewer than `count` rows: the rows that it has are
+ * filled and both numbers set, so a first call with 0 rows finds how many are needed. */
+uint32_t zevk_open(const uint8_t *file, size_t file_len, zevk_block *table, size_t table_len, size_t *count,
+                   uint32_t *num_docs);
+
+/* Sets `place` to where a document lies in the file, by the table that zevk_open filled for these bytes. It takes no
+ * memory. With another table the call is safe: a place lies within the bytes, but it may be that of anything.
+ *
+ * Errors: NO_DOCUMENT if and only if `doc_id` is not below the number of documents; DAMAGED_DOCUMENT; OTHER_TABLE,
+ * only if the table is not the one of the file. */
+uint32_t zevk_locate(const uint8_t *file, size_t file_len, const zevk_block *table, size_t table_len, uint32_t doc_id,
+                     zevk_place *place);
+
+/* Finds the places of the documents from `first` on, as zevk_get_run does, by the table.
+ *
+ * Errors: those of zevk_locate. `count` and the places before it are set in any case. */
+uint32_t zevk_locate_run(const uint8_t *file, size_t file_len, const zevk_block *table, size_t table_len,
+                         uint32_t first, zevk_place *places, size_t places_len, size_t *count);
 
 /* ---- reading a file that lies elsewhere
  *
- * A store in object storage, or behind HTTP, is read by ranges of its file, with no copy of the whole. The end of the
- * file has the index: keep it, and then a document takes one read, of its block. Neither call takes memory. The reads
- * are the caller's (examples/c/ranges.c):
+ * A store in object storage, or on a web server, is read by ranges of its file. The end of the file has the index: keep it,
+ * and then a document takes one read, of its block. The reads are the caller's (examples/c/ranges.c):
  *
  *     read the last tail_len bytes of the file, 64 KiB say, or all if it is shorter
  *     while ((error = zevk_block_of(tail, tail_len, file_len, id, &block, &wanted)) == ZEVK_TAIL_TOO_SHORT)
@@ -132,20 +158,16 @@ typedef struct zevk_block_place {
     size_t len;          /* its length in bytes */
 } zevk_block_place;
 
-/* Sets `block` to where the block lies that has a document, in a file of `file_len` bytes of which `tail` has the last
- * `tail_len`. What it checks is what zevk_get checks before it comes to the block.
+/* Sets `block` to where the block of a document lies in a file of `file_len` bytes, by its last `tail_len` bytes.
  *
- * Errors: TAIL_TOO_SHORT, if the tail lacks the footer or a part of the index: `wanted` is set to how many of the last
- * bytes of the file are enough, and is otherwise unchanged. A tail below 28 bytes is told 28; a longer one is told the
- * length of index and footer, at most once for a file. NO_DOCUMENT, for a store's file if and only if it has no
- * document of this number. SHORT_FILE, also if the tail is longer than the file. If the file is not a store's, also
- * BAD_VERSION, BAD_BLOCK_KIND, BAD_PERIOD, BAD_OFFSET and BAD_INDEX, as zevk_get finds them. */
+ * Errors: TAIL_TOO_SHORT, where `wanted` is set to how many of the last bytes are enough: 28 for a tail below that, and
+ * then, at most once for a file, the length of index and footer. NO_DOCUMENT, for a store's file if and only if it has
+ * no document of this number. The file errors; SHORT_FILE also if the tail is longer than the file. */
 uint32_t zevk_block_of(const uint8_t *tail, size_t tail_len, size_t file_len, uint32_t doc_id, zevk_block_place *block,
                        size_t *wanted);
 
-/* Sets `place` to where a document lies in the file, by the bytes of its block, which lies at `at`. The place is the
- * one that zevk_get finds in the whole file, so the document begins at block[place->start - at->start]. Any document of
- * the block is found so, from at->first_doc up to, but not including, at->end_doc.
+/* Sets `place` to where a document lies in the file, as zevk_get does, by the bytes of its block. `at` is where the
+ * block lies; it may be asked for any document from at->first_doc up to, but not including, at->end_doc.
  *
  * Errors: DAMAGED_DOCUMENT; OTHER_BLOCK, if and only if `doc_id` is not one of these, `block_len` is not at->len, or
  * the block would end at byte 2^64 or past it. */
@@ -168,47 +190,11 @@ typedef struct zevk_fault {
 #define ZEVK_LAYER_COVER (UINT32_MAX - 1)
 
 /* Checks the whole file: the footer, the whole index, that the blocks cover the data, and that each block says where
- * its documents lie. It takes time by the number of documents. After DONE every other call finds every document.
+ * its documents lie. After DONE every other call finds every document.
  *
- * Errors: those of zevk_open but NO_ROOM; DAMAGED_DOCUMENT. After BAD_INDEX `fault` has the byte and the layer, and
- * after DAMAGED_DOCUMENT the number of the first document that is damaged; its other numbers are 0. */
+ * Errors: the file errors, where BAD_INDEX sets the byte and the layer of `fault`; DAMAGED_DOCUMENT, which sets the
+ * number of the first document that is damaged; NO_MEMORY. The other numbers of a fault that is set are 0. */
 uint32_t zevk_check(const uint8_t *file, size_t file_len, zevk_fault *fault);
-
-/* ---- reading by a table */
-
-/* A row of a table: where a block of documents ends. A block begins where the one before it ends. `guide` makes gets
- * quick: zevk_open sets it, and no answer depends on it, so it may hold anything. */
-typedef struct zevk_block {
-    uint32_t end_doc;  /* one more than the number of its last document */
-    uint32_t guide;    /* about how many blocks end before a part of the documents, or 0 */
-    size_t end_byte;   /* the offset in the file at which it ends */
-} zevk_block;
-
-/* Opens the store whose file these bytes are. It checks the footer and the whole index, fills a row of the table for
- * each block, and sets `count` to the number of blocks and `num_docs` to the number of documents. Other calls take the
- * first `count` rows. The caller keeps the bytes and the table, and may move them in memory.
- *
- * Errors: NO_ROOM if the table has fewer than `count` rows; the rows that it has are filled, and both numbers are set,
- * so a first call with 0 rows finds how many are needed. NO_MEMORY: the call copies the index while it reads. If the
- * bytes are not a store's file: the first of SHORT_FILE, BAD_VERSION, BAD_BLOCK_KIND, BAD_PERIOD, BAD_OFFSET and
- * BAD_INDEX that applies. */
-uint32_t zevk_open(const uint8_t *file, size_t file_len, zevk_block *table, size_t table_len, size_t *count,
-                   uint32_t *num_docs);
-
-/* Sets `place` to where a document lies in the file, by the table that zevk_open filled for these bytes. It takes no
- * memory. With another table the call is safe: a place lies within the bytes, but it may be that of anything.
- *
- * Errors: NO_DOCUMENT if and only if `doc_id` is not below the number of documents; DAMAGED_DOCUMENT; OTHER_TABLE,
- * only if the table is not the one of the file. */
-uint32_t zevk_locate(const uint8_t *file, size_t file_len, const zevk_block *table, size_t table_len, uint32_t doc_id,
-                     zevk_place *place);
-
-/* Finds the places of the documents from `first` on, as zevk_get_run does, by the table. It seeks in the table once for
- * each block.
- *
- * Errors: those of zevk_locate. `count` is set in any case. */
-uint32_t zevk_locate_run(const uint8_t *file, size_t file_len, const zevk_block *table, size_t table_len,
-                         uint32_t first, zevk_place *places, size_t places_len, size_t *count);
 
 /* ---- writing
  *
@@ -226,9 +212,9 @@ uint32_t zevk_locate_run(const uint8_t *file, size_t file_len, const zevk_block 
  *     zevk_writer_close(&writer, table, .., 8, end, .., &len);
  *     write len bytes of end
  *
- * The caller may move the arrays between calls. After NO_ROOM nothing has changed: make the arrays longer and call
- * again. Numbers of `starts` are written as they are in memory, lowest byte first. The finished file is the one that
- * StoreWriter of crate docstore writes for the same calls, block size and period, byte for byte: version 3. */
+ * The caller may move the arrays between calls. After NO_ROOM make the arrays longer and call again. Numbers of
+ * `starts` are written as they are in memory, lowest byte first. The finished file is the one that StoreWriter of crate
+ * docstore writes for the same calls, block size and period, byte for byte: version 3. */
 
 /* The numbers of a writer. The caller doesn't change them. */
 typedef struct zevk_writer {
@@ -245,8 +231,7 @@ void zevk_writer_begin(zevk_writer *writer, size_t block_size);
  * `starts`: none, or the table of the block that this document ends.
  *
  * Errors: NO_ROOM if `starts` has no room for two numbers after those of the open block, or `table` for one more row;
- * TOO_MANY_DOCS if the store has 2^32 - 1 documents; BLOCK_TOO_LARGE if the open block with this document and its
- * table would have 2^32 bytes or more. */
+ * TOO_MANY_DOCS after 2^32 - 1 documents; BLOCK_TOO_LARGE if the block with its table would have 2^32 bytes or more. */
 uint32_t zevk_writer_put(zevk_writer *writer, uint32_t *starts, size_t starts_len, zevk_block *table, size_t table_len,
                          size_t len, size_t *count);
 
@@ -258,12 +243,11 @@ uint32_t zevk_writer_put(zevk_writer *writer, uint32_t *starts, size_t starts_le
 uint32_t zevk_writer_end_block(zevk_writer *writer, uint32_t *starts, size_t starts_len, zevk_block *table,
                                size_t table_len, size_t *count);
 
-/* Adds all documents of the store whose file these bytes are. Its blocks are taken as they are, damaged ones too. The
- * caller writes the first `len` bytes of that file to its own. `count` is set to the number of blocks of the store.
+/* Adds all documents of the store whose file these bytes are, with its blocks as they are, damaged ones too. The caller
+ * writes the first `len` bytes of that file to its own. `count` is set to the number of blocks of the store.
  *
- * Errors: those of zevk_open for the bytes of the file, and NO_MEMORY; OLD_VERSION for a store of version 1;
- * OPEN_BLOCK; TOO_MANY_DOCS if both together have 2^32 documents or more; NO_ROOM if the table has no room for `count`
- * more rows, where `count` is set and the rows after those that count may be overwritten; OTHER_WRITER. */
+ * Errors: those of zevk_open; OLD_VERSION for a store of version 1; OPEN_BLOCK; TOO_MANY_DOCS; OTHER_WRITER; NO_ROOM if
+ * the table has no room for `count` more rows: `count` is set, and rows after those that count may be overwritten. */
 uint32_t zevk_writer_stack(zevk_writer *writer, zevk_block *table, size_t table_len, const uint8_t *file,
                            size_t file_len, size_t *count, size_t *len);
 
@@ -271,10 +255,22 @@ uint32_t zevk_writer_stack(zevk_writer *writer, zevk_block *table, size_t table_
  * these bytes to the file, which is then whole. `period` is how many entries a run of the index has: 2 to 64,
  * tantivy's is 8. The writer is unchanged, and may go on.
  *
- * Errors: BAD_PERIOD; OPEN_BLOCK; OTHER_WRITER; NO_MEMORY; NO_ROOM if `end` has fewer than `len` bytes. After NO_ROOM
- * `len` is exactly the length of what is to be written, so a first call with 0 bytes finds it. */
+ * Errors: BAD_PERIOD; OPEN_BLOCK; OTHER_WRITER; NO_MEMORY; NO_ROOM if `end` has fewer than `len` bytes, where `len` is
+ * set to exactly the length that is needed, so a first call with 0 bytes finds it. */
 uint32_t zevk_writer_close(const zevk_writer *writer, const zevk_block *table, size_t table_len, uint8_t period,
                            uint8_t *end, size_t end_len, size_t *len);
+
+/* ---- rules for callers, which no call can check
+ *
+ * - A pointer is aligned for its type, and is not null; with a length of 0 it may be null. A length counts elements
+ *   that are there, and they take less than 2^63 bytes.
+ * - Memory that a call writes to overlaps nothing else that the call is given. What a call reads doesn't change during
+ *   the call. A mapped file that another process cuts ends the program with SIGBUS.
+ * - malloc, realloc and free belong to one allocator, whose blocks are aligned for any type. zevk_open, zevk_check,
+ *   zevk_writer_stack and zevk_writer_close take memory and free it before they return: don't call them in a signal
+ *   handler, or in the child after a fork of a process with threads.
+ * - Any number of threads may read one file at once, also with one table, while none writes to either. One thread at a
+ *   time uses a writer. */
 
 #ifdef __cplusplus
 }
