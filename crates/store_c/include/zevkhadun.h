@@ -140,8 +140,8 @@ uint32_t zevk_locate_run(const uint8_t *file, size_t file_len, const zevk_block 
 
 /* ---- reading a file that lies elsewhere
  *
- * A store in object storage, or on a web server, is read by ranges of its file. The end of the file has the index: keep it,
- * and then a document takes one read, of its block. The reads are the caller's (examples/c/ranges.c):
+ * A store in object storage, or on a web server, is read by ranges of its file. The end of the file has the index: keep
+ * it, and then a document takes one read, of its block. The reads are the caller's (examples/c/ranges.c):
  *
  *     read the last tail_len bytes of the file, 64 KiB say, or all if it is shorter
  *     while ((error = zevk_block_of(tail, tail_len, file_len, id, &block, &wanted)) == ZEVK_TAIL_TOO_SHORT)
