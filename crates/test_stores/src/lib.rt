@@ -6,6 +6,8 @@ mod lists;
 #[cfg(test)]
 mod records;
 #[cfg(test)]
+mod seeking;
+#[cfg(test)]
 mod telling;
 #[cfg(test)]
 mod viewing;

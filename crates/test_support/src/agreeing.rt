@@ -1,6 +1,7 @@
 //! A view of bytes beside a slice of them, and beside a reader of a file that holds them.
 
 use crate::making::opened;
+use crate::seeking::seeking_agrees;
 use docstore::{StoreError, StoreReader, StoreSlice, StoreView};
 use std::alloc::Global;
 use store_base::{FileHandle, MemFile};
@@ -109,10 +110,13 @@ fn answer_alike<H: FileHandle>(
         && are_gotten(view)
 }
 
-/// Whether a view of these bytes and a reader of this file open the same, and answer the same; and a slice of them.
+/// Whether a view of these bytes and a reader of this file open the same, and answer the same; and a slice of them, and
+/// a file of them that is sought.
 pub fn agree_with<H: FileHandle>(alloc: Global, bytes: &[u8], file: H) -> bool {
     let viewed = StoreView::open(alloc, bytes);
-    if slice_agrees(alloc, bytes, &viewed) != Ok(true) {
+    if slice_agrees(alloc, bytes, &viewed) != Ok(true)
+        || seeking_agrees(alloc, bytes, &viewed) != Ok(true)
+    {
         return false;
     }
     match (viewed, opened(alloc, file)) {

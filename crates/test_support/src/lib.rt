@@ -9,7 +9,10 @@ pub mod failing_sink;
 pub mod lying_file;
 pub mod making;
 pub mod merge_inputs;
+pub mod seeking;
+pub mod sparse_file;
 
 pub use failing_file::FailingFile;
 pub use failing_sink::FailingSink;
 pub use lying_file::LyingFile;
+pub use sparse_file::{SPARSE_BLOCK, SparseFile};
