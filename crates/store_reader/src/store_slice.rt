@@ -1,6 +1,6 @@
 //! A store in a slice of bytes, read without opening: its index is not copied, and no table is made of it.
 ghost use Rattle.std.specs.Prelude.{◌≡◌, ◌≢◌, ◌≤◌, ◌<◌, ◌+◌, ◌*◌, ◌^◌, ◌↔◌, ◌⊎◌, ℕ, length, slice_range, slice_get};
-ghost use Rattle.std.specs.Prelude.{IfOk, IfErr, IsOkAnd, IsErrOf, MatchResult, Ok, Err, Some, None};
+ghost use Rattle.std.specs.Prelude.{IfOk, IfErr, IsOkAnd, IsErrOf, MatchResult, Ok, Err, Some, None, false};
 ghost use Rattle.layered_index.specs.Checkpoint.{first_past};
 ghost use Rattle.layered_index.specs.Layers.{digit_count, index_part};
 ghost use Rattle.store_format.specs.declared.version.DocStoreVersion.{DocStoreVersion};
@@ -245,7 +245,7 @@ impl<'a> StoreSlice<'a> {
             ≡ slice_range self.now x.0.start (x.0.start + length x.0.bytes.now)) }
         ensures within { IfOk result (λ x. x.0.start + length x.0.bytes.now ≤ length self.now) }
         ensures fits { IfOk result (λ x. x.0.start + length x.0.bytes.now < 2 ^ 64) }
-        ensures next { IfOk result (λ x. (x.1.bytes ≡ self.now) × (x.1.next ≡ x.0.end)) }
+        ensures next { IfOk result (λ x. (x.1.bytes ≡ self.now) × (x.1.next ≡ x.0.end) × (x.1.failed ≡ false)) }
         ensures left { (s : IsSomeStore self.now) → IfOk result (λ x. AreLeft self.now s x.1) }
         ensures refused { IfErr result (λ e. (e ≡ StoreError.InvalidArgument doc_id) ⊎ (e ≡ StoreError.BadIndex)) }
     {
