@@ -1,6 +1,7 @@
 -- What looks at the rows of a table tell of where a seek's answer lies.
-use Rattle.std.proofs.Common.{◌≡◌, ℕ, ◌+◌, ◌<◌, ◌≤◌, List, length, map, get_or, sym, ap, ◌∙◌, subst, arith}
+use Rattle.std.proofs.Common.{◌≡◌, ℕ, zero, suc, ◌+◌, ◌<◌, ◌≤◌, List, [], ◌∷◌, Some, length, map, get_or, sym, ap, ◌∙◌, subst, arith}
 use Rattle.std.specs.Prelude.{slice_get}
+use Rattle.std.proofs.lemmas.Bool.{lt-ltb, le-ltb}
 use Rattle.std.proofs.lemmas.List.{length-map}
 use Rattle.layered_index.specs.declared.index.Checkpoint.{Checkpoint}
 use Rattle.layered_index.specs.Checkpoint.{IsInLineFrom, first_past}
@@ -42,6 +43,22 @@ module _ (table : List Block) (cs : List Checkpoint) (is : ends_in table ≡ map
         before = none_up_to cs target at row.0 (in_line_from 0 0 cs line) row.1 (omega (arith, before, ap (λ (e : BlockEnd). e.end_doc) row.2));
         past = known.past;
       }
+
+-- a block that has a document is the first past it
+begins_later : (doc byte : ℕ) (cs : List Checkpoint) (at : ℕ) (c : Checkpoint) → IsInLineFrom doc byte cs → slice_get cs at ≡ Some c → doc ≤ c.doc_range.start
+begins_later doc byte [] at c line is = absurd cc
+begins_later doc byte (x ∷ cs) zero c line is = let same : x ≡ c = cc in omega (arith, line.0, ap (λ (y : Checkpoint). y.doc_range.start) same)
+begins_later doc byte (x ∷ cs) (suc at) c line is = omega (arith, begins_later x.doc_range.end x.byte_range.end cs at c line.3 is, line.0, line.2.doc_order)
+
+pub first_of : (doc byte : ℕ) (cs : List Checkpoint) (target at : ℕ) (c : Checkpoint) → IsInLineFrom doc byte cs → slice_get cs at ≡ Some c → c.doc_range.start ≤ target → target < c.doc_range.end
+    → first_past cs target ≡ Some c
+first_of doc byte [] target at c line is from to = absurd cc
+first_of doc byte (x ∷ cs) target zero c line is from to =
+    let same : x ≡ c = cc in
+    rw (lt-ltb target x.doc_range.end (omega (arith, to, ap (λ (y : Checkpoint). y.doc_range.end) same))) (ap Some same)
+first_of doc byte (x ∷ cs) target (suc at) c line is from to =
+    let later = begins_later x.doc_range.end x.byte_range.end cs at c line.3 is in
+    rw (le-ltb target x.doc_range.end (omega (arith, later, from))) (first_of x.doc_range.end x.byte_range.end cs target at c line.3 is from to)
 
 -- where nothing is left between, it is found
 pub found_there : (cs : List Checkpoint) (target low high : ℕ) → low ≡ high → LiesBetween cs target low high → slice_get cs low ≡ first_past cs target

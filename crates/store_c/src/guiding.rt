@@ -6,6 +6,9 @@ use crate::block::Block;
 use crate::table::num_docs;
 use store_base::DocId;
 
+// How many rows a guess looks at. A stretch has fewer blocks on the average, or as many.
+const FEW: usize = 4;
+
 // The documents are parted into stretches of equally many, a power of two: fewer stretches than there are rows, and at
 // least a quarter of that. How many documents a stretch has is told by its exponent.
 fn stretch_exponent(rows: usize, docs: DocId) -> u32
@@ -45,13 +48,28 @@ fn even_share(rows: usize, docs: DocId, doc: DocId) -> usize {
     share as usize
 }
 
-/// About how many blocks end before a document: what the guide of its stretch says, or an even share where there is
-/// none.
-pub(crate) fn guess(table: &[Block], doc: DocId) -> usize {
+// How many blocks are known to end before a document: so the guide of its stretch says. Where there is none, they are
+// one fewer than an even share.
+fn known_before(table: &[Block], doc: DocId) -> usize {
     let docs = num_docs(table);
     let stretch = doc >> stretch_exponent(table.len(), docs);
     match table.get(stretch as usize) {
         Some(row) if row.guide > 0 => row.guide as usize,
-        _ => even_share(table.len(), docs, doc),
+        _ => even_share(table.len(), docs, doc).saturating_sub(1),
     }
+}
+
+/// About how many blocks end before a document: those that are known to, and those of the next few rows. That these are
+/// all looked at costs less than to foresee wrongly which is the last.
+pub(crate) fn guess(table: &[Block], doc: DocId) -> usize {
+    let known = known_before(table, doc);
+    let rest = table.get(known..).unwrap_or(&[]);
+    let Some(few) = rest.get(..FEW) else {
+        return known;
+    };
+    let mut count = known;
+    for row in few {
+        count = count.wrapping_add(usize::from(row.end_doc <= doc));
+    }
+    count
 }

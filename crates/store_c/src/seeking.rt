@@ -96,12 +96,11 @@ fn seek_near(table: &[Block], target: DocId, guess: usize) -> Found
     halve(table, target, between)
 }
 
-/// The first block whose documents end past the target. A guide of the table tells where the seek begins.
-pub(crate) fn seek(table: &[Block], target: DocId) -> Option<Checkpoint>
+// The block of a row.
+fn block_at(table: &[Block], at: usize) -> Option<Checkpoint>
     ensures { (cs : List CheckpointOf) → ends_in table.now ≡ map ends_of cs → IsInLineFrom 0 0 cs
-        → result ≡ first_past cs target }
+        → result ≡ slice_get cs at }
 {
-    let at = seek_near(table, target, guess(table, target)).at;
     let row = table.get(at)?;
     let start = start_of(table, at);
     let end = row.end();
@@ -109,4 +108,19 @@ pub(crate) fn seek(table: &[Block], target: DocId) -> Option<Checkpoint>
         doc_range: start.end_doc..end.end_doc,
         byte_range: start.end_byte..end.end_byte,
     })
+}
+
+/// The first block whose documents end past the target. It is sought where a guide of the table says, if it isn't there.
+pub(crate) fn seek(table: &[Block], target: DocId) -> Option<Checkpoint>
+    ensures { (cs : List CheckpointOf) → ends_in table.now ≡ map ends_of cs → IsInLineFrom 0 0 cs
+        → result ≡ first_past cs target }
+{
+    let near = guess(table, target);
+    if let Some(block) = block_at(table, near) {
+        if block.doc_range.start <= target && target < block.doc_range.end {
+            return Some(block);
+        }
+    }
+    let found = seek_near(table, target, near);
+    block_at(table, found.at)
 }

@@ -1,25 +1,9 @@
-use Rattle.std.proofs.Common.{◌≡◌, ◌<◌, ◌≤◌, length, slice_index_or, Some, sym, ap, ◌∙◌, arith, rules}
-use Rattle.std.proofs.lemmas.Bool.{ltb-true}
-use Rattle.layered_index.specs.Checkpoint.{checkpoint}
-use Rattle.layered_index.proofs.HalvingLemmas.{none_behind}
-use Rattle.store_c.specs.Calls.{end_of}
-use Rattle.store_c.proofs.TableLemmas.{row_tells}
-use Rattle.store_c.proofs.TableSeekLemmas.{size}
+use Rattle.std.proofs.Common.{sym, ◌∙◌, arith}
+use Rattle.store_c.proofs.TableSeekLemmas.{first_of}
 use Rattle.store_c.proofs.seeking.seek.Goals as goal
 
-pub returns-in_err-row : goal.returns-in_err-row
-returns-in_err-row c cs is line =
-    let past : length c.args.table.now ≤ c.seek_near-at.result.at = search rules in
-    c.from_residual.ensures ∙ sym (none_behind cs c.seek_near-at.result.at (omega (arith, past, size c.args.table.now cs is c.args.target))) ∙ c.seek_near-at.ensures.answer cs is line
+pub returns-then-target-block : goal.returns-then-target-block
+returns-then-target-block c cs is line = sym (first_of 0 0 cs c.args.target c.guess-near.result c.in-Some.block line (sym (c.in-Some.ensures cs is line)) (omega arith) (omega arith))
 
 pub returns : goal.returns
-returns c cs is line =
-    let at = c.seek_near-at.result.at in
-    let row = c.in_ok-row.row.now in
-    let start = c.start_of-start.result in
-    let lookup = c.in_ok-row.ensures.lookup in
-    let within : at < length c.args.table.now = ltb-true _ _ (sym lookup.0) in
-    let ends : c.end-end.result ≡ end_of (slice_index_or c.args.table.now at row) = c.end-end.ensures ∙ ap end_of lookup.1 in
-    (λ i. Some (checkpoint start.end_doc (ends i).end_doc start.end_byte (ends i).end_byte))
-    ∙ row_tells c.args.table.now cs at row start is line within c.start_of-start.ensures
-    ∙ c.seek_near-at.ensures.answer cs is line
+returns c cs is line = c.block_at-2.ensures cs is line ∙ c.seek_near-found.ensures.answer cs is line
