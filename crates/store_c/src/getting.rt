@@ -32,7 +32,6 @@ fn place_in(block: &BlockSlice<'_>, doc_id: DocId) -> Result<Place, StoreError>
 
 // Goes on with the places of a run by the documents of one block, up to its last or as many as there is room for. It
 // returns how many places the run has then, and the refusal of the document at which it stopped.
-#[inline(always)]
 fn places_on(
     block: &BlockSlice<'_>,
     first: DocId,
