@@ -143,7 +143,7 @@ static void other_bytes(const uint8_t *file, size_t len) {
     for (int round = 0; round < 1000; round++) {
         zevk_block *rows = (zevk_block *)tight(table, count * sizeof *table);
         for (size_t i = 0; i < len; i++) {
-            bytes[i] = round % 3 == 0 ? (uint8_t)rand() : (uint8_t)(file[i] ^ (rand() % 50 == 0));
+            bytes[i] = (uint8_t)(round % 3 == 0 ? rand() : file[i] ^ (rand() % 50 == 0));
         }
         locate_any(bytes, len, table, count);
         for (size_t i = 0; i < count; i++) {
