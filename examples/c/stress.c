@@ -64,7 +64,8 @@ static void any_guides(const uint8_t *file, size_t file_len) {
     srand(2);
     for (int round = 0; round < 100; round++) {
         for (size_t i = 0; i < count; i++) {
-            table[i].guide = round == 0 ? 0 : round % 2 == 0 ? UINT32_MAX - (uint32_t)(rand() % 3) : (uint32_t)rand() % 80;
+            uint32_t any = round % 2 == 0 ? UINT32_MAX - (uint32_t)(rand() % 3) : (uint32_t)rand() % 80;
+            table[i].guide = round == 0 ? 0 : any;
         }
         for (uint32_t id = 0; id < DOCUMENTS; id++) {
             WANT(zevk_locate(file, file_len, table, count, id, &place) == ZEVK_DONE);

@@ -198,7 +198,9 @@ static void misuse(input from) {
     to.writer.docs = next_number(&from);
     to.writer.bytes = next_number(&from);
     for (size_t at = 0; at < ROWS; at++) {
-        to.table[at].end_doc = (uint32_t)next_number(&from);
+        uint64_t numbers = next_number(&from);
+        to.table[at].end_doc = (uint32_t)numbers;
+        to.table[at].guide = (uint32_t)(numbers >> 32);
         to.table[at].end_byte = next_number(&from);
     }
     uint32_t id = (uint32_t)next_number(&from);

@@ -162,8 +162,8 @@ module _ (m : Memory) (w : Writing) (docs : List (List ℕ)) (end : BlockEnd) (h
 pub exact_sum : (m : Memory) (len sum : ℕ) (start end : BlockEnd) → sum ≡ min (m.writer.bytes + len) 18446744073709551615 → EndsAt start (m.writer.docs + 1) sum end → sum ≡ m.writer.bytes + len
 exact_sum m len sum start end is ends = let few = ends.few_bytes in omega arith
 
-pub exact_end : (m : Memory) (len sum : ℕ) (start end : BlockEnd) → sum ≡ m.writer.bytes + len → start ≡ start_in zero_block (ends_in m.table) m.writer.blocks → EndsAt start (m.writer.docs + 1) sum end
-    → EndsAt (start_in zero_block (ends_in m.table) m.writer.blocks) (m.writer.docs + 1) (m.writer.bytes + len) end
+pub exact_end : (m : Memory) (len sum : ℕ) (start end : BlockEnd) → sum ≡ m.writer.bytes + len → start ≡ start_in zero_block (ends_in m.table) m.writer.blocks
+    → EndsAt start (m.writer.docs + 1) sum end → EndsAt (start_in zero_block (ends_in m.table) m.writer.blocks) (m.writer.docs + 1) (m.writer.bytes + len) end
 exact_end m len sum start end is from ends =
     subst (λ (n : ℕ). EndsAt (start_in zero_block (ends_in m.table) m.writer.blocks) (m.writer.docs + 1) n end) is (subst (λ (b : BlockEnd). EndsAt b (m.writer.docs + 1) sum end) from ends)
 

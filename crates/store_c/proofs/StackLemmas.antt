@@ -74,7 +74,8 @@ rows_written table mid ys rs from k n fits is room size =
     let parts : ys ≡ rs ++ rest = is ∙ ap (λ (xs : List BlockEnd). xs ++ rest) (take_all (length mid) rs short) in
     let cut : all ≡ (take from table ++ rs) ++ (rest ++ drop end all) =
     sym (take-append-drop end all)
-    ∙ ap (λ (xs : List BlockEnd). xs ++ drop end all) (take-put_mid from k table ys end refl fits ∙ ap (λ (xs : List BlockEnd). take from table ++ xs) parts ∙ sym (append_assoc (take from table) rs rest))
+    ∙ ap (λ (xs : List BlockEnd). xs ++ drop end all)
+    (take-put_mid from k table ys end refl fits ∙ ap (λ (xs : List BlockEnd). take from table ++ xs) parts ∙ sym (append_assoc (take from table) rs rest))
     ∙ append_assoc (take from table ++ rs) rest (drop end all) in
     let len : n ≡ length (take from table ++ rs) = omega (arith, length-append (take from table) rs, length-take-le from table fits) in
     ap (λ (i : ℕ). take i all) len ∙ ap (take (length (take from table ++ rs))) cut ∙ take-append_seam (take from table ++ rs) (rest ++ drop end all)
@@ -126,7 +127,8 @@ module _ (writer : Writer) (table mid ys : List Block) (k count : ℕ) (start : 
         length-append (data_of w.output.finished) (data_of view.store),
       )
 
-  pub stacked : ends_in ys ≡ with_front (map (ends_behind start) cs) (ends_in mid) → count ≡ length cs → count ≤ length ys → PutsBlocks view writer table (with_more writer count) (put_mid writer.blocks k table ys)
+  pub stacked : ends_in ys ≡ with_front (map (ends_behind start) cs) (ends_in mid) → count ≡ length cs → count ≤ length ys
+      → PutsBlocks view writer table (with_more writer count) (put_mid writer.blocks k table ys)
   stacked is counted room starts text w h =
       let b = behind starts text w h in
       let bs = w.output.finished in

@@ -17,8 +17,8 @@ pub(crate) struct BlockEnd {
 pub struct Block {
     /// The number behind that of the block's last document.
     pub end_doc: u32,
-    /// How many blocks end before a stretch of the documents: that with the row's index, of those into which the seek
-    /// parts them. A seek begins there. It may be anything; where it is 0 a seek begins elsewhere.
+    /// How many blocks end before a stretch of the documents: of those into which a seek parts them, the one with the
+    /// row's index. A seek begins there, or at an even share of the blocks where it is 0. It may be anything.
     pub guide: u32,
     /// How many bytes of the file stand before the block's end.
     pub end_byte: usize,

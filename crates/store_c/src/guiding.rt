@@ -30,7 +30,7 @@ fn ends_before(table: &[Block], known: usize, doc: u64) -> usize {
     count
 }
 
-/// Writes the guide of each row.
+/// Writes the guide of each row: how many blocks end before the stretch with its index, or with its first document.
 pub(crate) fn write_guides(table: &mut [Block])
     ensures { ends_in table.new ≡ ends_in table.old }
 {
@@ -48,19 +48,19 @@ fn even_share(rows: usize, docs: DocId, doc: DocId) -> usize {
     share as usize
 }
 
-// How many blocks are known to end before a document: so the guide of its stretch says. Where there is none, they are
-// one fewer than an even share.
+// How many blocks end before a document at least: so the guide of its stretch says. Where there is none, they are one
+// fewer than an even share.
 fn known_before(table: &[Block], doc: DocId) -> usize {
     let docs = num_docs(table);
     let stretch = doc >> stretch_exponent(table.len(), docs);
     match table.get(stretch as usize) {
-        Some(row) if row.guide > 0 => row.guide as usize,
+        Some(row) if row.guide > 0 || stretch == 0 => row.guide as usize,
         _ => even_share(table.len(), docs, doc).saturating_sub(1),
     }
 }
 
-/// About how many blocks end before a document: those that are known to, and those of the next few rows. That these are
-/// all looked at costs less than to foresee wrongly which is the last.
+/// About how many blocks end before a document: those that do so at least, and those of the next few rows. That these
+/// are all looked at costs less than to foresee wrongly which is the last.
 pub(crate) fn guess(table: &[Block], doc: DocId) -> usize {
     let known = known_before(table, doc);
     let rest = table.get(known..).unwrap_or(&[]);

@@ -110,7 +110,8 @@ fn block_at(table: &[Block], at: usize) -> Option<Checkpoint>
     })
 }
 
-/// The first block whose documents end past the target. It is sought where a guide of the table says, if it isn't there.
+/// The first block whose documents end past the target. A guide tells where it is likely to be; where it isn't, it is
+/// sought from there on.
 pub(crate) fn seek(table: &[Block], target: DocId) -> Option<Checkpoint>
     ensures { (cs : List CheckpointOf) → ends_in table.now ≡ map ends_of cs → IsInLineFrom 0 0 cs
         → result ≡ first_past cs target }

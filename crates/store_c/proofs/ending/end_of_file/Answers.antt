@@ -11,7 +11,8 @@ pub returns-clause-end : goal.returns-clause-end
 returns-clause-end c cs line ends =
     let index = c.in_ok-index.ensures.index in
     let same : c.in_ok-index.index.checkpoints ≡ cs = same_blocks 0 0 _ cs index.in_line line (index.ends_are ∙ ends) in
-    let last : c.start_of-last.result.end_byte ≡ bytes_end 0 cs = ap (λ (b : BlockEnd). b.end_byte) (c.start_of-last.ensures ∙ ap (start_in _ (ends_in c.args.ends.now)) (sym (length-map c.args.ends.now end_of)))
+    let last : c.start_of-last.result.end_byte ≡ bytes_end 0 cs = ap (λ (b : BlockEnd). b.end_byte)
+    (c.start_of-last.ensures ∙ ap (start_in _ (ends_in c.args.ends.now)) (sym (length-map c.args.ends.now end_of)))
     ∙ last_byte 0 0 cs (ends_in c.args.ends.now) ends in
     let first = from_ok c.serialize_into.result (sym c.if-is_err.ensures.value) c.serialize_into.ensures.ok in
     let second = from_ok c.serialize.result (sym c.if-is_err-2.ensures.value) c.serialize.ensures.ok in
