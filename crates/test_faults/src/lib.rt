@@ -8,6 +8,4 @@ mod merges;
 #[cfg(test)]
 mod reads;
 #[cfg(test)]
-mod seeking;
-#[cfg(test)]
 mod writes;

@@ -14,8 +14,10 @@ const INDEX_BYTES: u64 = 16_384;
 
 // Opens the file and gets a document.
 fn gotten(alloc: Global, file: SparseFile, doc_id: u32) -> Result<OwnedBytes, StoreError> {
-    let mut reader = SeekingReader::open(alloc, FileSlice::new(file))?;
-    reader.get(alloc, doc_id)
+    match SeekingReader::open(alloc, FileSlice::new(file)) {
+        Ok(mut reader) => reader.get(alloc, doc_id),
+        Err(refusal) => Err(refusal.error),
+    }
 }
 
 #[test]
