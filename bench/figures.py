@@ -85,6 +85,10 @@ class Figures:
         rounds = self.rounds(**wanted)
         return spread_of([each_of(taken) for taken in rounds]) if rounds else None
 
+    def share_of(self, row: Dict[str, object]) -> float:
+        """How far apart the quartiles of a row's rounds lie, as a share of the median."""
+        return spread_of([each_of(taken) for taken in row["rounds"]]).share
+
     def each(self, **wanted: object) -> Optional[float]:
         """Nanoseconds for each document, or each open: the median of the rounds."""
         spread = self.spread(**wanted)

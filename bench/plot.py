@@ -11,7 +11,7 @@ import ratios
 import scaling
 import volume
 from drawing import Drawing
-from figures import Figures, label_of
+from figures import EVEN, Figures, label_of
 from plan import C_SIDES, MEMORY, PROCESS
 
 HERE = Path(__file__).resolve().parent
@@ -25,10 +25,18 @@ def _span(figures: Figures, panels: List[ratios.Panel]) -> str:
     return f"{min(values):.2g} to {ratios.factor_text(max(values))}" if values else ""
 
 
-def _sentence(figures: Figures, work: str, panels: List[ratios.Panel]) -> str:
+def sentence(figures: Figures, work: str, panels: List[ratios.Panel]) -> str:
     slower = ratios.behind(figures, panels)
     where = f"Ours is behind in {slower}." if slower else "Ours is behind in none of them."
     return f"{work} takes {_span(figures, panels)} of the others' time (the floor aside). {where}"
+
+
+def spread_sentence(figures: Figures) -> str:
+    """How far the rounds of a row lie apart."""
+    shares = sorted(figures.share_of(row) for row in figures.rows if len(row["rounds"]) > 1)
+    wide = sum(share > EVEN for share in shares)
+    return (f"In the median row the quartiles of the rounds lie {shares[len(shares) // 2]:.0%} of the median apart; in "
+            f"{wide} of {len(shares)} rows more than {EVEN:.0%}.")
 
 
 def ratio_plots(figures: Figures) -> List[Plot]:
@@ -42,7 +50,7 @@ def ratio_plots(figures: Figures) -> List[Plot]:
     ]
     plots = []
     for name, title, work, panels in told:
-        drawing = ratios.draw(figures, panels, title, _sentence(figures, work, panels))
+        drawing = ratios.draw(figures, panels, title, sentence(figures, work, panels))
         if drawing:
             plots.append((name, drawing))
     return plots
@@ -61,18 +69,22 @@ def listed(names: List[str]) -> str:
     return " and ".join([", ".join(names[:-1]), names[-1]] if len(names) > 1 else names)
 
 
-def _growth_sentence(figures: Figures) -> str:
+def _goes(line: List[Tuple[int, float]]) -> str:
+    return f"from {time_text(line[0][1])} to {time_text(line[-1][1])}"
+
+
+def growth_sentence(figures: Figures) -> str:
     gets, opens, memory = growth.gets(figures), growth.opens(figures), growth.memory(figures)
     if "zevk" not in gets or "zevk" not in opens:
         return "How gets, opens and memory grow with the number of blocks."
-    (few, first), (many, last) = gets["zevk"][0], gets["zevk"][-1]
+    few, many = gets["zevk"][0][0], gets["zevk"][-1][0]
+    unopened = f", one by zevk_get {_goes(gets['unopened'])}" if "unopened" in gets else ""
     slower = [label_of(side) for side, line in opens.items()
               if side != "zevk" and line[-1][1] < opens["zevk"][-1][1]]
     behind = f", where {listed(slower)} need less" if slower else ""
-    (_, shortest), (_, longest) = opens["zevk"][0], opens["zevk"][-1]
-    return (f"From {few} to {many} blocks a get by our library for C goes from {time_text(first)} to {time_text(last)} "
-            f"and an open from {time_text(shortest)} to {time_text(longest)}{behind}; at {many} blocks an opened store "
-            f"keeps {memory['zevk'][-1][1] / many:.0f} bytes a block.")
+    return (f"From {few} to {many} blocks a get by zevk_locate goes {_goes(gets['zevk'])}{unopened}, and an open by "
+            f"zevk_open {_goes(opens['zevk'])}{behind}; at {many} blocks an opened store keeps "
+            f"{memory['zevk'][-1][1] / many:.0f} bytes a block.")
 
 
 def _volume_sentence(figures: Figures) -> str:
@@ -90,7 +102,7 @@ def plots_of(figures: Figures) -> List[Plot]:
     """All plots for which there are figures."""
     plots = ratio_plots(figures)
     for name, title, says, draw in [
-        ("growth", "Growth with the number of blocks", _growth_sentence, growth.draw),
+        ("growth", "Growth with the number of blocks", growth_sentence, growth.draw),
         ("volume", "Bytes on disk", _volume_sentence, volume.draw),
     ]:
         if figures.find(group="growth" if name == "growth" else "size"):

@@ -10,10 +10,13 @@ A block of code, fenced or indented, needs one of these markers on the line befo
     <!-- run by: PATH -->   this script, which the gate runs, runs the block
     <!-- by hand: WHY -->   commands that the gate doesn't run
     <!-- shown: WHAT -->    no code: a drawing, a grammar, what a command prints
+
+A table after `<!-- figures: NAME -->` is made by bench/pages.py from the measurements.
 """
 
 import itertools
 import re
+import subprocess
 import sys
 
 import doc_pages
@@ -39,7 +42,7 @@ VERSIONS = {
 SOURCES = list(doc_pages.files("crates", "tests", "examples", "bench", ".ci"))
 PATHS = [str(path.relative_to(TOP)) for path in SOURCES]
 CRATES = set(re.findall(r"^(\w+)(?: \w+)?:", text_of(TOP / "crates.txt"), re.M))
-counts = dict.fromkeys(("blocks", "links", "names", "theorems", "versions", "words", "lines"), 0)
+counts = dict.fromkeys(("blocks", "links", "names", "theorems", "versions", "words", "lines", "tables"), 0)
 
 
 def gate_text():
@@ -255,9 +258,18 @@ def widths():
                 yield at(path, number, f"{len(line)} columns")
 
 
+def tables():
+    """The tables of figures are those that the file of measurements gives."""
+    command = [sys.executable, str(TOP / "bench/pages.py"), "--check"]
+    answer = subprocess.run(command, capture_output=True, text=True)
+    counts["tables"] = sum(text_of(page).count("<!-- figures: ") for page in documents())
+    if answer.returncode != 0:
+        yield from answer.stderr.splitlines() or ["bench/pages.py fails"]
+
+
 def main():
     """Prints each message, and what was looked at."""
-    rules = [blocks, links, names, theorem, versions, words, widths]
+    rules = [blocks, links, names, theorem, versions, words, widths, tables]
     messages = list(itertools.chain.from_iterable(rule() for rule in rules))
     print(*messages, sep="\n", end="\n" if messages else "")
     looked = ", ".join(f"{count} {what}" for what, count in counts.items())
