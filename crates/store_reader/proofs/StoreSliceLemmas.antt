@@ -245,7 +245,7 @@ pub looks_of_store : (a b : List ℕ) (data_len : ℕ) (index : IndexBytes) (ver
 looks_of_store a b data_len index version e inv old new most s =
     let laid = (seen_parts a b data_len index version e inv).laid_out s in
     subst (λ (p : ℕ). new ≤ old + p * digit_count p (length (checkpoints_of s.blocks))) laid.period_is
-        (most (checkpoints_of s.blocks) (stored_index b data_len index (version_number version) s laid))
+    (most (checkpoints_of s.blocks) (stored_index b data_len index (version_number version) s laid))
 
 -- each document of the block that a seek finds has its place there
 pub block_is_of : (bytes : List ℕ) (s : IsSomeStore bytes) (id : ℕ) (c : Checkpoint) → first_past (checkpoints_of s.blocks) id ≡ Some c

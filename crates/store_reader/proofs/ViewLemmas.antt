@@ -2,6 +2,7 @@
 use Rattle.std.proofs.Common.{◌≡◌, ℕ, zero, suc, ◌+◌, ◌*◌, ◌-◌, ◌<◌, ◌≤◌, true, false, List, [], ◌∷◌, ◌++◌, length, length-append, take, nat_lt, Some, None, refl, sym, ap, ◌∙◌, subst, arith}
 use Rattle.std.specs.Prelude.{slice_range, slice_get}
 use Rattle.std.proofs.lemmas.Bool.{lt-ltb, le-ltb}
+use Rattle.store_base.specs.Counts.{raised}
 use Rattle.store_base.proofs.Ranges.{part_of_part}
 use Rattle.layered_index.specs.declared.index.Checkpoint.{Checkpoint}
 use Rattle.layered_index.specs.Checkpoint.{IsInLineFrom, bytes_end, docs_end, first_past}
@@ -141,6 +142,11 @@ pub looks_of_view : (file : List ℕ) (cs : List Checkpoint) (period : ℕ) (ver
     → (p : ℕ) → 2 ≤ p → new ≤ old + p * digit_count p (length (checkpoints_of (blocks_at cs (data_in file cs))))
 looks_of_view file cs period version view old new most p two =
     subst (λ (xs : List Checkpoint). new ≤ old + p * digit_count p (length xs)) (sym (checkpoints_are file cs period version view)) (most p two)
+
+-- and where there is a block one is counted
+pub look_of_view : (file : List ℕ) (cs : List Checkpoint) (period : ℕ) (version : DocStoreVersion) → IsView file cs period version → (old new : ℕ)
+    → (0 < length cs → raised old 1 ≤ new) → 0 < length (checkpoints_of (blocks_at cs (data_in file cs))) → raised old 1 ≤ new
+look_of_view file cs period version view old new least some = least (subst (λ (xs : List Checkpoint). 0 < length xs) (checkpoints_are file cs period version view) some)
 
 -- a document stands where its block's table says
 pub stands_at : (v : Viewing) (cs : List Checkpoint) (id : ℕ) (c : Checkpoint) (from to : ℕ) → v.store ≡ blocks_at cs (data_in v.file cs)

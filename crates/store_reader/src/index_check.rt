@@ -1,6 +1,7 @@
 //! Finding the place at which the index of a file breaks a rule.
-ghost use Rattle.std.specs.Prelude.{◌≡◌, ◌≢◌, ◌≤◌, ◌-◌, length, slice_range, IfOk, IfErr};
+ghost use Rattle.std.specs.Prelude.{◌≡◌, ◌≢◌, ◌≤◌, ◌⊎◌, ◌-◌, length, slice_range, IfOk, IfErr, Err};
 ghost use Rattle.store_reader.specs.IndexChecks.{BreaksIndex, IsCheckOf};
+ghost use Rattle.store_reader.specs.Viewing.{Finds};
 
 use crate::view_opening::footer_of;
 use layered_index::{IndexFault, SkipIndex};
@@ -31,6 +32,7 @@ fn fault_of(alloc: Global, part: &[u8], period: u8) -> Result<Option<IndexFault>
 /// begin after the footer's first byte, and `Memory`.
 pub fn check_index(alloc: Global, file: &[u8]) -> Result<IndexCheck, StoreError>
     ensures ok { IfOk result (λ check. BreaksIndex file.now check.start check.fault) }
+    ensures refused { IfErr result (λ e. Finds file.now (Err e) ⊎ (e ≡ StoreError.Memory)) }
 {
     let footer = footer_of(alloc, file)?;
     let end = file.len() - FOOTER_LEN as usize;

@@ -1,7 +1,7 @@
 //! The reader of a store.
 ghost use Rattle.std.specs.Prelude.{◌≡◌, ◌<◌, ◌≤◌, Err, IsTrue, IfOk, IfErr, IfSome, IsErrOf, MatchResult, ◌⊎◌, ◌↔◌};
 ghost use Rattle.std.specs.Prelude.{ℕ, ◌+◌, ◌*◌, ◌-◌, length, slice_get, slice_range, take};
-ghost use Rattle.store_base.specs.Counts.{HasRisen};
+ghost use Rattle.store_base.specs.Counts.{HasRisen, raised};
 ghost use Rattle.store_reader.specs.GetAnswer.{IsAnswered, AnswersTruly};
 ghost use Rattle.layered_index.specs.Checkpoint.{Covers, first_past};
 ghost use Rattle.store_reader.specs.Documents.{document_version, IsGot, ReadsTruly};
@@ -136,6 +136,7 @@ impl<H: FileHandle> StoreReader<H> {
     ) -> Result<OwnedBytes, StoreError>
         ensures most { (p : ℕ) → 2 ≤ p
             → steps.new ≤ steps.old + p * digit_count p (length self.old.checkpoints) }
+        ensures least { 0 < length self.old.checkpoints → raised steps.old 1 ≤ steps.new }
 
         // What `get_document_bytes` says.
         ensures no_document { IsErrOf result (StoreError.InvalidArgument doc_id) ↔ (num_docs self.old ≤ doc_id) }

@@ -1,5 +1,6 @@
 //! The index of a store, whose checkpoints cover the data.
-ghost use Rattle.std.specs.Prelude.{◌≡◌, ◌≤◌, ◌+◌, ◌*◌, ℕ, length, MatchResult};
+ghost use Rattle.std.specs.Prelude.{◌≡◌, ◌≤◌, ◌<◌, ◌+◌, ◌*◌, ℕ, length, MatchResult};
+ghost use Rattle.store_base.specs.Counts.{raised};
 ghost use Rattle.layered_index.specs.Checkpoint.{docs_end, first_past};
 ghost use Rattle.store_reader.specs.Covering.{IsIndexOf, HasIndexOf};
 ghost use Rattle.layered_index.specs.Layers.{Index, digit_count, index_part};
@@ -96,6 +97,7 @@ impl StoreIndex {
         ensures answer { result ≡ first_past self.now.checkpoints target }
         ensures most { (p : ℕ) → 2 ≤ p → steps.new
             ≤ steps.old + p * digit_count p (length self.now.checkpoints) }
+        ensures least { 0 < length self.now.checkpoints → raised steps.old 1 ≤ steps.new }
     {
         self.index.seek_guided(target, steps)
     }

@@ -1,6 +1,7 @@
 //! A store over bytes that another holds.
-ghost use Rattle.std.specs.Prelude.{◌≡◌, ◌≢◌, ◌≤◌, ◌+◌, ◌*◌, ◌⊎◌, ◌↔◌, ℕ, length, IfOk, IfErr, IsErrOf, Err, Some};
+ghost use Rattle.std.specs.Prelude.{◌≡◌, ◌≢◌, ◌≤◌, ◌<◌, ◌+◌, ◌*◌, ◌⊎◌, ◌↔◌, ℕ, length, IfOk, IfErr, IsErrOf, Err, Some};
 ghost use Rattle.std.specs.Prelude.{MatchOption, MatchResult};
+ghost use Rattle.store_base.specs.Counts.{raised};
 ghost use Rattle.layered_index.specs.Layers.{digit_count, index_part};
 ghost use Rattle.store_format.specs.Block.{damaged};
 ghost use Rattle.store_reader.specs.Documents.{document_version, ReadsFrom, ReadsTruly};
@@ -91,6 +92,7 @@ impl<'a> StoreView<'a> {
     ) -> Result<Range<usize>, StoreError>
         ensures most { (p : ℕ) → 2 ≤ p → steps.new
             ≤ steps.old + p * digit_count p (length (checkpoints_of self.now.store)) }
+        ensures least { 0 < length (checkpoints_of self.now.store) → raised steps.old 1 ≤ steps.new }
 
         // What `locate` says.
         ensures document { placed_in self.now.file result ≡ document_of self.now doc_id }

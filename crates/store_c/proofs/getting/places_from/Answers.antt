@@ -12,9 +12,11 @@ use Rattle.store_c.proofs.getting.places_from.Goals as goal
 pub returns-in-Err-clause-next : goal.returns-in-Err-clause-next
 returns-in-Err-clause-next c =
     let same : c.args.first ≡ c.args.first + 0 = omega arith in
-    let some = eqb-false (length c.args.places.now) 0 (sym c.if-is_empty.ensures) in
-    (omega (arith, some), subst (λ (id : ℕ). RefusesGet c.args.store.now id c.in-Err.error) same
-    (begins_nowhere c.args.store.now c.args.first c.in-Err.error c.in-Err.ensures.refused c.in-Err.ensures.block))
+    let some = eqb-false (length c.args.places.now) 0 (sym c.if-is_empty.ensures) in (
+      omega (arith, some),
+      subst (λ (id : ℕ). RefusesGet c.args.store.now id c.in-Err.error) same
+          (begins_nowhere c.args.store.now c.args.first c.in-Err.error c.in-Err.ensures.refused c.in-Err.ensures.block),
+    )
 
 pub returns-then-is_some-clause-kept : goal.returns-then-is_some-clause-kept
 returns-then-is_some-clause-kept c =

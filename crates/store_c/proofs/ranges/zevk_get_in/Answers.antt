@@ -22,8 +22,7 @@ returns-in-Ok-clause-other_block c =
     (λ e. absurd (omega (arith, e)), λ other. absurd (no_other_block c.args.at.now c.args.block.now c.args.doc_id (omega arith) (omega arith) (omega arith) (omega arith) other))
 
 pub returns-in-Err-clause-other_block : goal.returns-in-Err-clause-other_block
-returns-in-Err-clause-other_block c =
-    (
-      λ e. absurd (omega (arith, e, ap number_of c.in-Err.ensures.refused)),
-      λ other. absurd (no_other_block c.args.at.now c.args.block.now c.args.doc_id (omega arith) (omega arith) (omega arith) (omega arith) other),
-    )
+returns-in-Err-clause-other_block c = (
+  λ e. absurd (omega (arith, e, ap number_of c.in-Err.ensures.refused)),
+  λ other. absurd (no_other_block c.args.at.now c.args.block.now c.args.doc_id (omega arith) (omega arith) (omega arith) (omega arith) other),
+)
