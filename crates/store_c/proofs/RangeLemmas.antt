@@ -1,5 +1,5 @@
 -- Reading parts of a file that lies elsewhere: the block by the end of the file, and refusals by their numbers.
-use Rattle.std.proofs.Common.{◌≡◌, ℕ, ◌+◌, ◌-◌, ◌≤◌, inl, inr, ◌⊎◌, List, Some, None, refl, sym, ap, subst, arith}
+use Rattle.std.proofs.Common.{◌≡◌, ℕ, ◌+◌, ◌-◌, ◌^◌, ◌<◌, ◌≤◌, inl, inr, ◌⊎◌, List, length, Some, None, refl, sym, ap, subst, arith}
 use Rattle.std.specs.Prelude.{slice_range}
 use Rattle.store_base.specs.Outcome.{number_of}
 use Rattle.store_base.specs.declared.error.StoreError.{StoreError}
@@ -13,7 +13,7 @@ use Rattle.store_reader.proofs.ReaderStoreLemmas.{length-slice}
 use Rattle.store_reader.proofs.StoreSliceLemmas.{block_stored, refused_is}
 use Rattle.store_c.specs.declared.block_place.BlockPlace.{BlockPlace}
 use Rattle.store_c.specs.Getting.{HasBlock, RefusesGet, RefusesUnopened}
-use Rattle.store_c.specs.Ranges.{IsBlockPlace}
+use Rattle.store_c.specs.Ranges.{IsBlockPlace, IsOtherBlock}
 
 -- the end of a file by another name
 pub same_tail : (file : List ℕ) (file_len : ℕ) (tail : List ℕ) (seen : TailBytes) → seen ≡ record { file_len = file_len; bytes = tail } → IsTailOf file file_len tail
@@ -21,6 +21,19 @@ pub same_tail : (file : List ℕ) (file_len : ℕ) (tail : List ℕ) (seen : Tai
 same_tail file file_len tail seen is t = subst (λ (x : TailBytes). IsTailOf file x.file_len x.bytes) (sym is) t
 
 -- ---- blocks
+
+-- the place is of such a block
+pub no_other_block : (at : BlockPlace) (block : List ℕ) (id : ℕ) → at.first_doc ≤ id → id < at.end_doc → length block ≡ at.len → at.start + at.len < 2 ^ 64 → IsOtherBlock at block id → ⊥
+no_other_block at block id from to size fits other = elim other [
+  | inl before ↦ absurd (omega (arith, before))
+  | inr more ↦ elim more [
+    | inl behind ↦ absurd (omega (arith, behind))
+    | inr rest ↦ elim rest [
+      | inl longer ↦ absurd (longer size)
+      | inr far ↦ absurd (omega (arith, far))
+    ]
+  ]
+]
 
 -- where a checkpoint says that a block lies
 abbrev pub place_of : Checkpoint → BlockPlace

@@ -16,12 +16,14 @@ pub record IsSound (file : List ℕ) : Type 0 where
   pub of : IsViewOf file view
   pub whole : (id : ℕ) → slot_of view id ≡ Some damaged → ⊥
 
--- These bytes are the file of a store, and this is the first of its documents that is damaged.
-pub record IsFirstDamaged (file : List ℕ) (id : ℕ) : Type 0 where
+-- These bytes are the file of a store, and this is the first of its documents that is damaged. No other number is told.
+pub record IsFirstDamaged (file : List ℕ) (at : Fault) : Type 0 where
   pub view : Viewing
   pub of : IsViewOf file view
-  pub is : slot_of view id ≡ Some damaged
-  pub before : AreWholeTo view id
+  pub is : slot_of view at.doc_id ≡ Some damaged
+  pub before : AreWholeTo view at.doc_id
+  pub no_byte : at.byte ≡ 0
+  pub no_layer : at.layer ≡ 0
 
 -- the number of a layer
 abbrev pub IsLayer : Option ℕ → ℕ → Type 0
@@ -33,9 +35,11 @@ abbrev pub IsPlaceOf : ℕ → Option IndexFault → Fault → Type 0
 IsPlaceOf start None at = (at.byte ≡ start) × (at.layer ≡ 2 ^ 32 - 2)
 IsPlaceOf start (Some fault) at = (start + fault.byte < 2 ^ 64 → at.byte ≡ start + fault.byte) × IsLayer fault.layer at.layer
 
--- Where the index of this file first breaks a rule; or its start, where it is the index of a list in line.
+-- Where the index of this file first breaks a rule; or its start, where it is the index of a list in line. No document
+-- is told.
 pub record IsIndexFault (file : List ℕ) (at : Fault) : Type 0 where
   pub start : ℕ
   pub fault : Option IndexFault
   pub breaks : BreaksIndex file start fault
   pub place : IsPlaceOf start fault at
+  pub no_document : at.doc_id ≡ 0

@@ -61,14 +61,14 @@ fn index_fault(alloc: Global, file: &[u8]) -> Result<Fault, StoreError>
 /// Checks the whole file: its footer, its index, that the blocks cover the data, and that each block says where each of
 /// its documents lies. It returns 0 if all of this is so, and otherwise the number of the first error: 5 for the index,
 /// where `fault` says at which byte and in which layer, 7 for a document, where `fault` says which, and 10 where memory
-/// runs out. Any other error leaves `fault`.
+/// runs out. The other numbers of a fault that is set are 0. Any other error leaves `fault`.
 #[unsafe(no_mangle)]
 pub extern "C" fn zevk_check(alloc: Global, file: &[u8], fault: &mut Fault) -> u32
     ensures done { result ≡ 0 → IsSound file.now }
 
     // Each refusal.
     ensures index { result ≡ 5 → IsIndexFault file.now fault.new }
-    ensures damaged { result ≡ 7 → IsFirstDamaged file.now fault.new.doc_id }
+    ensures damaged { result ≡ 7 → IsFirstDamaged file.now fault.new }
     ensures refused { result ≢ 0 → result ≢ 7 → result ≢ 10 → RefusesFile file.now result }
 
     ensures kept { result ≢ 5 → result ≢ 7 → fault.new ≡ fault.old }

@@ -47,8 +47,9 @@ fn places_on(
     ensures on { found ≤ result.0 }
     ensures room { (result.0 ≤ length places.old) × (first + result.0 ≤ block.now.end) }
     ensures next { MatchOption result.1 ((result.0 ≡ length places.old) ⊎ (first + result.0 ≡ block.now.end))
-        (λ e. (file : List ℕ) → HasBlock file block.now.first block.now.end block.now.start block.now.bytes.now
-        → RefusesGet file (first + result.0) e) }
+        (λ e. (result.0 < length places.old) × ((file : List ℕ)
+        → HasBlock file block.now.first block.now.end block.now.start block.now.bytes.now
+        → RefusesGet file (first + result.0) e)) }
     ensures kept { drop result.0 places.new ≡ drop result.0 places.old }
     ensures len { length places.new ≡ length places.old }
 {
@@ -71,7 +72,8 @@ fn places_from(
 ) -> (usize, Option<StoreError>)
     ensures found { ArePlacesIn store.now first places.new result.0 }
     ensures room { result.0 ≤ length places.old }
-    ensures next { MatchOption result.1 (result.0 ≡ length places.old) (RefusesGet store.now (first + result.0)) }
+    ensures next { MatchOption result.1 (result.0 ≡ length places.old)
+        (λ e. (result.0 < length places.old) × RefusesGet store.now (first + result.0) e) }
     ensures kept { drop result.0 places.new ≡ drop result.0 places.old }
 {
     if places.is_empty() {
@@ -153,6 +155,7 @@ pub extern "C" fn zevk_get_run(
     ensures found { ArePlacesIn file.now first places.new count.new }
     ensures room { count.new ≤ length places.old }
     ensures done { result ≡ 0 → count.new ≡ length places.old }
+    ensures stops { result ≢ 0 → IsSomeStore file.now → count.new < length places.old }
 
     // Each refusal.
     ensures no_document { result ≡ 6 → IsRefusedIn file.now (first + count.new) (InvalidArgument (first + count.new)) }

@@ -1,6 +1,6 @@
 //! Reading a store whose file lies elsewhere, as C calls it: by the end of the file, and by the bytes of one block. No
 //! memory is taken.
-ghost use Rattle.std.specs.Prelude.{◌≡◌, ◌≢◌, ◌≤◌, ◌<◌, ◌+◌, ℕ, List, length};
+ghost use Rattle.std.specs.Prelude.{◌≡◌, ◌≢◌, ◌≤◌, ◌<◌, ◌+◌, ◌↔◌, ℕ, List, length};
 ghost use Rattle.store_base.specs.declared.error.StoreError.TheVariants.{InvalidArgument, DamagedDocument};
 ghost use Rattle.store_reader.specs.StoreTails.{IsWanted};
 ghost use Rattle.store_c.specs.Getting.{IsPlaceIn, IsRefusedIn};
@@ -78,7 +78,7 @@ pub extern "C" fn zevk_get_in(block: &[u8], at: &BlockPlace, doc_id: u32, place:
     // Each refusal.
     ensures damaged { result ≡ 7 → (file : List ℕ) → HasBlockAt file at.now block.now
         → IsRefusedIn file doc_id (DamagedDocument doc_id) }
-    ensures other_block { result ≡ 37 → IsOtherBlock at.now block.now doc_id }
+    ensures other_block { result ≡ 37 ↔ IsOtherBlock at.now block.now doc_id }
     ensures no_other { result ≢ 0 → result ≢ 7 → result ≡ 37 }
 
     ensures kept { result ≢ 0 → place.new ≡ place.old }

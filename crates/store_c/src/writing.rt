@@ -1,7 +1,7 @@
 //! Writing, as C calls it. A writer's numbers, the starts of the documents of its open block and the table of its
 //! blocks are the caller's memory, and so are the documents: the caller writes them, and what these calls tell to write
 //! behind them.
-ghost use Rattle.std.specs.Prelude.{◌≡◌, ◌≢◌, ◌⊎◌, ◌+◌, ◌<◌, ◌≤◌, length, take};
+ghost use Rattle.std.specs.Prelude.{◌≡◌, ◌≢◌, ◌⊎◌, ◌+◌, ◌<◌, ◌≤◌, length, take, drop};
 ghost use Rattle.store_format.specs.StoreFile.{checkpoints_of};
 ghost use Rattle.store_format.specs.declared.version.DocStoreVersion.TheVariants.{V1};
 ghost use Rattle.store_c.specs.Calls.{RefusesFile};
@@ -174,6 +174,7 @@ pub extern "C" fn zevk_writer_close(
     ensures no_other { result ≢ 0 → result ≢ 10 → result ≢ 16 → result ≢ 32 → result ≢ 34 → result ≡ 35 }
 
     ensures stays { result ≢ 0 → end.new ≡ end.old }
+    ensures behind { result ≡ 0 → drop len.new end.new ≡ drop len.new end.old }
     ensures kept { result ≢ 0 → result ≢ 32 → len.new ≡ len.old }
 {
     if period < 2 || period > 64 {

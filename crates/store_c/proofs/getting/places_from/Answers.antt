@@ -1,4 +1,5 @@
-use Rattle.std.proofs.Common.{◌≡◌, ◌⊎◌, ℕ, ◌+◌, length, false, inl, inr, Option, Some, None, sym, ap, ◌∙◌, subst, arith}
+use Rattle.std.proofs.Common.{◌≡◌, ◌⊎◌, ℕ, ◌+◌, ◌<◌, length, false, inl, inr, Option, Some, None, sym, ap, ◌∙◌, subst, arith}
+use Rattle.std.proofs.lemmas.Bool.{eqb-false}
 use Rattle.std.specs.Prelude.{MatchOption}
 use Rattle.std.specs.Option.{is_some}
 use Rattle.store_base.specs.declared.error.StoreError.{StoreError}
@@ -11,8 +12,11 @@ use Rattle.store_c.proofs.getting.places_from.Goals as goal
 pub returns-in-Err-clause-next : goal.returns-in-Err-clause-next
 returns-in-Err-clause-next c =
     let same : c.args.first ≡ c.args.first + 0 = omega arith in
-    subst (λ (id : ℕ). RefusesGet c.args.store.now id c.in-Err.error) same
-    (begins_nowhere c.args.store.now c.args.first c.in-Err.error c.in-Err.ensures.refused c.in-Err.ensures.block)
+    let some = eqb-false (length c.args.places.now) 0 (sym c.if-is_empty.ensures) in (
+      omega (arith, some),
+      subst (λ (id : ℕ). RefusesGet c.args.store.now id c.in-Err.error) same
+          (begins_nowhere c.args.store.now c.args.first c.in-Err.error c.in-Err.ensures.refused c.in-Err.ensures.block),
+    )
 
 pub returns-then-is_some-clause-kept : goal.returns-then-is_some-clause-kept
 returns-then-is_some-clause-kept c =
@@ -34,7 +38,8 @@ returns-in_default-clause-next c =
     let l = c.loop-block in
     let e = c.places_on-count.ensures in
     let ended : c.args.first + c.places_on-count.result.0 ≡ l.block.end = gone_through _ c.places_on-count.result.1 e.next (sym c.if-is_some.ensures) (λ full. c.if-count-places.false (full ∙ sym e.len)) in
-    none_after c.args.store.now _ l.block.end (sym ended) (λ s. sym l.invariant.next ∙ (c.in_default.ensures.steps.1 c.args.store.now s (l.invariant.left s)).0)
+    let room : c.places_on-count.result.0 < length c.args.places.now = omega (arith, e.room, c.if-count-places.false, e.len, l.invariant.size) in
+    (room, none_after c.args.store.now _ l.block.end (sym ended) (λ s. sym l.invariant.next ∙ (c.in_default.ensures.steps.1 c.args.store.now s (l.invariant.left s)).0))
 
 pub returns-in-Err-item-clause-kept : goal.returns-in-Err-item-clause-kept
 returns-in-Err-item-clause-kept c =
@@ -44,7 +49,9 @@ returns-in-Err-item-clause-kept c =
 pub returns-in-Err-item-clause-next : goal.returns-in-Err-item-clause-next
 returns-in-Err-item-clause-next c =
     let step = rw c.in-Err-item.is at c.in-Some.ensures.steps in
-    index_refused c.args.store.now _ c.in-Err-item.error step.0.0 (λ s. (step.1 c.args.store.now s (c.loop-block.invariant.left s)).0)
+    let e = c.places_on-count.ensures in
+    let room : c.places_on-count.result.0 < length c.args.places.now = omega (arith, e.room, c.if-count-places.false, e.len, c.loop-block.invariant.size) in
+    (room, index_refused c.args.store.now _ c.in-Err-item.error step.0.0 (λ s. (step.1 c.args.store.now s (c.loop-block.invariant.left s)).0))
 
 pub loop-block-preserved : goal.loop-block-preserved
 loop-block-preserved c =

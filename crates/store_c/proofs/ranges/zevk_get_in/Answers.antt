@@ -1,7 +1,9 @@
 use Rattle.std.proofs.Common.{sym, ap, ◌∙◌, arith}
 use Rattle.std.specs.Prelude.{Err}
+use Rattle.store_base.specs.Outcome.{number_of}
 use Rattle.store_base.specs.declared.error.StoreError.{StoreError}
 use Rattle.store_c.proofs.GettingLemmas.{is_place}
+use Rattle.store_c.proofs.RangeLemmas.{no_other_block}
 use Rattle.store_c.proofs.ranges.zevk_get_in.Goals as goal
 
 pub returns-in-Ok-clause-done : goal.returns-in-Ok-clause-done
@@ -14,3 +16,13 @@ pub returns-in-Err-clause-damaged : goal.returns-in-Err-clause-damaged
 returns-in-Err-clause-damaged c seven file held s =
     let e = c.in-Err.ensures in
     sym (e.document file s (held.stored s c.args.doc_id (omega arith) (omega arith))) ∙ ap (λ (x : StoreError). Err x) e.refused
+
+pub returns-in-Ok-clause-other_block : goal.returns-in-Ok-clause-other_block
+returns-in-Ok-clause-other_block c =
+    (λ e. absurd (omega (arith, e)), λ other. absurd (no_other_block c.args.at.now c.args.block.now c.args.doc_id (omega arith) (omega arith) (omega arith) (omega arith) other))
+
+pub returns-in-Err-clause-other_block : goal.returns-in-Err-clause-other_block
+returns-in-Err-clause-other_block c = (
+  λ e. absurd (omega (arith, e, ap number_of c.in-Err.ensures.refused)),
+  λ other. absurd (no_other_block c.args.at.now c.args.block.now c.args.doc_id (omega arith) (omega arith) (omega arith) (omega arith) other),
+)

@@ -1,5 +1,5 @@
 use Rattle.std.proofs.Common.{◌≡◌, ℕ, ◌-◌, ◌++◌, List, take, drop, length, sym, ap, ◌∙◌, subst, arith, rules, inl, inr}
-use Rattle.std.proofs.Math.Seq.{take-append_seam}
+use Rattle.std.proofs.Math.Seq.{take-append_seam, drop-append_seam}
 use Rattle.store_c.specs.declared.block.Block.{Block}
 use Rattle.store_c.specs.Writing.{EndsFile}
 use Rattle.store_c.proofs.StackLemmas.{rows_fit}
@@ -29,6 +29,14 @@ returns-then-len-end-clause-closed c is =
     let all : bytes ≡ take c.len.result (c.copy_from_slice.new.self ++ drop c.len-then-len-end.result c.args.end.now) =
     sym ((λ i. take (size i) (text i ++ drop c.len-then-len-end.result c.args.end.now)) ∙ take-append_seam bytes _) in
     subst (λ (end : List ℕ). EndsFile c.args.period end c.args.writer.now c.args.table.now) all done
+
+pub returns-then-len-end-clause-behind : goal.returns-then-len-end-clause-behind
+returns-then-len-end-clause-behind c is =
+    let bytes = c.in-Ok.bytes.items in
+    let text : c.copy_from_slice.new.self ≡ bytes = c.copy_from_slice.ensures.after ∙ c.deref.ensures.value in
+    let size : c.len.result ≡ length bytes = omega (arith, c.len.ensures, c.deref.ensures.len, ap length c.deref.ensures.value) in
+    let same : c.len-then-len-end.result ≡ c.len.result = omega (arith, c.len.ensures, c.len-then-len-end.ensures) in
+    (λ i. drop (size i) (text i ++ drop c.len-then-len-end.result c.args.end.now)) ∙ drop-append_seam bytes _ ∙ ap (λ (n : ℕ). drop n c.args.end.now) same
 
 pub returns-clause-exact : goal.returns-clause-exact
 returns-clause-exact c is =
