@@ -8,4 +8,6 @@ mod merges;
 #[cfg(test)]
 mod reads;
 #[cfg(test)]
+mod seeking;
+#[cfg(test)]
 mod writes;
