@@ -96,7 +96,8 @@ def front(figures: Figures) -> Lines:
     lines.append("| write, in memory | " + " | ".join(middle_text(spread) for spread in writes) + " |")
     beyond = volume.excess(figures, 100)
     own = beyond.get("zevk")
-    texts = [own if side in ("unopened", "zevk", "view", "reader") else beyond.get(side) for side in sides]
+    ours = [side for side in ("unopened", "zevk", "view", "reader") if figures.find(side=side, length=100)]
+    texts = [own if side in ours else beyond.get(side) for side in sides]
     told = ["" if value is None else f"{value:.1f}" for value in texts]
     return lines + ["| bytes on disk beyond its own | " + " | ".join(told) + " |"]
 
@@ -188,19 +189,33 @@ def sizes(figures: Figures) -> Lines:
     return lines
 
 
+def without_empty(lines: Lines) -> Lines:
+    """A table without the columns that have no figure. Tables below each other are parted by an empty line."""
+    if "" in lines:
+        at = lines.index("")
+        return without_empty(lines[:at]) + [""] + without_empty(lines[at + 1:])
+    rows = [line.strip("|").split("|") for line in lines]
+    kept = [at for at in range(len(rows[0])) if any(row[at].strip() for row in rows[2:])]
+    return ["|" + "|".join(row[at] for at in kept) + "|" for row in rows]
+
+
+def table(made: Callable[[Figures], Lines]) -> Callable[[Figures], Lines]:
+    return lambda figures: without_empty(made(figures))
+
+
 def paragraph(told: Callable[[Figures], str]) -> Callable[[Figures], Lines]:
     return lambda figures: textwrap.wrap(told(figures), 120, break_long_words=False, break_on_hyphens=False)
 
 
 PARTS: Dict[str, Callable[[Figures], Lines]] = {
-    "front": front,
-    "reading": read,
-    "ratios": ratios,
-    "tantivy": beside_tantivy,
-    "other work": other,
-    "writing": writing,
-    "growth": growing,
-    "size": sizes,
+    "front": table(front),
+    "reading": table(read),
+    "ratios": table(ratios),
+    "tantivy": table(beside_tantivy),
+    "other work": table(other),
+    "writing": table(writing),
+    "growth": table(growing),
+    "size": table(sizes),
     "spread": paragraph(plot.spread_sentence),
     "zevk get": paragraph(lambda figures: plot.sentence(figures, "A read by `zevk_get`", ratio.UNOPENED_PANELS)),
     "zevk locate": paragraph(lambda figures: plot.sentence(figures, "A read by `zevk_locate`", ratio.OPENED_PANELS)),
