@@ -1,5 +1,6 @@
 -- The top layer of an index in a file: its one run is not longer than a run can be, and tells where the documents end.
-use Rattle.std.proofs.Common.{◌≡◌, ℕ, zero, suc, ◌+◌, ◌-◌, ◌*◌, ◌<◌, ◌≤◌, ◌^◌, List, [], ◌∷◌, ◌++◌, length, take, drop, Option, Some, None, refl, sym, ◌∙◌, ap, subst, arith, length-append}
+use Rattle.std.proofs.Common.{◌≡◌, ℕ, zero, suc, ◌+◌, ◌-◌, ◌*◌, ◌<◌, ◌≤◌, ◌^◌, List, [], ◌∷◌, ◌++◌, length, take, drop, Option, Some, None, eqb, refl, sym, ◌∙◌, ap, subst, arith, length-append}
+use Rattle.std.proofs.lemmas.Bool.{ne_eqb, cond-false}
 use Rattle.std.proofs.lemmas.List.{take_all, take_rest, length-take}
 use Rattle.std.specs.List.{flat_map}
 use Rattle.std.specs.Prelude.{slice_range}
@@ -9,8 +10,8 @@ use Rattle.layered_index.specs.declared.index.Checkpoint.{Checkpoint}
 use Rattle.layered_index.specs.declared.index.block_seek.Sought.{Sought}
 use Rattle.layered_index.specs.Checkpoint.{docs_end, doc_count, byte_len, IsWithinLimits, IsInLineFrom, IsInLine, step, starts, checkpoint_block}
 use Rattle.layered_index.specs.IndexReading.{IsIndexPart}
-use Rattle.layered_index.specs.IndexHeads.{longest_head, longest_run, run_end, HeadBytes, index_in, IsHead, IsHeadOf}
-use Rattle.layered_index.specs.Sought.{sought_at, after_numbers}
+use Rattle.layered_index.specs.IndexHeads.{longest_head, longest_run, run_end, end_in_index, HeadBytes, index_in, IsHead, IsHeadOf}
+use Rattle.layered_index.specs.Sought.{sought_at, after_numbers, next_layer, IsHeaded}
 use Rattle.layered_index.proofs.FileHeadLemmas.{Heads, heads, seen_head}
 use Rattle.layered_index.proofs.FileSeekLemmas.{some_end, next_behind, next_here}
 use Rattle.layered_index.proofs.OuterLayersLemmas.{IsTop, top_there, top_is, top_read}
@@ -118,3 +119,35 @@ top_tells content head count ends texts numbers cs n more has read fits =
     has.part next in
     let start : texts + 0 ≡ texts = omega arith in
     ap (λ (a : ℕ). run_end head.period (slice_range content a (texts + n))) (sym start) ∙ top_end_is head.period (docs_end 0 cs) (slice_range content (texts + 0) (texts + n)) has.heads.headed.few top
+
+-- ---- the end of the documents in any bytes
+
+pub ends_at_none : (period count : ℕ) (bytes ends texts : List ℕ) → IsHeaded period bytes count ends texts → count ≡ 0 → end_in_index period bytes ≡ Some 0
+unfolding end_in_index
+ends_at_none period zero bytes ends texts headed none = rw headed.counted (rw headed.behind (refl))
+ends_at_none period (suc more) bytes ends texts headed none = absurd cc
+
+ends_by_layer : (period count : ℕ) (bytes ends texts : List ℕ) → IsHeaded period bytes count ends texts → (count ≡ 0 → ⊥)
+    → end_in_index period bytes ≡ (next_layer 0 ends texts >>= λ top. run_end period top.0)
+unfolding end_in_index
+ends_by_layer period count bytes ends texts headed some =
+    rw headed.counted (rw headed.behind (cond-false (eqb count 0) (Some 0) (next_layer 0 ends texts >>= λ top. run_end period top.0) (ne_eqb count 0 some)))
+
+-- the top layer leaves the index
+pub ends_nowhere : (content : List ℕ) (head : HeadBytes) (count ends texts n : ℕ) (more : List ℕ) → Heads content head count ends texts → (count ≡ 0 → ⊥) → head.end ≤ length content
+    → number_below (2 ^ 64) (drop ends head.front) ≡ Some (n, more) → head.end - texts < n → end_in_index head.period (index_in content head) ≡ None
+ends_nowhere content head count ends texts n more heads some within read long =
+    ends_by_layer head.period count (index_in content head) _ _ heads.headed some
+    ∙ ap (λ (o : Option (List ℕ × ℕ × List ℕ × List ℕ)). o >>= λ top. run_end head.period top.0)
+    (next_behind content (drop longest_head (index_in content head)) (drop ends head.front) texts head.end 0 n more within read (omega arith) (omega arith) long)
+
+-- the top layer ends there
+pub ends_by_top : (content : List ℕ) (head : HeadBytes) (count ends texts n : ℕ) (more : List ℕ) → Heads content head count ends texts → (count ≡ 0 → ⊥) → head.end ≤ length content
+    → number_below (2 ^ 64) (drop ends head.front) ≡ Some (n, more) → n ≤ head.end - texts
+    → end_in_index head.period (index_in content head) ≡ run_end head.period (slice_range content texts (texts + n))
+ends_by_top content head count ends texts n more heads some within read fits =
+    let start : texts + 0 ≡ texts = omega arith in
+    ends_by_layer head.period count (index_in content head) _ _ heads.headed some
+    ∙ ap (λ (o : Option (List ℕ × ℕ × List ℕ × List ℕ)). o >>= λ top. run_end head.period top.0)
+    (next_here content (drop longest_head (index_in content head)) (drop ends head.front) texts head.end 0 n more within read (omega arith) fits heads.before)
+    ∙ ap (λ (a : ℕ). run_end head.period (slice_range content a (texts + n))) start

@@ -1,11 +1,11 @@
 -- Seeks in an index that lies in a file: its head, which is read once, and the runs that are read on the way down.
-use Rattle.std.specs.Prelude.{◌≡◌, ◌⊎◌, ℕ, ◌+◌, ◌*◌, ◌^◌, ◌<◌, ◌≤◌, List, length, take, drop, slice_range}
+use Rattle.std.specs.Prelude.{◌≡◌, ◌⊎◌, ℕ, ◌+◌, ◌*◌, ◌^◌, ◌<◌, ◌≤◌, ◌==◌, if◌then◌else◌, List, length, take, drop, slice_range}
 use Rattle.std.specs.Prelude.{Option, Some, None, Result, Ok, Err}
 use Rattle.store_base.specs.Files.{Part}
 use Rattle.store_base.specs.VInt.{◌>>=◌, number_below}
 use Rattle.store_base.specs.declared.error.StoreError.{StoreError}
 use Rattle.store_base.specs.declared.error.StoreError.TheVariants.{BadIndex, Read, Memory}
-use Rattle.layered_index.specs.Sought.{sought_at, after_numbers}
+use Rattle.layered_index.specs.Sought.{sought_at, after_numbers, next_layer}
 
 -- No head of an index has more bytes: a number below 65, and then at most 64 numbers of at most ten bytes.
 abbrev pub longest_head : ℕ
@@ -18,6 +18,12 @@ longest_run period = 25 + 10 * period
 -- where the documents of a run end, if its bytes are a block of at most so many checkpoints
 abbrev pub run_end : ℕ → List ℕ → Option ℕ
 run_end most run = sought_at most 0 (take (longest_run most) run) >>= λ s. Some s.doc_end
+
+-- where the documents of an index end, by its top layer, which is one run; 0 where there is no layer
+unfoldable pub end_in_index : ℕ → List ℕ → Option ℕ
+end_in_index period bytes =
+    number_below 65 bytes >>= λ count. after_numbers count.0 count.1 >>= λ texts.
+    if count.0 == 0 then Some 0 else (next_layer 0 count.1 texts >>= λ top. run_end period top.0)
 
 -- a head of an index as its callers see it: where the index begins and ends in its file, and the bytes that were read
 pub record HeadBytes : Type 0 where

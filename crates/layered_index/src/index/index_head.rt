@@ -8,7 +8,7 @@ ghost use Rattle.layered_index.specs.Checkpoint.{docs_end, first_past};
 ghost use Rattle.layered_index.specs.Layers.{digit_count};
 ghost use Rattle.layered_index.specs.IndexReading.{IsIndexPart, HasIndex};
 ghost use Rattle.layered_index.specs.IndexHeads.{index_in, IsHeadOf, HasNoHead, ReadsAtMost};
-ghost use Rattle.layered_index.specs.IndexHeads.{RefusesRead, RefusesSeek, AnswersByReads};
+ghost use Rattle.layered_index.specs.IndexHeads.{end_in_index, RefusesRead, RefusesSeek, AnswersByReads};
 ghost use Rattle.layered_index.specs.Sought.{found_in_index, IsPast};
 
 use crate::index::Checkpoint;
@@ -124,6 +124,8 @@ impl IndexHead {
         ensures answer { IsTrue file.old.honest → IsHeadOf file.old.content self.now
             → (cs : List Checkpoint) → IsIndexPart self.now.period (index_in file.old.content self.now) cs
             → MatchResult result (λ end. end ≡ docs_end 0 cs) RefusesRead }
+        ensures exact { IsTrue file.old.honest → IsHeadOf file.old.content self.now
+            → AnswersByReads (end_in_index self.now.period (index_in file.old.content self.now)) result }
         ensures refused { IfErr result RefusesSeek }
         ensures device { IsErrOf result StoreError.Read → HasRisen file.old.failures file.new.failures }
         ensures once { ReadsAtMost 1 file.old file.new }
