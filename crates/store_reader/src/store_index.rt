@@ -92,6 +92,7 @@ impl StoreIndex {
     }
 
     /// Seeks as `seek` does, and counts each checkpoint that it looks at.
+    #[inline(always)]
     pub fn seek_guided(&self, target: DocId, steps: &mut Steps) -> Option<Checkpoint>
         ensures answer { result ≡ first_past self.now.checkpoints target }
         ensures most { (p : ℕ) → 2 ≤ p → steps.new

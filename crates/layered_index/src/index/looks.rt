@@ -98,6 +98,7 @@ pub fn seek_over<S: Looks>(source: &mut S, target: DocId) -> Option<Checkpoint>
 
 // Where the answer lies, by looks where the guess is and from there on in growing steps, until the
 // target lies between two looks or no look is to spare.
+#[inline(always)]
 fn narrow_near<S: Looks>(source: &mut S, target: DocId, guess: usize) -> Range<usize>
     ensures list { S.list source.new ≡ S.list source.old }
     ensures between { LiesBetween (S.list source.old) target result.start result.end }
@@ -130,6 +131,7 @@ fn narrow_near<S: Looks>(source: &mut S, target: DocId, guess: usize) -> Range<u
 
 // The index of the first checkpoint whose documents end past the target, or how many there are, by
 // halving what lies between.
+#[inline(always)]
 fn halve<S: Looks>(source: &mut S, target: DocId, between: Range<usize>) -> usize
     requires in_line { IsInLine (S.list source.old) }
     requires between { LiesBetween (S.list source.old) target between.start between.end }
@@ -161,6 +163,7 @@ fn halve<S: Looks>(source: &mut S, target: DocId, between: Range<usize>) -> usiz
 /// steps, until the target lies between two looks; it halves what is left, and looks at the answer. A guess
 /// near the answer takes few looks. For every guess they are at most p for each base-p digit of the length,
 /// for every p from 2 on.
+#[inline(always)]
 pub fn seek_near<S: Looks>(source: &mut S, target: DocId, guess: usize) -> Option<Checkpoint>
     ensures list { S.list source.new ≡ S.list source.old }
     ensures answer { result ≡ first_past (S.list source.old) target }

@@ -144,6 +144,7 @@ impl SkipIndex {
 
     /// Seeks as `seek` does, from where about the target is, and counts each checkpoint that it looks at. These are at
     /// most p for each base-p digit of the number of checkpoints, for every p from 2 on, and mostly a few.
+    #[inline(always)]
     pub fn seek_guided(&self, target: DocId, steps: &mut Steps) -> Option<Checkpoint>
         ensures answer { result ≡ first_past self.now.checkpoints target }
         ensures most { (p : ℕ) → 2 ≤ p → steps.new
