@@ -19,6 +19,11 @@ use Rattle.layered_index.proofs.BlockReadingLemmas.{step_again, step_read, headi
 use Rattle.layered_index.proofs.PointedLemmas.{found_past, run_pointed}
 use Rattle.layered_index.proofs.GrowthLemmas.{groups_one}
 
+-- what holds anyway holds where there is a value
+pub if_any : {A P : Type 0} (found : Option A) → P → IfSome found (λ _. P)
+if_any None p = tt
+if_any (Some x) p = p
+
 -- ---- one step of a block, as a loop takes it
 
 one_more : (target : ℕ) (found : Option Checkpoint) (doc : ℕ) (c : Checkpoint) (read : Option (List Checkpoint × List ℕ))

@@ -1,6 +1,7 @@
 //! A store in a slice of bytes, read without opening: its index is not copied, and no table is made of it.
 ghost use Rattle.std.specs.Prelude.{◌≡◌, ◌≢◌, ◌≤◌, ◌<◌, ◌+◌, ◌*◌, ◌^◌, ◌↔◌, ◌⊎◌, ℕ, length, slice_range, slice_get};
 ghost use Rattle.std.specs.Prelude.{IfOk, IfErr, IsOkAnd, IsErrOf, MatchResult, Ok, Err, Some, None, false};
+ghost use Rattle.store_base.specs.Counts.{raised};
 ghost use Rattle.layered_index.specs.Checkpoint.{first_past};
 ghost use Rattle.layered_index.specs.Layers.{digit_count, index_part};
 ghost use Rattle.store_format.specs.declared.version.DocStoreVersion.{DocStoreVersion};
@@ -100,6 +101,7 @@ impl<'a> StoreSlice<'a> {
     ) -> Result<BlockSlice<'a>, StoreError>
         ensures most { (s : IsSomeStore self.now) → steps.new
             ≤ steps.old + s.period * digit_count s.period (length (checkpoints_of s.blocks)) }
+        ensures least { IfOk result (λ _. raised steps.old 1 ≤ steps.new) }
 
         // What `block_of` says.
         ensures block { (s : IsSomeStore self.now) → MatchResult result

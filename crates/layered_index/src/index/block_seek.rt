@@ -1,6 +1,7 @@
 //! Seeks in one checkpoint block of a layer, in the bytes of the layer.
 ghost use Rattle.std.specs.Prelude.{◌≡◌, ◌≤◌, ◌+◌, List, [], ◌∷◌, Some, None, IfSome};
 ghost use Rattle.std.specs.Option.{option_map, option_or};
+ghost use Rattle.store_base.specs.Counts.{raised};
 ghost use Rattle.layered_index.specs.declared.index.Checkpoint.{Checkpoint};
 ghost use Rattle.layered_index.specs.Checkpoint.{IsInLine, first_past};
 ghost use Rattle.layered_index.specs.Layers.{layer_text};
@@ -42,8 +43,9 @@ fn seek_steps(
     target: DocId,
     bytes: &[u8],
 ) -> Option<(Option<Checkpoint>, DocId, &[u8])>
-    ensures { option_map (λ x. (x.0, x.1, x.2.now)) result ≡ sought_from target None heading.doc
+    ensures read { option_map (λ x. (x.0, x.1, x.2.now)) result ≡ sought_from target None heading.doc
         (steps_at heading.count heading.doc heading.byte bytes.now) }
+    ensures some { IfSome result (λ x. IfSome x.0 (λ _. 1 ≤ heading.count)) }
 {
     let mut found = None;
     let mut rest = bytes;
@@ -70,6 +72,8 @@ pub(crate) fn seek_block(
 ) -> Option<Sought>
     ensures read { result ≡ sought_at most target bytes.now }
     ensures counted { steps.new ≤ steps.old + most }
+    ensures more { steps.old ≤ steps.new }
+    ensures least { IfSome result (λ s. IfSome s.found (λ _. raised steps.old 1 ≤ steps.new)) }
 {
     let (heading, rest) = heading_front(bytes)?;
     if most < heading.count {
@@ -97,6 +101,8 @@ fn scan_steps(
 ) -> Option<Option<Checkpoint>>
     ensures read { result ≡ scanned target heading.count heading.doc heading.byte bytes.now }
     ensures counted { steps.new ≤ steps.old + heading.count }
+    ensures more { steps.old ≤ steps.new }
+    ensures least { IfSome result (λ found. IfSome found (λ _. raised steps.old 1 ≤ steps.new)) }
 {
     let mut rest = bytes;
     let mut doc_end = heading.doc;
@@ -125,6 +131,8 @@ fn scan_block(
 ) -> Option<(Option<Checkpoint>, DocId)>
     ensures read { result ≡ scanned_at most target bytes.now }
     ensures counted { steps.new ≤ steps.old + most }
+    ensures more { steps.old ≤ steps.new }
+    ensures least { IfSome result (λ x. IfSome x.0 (λ _. raised steps.old 1 ≤ steps.new)) }
 {
     let (heading, rest) = heading_front(bytes)?;
     if most < heading.count {
@@ -149,6 +157,8 @@ pub(crate) fn seek_top(
     ensures exact { result ≡ found_on_top whole period target layer.now }
     ensures past { IfSome result (λ found. IfSome found (IsPast target)) }
     ensures counted { steps.new ≤ steps.old + period }
+    ensures more { steps.old ≤ steps.new }
+    ensures least { IfSome result (λ found. IfSome found (λ _. raised steps.old 1 ≤ steps.new)) }
 {
     if whole {
         let sought = seek_block(period, target, layer, steps)?;
@@ -172,6 +182,8 @@ pub(crate) fn seek_pointed(
     ensures exact { result ≡ found_in_run whole period target pointer.now block.now }
     ensures past { IfSome result (λ found. IfSome found (IsPast target)) }
     ensures counted { steps.new ≤ steps.old + period }
+    ensures more { steps.old ≤ steps.new }
+    ensures least { IfSome result (λ found. IfSome found (λ _. raised steps.old 1 ≤ steps.new)) }
 {
     if whole {
         let sought = seek_block(period, target, block, steps)?;
@@ -203,6 +215,8 @@ fn seek_below(
     ensures exact { result ≡ found_in whole period target (Some pointer.now) layer.now }
     ensures past { IfSome result (λ found. IfSome found (IsPast target)) }
     ensures counted { steps.new ≤ steps.old + period }
+    ensures more { steps.old ≤ steps.new }
+    ensures least { IfSome result (λ found. IfSome found (λ _. raised steps.old 1 ≤ steps.new)) }
 {
     let start = pointer.byte_range.start;
     let end = pointer.byte_range.end;
@@ -231,6 +245,8 @@ pub(crate) fn seek_layer(
     ensures exact { result ≡ found_in whole period target above.now layer.now }
     ensures past { IfSome result (λ found. IfSome found (IsPast target)) }
     ensures counted { steps.new ≤ steps.old + period }
+    ensures more { steps.old ≤ steps.new }
+    ensures least { IfSome result (λ found. IfSome found (λ _. raised steps.old 1 ≤ steps.new)) }
 {
     match above {
         None => seek_top(whole, period, target, layer, steps),

@@ -2,6 +2,7 @@
 ghost use Rattle.std.specs.Prelude.{◌≡◌, ◌≤◌, ◌+◌, ◌*◌, List, length, Ok, IfOk, IfErr, IfSome, IsOkAnd};
 ghost use Rattle.std.specs.Prelude.{Some, None, true, false, MatchResult};
 ghost use Rattle.std.specs.Option.{option_map};
+ghost use Rattle.store_base.specs.Counts.{raised};
 ghost use Rattle.layered_index.specs.declared.index.Checkpoint.{Checkpoint};
 ghost use Rattle.layered_index.specs.Checkpoint.{docs_end, first_past};
 ghost use Rattle.layered_index.specs.Layers.{digit_count};
@@ -148,6 +149,7 @@ impl<'a> IndexSlice<'a> {
             (λ d. found_in_index whole self.now.period target self.now.bytes ≡ Some d.found)
             (λ _. found_in_index whole self.now.period target self.now.bytes ≡ None) }
         ensures past { IfOk result (λ d. IfSome d.found (IsPast target)) }
+        ensures least { IfOk result (λ d. IfSome d.found (λ _. raised steps.old 1 ≤ steps.new)) }
         ensures refused { IfErr result (λ e. e ≡ StoreError.BadIndex) }
     {
         let period = self.period as usize;
@@ -232,6 +234,7 @@ impl<'a> IndexSlice<'a> {
         ensures always { steps.new ≤ steps.old + self.now.period * 64 }
         ensures exact { Answers (found_in_index false self.now.period target self.now.bytes) result }
         ensures past { IfOk result (λ found. IfSome found (IsPast target)) }
+        ensures least { IfOk result (λ found. IfSome found (λ _. raised steps.old 1 ≤ steps.new)) }
         ensures refused { IfErr result (λ e. e ≡ StoreError.BadIndex) }
     {
         Ok(self.descend(false, target, steps)?.found)
@@ -251,6 +254,7 @@ impl<'a> IndexSlice<'a> {
         ensures always { steps.new ≤ steps.old + self.now.period * 64 }
         ensures exact { Answers (found_in_index true self.now.period target self.now.bytes) result }
         ensures past { IfOk result (λ found. IfSome found (IsPast target)) }
+        ensures least { IfOk result (λ found. IfSome found (λ _. raised steps.old 1 ≤ steps.new)) }
         ensures refused { IfErr result (λ e. e ≡ StoreError.BadIndex) }
     {
         Ok(self.descend(true, target, steps)?.found)

@@ -41,7 +41,8 @@ impl Steps {
     }
 
     pub(crate) fn add(&mut self, more: u64)
-        ensures { self.new ≡ raised self.old more }
+        ensures count { self.new ≡ raised self.old more }
+        ensures more { self.old ≤ self.new }
     {
         self.count = self.count.saturating_add(more);
     }

@@ -24,7 +24,8 @@ loop-preserved c =
     record {
       read = scan_goes_on c.args.target h.count l.counter l.doc_end l.byte_end l.rest.now c.in_ok-checkpoint.checkpoint c.in_ok-checkpoint.after.now
           (scanned c.args.target h.count h.doc h.byte c.args.bytes.now) c.loop-test.true (sym c.in_ok-checkpoint.ensures) c.if-target-checkpoint.false l.invariant.read;
-      counted = omega (arith, c.add.ensures, l.invariant.counted);
+      counted = omega (arith, c.add.ensures.count, l.invariant.counted);
+      more = omega (arith, c.add.ensures.more, l.invariant.more);
     }
 
 pub returns-clause-read : goal.returns-clause-read

@@ -1,4 +1,5 @@
 use Rattle.std.proofs.Common.{ℕ, ◌≡◌, ◌≤◌, ◌+◌, ◌-◌, ◌*◌, List, length, Some, None, eqb, refl, sym, ◌∙◌, ap, subst, not, arith}
+use Rattle.std.proofs.lemmas.Option.{IfSome_then}
 use Rattle.std.proofs.lemmas.Bool.{eqb-false, cond-true, cond-false}
 use Rattle.layered_index.specs.declared.index.Checkpoint.{Checkpoint}
 use Rattle.layered_index.specs.Layers.{digit_count}
@@ -30,6 +31,8 @@ loop-init c =
       exact = found_first _ _ c.args.whole c.args.target c.self.inside.count c.self.inside.ends.now c.self.inside.texts.now c.self.view_is c.self.invariant;
       counted = omega arith;
       past = tt;
+      more = omega arith;
+      least = tt;
     }
 
 pub returns-in_default-clause-answer : goal.returns-in_default-clause-answer
@@ -98,6 +101,8 @@ loop-preserved c =
           c.in-Some.more.now (Some c.in-Some-seek_layer.next) c.loop-test.true (sym c.in-Some.ensures) c.in-Some-seek_layer.ensures.exact l.invariant.exact);
       counted = one_more_counted _ l.steps c.args.steps.now c.self.inside.period l.counter c.seek_layer.ensures.counted l.invariant.counted;
       past = c.in-Some-seek_layer.ensures.past;
+      more = omega (arith, c.seek_layer.ensures.more, l.invariant.more);
+      least = IfSome_then c.in-Some-seek_layer.next c.in-Some-seek_layer.ensures.least (λ _ h. omega (arith, h, l.invariant.more));
     }
 
 pub returns-then-not-is_empty-clause-answer : goal.returns-then-not-is_empty-clause-answer

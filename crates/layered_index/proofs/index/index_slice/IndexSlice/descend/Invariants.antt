@@ -1,4 +1,5 @@
 use Rattle.std.proofs.Common.{◌≤◌, ◌+◌, ◌-◌, ◌*◌, List, IfSome}
+use Rattle.store_base.specs.Counts.{raised}
 use Rattle.layered_index.specs.declared.index.Checkpoint.{Checkpoint}
 use Rattle.layered_index.specs.IndexReading.{IsIndexPart}
 use Rattle.layered_index.specs.Sought.{layers_left, found_in_index, IsPast}
@@ -14,4 +15,6 @@ invariant-loop l = record {
   exact : Finds l.whole l.period l.target l.end l.counter l.place l.ends l.texts l.found (found_in_index l.whole l.self.period l.target l.self.bytes);
   counted : l.steps ≤ l.initial.steps + l.period * l.counter;
   past : IfSome l.found (IsPast l.target);
+  more : l.initial.steps ≤ l.steps;
+  least : IfSome l.found (λ _. raised l.initial.steps 1 ≤ l.steps);
 }
