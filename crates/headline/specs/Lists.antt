@@ -29,8 +29,8 @@ pub record Answers (file : List ℕ) (capacity : ℕ) (all : List Slot) (calls :
   pub opened : Reading
   pub store : IsStore opened.period file (version_number opened.version) (store_of opened)
   pub cache : opened.cache ≡ no_blocks capacity
-  pub same_store : IsSameStore opened answered.reader
-  pub looks : AreLookUps (keys_of_calls opened.checkpoints calls) opened answered.reader
+  pub same_store : IsSameStore opened answered.reader.value
+  pub looks : AreLookUps (keys_of_calls opened.checkpoints calls) opened answered.reader.value
   pub answers : map results_of answered.answers.items ≡ map (exact_results all) calls
 
 -- The file is the one that the commands write, with this period and block size, and each result has its cause. Both

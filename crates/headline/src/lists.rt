@@ -14,13 +14,14 @@ use docstore::{
     any_lacks_memory, laws, write_store_with_period,
 };
 use std::alloc::Global;
+use std::snapshot::Snapshot;
 use store_base::{Document, FileHandle, MemFile, MemSink, Schema};
 
 /// What a reader returned to a list of reading calls.
 #[derive(Drop)]
 pub struct Answered {
-    /// The reader after the calls.
-    pub reader: StoreReader<MemFile>,
+    /// The reader after the calls. It takes no memory: only clauses read it.
+    pub reader: Snapshot<StoreReader<MemFile>>,
     pub answers: Vec<Answer>,
 }
 
@@ -54,7 +55,10 @@ fn answers_of(
     if any_lacks_memory(&answers) {
         return Err(StoreError::Memory);
     }
-    Ok(Answered { reader, answers })
+    Ok(Answered {
+        reader: Snapshot::of(&reader),
+        answers,
+    })
 }
 
 /// Writes the commands into memory, opens the file twice, with caches of these capacities, and makes the calls on

@@ -1,5 +1,5 @@
 -- What the full check of a file finds is the one thing there is to find.
-use Rattle.std.proofs.Common.{◌≡◌, ℕ, ◌<◌, ◌≤◌, true, false, nat_lt, List, Some, refl, sym, ap, ◌∙◌, arith}
+use Rattle.std.proofs.Common.{◌≡◌, ℕ, ◌≤◌, true, false, nat_lt, List, Some, refl, sym, ap, ◌∙◌, arith}
 use Rattle.std.proofs.lemmas.Bool.{ltb-true, ltb-false}
 use Rattle.store_format.specs.Block.{damaged}
 use Rattle.store_reader.specs.Viewing.{Viewing, IsViewOf, slot_of}

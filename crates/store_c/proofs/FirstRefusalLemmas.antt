@@ -1,6 +1,6 @@
 -- What is found first in the bytes of a file, and the one store that they may be the file of.
-use Rattle.std.proofs.Common.{◌≡◌, ◌↔◌, ◌⊎◌, inl, inr, ℕ, ◌+◌, ◌-◌, ◌<◌, ◌≤◌, List, length, Option, Some, None, refl, sym, ap, ◌∙◌, subst, arith}
-use Rattle.std.specs.Prelude.{Result, Ok, Err, slice_get, slice_range}
+use Rattle.std.proofs.Common.{◌≡◌, ◌↔◌, ◌⊎◌, inl, inr, ℕ, ◌-◌, ◌≤◌, List, length, Option, Some, refl, sym, ap, ◌∙◌, subst, arith}
+use Rattle.std.specs.Prelude.{Result, Ok, Err}
 use Rattle.std.proofs.lemmas.Bool.{ltb-true, ltb-false}
 use Rattle.std.proofs.Common.{true, false, nat_lt}
 use Rattle.store_base.specs.Outcome.{number_of}
@@ -11,12 +11,11 @@ use Rattle.store_format.specs.declared.footer.DocStoreFooter.{DocStoreFooter}
 use Rattle.store_format.specs.Extraction.{Says}
 use Rattle.store_format.specs.Block.{Slot, doc, damaged}
 use Rattle.store_format.specs.Footer.{version_number}
-use Rattle.store_format.specs.Slots.{slots}
 use Rattle.store_format.specs.StoreFile.{checkpoints_of}
 use Rattle.store_format.proofs.ApartLemmas.{stores_are_apart}
 use Rattle.store_reader.specs.CallAnswers.{exact_result}
 use Rattle.store_reader.specs.Opening.{IsSomeStore}
-use Rattle.store_reader.specs.StoreSlices.{document_in, RefusesOne}
+use Rattle.store_reader.specs.StoreSlices.{document_in}
 use Rattle.store_reader.specs.StoreTails.{HasIndexIn}
 use Rattle.store_reader.specs.Viewing.{Viewing, IsViewOf, FindsFooter, FindsIndex, FindsFrom, Finds, slot_of, count_in}
 use Rattle.store_reader.proofs.AlikeLemmas.{footer_or_refusal, one_footer, refused_once}

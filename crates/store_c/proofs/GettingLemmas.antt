@@ -3,7 +3,7 @@ use Rattle.std.proofs.Common.{◌≡◌, ◌⊎◌, ℕ, ◌+◌, ◌-◌, ◌�
 use Rattle.std.specs.Prelude.{slice_get, slice_range, Result, Ok, Err}
 use Rattle.store_base.specs.Outcome.{number_of}
 use Rattle.store_base.specs.declared.error.StoreError.{StoreError}
-use Rattle.store_base.specs.declared.error.StoreError.TheVariants.{BadIndex, InvalidArgument, DamagedDocument}
+use Rattle.store_base.specs.declared.error.StoreError.TheVariants.{BadIndex, InvalidArgument}
 use Rattle.layered_index.specs.Checkpoint.{first_past}
 use Rattle.store_format.specs.Block.{Slot, doc, damaged}
 use Rattle.store_format.specs.Slots.{slots}

@@ -1,6 +1,5 @@
 -- With which number a document is refused by the table of its file.
-use Rattle.std.proofs.Common.{◌≡◌, ◌↔◌, ℕ, ◌+◌, List, Option, Some, None, arith}
-use Rattle.std.specs.Prelude.{slice_range}
+use Rattle.std.proofs.Common.{◌≡◌, ◌↔◌, ℕ, List, Option, Some, None, arith}
 use Rattle.store_format.specs.Block.{Slot, doc, damaged}
 use Rattle.store_c.specs.declared.block.Block.{Block}
 use Rattle.store_c.specs.declared.place.Place.{Place}

@@ -36,27 +36,33 @@ grown m text w d h =
 
 pub put_refused : (m : Memory) (len sum : ℕ) (refusal : WriterRefusal) → HasRoom 2 m → sum ≡ min (m.writer.bytes + len) 18446744073709551615
     → RefusesEnd (open_start m) (m.writer.docs + 1) sum refusal → RefusesLength len m refusal
-put_refused m len sum TooManyDocs room is r = (room, λ text w h.
-    let first = ap (λ (x : BlockEnd). x.end_doc) (open_at m w (has_finished m text w h)) in
-    let ids = h.sound.ids in
-    omega (arith, r, h.docs))
-put_refused m len sum BlockTooLarge room is r = (room, λ text w d size h.
-    let first = open_at m w (has_finished m text w h) in
-    let first_doc = ap (λ (x : BlockEnd). x.end_doc) first in
-    let first_byte = ap (λ (x : BlockEnd). x.end_byte) first in
-    let more = w.pending ++ d ∷ [] in
-    let docs : length more ≡ m.writer.docs + 1 = omega (arith, length-append w.pending (d ∷ []), h.docs) in
-    let long = grown m text w d h in
-    let few = r.0 in
-    record {
-      id = record { works = h.works; left = omega (arith, h.docs) };
-      large = (elim (nat_lt (length (block more)) 4294967296) as (λ y. nat_lt (length (block more)) 4294967296 ≡ y → 2 ^ 32 ≤ length (block more)) [
-        | false ↦ λ f. ltb-false _ _ f
-        | true ↦ λ t. let short = ltb-true _ _ t in
-            let place = has_place m text w more h (omega arith) (omega arith) (omega arith) in
-            elim r.1 [ inl x ↦ omega arith | inr x ↦ omega arith ]
-      ]) refl;
-    })
+put_refused m len sum TooManyDocs room is r = (
+  room,
+  λ text w h.
+      let first = ap (λ (x : BlockEnd). x.end_doc) (open_at m w (has_finished m text w h)) in
+      let ids = h.sound.ids in
+      omega (arith, r, h.docs),
+)
+put_refused m len sum BlockTooLarge room is r = (
+  room,
+  λ text w d size h.
+      let first = open_at m w (has_finished m text w h) in
+      let first_doc = ap (λ (x : BlockEnd). x.end_doc) first in
+      let first_byte = ap (λ (x : BlockEnd). x.end_byte) first in
+      let more = w.pending ++ d ∷ [] in
+      let docs : length more ≡ m.writer.docs + 1 = omega (arith, length-append w.pending (d ∷ []), h.docs) in
+      let long = grown m text w d h in
+      let few = r.0 in
+      record {
+        id = record { works = h.works; left = omega (arith, h.docs) };
+        large = (elim (nat_lt (length (block more)) 4294967296) as (λ y. nat_lt (length (block more)) 4294967296 ≡ y → 2 ^ 32 ≤ length (block more)) [
+          | false ↦ λ f. ltb-false _ _ f
+          | true ↦ λ t. let short = ltb-true _ _ t in
+              let place = has_place m text w more h (omega arith) (omega arith) (omega arith) in
+              elim r.1 [ inl x ↦ omega arith | inr x ↦ omega arith ]
+        ]) refl;
+      },
+)
 put_refused m len sum NoMemory room is r = absurd r
 put_refused m len sum OldVersion room is r = absurd r
 put_refused m len sum BadPeriod room is r = absurd r

@@ -1,5 +1,5 @@
 -- With which number a call that writes is refused: that of the first cause, exactly.
-use Rattle.std.proofs.Common.{◌≡◌, ◌↔◌, ◌⊎◌, inl, inr, ℕ, ◌+◌, ◌-◌, ◌^◌, ◌<◌, ◌≤◌, List, [], ◌∷◌, ◌++◌, length, refl, sym, ap, ◌∙◌, arith, subst}
+use Rattle.std.proofs.Common.{◌≡◌, ◌↔◌, ◌⊎◌, inl, inr, ℕ, ◌+◌, ◌-◌, ◌^◌, ◌<◌, ◌≤◌, List, length, sym, ap, ◌∙◌, arith, subst}
 use Rattle.std.specs.Prelude.{◌≢◌, replicate, Err}
 use Rattle.std.proofs.lemmas.List.{length-replicate}
 use Rattle.store_base.specs.Outcome.{number_of}
@@ -17,7 +17,7 @@ use Rattle.store_c.specs.declared.writer_refusal.WriterRefusal.TheVariants.{NoMe
 use Rattle.store_c.specs.Writing.{Memory, memory, Holds, writer_number, LacksRoom, HasRoom, HasNoEnd, IsOther, RefusesLength, TakesLength, RefusesBlock, TakesBlock}
 use Rattle.store_c.specs.Writing.{RefusesStore, ComesFor, MayFollow, RefusesBlocks, TakesBlocks}
 use Rattle.store_c.proofs.FirstRefusalLemmas.{same_view, some_store, other_number}
-use Rattle.store_c.proofs.MemoryRefusalLemmas.{no_room, end_other}
+use Rattle.store_c.proofs.MemoryRefusalLemmas.{no_room}
 
 -- ---- a document that is put
 

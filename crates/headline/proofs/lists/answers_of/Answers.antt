@@ -2,9 +2,10 @@ use Rattle.std.proofs.Common.{◌≡◌, ℕ, List, map, sym, ap, ◌∙◌, sub
 use Rattle.std.specs.List.{AllByRecursion}
 use Rattle.store_base.specs.Files.{Part}
 use Rattle.store_base.specs.declared.error.StoreError.TheVariants.{Read, Memory}
-use Rattle.store_reader.specs.CallAnswers.{CanAnswer, HasRefusal, exact_results, results_of}
+use Rattle.store_reader.specs.CallAnswers.{CanAnswer, HasRefusal, exact_results, keys_of_calls, results_of}
+use Rattle.store_reader.specs.LookLaws.{AreLookUps}
 use Rattle.store_format.specs.Footer.{version_number}
-use Rattle.store_reader.specs.Reading.{Reading, store_of}
+use Rattle.store_reader.specs.Reading.{Reading, IsSameStore, store_of}
 use Rattle.store_format.specs.Slots.{slots}
 use Rattle.store_format.specs.StoreFile.{StoreBlock}
 use Rattle.headline.proofs.ListLemmas.{docs_seen}
@@ -32,8 +33,8 @@ returns-clause-exact c period version bs store =
       opened = r;
       store = opened.store;
       cache = opened.cache;
-      same_store = c.in_ok-answers.ensures.same_store;
-      looks = c.in_ok-answers.ensures.looks;
+      same_store = subst (λ (x : Reading). IsSameStore r x) (sym c.of.ensures) c.in_ok-answers.ensures.same_store;
+      looks = subst (λ (x : Reading). AreLookUps (keys_of_calls r.checkpoints c.args.calls.now) r x) (sym c.of.ensures) c.in_ok-answers.ensures.looks;
       answers = subst (λ (xs : List StoreBlock). map results_of answers ≡ map (exact_results (slots xs)) c.args.calls.now) same
           (c.answers_are_exact.ensures (slots (store_of r)) c.args.calls.now answers (c.in_ok-answers.ensures.answers opened.honest) read memory);
     }

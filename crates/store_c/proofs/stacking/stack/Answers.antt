@@ -18,20 +18,25 @@ pub returns-then-writer-table-clause-refused : goal.returns-then-writer-table-cl
 returns-then-writer-table-clause-refused c = ((search rules, omega arith), rows_fit c.args.writer.now c.args.table.now c.if-writer-table.true)
 
 pub returns-then-num_docs-start-clause-refused : goal.returns-then-num_docs-start-clause-refused
-returns-then-num_docs-start-clause-refused c = ((search rules, omega arith), λ starts text w h.
-    let m = memory c.args.writer.now starts c.args.table.now in
-    let at = ap (λ (b : BlockEnd). b.end_doc) (c.start_of-start.ensures ∙ open_at m w (has_finished m text w h)) in
-    let more = c.if-num_docs-start.true in
-    let count = c.num_docs.ensures.count in
-    omega arith)
+returns-then-num_docs-start-clause-refused c = (
+  (search rules, omega arith),
+  λ starts text w h.
+      let m = memory c.args.writer.now starts c.args.table.now in
+      let at = ap (λ (b : BlockEnd). b.end_doc) (c.start_of-start.ensures ∙ open_at m w (has_finished m text w h)) in
+      let more = c.if-num_docs-start.true in
+      let count = c.num_docs.ensures.count in
+      omega arith,
+)
 
 pub returns-then-block_data-start-clause-refused : goal.returns-then-block_data-start-clause-refused
 returns-then-block_data-start-clause-refused c =
     let large = c.if-block_data-start.true in
     let few = c.if-num_docs-start.false in
-    let text = ap length c.block_data.ensures.«data» in
-    ((search rules, omega arith), has_place c.args.writer.now c.args.table.now [] [] 0 0 c.start_of-start.result _ c.args.view.now c.num_docs.ensures.store refl (omega arith) (omega arith) c.start_of-start.ensures
-    (omega (arith, c.num_docs.ensures.count)) (omega arith))
+    let text = ap length c.block_data.ensures.«data» in (
+      (search rules, omega arith),
+      has_place c.args.writer.now c.args.table.now [] [] 0 0 c.start_of-start.result _ c.args.view.now c.num_docs.ensures.store refl (omega arith) (omega arith) c.start_of-start.ensures
+          (omega (arith, c.num_docs.ensures.count)) (omega arith),
+    )
 
 pub fill-requires-clause-few : goal.fill-requires-clause-few
 fill-requires-clause-few c =
