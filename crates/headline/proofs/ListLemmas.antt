@@ -1,5 +1,5 @@
 -- Whole lists of calls.
-use Rattle.std.proofs.Common.{◌≡◌, ◌⊎◌, inl, inr, ℕ, ◌≤◌, List, [], ◌∷◌, length, Option, Some, None, Result, Ok, Err, refl, ap, arith, length-append}
+use Rattle.std.proofs.Common.{◌≡◌, ◌⊎◌, inl, inr, ℕ, ◌≤◌, List, [], ◌∷◌, length, Option, Some, None, Result, Ok, Err, refl, ap, arith, length-append, subst}
 use Rattle.std.specs.List.{AllByRecursion}
 use Rattle.store_base.specs.declared.error.StoreError.{StoreError}
 use Rattle.store_base.specs.declared.error.StoreError.TheVariants.{ShortFile, BadVersion, BadBlockKind, BadOffset, BadIndex, InvalidArgument, DamagedDocument, BadDocument, Read, Memory, OldVersion}
@@ -10,6 +10,7 @@ use Rattle.store_reader.specs.declared.answers.ReadCall.{ReadCall}
 use Rattle.store_reader.specs.declared.answers.ReadCall.TheVariants.{Bytes as Get, Iter}
 use Rattle.store_reader.specs.CallAnswers.{CanAnswer}
 use Rattle.store_reader.specs.Reading.{Reading, IsSeen, num_docs, store_of}
+use Rattle.store_format.specs.Block.{Slot}
 use Rattle.store_format.specs.Slots.{slots}
 use Rattle.store_format.specs.StoreFile.{StoreBlock, docs_in, file, IsStore}
 use Rattle.store_format.specs.Laws.{StoresAreApart}
@@ -21,7 +22,8 @@ use Rattle.docstore.specs.Stacking.{AreRead}
 use Rattle.docstore.specs.Trace.{Answer, accepted, read_failed, no_memory, refused, store, store_bytes, stack, Step, effect, effect_of, slots_of, meaning}
 use Rattle.docstore.proofs.StackLawLemmas.{checkpoints_end}
 use Rattle.docstore.proofs.TakenLemmas.{length-slots}
-use Rattle.headline.specs.Lists.{most_docs}
+use Rattle.headline.specs.declared.lists.Answered.{Answered}
+use Rattle.headline.specs.Lists.{most_docs, Answers}
 use Rattle.headline.specs.Want.{IsWant}
 
 -- ---- what live sets reach
@@ -123,3 +125,11 @@ written_reach doc_bytes period size commands left results old new w calls p v bs
 pub only_want : (bytes : List ℕ) (period : ℕ) (bs : List StoreBlock) (e : StoreError) → IsStore period bytes 3 bs → (e ≡ Memory) ⊎ (IsSomeStore bytes → ⊥) → IsWant e
 only_want bytes period bs e found (inl memory) = inl memory
 only_want bytes period bs e found (inr never) = absurd (never (record { period = period; version = 3; blocks = bs; store = found }))
+
+-- ---- what was asked
+
+-- the answers of a reader of the same bytes, by the same slots
+pub asked_of : (a b : List ℕ) (capacity : ℕ) (all other : List Slot) (calls : List ReadCall) (answered : Answered) → a ≡ b → all ≡ other → Answers a capacity all calls answered
+    → Answers b capacity other calls answered
+asked_of a b capacity all other calls answered text is h =
+    subst (λ (x : List ℕ). Answers x capacity other calls answered) text (subst (λ (x : List Slot). Answers a capacity x calls answered) is h)

@@ -16,28 +16,45 @@ use store_base::{DocId, MemSink, OwnedBytes, StoreError};
 
 /// What the index of some bytes answers, and what writing its checkpoints again gives.
 #[derive(Drop)]
-pub struct IndexAnswer {
-    /// What `seek` answered.
+pub struct IndexAnswer<S: LookSource> {
+    /// What `seek` returned.
     pub found: Option<Checkpoint>,
-    /// What `seek_counted` answered.
+    /// What `seek_counted` returned.
     pub counted: Option<Checkpoint>,
-    /// How many looks that took.
-    pub steps: u64,
-    /// What `seek_near` answered, over the checkpoints in memory.
+    /// The count of its looks: only counted seeks in an index raise a `Steps`.
+    pub steps: Steps,
+    /// What `seek_near` returned, over the checkpoints in memory.
     pub near: Option<Checkpoint>,
-    /// How many looks that took.
-    pub looks: u64,
+    /// The source that it looked at, which counts its own looks.
+    pub source: S,
     /// The index part that was written.
     pub written: Vec<u8>,
     /// The index that what was written gives.
     pub again: SkipIndex,
 }
 
-// Checkpoints in memory, and how many looks at them there were.
+/// A source of looks that is made of checkpoints in memory.
+pub trait LookSource: Looks + Drop {
+    /// A source over these checkpoints. There was no look yet.
+    fn over(block: CheckpointBlock) -> Self
+        ensures list { Self.list result ≡ block }
+        ensures looks { Self.looks result ≡ 0 };
+}
+
+/// Checkpoints in memory, and how many looks at them there were.
 #[derive(Drop)]
-struct CountedBlock {
+pub struct CountedBlock {
     block: CheckpointBlock,
     count: u64,
+}
+
+impl CountedBlock {
+    /// How many looks there were.
+    pub fn count(&self) -> u64
+        ensures { result ≡ self.now.count }
+    {
+        self.count
+    }
 }
 
 impl Looks for CountedBlock {
@@ -52,6 +69,12 @@ impl Looks for CountedBlock {
     fn look(&mut self, i: usize) -> Checkpoint {
         self.count = self.count.saturating_add(1);
         self.block.get(i)
+    }
+}
+
+impl LookSource for CountedBlock {
+    fn over(block: CheckpointBlock) -> CountedBlock {
+        CountedBlock { block, count: 0 }
     }
 }
 
@@ -111,34 +134,40 @@ fn written_index(alloc: Global, period: u8, block: &CheckpointBlock) -> Result<V
     Ok(output.into_bytes())
 }
 
-// The first checkpoint past the target, sought from a guess on, and how many looks it took.
-fn sought_near(block: CheckpointBlock, target: DocId, guess: usize) -> (Option<Checkpoint>, u64)
+// The first checkpoint past the target, sought from a guess on, and the source that was looked at.
+fn sought_near<S: LookSource>(
+    block: CheckpointBlock,
+    target: DocId,
+    guess: usize,
+) -> (Option<Checkpoint>, S)
     ensures answer { result.0 ≡ first_past block target }
-    ensures looks { AreLooks result.1 (length block) }
+    ensures list { S.list result.1 ≡ block }
+    ensures looks { AreLooks (S.looks result.1) (length block) }
 {
-    let mut source = CountedBlock { block, count: 0 };
+    let mut source = S::over(block);
     let found = seek_near(&mut source, target, guess);
-    (found, source.count)
+    (found, source)
 }
 
 /// Reads the bytes as an index part, seeks the target in three ways, and writes the checkpoints again.
 ///
 /// All answers are those of the one list that the bytes encode, and what is written is the bytes again, from
-/// whatever guess `seek_near` begins.
+/// whatever guess `seek_near` begins. The counts of looks are those of the seeks that they are returned for.
 ///
 /// # Errors
 ///
-/// `BadIndex` where the bytes are the index part of no list in line. Any other refusal is for want of memory.
-pub fn index_read_and_written(
+/// `BadIndex` where the bytes are the index part of no list in line. Any other error is a lack of memory.
+pub fn index_read_and_written<S: LookSource>(
     alloc: Global,
     bytes: &[u8],
     period: u8,
     target: DocId,
     guess: usize,
-) -> Result<IndexAnswer, StoreError>
+) -> Result<IndexAnswer<S>, StoreError>
     requires least { 2 ≤ period }
     requires most { period ≤ 64 }
-    ensures accepted { IfOk result (IsIndexAnswer period bytes.now target) }
+    ensures accepted { IfOk result (λ answer. IsIndexAnswer period bytes.now target
+        (S.list answer.source) (S.looks answer.source) answer) }
     ensures refused { IfErr result
         (λ e. IsWant e ⊎ ((e ≡ StoreError.BadIndex) × (HasIndex period bytes.now → ⊥))) }
 {
@@ -149,13 +178,13 @@ pub fn index_read_and_written(
     let block = collected(alloc, index.checkpoints())?;
     let written = written_index(alloc, period, &block)?;
     let again = opened_index(alloc, &written, period)?;
-    let (near, looks) = sought_near(block, target, guess);
+    let (near, source) = sought_near(block, target, guess);
     Ok(IndexAnswer {
         found: index.seek(target),
         counted,
-        steps: steps.count(),
+        steps,
         near,
-        looks,
+        source,
         written,
         again,
     })

@@ -6,6 +6,6 @@ pub mod lists;
 mod opening;
 pub mod stacking;
 
-pub use index::{IndexAnswer, index_read_and_written};
-pub use lists::{Asked, written_and_asked};
+pub use index::{CountedBlock, IndexAnswer, LookSource, index_read_and_written};
+pub use lists::{Answered, Asked, written_and_asked};
 pub use stacking::stacked_in_two_orders;

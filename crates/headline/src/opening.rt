@@ -1,6 +1,7 @@
 //! Files in memory, opened.
 ghost use Rattle.std.specs.Prelude.{◌≡◌, ◌⊎◌, IfOk, IfErr, IsTrue};
 ghost use Rattle.store_format.specs.Footer.{version_number};
+ghost use Rattle.store_reader.specs.Kept.{no_blocks};
 ghost use Rattle.store_reader.specs.Opening.{IsSomeStore};
 ghost use Rattle.store_reader.specs.Reading.{IsSeen, store_of};
 ghost use Rattle.store_format.specs.StoreFile.{IsStore};
@@ -20,6 +21,7 @@ pub(crate) fn opened(
     ensures store { IfOk result (λ reader.
         IsStore reader.period bytes.now (version_number reader.version) (store_of reader)) }
     ensures seen { IfOk result IsSeen }
+    ensures cache { IfOk result (λ reader. reader.cache ≡ no_blocks capacity) }
     ensures refused { IfErr result (λ e. (e ≡ StoreError.Memory) ⊎ (IsSomeStore bytes.now → ⊥)) }
 {
     let file = MemFile::new(alloc, Vec::from_slice(alloc, bytes)?)?;

@@ -21,8 +21,9 @@
  * - A new store: from zevk_writer_begin to zevk_writer_close. You write the file.
  *
  * A call returns ZEVK_DONE, which is 0, or the number of an error. A call that fails leaves everything that its
- * pointers point to unchanged, unless its comment says otherwise. If several errors apply, any of them may come,
- * unless an order is given. The rules for callers are at the end of this file.
+ * pointers point to unchanged, unless its comment says otherwise. If several errors apply, the first in its comment is
+ * returned; NO_MEMORY, where the comment names it, may come in place of any other. The rules for callers are at the end
+ * of this file.
  *
  * The library is proved: for every argument that keeps these rules, a call reads and writes no byte outside what it is
  * given, and meets its contract in crates/store_c/src. This header says the same in words, by hand. A few lines of C
@@ -87,8 +88,8 @@ typedef struct zevk_place {
 
 /* Sets `place` to where a document lies in the file: its bytes begin at file[place->start].
  *
- * Errors: NO_DOCUMENT, for a store's file if and only if it has no document of this number; DAMAGED_DOCUMENT; the file
- * errors. */
+ * Errors: the file errors; NO_DOCUMENT, for a store's file if and only if it has no document of this number;
+ * DAMAGED_DOCUMENT. */
 uint32_t zevk_get(const uint8_t *file, size_t file_len, uint32_t doc_id, zevk_place *place);
 
 /* Sets `places` to where the documents lie from `first` on, up to `places_len` of them, and `count` to how many it
@@ -127,8 +128,8 @@ uint32_t zevk_open(const uint8_t *file, size_t file_len, zevk_block *table, size
 /* Sets `place` to where a document lies in the file, by the table that zevk_open filled for these bytes. It takes no
  * memory. With another table the call is safe: a place lies within the bytes, but it may be that of anything.
  *
- * Errors: NO_DOCUMENT if and only if `doc_id` is not below the number of documents; DAMAGED_DOCUMENT; OTHER_TABLE,
- * only if the table is not the one of the file. */
+ * Errors: NO_DOCUMENT, with the table of the file if and only if it has no document of this number; DAMAGED_DOCUMENT;
+ * OTHER_TABLE, only if the table is not the one of the file. */
 uint32_t zevk_locate(const uint8_t *file, size_t file_len, const zevk_block *table, size_t table_len, uint32_t doc_id,
                      zevk_place *place);
 
@@ -160,17 +161,18 @@ typedef struct zevk_block_place {
 
 /* Sets `block` to where the block of a document lies in a file of `file_len` bytes, by its last `tail_len` bytes.
  *
- * Errors: TAIL_TOO_SHORT, where `wanted` is set to how many of the last bytes are enough: 28 for a tail below that, and
- * then, at most once for a file, the length of index and footer. NO_DOCUMENT, for a store's file if and only if it has
- * no document of this number. The file errors; SHORT_FILE also if the tail is longer than the file. */
+ * Errors: SHORT_FILE, if the file is shorter than a footer or than the tail. TAIL_TOO_SHORT if the tail lacks the
+ * footer, where `wanted` is set to 28. The other errors of the footer. TAIL_TOO_SHORT if the tail lacks a part of the
+ * index, where `wanted` is set to the length of index and footer; with that many bytes it does not come again.
+ * BAD_INDEX. NO_DOCUMENT, for a store's file if and only if it has no document of this number. */
 uint32_t zevk_block_of(const uint8_t *tail, size_t tail_len, size_t file_len, uint32_t doc_id, zevk_block_place *block,
                        size_t *wanted);
 
 /* Sets `place` to where a document lies in the file, as zevk_get does, by the bytes of its block. `at` is where the
  * block lies; it may be asked for any document from at->first_doc up to, but not including, at->end_doc.
  *
- * Errors: DAMAGED_DOCUMENT; OTHER_BLOCK, if and only if `doc_id` is not one of these, `block_len` is not at->len, or
- * the block would end at byte 2^64 or past it. */
+ * Errors: OTHER_BLOCK, if and only if `doc_id` is not one of these, `block_len` is not at->len, or the block would end
+ * at byte 2^64 or past it; DAMAGED_DOCUMENT. */
 uint32_t zevk_get_in(const uint8_t *block, size_t block_len, const zevk_block_place *at, uint32_t doc_id,
                      zevk_place *place);
 
@@ -230,24 +232,26 @@ void zevk_writer_begin(zevk_writer *writer, size_t block_size);
 /* Adds a document of `len` bytes. The caller writes its bytes to the file, and after them the first `count` numbers of
  * `starts`: none, or the table of the block that this document ends.
  *
- * Errors: NO_ROOM if `starts` has no room for two numbers after those of the open block, or `table` for one more row;
- * TOO_MANY_DOCS after 2^32 - 1 documents; BLOCK_TOO_LARGE if the block with its table would have 2^32 bytes or more. */
+ * Errors: NO_ROOM if and only if `starts` has no room for two numbers after those of the open block, or `table` for
+ * one more row; TOO_MANY_DOCS after 2^32 - 1 documents; BLOCK_TOO_LARGE if the block with its table would have 2^32
+ * bytes or more. */
 uint32_t zevk_writer_put(zevk_writer *writer, uint32_t *starts, size_t starts_len, zevk_block *table, size_t table_len,
                          size_t len, size_t *count);
 
 /* Ends the open block, if it has documents. The caller writes the first `count` numbers of `starts` to the file: none,
  * or the table of the block. Call it before zevk_writer_stack and zevk_writer_close.
  *
- * Errors: NO_ROOM if the open block has documents and `starts` has no room for one more number, or `table` for one more
- * row; OTHER_WRITER. */
+ * Errors: NO_ROOM if and only if the open block has documents and `starts` has no room for one more number, or `table`
+ * for one more row; OTHER_WRITER. */
 uint32_t zevk_writer_end_block(zevk_writer *writer, uint32_t *starts, size_t starts_len, zevk_block *table,
                                size_t table_len, size_t *count);
 
 /* Adds all documents of the store whose file these bytes are, with its blocks as they are, damaged ones too. The caller
  * writes the first `len` bytes of that file to its own. `count` is set to the number of blocks of the store.
  *
- * Errors: those of zevk_open; OLD_VERSION for a store of version 1; OPEN_BLOCK; TOO_MANY_DOCS; OTHER_WRITER; NO_ROOM if
- * the table has no room for `count` more rows: `count` is set, and rows after those that count may be overwritten. */
+ * Errors: the file errors; NO_MEMORY; OLD_VERSION for a store of version 1; OPEN_BLOCK; OTHER_WRITER, which may also
+ * come in place of the next two; TOO_MANY_DOCS; NO_ROOM if the table has no room for `count` more rows: `count` is
+ * set, and rows after those that count may be overwritten. */
 uint32_t zevk_writer_stack(zevk_writer *writer, zevk_block *table, size_t table_len, const uint8_t *file,
                            size_t file_len, size_t *count, size_t *len);
 
@@ -256,7 +260,8 @@ uint32_t zevk_writer_stack(zevk_writer *writer, zevk_block *table, size_t table_
  * tantivy's is 8. The writer is unchanged, and may go on.
  *
  * Errors: BAD_PERIOD; OPEN_BLOCK; OTHER_WRITER; NO_MEMORY; NO_ROOM if `end` has fewer than `len` bytes, where `len` is
- * set to exactly the length that is needed, so a first call with 0 bytes finds it. */
+ * set to exactly the length that is needed, so a first call with 0 bytes finds it, and a second one with that many
+ * bytes succeeds, NO_MEMORY aside. */
 uint32_t zevk_writer_close(const zevk_writer *writer, const zevk_block *table, size_t table_len, uint8_t period,
                            uint8_t *end, size_t end_len, size_t *len);
 

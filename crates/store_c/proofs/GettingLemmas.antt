@@ -3,7 +3,7 @@ use Rattle.std.proofs.Common.{◌≡◌, ◌⊎◌, ℕ, ◌+◌, ◌-◌, ◌�
 use Rattle.std.specs.Prelude.{slice_get, slice_range, Result, Ok, Err}
 use Rattle.store_base.specs.Outcome.{number_of}
 use Rattle.store_base.specs.declared.error.StoreError.{StoreError}
-use Rattle.store_base.specs.declared.error.StoreError.TheVariants.{BadIndex, InvalidArgument, DamagedDocument}
+use Rattle.store_base.specs.declared.error.StoreError.TheVariants.{BadIndex, InvalidArgument}
 use Rattle.layered_index.specs.Checkpoint.{first_past}
 use Rattle.store_format.specs.Block.{Slot, doc, damaged}
 use Rattle.store_format.specs.Slots.{slots}
@@ -12,7 +12,8 @@ use Rattle.store_reader.specs.CallAnswers.{exact_result}
 use Rattle.store_reader.specs.Opening.{IsSomeStore}
 use Rattle.store_reader.specs.StoreSlices.{document_in, count_of_store, RefusesOne}
 use Rattle.store_reader.proofs.StoreSliceLemmas.{err_not_ok, ok_is, refused_is, document_past}
-use Rattle.store_c.specs.Getting.{IsPlaceIn, IsRefusedIn, RefusesGet, RefusesUnopened}
+use Rattle.store_c.specs.declared.place.Place.{Place}
+use Rattle.store_c.specs.Getting.{IsPlaceIn, RefusesGet, RefusesUnopened}
 
 -- ---- places
 
@@ -47,24 +48,6 @@ none_after file id end e h = (inl (ap InvalidArgument e), λ s. document_past fi
 pub index_refused : (file : List ℕ) (id : ℕ) (e : StoreError) → e ≡ BadIndex → (IsSomeStore file → ⊥) → RefusesGet file id e
 index_refused file id e bad none = (inr (inr bad), λ s. absurd (none s))
 
-pub by_six : (file : List ℕ) (id : ℕ) (e : StoreError) → RefusesGet file id e → number_of e ≡ 6 → IsRefusedIn file id (InvalidArgument id)
-by_six file id e h six s = elim h.0 [
-  | inl none ↦ h.1 s ∙ ap (λ (x : StoreError). Err x) none
-  | inr more ↦ elim more [
-    | inl bad ↦ absurd (omega (arith, six, ap number_of bad))
-    | inr index ↦ absurd (omega (arith, six, ap number_of index))
-  ]
-]
-
-pub by_seven : (file : List ℕ) (id : ℕ) (e : StoreError) → RefusesGet file id e → number_of e ≡ 7 → IsRefusedIn file id (DamagedDocument id)
-by_seven file id e h seven s = elim h.0 [
-  | inl none ↦ absurd (omega (arith, seven, ap number_of none))
-  | inr more ↦ elim more [
-    | inl bad ↦ h.1 s ∙ ap (λ (x : StoreError). Err x) bad
-    | inr index ↦ absurd (omega (arith, seven, ap number_of index))
-  ]
-]
-
 -- a store's document is never refused by its index
 no_index : (id : ℕ) (o : Option Slot) → exact_result id o ≡ Err BadIndex → ⊥
 no_index id None h = cc
@@ -84,6 +67,9 @@ by_other file id e h six seven = elim h.0 [
 
 pub moved : (a file : List ℕ) (id : ℕ) (e : StoreError) → a ≡ file → RefusesGet a id e → RefusesGet file id e
 moved a file id e same h = subst (λ (b : List ℕ). RefusesGet b id e) same h
+
+pub moved_place : (a file : List ℕ) (id : ℕ) (p : Place) → a ≡ file → IsPlaceIn a id p → IsPlaceIn file id p
+moved_place a file id p same h = subst (λ (b : List ℕ). IsPlaceIn b id p) same h
 
 -- how many documents there are
 pub counted : (a file : List ℕ) (docs : ℕ) → a ≡ file → ((s : IsSomeStore a) → ◌≡◌ {A = Result ℕ StoreError} (Ok docs) (Ok (count_of_store a s)))

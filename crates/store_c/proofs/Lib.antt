@@ -2,11 +2,15 @@ pub mod TableLemmas
 pub mod TableSeekLemmas
 pub mod TableViewLemmas
 pub mod PlacesLemmas
+pub mod FirstRefusalLemmas
+pub mod LocatingLemmas
+pub mod CheckingLemmas
 pub mod GettingLemmas
 pub mod RangeLemmas
 pub mod TextLemmas
 pub mod MemoryLemmas
 pub mod MemoryRefusalLemmas
 pub mod StackLemmas
+pub mod WriterNumberLemmas
 pub mod EndLemmas
 pub mod CloseLemmas

@@ -11,9 +11,7 @@ use Rattle.docstore.specs.Writer.{Writing}
 use Rattle.store_c.specs.declared.block.BlockEnd.{BlockEnd}
 use Rattle.store_c.specs.declared.writer_refusal.WriterRefusal.{WriterRefusal}
 use Rattle.store_c.specs.declared.writer_refusal.WriterRefusal.TheVariants.{NoMemory, OldVersion, BlockTooLarge, TooManyDocs, BadPeriod, NoRoom, OpenBlock, OtherWriter}
-use Rattle.store_c.specs.Calls.{ends_in, start_in}
-use Rattle.store_c.specs.Writing.{Memory, memory, Holds, RefusesEnd, RefusesLength, IsOther}
-use Rattle.store_c.proofs.TableLemmas.{zero_block}
+use Rattle.store_c.specs.Writing.{Memory, memory, Holds, EndsAt, RefusesEnd, LacksRoom, HasRoom, HasNoEnd, open_start, RefusesLength, TakesLength, IsOther}
 use Rattle.store_c.proofs.MemoryLemmas.{has_finished, open_at, blocks_with}
 
 -- a block that has its place in 32 bits has it in the file
@@ -29,57 +27,87 @@ has_place m text w docs h some short few =
       length-data_of-cons (block_of docs) [],
     )
 
-pub put_refused : (m : Memory) (len sum : ℕ) (refusal : WriterRefusal) → sum ≡ min (m.writer.bytes + len) 18446744073709551615
-    → RefusesEnd (start_in zero_block (ends_in m.table) m.writer.blocks) (m.writer.docs + 1) sum refusal → RefusesLength len m refusal
-put_refused m len sum TooManyDocs is r = λ text w h.
-    let first = ap (λ (x : BlockEnd). x.end_doc) (open_at m w (has_finished m text w h)) in
-    let ids = h.sound.ids in
-    omega (arith, r, h.docs)
-put_refused m len sum BlockTooLarge is r = λ text w d size h.
-    let first = open_at m w (has_finished m text w h) in
-    let first_doc = ap (λ (x : BlockEnd). x.end_doc) first in
-    let first_byte = ap (λ (x : BlockEnd). x.end_byte) first in
+-- a block with one more document
+grown : (m : Memory) (text : List ℕ) (w : Writing) (d : List ℕ) → Holds m text w → length (block (w.pending ++ d ∷ [])) ≡ m.writer.bytes + length d + 4 * (m.writer.docs + 1) + 4
+grown m text w d h =
     let more = w.pending ++ d ∷ [] in
     let docs : length more ≡ m.writer.docs + 1 = omega (arith, length-append w.pending (d ∷ []), h.docs) in
-    let long : length (block more) ≡ m.writer.bytes + len + 4 * (m.writer.docs + 1) + 4 =
-    omega (arith, length-block more, docs, ap length (concat-append w.pending (d ∷ [])), length-append (concat w.pending) (d ++ []), length-append d [], h.bytes) in
-    let few = r.0 in
-    record {
-      id = record { works = h.works; left = omega (arith, h.docs) };
-      large = (elim (nat_lt (length (block more)) 4294967296) as (λ y. nat_lt (length (block more)) 4294967296 ≡ y → 2 ^ 32 ≤ length (block more)) [
-        | false ↦ λ f. ltb-false _ _ f
-        | true ↦ λ t. let short = ltb-true _ _ t in
-            let place = has_place m text w more h (omega arith) (omega arith) (omega arith) in
-            elim r.1 [ inl x ↦ omega arith | inr x ↦ omega arith ]
-      ]) refl;
-    }
-put_refused m len sum NoMemory is r = absurd r
-put_refused m len sum OldVersion is r = absurd r
-put_refused m len sum BadPeriod is r = absurd r
-put_refused m len sum NoRoom is r = absurd r
-put_refused m len sum OpenBlock is r = absurd r
-put_refused m len sum OtherWriter is r = absurd r
+    omega (arith, length-block more, docs, ap length (concat-append w.pending (d ∷ [])), length-append (concat w.pending) (d ++ []), length-append d [], h.bytes)
 
-pub end_refused : (m : Memory) (refusal : WriterRefusal) → 0 < m.writer.docs → RefusesEnd (start_in zero_block (ends_in m.table) m.writer.blocks) m.writer.docs m.writer.bytes refusal
-    → IsOther m.writer m.table
-end_refused m TooManyDocs some r = λ starts text w h.
-    let first = ap (λ (x : BlockEnd). x.end_doc) (open_at (memory m.writer starts m.table) w (has_finished (memory m.writer starts m.table) text w h)) in
-    let ids = h.sound.ids in
-    omega (arith, r, h.docs)
-end_refused m BlockTooLarge some r = λ starts text w h.
-    let first = open_at (memory m.writer starts m.table) w (has_finished (memory m.writer starts m.table) text w h) in
+pub put_refused : (m : Memory) (len sum : ℕ) (refusal : WriterRefusal) → HasRoom 2 m → sum ≡ min (m.writer.bytes + len) 18446744073709551615
+    → RefusesEnd (open_start m) (m.writer.docs + 1) sum refusal → RefusesLength len m refusal
+put_refused m len sum TooManyDocs room is r = (
+  room,
+  λ text w h.
+      let first = ap (λ (x : BlockEnd). x.end_doc) (open_at m w (has_finished m text w h)) in
+      let ids = h.sound.ids in
+      omega (arith, r, h.docs),
+)
+put_refused m len sum BlockTooLarge room is r = (
+  room,
+  λ text w d size h.
+      let first = open_at m w (has_finished m text w h) in
+      let first_doc = ap (λ (x : BlockEnd). x.end_doc) first in
+      let first_byte = ap (λ (x : BlockEnd). x.end_byte) first in
+      let more = w.pending ++ d ∷ [] in
+      let docs : length more ≡ m.writer.docs + 1 = omega (arith, length-append w.pending (d ∷ []), h.docs) in
+      let long = grown m text w d h in
+      let few = r.0 in
+      record {
+        id = record { works = h.works; left = omega (arith, h.docs) };
+        large = (elim (nat_lt (length (block more)) 4294967296) as (λ y. nat_lt (length (block more)) 4294967296 ≡ y → 2 ^ 32 ≤ length (block more)) [
+          | false ↦ λ f. ltb-false _ _ f
+          | true ↦ λ t. let short = ltb-true _ _ t in
+              let place = has_place m text w more h (omega arith) (omega arith) (omega arith) in
+              elim r.1 [ inl x ↦ omega arith | inr x ↦ omega arith ]
+        ]) refl;
+      },
+)
+put_refused m len sum NoMemory room is r = absurd r
+put_refused m len sum OldVersion room is r = absurd r
+put_refused m len sum BadPeriod room is r = absurd r
+put_refused m len sum NoRoom room is r = absurd r
+put_refused m len sum OpenBlock room is r = absurd r
+put_refused m len sum OtherWriter room is r = absurd r
+
+pub put_takes : (m : Memory) (len : ℕ) (end : BlockEnd) → HasRoom 2 m → EndsAt (open_start m) (m.writer.docs + 1) (m.writer.bytes + len) end → TakesLength len m
+put_takes m len end room ends = record {
+  room = room;
+  number = λ text w h.
+      let first = ap (λ (x : BlockEnd). x.end_doc) (open_at m w (has_finished m text w h)) in
+      omega (arith, first, ends.few_docs, h.docs);
+  place = λ text w d size h. omega (arith, grown m text w d h, ends.few_bytes, size);
+}
+
+-- where there is no room there is none
+pub no_room : (more : ℕ) (m : Memory) → HasRoom more m → LacksRoom more m → ⊥
+no_room more m room lacks = elim lacks [ inl starts ↦ omega (arith, starts, room.0) | inr rows ↦ omega (arith, rows, room.1) ]
+
+-- ---- the open block
+
+pub no_end : (m : Memory) (refusal : WriterRefusal) → RefusesEnd (open_start m) m.writer.docs m.writer.bytes refusal → HasNoEnd m
+no_end m TooManyDocs r end ends = omega (arith, r, ends.few_docs)
+no_end m BlockTooLarge r end ends = elim r.1 [ inl x ↦ omega (arith, x, ends.few_bytes) | inr x ↦ omega (arith, x, ends.byte, ends.place) ]
+no_end m NoMemory r end ends = absurd r
+no_end m OldVersion r end ends = absurd r
+no_end m BadPeriod r end ends = absurd r
+no_end m NoRoom r end ends = absurd r
+no_end m OpenBlock r end ends = absurd r
+no_end m OtherWriter r end ends = absurd r
+
+-- the open block of a writer ends somewhere
+pub end_other : (m : Memory) → 0 < m.writer.docs → HasNoEnd m → IsOther m.writer m.table
+end_other m some none starts text w h =
+    let held = memory m.writer starts m.table in
+    let first = open_at held w (has_finished held text w h) in
     let first_doc = ap (λ (x : BlockEnd). x.end_doc) first in
     let first_byte = ap (λ (x : BlockEnd). x.end_byte) first in
     let long = length-block w.pending in
     let fits = h.fits in
     let docs = h.docs in
     let bytes = h.bytes in
-    let few = r.0 in
-    let place = has_place (memory m.writer starts m.table) text w w.pending h (omega arith) fits (omega arith) in
-    elim r.1 [ inl x ↦ omega arith | inr x ↦ omega arith ]
-end_refused m NoMemory some r = absurd r
-end_refused m OldVersion some r = absurd r
-end_refused m BadPeriod some r = absurd r
-end_refused m NoRoom some r = absurd r
-end_refused m OpenBlock some r = absurd r
-end_refused m OtherWriter some r = absurd r
+    let ids = h.sound.ids in
+    let place = has_place held text w w.pending h (omega arith) fits (omega arith) in
+    let start = open_start m in
+    let end : BlockEnd = record { end_doc = start.end_doc + m.writer.docs; end_byte = start.end_byte + (m.writer.bytes + 4 * m.writer.docs + 4) } in
+    none end (record { doc = refl; byte = refl; few_docs = omega arith; few_bytes = omega arith; place = omega arith })

@@ -22,7 +22,7 @@ use Rattle.store_c.specs.declared.block.Block.{Block}
 use Rattle.store_c.specs.declared.block.BlockEnd.{BlockEnd}
 use Rattle.store_c.specs.declared.writer.Writer.{Writer}
 use Rattle.store_c.specs.Calls.{end_of, ends_in, ends_of, ends_behind, start_in, with_front}
-use Rattle.store_c.specs.Writing.{memory, Holds, PutsBlocks, IsOther}
+use Rattle.store_c.specs.Writing.{memory, Holds, PutsBlocks, IsOther, HasNumbersWith}
 use Rattle.store_c.proofs.TableLemmas.{zero_block, length-front}
 use Rattle.store_c.proofs.MemoryLemmas.{has_finished, open_at, none_pending}
 
@@ -60,6 +60,14 @@ pub rows_fit : (writer : Writer) (table : List Block) → length table < writer.
 rows_fit writer table short starts text w h =
     let size = length-map (checkpoints_of w.output.finished) ends_of in
     omega (arith, h.blocks, ap length h.rows, length-checkpoints 0 0 w.output.finished, size, length-take (length w.output.finished) (ends_in table), length-map table end_of)
+
+-- the documents behind those of the rows can be numbered
+pub numbers_with : (view : Viewing) (writer : Writer) (table : List Block) (start : BlockEnd) → writer.docs ≡ 0 → start ≡ start_in zero_block (ends_in table) writer.blocks
+    → start.end_doc + count_in view < 2 ^ 32 → HasNumbersWith view writer table
+numbers_with view writer table start closed from few starts text w h =
+    let m = memory writer starts table in
+    let doc = ap (λ (b : BlockEnd). b.end_doc) (from ∙ open_at m w (has_finished m text w h)) in
+    omega (arith, doc, few, closed, h.docs)
 
 -- ---- the table with more rows
 

@@ -1,5 +1,5 @@
 -- What the calls of C are answered.
-use Rattle.std.specs.Prelude.{◌≡◌, ℕ, zero, suc, ◌+◌, ◌<◌, ◌≤◌, List, [], ◌∷◌, ◌++◌}
+use Rattle.std.specs.Prelude.{◌≡◌, ◌⊎◌, ℕ, zero, suc, ◌+◌, ◌<◌, ◌≤◌, List, [], ◌∷◌, ◌++◌}
 use Rattle.std.specs.Prelude.{length, take, drop, map}
 use Rattle.std.specs.Prelude.{slice_get, slice_range, Option, Some, None, IfSome}
 use Rattle.layered_index.specs.declared.index.Checkpoint.{Checkpoint}
@@ -15,7 +15,8 @@ use Rattle.store_c.specs.declared.block.Block.{Block}
 use Rattle.store_c.specs.declared.block.BlockEnd.{BlockEnd}
 use Rattle.store_c.specs.declared.place.Place.{Place}
 use Rattle.store_c.specs.declared.refusal.Refusal.{Refusal}
-use Rattle.store_c.specs.declared.refusal.Refusal.TheVariants.{NoDocument, Damaged, OtherTable}
+use Rattle.store_c.specs.declared.refusal.Refusal.TheVariants.{NoDocument, Damaged, NoRoom, OtherTable}
+use Rattle.store_c.specs.declared.refusal.Refusal.TheVariants.{TailTooShort, OtherBlock}
 
 -- ---- tables
 
@@ -68,6 +69,17 @@ pub record Fills (file : List ℕ) (old new : List Block) (count num_docs : ℕ)
   pub filled : ends_in new ≡ with_front (map ends_of (checkpoints_of view.store)) (ends_in old)
   pub behind : drop count new ≡ drop count old
 
+-- These bytes are the file of a store, which has so many blocks and documents.
+pub record HasCounts (file : List ℕ) (count num_docs : ℕ) : Type 0 where
+  pub view : Viewing
+  pub of : IsViewOf file view
+  pub blocks : count ≡ length (checkpoints_of view.store)
+  pub docs : num_docs ≡ count_in view
+
+-- what a call returns that needs this much room: 0 if there is as much, and otherwise 32
+abbrev pub IsByRoom : ℕ → ℕ → ℕ → Type 0
+IsByRoom result need room = ((result ≡ 0) × (need ≤ room)) ⊎ ((result ≡ 32) × (room < need))
+
 -- The refusal with this number is the first of these bytes, and they are no store's.
 pub record RefusesFile (file : List ℕ) (number : ℕ) : Type 0 where
   pub error : StoreError
@@ -99,6 +111,15 @@ pub record IsPlace (file : List ℕ) (table : List Block) (id : ℕ) (p : Place)
 abbrev pub ArePlaces : List ℕ → List Block → ℕ → List Place → ℕ → Type 0
 ArePlaces file table first places count =
     (j : ℕ) → j < count → IfSome (slice_get places j) (IsPlace file table (first + j))
+
+-- the number that C is given
+abbrev pub refusal_number : Refusal → ℕ
+refusal_number NoDocument = 6
+refusal_number Damaged = 7
+refusal_number NoRoom = 32
+refusal_number OtherTable = 33
+refusal_number TailTooShort = 36
+refusal_number OtherBlock = 37
 
 -- why there is no document, if the table is that of these bytes; or it is not
 abbrev pub RefusesDocument : List ℕ → List Block → ℕ → Refusal → Type 0

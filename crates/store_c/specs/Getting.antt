@@ -1,9 +1,12 @@
 -- What the calls that read without opening are answered, by the bytes of the file alone.
 use Rattle.std.specs.Prelude.{◌≡◌, ◌⊎◌, ℕ, ◌+◌, ◌<◌, ◌≤◌, List, length, slice_get, slice_range, IfSome}
+use Rattle.store_base.specs.Outcome.{number_of}
+use Rattle.store_format.specs.declared.footer.DocStoreFooter.{DocStoreFooter}
 use Rattle.std.specs.declared.result.Result.TheVariants.{Ok, Err}
 use Rattle.store_base.specs.declared.error.StoreError.{StoreError}
 use Rattle.store_reader.specs.Opening.{IsSomeStore}
 use Rattle.store_reader.specs.StoreSlices.{document_in, IsBlockSlice, RefusesOne}
+use Rattle.store_reader.specs.Viewing.{FindsFooter}
 use Rattle.store_c.specs.declared.place.Place.{Place}
 use Rattle.store_c.specs.Calls.{RefusesFile}
 
@@ -34,3 +37,19 @@ pub record HasBlock (file : List ℕ) (first end start : ℕ) (block : List ℕ)
 -- index was found damaged.
 abbrev pub RefusesUnopened : List ℕ → ℕ → Type 0
 RefusesUnopened file number = RefusesFile file number ⊎ ((number ≡ 5) × (IsSomeStore file → ⊥))
+
+-- The footer at the end of these bytes is refused by this number.
+pub record RefusesFooter (tail : List ℕ) (number : ℕ) : Type 0 where
+  pub error : StoreError
+  pub is : number ≡ number_of error
+  pub finds : FindsFooter tail (Err error)
+
+-- The footer at the end of these bytes says that the index begins after the footer's first byte, in a file of this length.
+pub record HasFarOffset (file_len : ℕ) (tail : List ℕ) : Type 0 where
+  pub footer : DocStoreFooter
+  pub finds : FindsFooter tail (Ok footer)
+  pub past : file_len < footer.offset + 28
+
+-- The footer is refused by this number, or the offset in it is, by 4.
+abbrev pub RefusesHead : ℕ → List ℕ → ℕ → Type 0
+RefusesHead file_len tail number = RefusesFooter tail number ⊎ ((number ≡ 4) × HasFarOffset file_len tail)

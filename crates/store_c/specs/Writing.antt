@@ -1,5 +1,5 @@
 -- What the caller's memory has of a store that is written, and what the calls make of it.
-use Rattle.std.specs.Prelude.{◌≡◌, ◌≢◌, ◌⊎◌, ℕ, ◌+◌, ◌-◌, ◌*◌, ◌<◌, ◌≤◌, ◌^◌, List, [], ◌++◌}
+use Rattle.std.specs.Prelude.{◌≡◌, ◌≢◌, ◌⊎◌, ◌↔◌, ℕ, ◌+◌, ◌-◌, ◌*◌, ◌<◌, ◌≤◌, ◌^◌, List, [], ◌∷◌, ◌++◌}
 use Rattle.std.specs.Prelude.{length, take, map, None}
 use Rattle.std.specs.List.{flat_map, concat}
 use Rattle.layered_index.specs.declared.index.Checkpoint.{Checkpoint}
@@ -23,8 +23,8 @@ use Rattle.store_c.specs.declared.writer.Writer.{Writer}
 use Rattle.store_c.specs.declared.writer_refusal.WriterRefusal.{WriterRefusal}
 use Rattle.store_c.specs.declared.writer_refusal.WriterRefusal.TheVariants.{NoMemory, OldVersion, BlockTooLarge}
 use Rattle.store_c.specs.declared.writer_refusal.WriterRefusal.TheVariants.{TooManyDocs, NoRoom, OpenBlock}
-use Rattle.store_c.specs.declared.writer_refusal.WriterRefusal.TheVariants.{OtherWriter}
-use Rattle.store_c.specs.Calls.{ends_of, ends_in}
+use Rattle.store_c.specs.declared.writer_refusal.WriterRefusal.TheVariants.{OtherWriter, BadPeriod}
+use Rattle.store_c.specs.Calls.{ends_of, ends_in, start_in}
 
 -- ---- memory
 
@@ -99,19 +99,43 @@ pub record IsFileOf (period : ℕ) (bytes : List ℕ) (w : Writing) : Type 0 whe
   pub file : bytes ≡ file period 3 w.output.finished
   pub store : IsStore period bytes 3 w.output.finished
 
+-- These bytes are the index and the footer of blocks that end so.
+pub record IsEndOf (period : ℕ) (ends : List BlockEnd) (end : List ℕ) : Type 0 where
+  pub checkpoints : List Checkpoint
+  pub in_line : IsInLineFrom 0 0 checkpoints
+  pub ends_are : ends ≡ map ends_of checkpoints
+  pub is : end ≡ index_part period checkpoints ++ footer 3 (bytes_end 0 checkpoints) 0 (reserved_of period 3)
+
 -- Behind what was written these bytes make the file.
 abbrev pub EndsFile : ℕ → List ℕ → Writer → List Block → Type 0
 EndsFile period end writer table =
     (starts : List ℕ) (written : List ℕ) (w : Writing) → Holds (memory writer starts table) written w
     → IsFileOf period (written ++ end) w
 
--- What makes the file behind what was written has this length.
+-- What makes the file behind what was written has this length: the index and the footer of the writer's rows, where no
+-- block is open.
 pub record HasEnd (period len : ℕ) (writer : Writer) (table : List Block) : Type 0 where
+  pub least : 2 ≤ period
+  pub most : period ≤ 64
+  pub none_open : writer.docs ≡ 0
+  pub rows : writer.blocks ≤ length table
   pub end : List ℕ
+  pub is : IsEndOf period (take writer.blocks (ends_in table)) end
   pub size : length end ≡ len
   pub ends : EndsFile period end writer table
 
 -- ---- refusals
+
+-- the number that C is given
+abbrev pub writer_number : WriterRefusal → ℕ
+writer_number NoMemory = 10
+writer_number OldVersion = 11
+writer_number BlockTooLarge = 13
+writer_number TooManyDocs = 14
+writer_number BadPeriod = 16
+writer_number NoRoom = 32
+writer_number OpenBlock = 34
+writer_number OtherWriter = 35
 
 -- The block of the open documents with one of this length has no place in 32 bits.
 abbrev pub IsTooLong : ℕ → Memory → Type 0
@@ -134,19 +158,54 @@ HasTooManyWith view writer table =
     (starts : List ℕ) (written : List ℕ) (w : Writing) → Holds (memory writer starts table) written w
     → 2 ^ 32 ≤ num_docs w + count_in view
 
--- why a document of this length isn't put
+-- A block that begins here and has so many documents of so many bytes ends here, and has its place in 32 bits.
+pub record EndsAt (start : BlockEnd) (docs bytes : ℕ) (end : BlockEnd) : Type 0 where
+  pub doc : end.end_doc ≡ start.end_doc + docs
+  pub byte : end.end_byte ≡ start.end_byte + (bytes + 4 * docs + 4)
+  pub few_docs : start.end_doc + docs < 2 ^ 32
+  pub few_bytes : bytes + 4 * docs + 4 < 2 ^ 32
+  pub place : end.end_byte < 2 ^ 64
+
+-- where the open block begins
+abbrev pub open_start : Memory → BlockEnd
+open_start m = start_in (record { end_doc = 0; end_byte = 0 }) (ends_in m.table) m.writer.blocks
+
+-- The open block ends nowhere.
+abbrev pub HasNoEnd : Memory → Type 0
+HasNoEnd m = (end : BlockEnd) → EndsAt (open_start m) m.writer.docs m.writer.bytes end → ⊥
+
+-- There is no room for this many more starts, or for one more row.
+abbrev pub LacksRoom : ℕ → Memory → Type 0
+LacksRoom more m = (length m.starts < m.writer.docs + more) ⊎ (length m.table ≤ m.writer.blocks)
+
+-- There is room for this many more starts, and for one more row.
+abbrev pub HasRoom : ℕ → Memory → Type 0
+HasRoom more m = (m.writer.docs + more ≤ length m.starts) × (m.writer.blocks < length m.table)
+
+-- why a document of this length isn't put: the first of the causes
 abbrev pub RefusesLength : ℕ → Memory → WriterRefusal → Type 0
-RefusesLength len m NoRoom = (length m.starts < m.writer.docs + 2) ⊎ (length m.table ≤ m.writer.blocks)
-RefusesLength len m TooManyDocs = HasNoNumber m
-RefusesLength len m BlockTooLarge = IsTooLong len m
+RefusesLength len m NoRoom = LacksRoom 2 m
+RefusesLength len m TooManyDocs = HasRoom 2 m × HasNoNumber m
+RefusesLength len m BlockTooLarge = HasRoom 2 m × IsTooLong len m
 RefusesLength len m _ = ⊥
 
--- why the open block isn't ended
+-- There is room for a document of this length, a number for it, and a place in 32 bits for its block.
+pub record TakesLength (len : ℕ) (m : Memory) : Type 0 where
+  pub room : HasRoom 2 m
+  pub number : (written : List ℕ) (w : Writing) → Holds m written w → num_docs w < 2 ^ 32 - 1
+  pub place : (written : List ℕ) (w : Writing) (document : List ℕ) → length document ≡ len → Holds m written w
+      → length (block (w.pending ++ document ∷ [])) < 2 ^ 32
+
+-- why the open block isn't ended: the first of the causes
 abbrev pub RefusesBlock : Memory → WriterRefusal → Type 0
-RefusesBlock m NoRoom =
-    (0 < m.writer.docs) × ((length m.starts ≤ m.writer.docs) ⊎ (length m.table ≤ m.writer.blocks))
-RefusesBlock m OtherWriter = IsOther m.writer m.table
+RefusesBlock m NoRoom = (0 < m.writer.docs) × LacksRoom 1 m
+RefusesBlock m OtherWriter = (0 < m.writer.docs) × HasRoom 1 m × HasNoEnd m
 RefusesBlock m _ = ⊥
+
+-- There is no open block; or there is room for its table and one more row, and a place at which it ends.
+abbrev pub TakesBlock : Memory → Type 0
+TakesBlock m = (m.writer.docs ≡ 0)
+    ⊎ (HasRoom 1 m × ((end : BlockEnd) × EndsAt (open_start m) m.writer.docs m.writer.bytes end))
 
 -- These bytes are the file of a store, and this is so of it.
 pub record RefusesStore (bytes : List ℕ) (Why : Viewing → Type 0) : Type 0 where
@@ -154,23 +213,38 @@ pub record RefusesStore (bytes : List ℕ) (Why : Viewing → Type 0) : Type 0 w
   pub of : IsViewOf bytes view
   pub why : Why view
 
--- why the blocks of a store aren't put behind these
+-- The number comes exactly where the bytes are the file of a store, and this is so of it; memory aside.
+abbrev pub ComesFor : ℕ → ℕ → List ℕ → (Viewing → Type 0) → Type 0
+ComesFor number result bytes Why = result ≢ 10 → (result ≡ number) ↔ RefusesStore bytes Why
+
+-- The store's documents are in no older form, and no block is open before them.
+abbrev pub MayFollow : Viewing → Writer → Type 0
+MayFollow view writer = (view.version ≢ V1) × (writer.docs ≡ 0)
+
+-- The documents of both can be numbered.
+abbrev pub HasNumbersWith : Viewing → Writer → List Block → Type 0
+HasNumbersWith view writer table =
+    (starts : List ℕ) (written : List ℕ) (w : Writing) → Holds (memory writer starts table) written w
+    → num_docs w + count_in view < 2 ^ 32
+
+-- why the blocks of a store aren't put behind these: the first of the causes
 abbrev pub RefusesBlocks : Viewing → Writer → List Block → WriterRefusal → Type 0
 RefusesBlocks view writer table OldVersion = view.version ≡ V1
-RefusesBlocks view writer table OpenBlock = 0 < writer.docs
-RefusesBlocks view writer table TooManyDocs = HasTooManyWith view writer table
-RefusesBlocks view writer table OtherWriter = IsOther writer table
-RefusesBlocks view writer table NoRoom = length table < writer.blocks + length (checkpoints_of view.store)
+RefusesBlocks view writer table OpenBlock = (view.version ≢ V1) × (0 < writer.docs)
+RefusesBlocks view writer table TooManyDocs = MayFollow view writer × HasTooManyWith view writer table
+RefusesBlocks view writer table OtherWriter = MayFollow view writer × IsOther writer table
+RefusesBlocks view writer table NoRoom =
+    MayFollow view writer × HasNumbersWith view writer table
+    × (length table < writer.blocks + length (checkpoints_of view.store))
 RefusesBlocks view writer table _ = ⊥
 
--- ---- blocks and their ends
+-- The blocks of a store may follow these: they have numbers, and there is room for their rows.
+pub record TakesBlocks (view : Viewing) (writer : Writer) (table : List Block) : Type 0 where
+  pub may : MayFollow view writer
+  pub numbers : HasNumbersWith view writer table
+  pub room : writer.blocks + length (checkpoints_of view.store) ≤ length table
 
--- A block that begins here and has so many documents of so many bytes ends here, and has its place in 32 bits.
-pub record EndsAt (start : BlockEnd) (docs bytes : ℕ) (end : BlockEnd) : Type 0 where
-  pub doc : end.end_doc ≡ start.end_doc + docs
-  pub byte : end.end_byte ≡ start.end_byte + (bytes + 4 * docs + 4)
-  pub few_docs : start.end_doc + docs < 2 ^ 32
-  pub few_bytes : bytes + 4 * docs + 4 < 2 ^ 32
+-- ---- blocks and their ends
 
 -- why there is no such place
 abbrev pub RefusesEnd : BlockEnd → ℕ → ℕ → WriterRefusal → Type 0
@@ -190,13 +264,7 @@ pub record IsIndexOf (period : ℕ) (ends : List BlockEnd) (index : Index) : Typ
   pub ends_are : map ends_of index.checkpoints ≡ ends
   pub in_line : IsInLineFrom 0 0 index.checkpoints
 
--- the index and the footer of blocks that end so, if blocks can
-abbrev pub IsEndOf : ℕ → List BlockEnd → List ℕ → Type 0
-IsEndOf period ends end =
-    (cs : List Checkpoint) → IsInLineFrom 0 0 cs → ends ≡ map ends_of cs
-    → end ≡ index_part period cs ++ footer 3 (bytes_end 0 cs) 0 (reserved_of period 3)
-
--- why there is none: no blocks end so, or memory ran out
+-- why there is no index: no blocks end so, or memory ran out
 abbrev pub RefusesIndex : List BlockEnd → WriterRefusal → Type 0
 RefusesIndex ends OtherWriter = (cs : List Checkpoint) → IsInLineFrom 0 0 cs → ends ≡ map ends_of cs → ⊥
 RefusesIndex ends NoMemory = Unit {0}

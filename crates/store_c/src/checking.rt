@@ -4,6 +4,7 @@ ghost use Rattle.store_format.specs.Block.{damaged};
 ghost use Rattle.store_reader.specs.Viewing.{slot_of};
 ghost use Rattle.store_c.specs.Calls.{RefusesFile};
 ghost use Rattle.store_c.specs.Checking.{AreWholeTo, IsSound, IsFirstDamaged, IsIndexFault};
+ghost use Rattle.store_c.specs.declared.fault.Fault.{Fault as FaultOf};
 
 use crate::fault::{Fault, LAYER_COVER, LAYER_LIST};
 use std::alloc::Global;
@@ -64,12 +65,14 @@ fn index_fault(alloc: Global, file: &[u8]) -> Result<Fault, StoreError>
 /// runs out. The other numbers of a fault that is set are 0. Any other error leaves `fault`.
 #[unsafe(no_mangle)]
 pub extern "C" fn zevk_check(alloc: Global, file: &[u8], fault: &mut Fault) -> u32
-    ensures done { result ≡ 0 → IsSound file.now }
+    ensures done { result ≢ 10 → result ≡ 0 ↔ IsSound file.now }
 
     // Each refusal.
     ensures index { result ≡ 5 → IsIndexFault file.now fault.new }
     ensures damaged { result ≡ 7 → IsFirstDamaged file.now fault.new }
+    ensures found { (at : FaultOf) → IsFirstDamaged file.now at → result ≢ 10 → (result ≡ 7) × (fault.new ≡ at) }
     ensures refused { result ≢ 0 → result ≢ 7 → result ≢ 10 → RefusesFile file.now result }
+    ensures first { (number : ℕ) → RefusesFile file.now number → number ≢ 10 → result ≢ 10 → result ≡ number }
 
     ensures kept { result ≢ 5 → result ≢ 7 → fault.new ≡ fault.old }
 {

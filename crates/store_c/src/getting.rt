@@ -1,11 +1,12 @@
 //! Reading without opening, as C calls it: by the bytes of the file alone. There is no table, no handle, and nothing to
 //! close, and no memory is taken.
-ghost use Rattle.std.specs.Prelude.{◌≡◌, ◌≢◌, ◌≤◌, ◌<◌, ◌+◌, ◌^◌, ◌⊎◌, ℕ, List, length, drop, MatchResult, MatchOption};
+ghost use Rattle.std.specs.Prelude.{◌≡◌, ◌≢◌, ◌≤◌, ◌<◌, ◌+◌, ◌^◌, ◌⊎◌, ◌↔◌, ℕ, List, length, drop, Err};
+ghost use Rattle.std.specs.Prelude.{MatchResult, MatchOption};
 ghost use Rattle.store_base.specs.declared.error.StoreError.TheVariants.{InvalidArgument, DamagedDocument};
 ghost use Rattle.store_reader.specs.Opening.{IsSomeStore};
-ghost use Rattle.store_reader.specs.StoreSlices.{count_of_store};
-ghost use Rattle.store_c.specs.Getting.{IsPlaceIn, ArePlacesIn, IsRefusedIn, RefusesGet};
-ghost use Rattle.store_c.specs.Getting.{HasBlock, RefusesUnopened};
+ghost use Rattle.store_reader.specs.StoreSlices.{document_in, count_of_store};
+ghost use Rattle.store_c.specs.Getting.{IsPlaceIn, ArePlacesIn, RefusesGet, HasBlock};
+ghost use Rattle.store_c.specs.Getting.{RefusesUnopened, RefusesHead};
 
 use crate::place::Place;
 use std::alloc::Global;
@@ -120,9 +121,12 @@ pub extern "C" fn zevk_get(alloc: Global, file: &[u8], doc_id: u32, place: &mut 
     ensures done { result ≡ 0 → IsPlaceIn file.now doc_id place.new }
 
     // Each refusal.
-    ensures no_document { result ≡ 6 → IsRefusedIn file.now doc_id (InvalidArgument doc_id) }
-    ensures damaged { result ≡ 7 → IsRefusedIn file.now doc_id (DamagedDocument doc_id) }
+    ensures no_document { (s : IsSomeStore file.now)
+        → result ≡ 6 ↔ document_in file.now s doc_id ≡ Err (InvalidArgument doc_id) }
+    ensures damaged { (s : IsSomeStore file.now)
+        → result ≡ 7 ↔ document_in file.now s doc_id ≡ Err (DamagedDocument doc_id) }
     ensures no_store { result ≢ 0 → result ≢ 6 → result ≢ 7 → RefusesUnopened file.now result }
+    ensures head { (number : ℕ) → RefusesHead (length file.now) file.now number → result ≡ number }
 
     ensures no_memory { result ≢ 10 }
     ensures kept { result ≢ 0 → place.new ≡ place.old }
@@ -158,9 +162,12 @@ pub extern "C" fn zevk_get_run(
     ensures stops { result ≢ 0 → IsSomeStore file.now → count.new < length places.old }
 
     // Each refusal.
-    ensures no_document { result ≡ 6 → IsRefusedIn file.now (first + count.new) (InvalidArgument (first + count.new)) }
-    ensures damaged { result ≡ 7 → IsRefusedIn file.now (first + count.new) (DamagedDocument (first + count.new)) }
+    ensures no_document { (s : IsSomeStore file.now) → result ≡ 6 ↔ (count.new < length places.old)
+        × (document_in file.now s (first + count.new) ≡ Err (InvalidArgument (first + count.new))) }
+    ensures damaged { (s : IsSomeStore file.now) → result ≡ 7 ↔ (count.new < length places.old)
+        × (document_in file.now s (first + count.new) ≡ Err (DamagedDocument (first + count.new))) }
     ensures no_store { result ≢ 0 → result ≢ 6 → result ≢ 7 → RefusesUnopened file.now result }
+    ensures head { (number : ℕ) → RefusesHead (length file.now) file.now number → result ≡ number }
 
     ensures no_memory { result ≢ 10 }
     ensures kept { drop count.new places.new ≡ drop count.new places.old }
@@ -186,6 +193,7 @@ pub extern "C" fn zevk_get_run(
 pub extern "C" fn zevk_num_docs(alloc: Global, file: &[u8], num_docs: &mut u32) -> u32
     ensures done { result ≡ 0 → (s : IsSomeStore file.now) → num_docs.new ≡ count_of_store file.now s }
     ensures refused { result ≢ 0 → RefusesUnopened file.now result }
+    ensures head { (number : ℕ) → RefusesHead (length file.now) file.now number → result ≡ number }
     ensures no_memory { result ≢ 10 }
     ensures kept { result ≢ 0 → num_docs.new ≡ num_docs.old }
 {

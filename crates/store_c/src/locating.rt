@@ -96,7 +96,7 @@ pub(crate) fn places_from(
     ensures found { ArePlaces file.now table.now first places.new result.0 }
     ensures room { result.0 ≤ length places.old }
     ensures next { MatchOption result.1 (result.0 ≡ length places.old)
-        (RefusesDocument file.now table.now (first + result.0)) }
+        (λ e. (result.0 < length places.old) × RefusesDocument file.now table.now (first + result.0) e) }
     ensures kept { drop result.0 places.new ≡ drop result.0 places.old }
 {
     let left = num_docs(table).saturating_sub(first) as usize;

@@ -1,8 +1,8 @@
 //! The open block of a store that is written.
-ghost use Rattle.std.specs.Prelude.{◌≡◌, ◌+◌, ◌*◌, ◌<◌, ◌≤◌, ◌^◌, ◌⊎◌, length, set, IfOk, IfErr, OnErr};
+ghost use Rattle.std.specs.Prelude.{◌≡◌, ◌+◌, ◌*◌, ◌<◌, ◌≤◌, ◌^◌, ◌⊎◌, length, set, IfOk, IfErr, OnOk, OnErr};
 ghost use Rattle.store_c.specs.Calls.{row_of};
-ghost use Rattle.store_c.specs.Writing.{memory, EndsAt, RefusesEnd, PutsDocument, EndsBlock, RefusesLength};
-ghost use Rattle.store_c.specs.Writing.{RefusesBlock};
+ghost use Rattle.store_c.specs.Writing.{memory, EndsAt, RefusesEnd, PutsDocument, EndsBlock};
+ghost use Rattle.store_c.specs.Writing.{RefusesLength, TakesLength, RefusesBlock, TakesBlock};
 
 use crate::block::{Block, BlockEnd};
 use crate::table::start_of;
@@ -75,6 +75,7 @@ pub(crate) fn put(
     ensures put { IfOk result (λ count. PutsDocument len count (memory writer.old starts.old table.old)
         (memory writer.new starts.new table.new)) }
     ensures count { IfOk result (λ count. count ≤ length starts.old) }
+    ensures takes { OnOk result (TakesLength len (memory writer.old starts.old table.old)) }
     ensures refused { IfErr result (RefusesLength len (memory writer.old starts.old table.old)) }
     ensures kept { OnErr result (memory writer.new starts.new table.new ≡ memory writer.old starts.old table.old) }
 {
@@ -103,6 +104,7 @@ pub(crate) fn end_block(
     ensures ended { IfOk result (λ count. EndsBlock count (memory writer.old starts.old table.old)
         (memory writer.new starts.new table.new)) }
     ensures count { IfOk result (λ count. count ≤ length starts.old) }
+    ensures takes { OnOk result (TakesBlock (memory writer.old starts.old table.old)) }
     ensures refused { IfErr result (RefusesBlock (memory writer.old starts.old table.old)) }
     ensures kept { OnErr result (memory writer.new starts.new table.new ≡ memory writer.old starts.old table.old) }
 {

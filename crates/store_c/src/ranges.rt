@@ -1,10 +1,12 @@
 //! Reading a store whose file lies elsewhere, as C calls it: by the end of the file, and by the bytes of one block. No
 //! memory is taken.
-ghost use Rattle.std.specs.Prelude.{◌≡◌, ◌≢◌, ◌≤◌, ◌<◌, ◌+◌, ◌↔◌, ℕ, List, length};
+ghost use Rattle.std.specs.Prelude.{◌≡◌, ◌≢◌, ◌≤◌, ◌<◌, ◌+◌, ◌⊎◌, ◌↔◌, ℕ, List, length, Err};
 ghost use Rattle.store_base.specs.declared.error.StoreError.TheVariants.{InvalidArgument, DamagedDocument};
-ghost use Rattle.store_reader.specs.StoreTails.{IsWanted};
-ghost use Rattle.store_c.specs.Getting.{IsPlaceIn, IsRefusedIn};
-ghost use Rattle.store_c.specs.Ranges.{HasBlockAt, IsBlockPlace, IsRefusedByTail, RefusesTail, IsOtherBlock};
+ghost use Rattle.store_reader.specs.Opening.{IsSomeStore};
+ghost use Rattle.store_reader.specs.StoreSlices.{document_in};
+ghost use Rattle.store_reader.specs.StoreTails.{IsTailOf, IsWanted};
+ghost use Rattle.store_c.specs.Getting.{IsPlaceIn, RefusesHead};
+ghost use Rattle.store_c.specs.Ranges.{HasBlockAt, IsBlockPlace, RefusesTail, IsOtherBlock};
 
 use crate::block_place::BlockPlace;
 use crate::place::Place;
@@ -34,10 +36,15 @@ pub extern "C" fn zevk_block_of(
     ensures done { result ≡ 0 → IsBlockPlace file_len tail.now block.new }
 
     // Each refusal.
+    ensures too_long { (file_len < 28) ⊎ (file_len < length tail.now) → result ≡ 1 }
     ensures too_short { result ≡ 36 → IsWanted file_len tail.now wanted.new }
-    ensures no_document { result ≡ 6 → IsRefusedByTail file_len tail.now doc_id (InvalidArgument doc_id) }
-    ensures too_long { file_len < length tail.now → result ≡ 1 }
+    ensures wants { (n : ℕ) → IsWanted file_len tail.now n → (result ≡ 36) × (wanted.new ≡ n) }
+    ensures head { (number : ℕ) → 28 ≤ length tail.now → length tail.now ≤ file_len
+        → RefusesHead file_len tail.now number → result ≡ number }
+    ensures no_document { (file : List ℕ) → IsTailOf file file_len tail.now → (s : IsSomeStore file) → result ≢ 36
+        → result ≡ 6 ↔ document_in file s doc_id ≡ Err (InvalidArgument doc_id) }
     ensures no_store { result ≢ 0 → result ≢ 6 → result ≢ 36 → RefusesTail file_len tail.now result }
+    ensures no_memory { result ≢ 10 }
 
     ensures kept { result ≢ 0 → block.new ≡ block.old }
     ensures stays { result ≢ 36 → wanted.new ≡ wanted.old }
@@ -46,7 +53,7 @@ pub extern "C" fn zevk_block_of(
         Ok(store) => store,
         Err(TailError::Short(len)) => {
             *wanted = len;
-            return Refusal::TailTooShort as u32;
+            return Refusal::TailTooShort.number();
         }
         Err(TailError::Store(error)) => return error.number(),
     };
@@ -76,18 +83,18 @@ pub extern "C" fn zevk_get_in(block: &[u8], at: &BlockPlace, doc_id: u32, place:
     ensures done { result ≡ 0 → (file : List ℕ) → HasBlockAt file at.now block.now → IsPlaceIn file doc_id place.new }
 
     // Each refusal.
-    ensures damaged { result ≡ 7 → (file : List ℕ) → HasBlockAt file at.now block.now
-        → IsRefusedIn file doc_id (DamagedDocument doc_id) }
+    ensures damaged { (file : List ℕ) → HasBlockAt file at.now block.now → (s : IsSomeStore file) → result ≢ 37
+        → result ≡ 7 ↔ document_in file s doc_id ≡ Err (DamagedDocument doc_id) }
     ensures other_block { result ≡ 37 ↔ IsOtherBlock at.now block.now doc_id }
     ensures no_other { result ≢ 0 → result ≢ 7 → result ≡ 37 }
 
     ensures kept { result ≢ 0 → place.new ≡ place.old }
 {
     if doc_id < at.first_doc || at.end_doc <= doc_id {
-        return Refusal::OtherBlock as u32;
+        return Refusal::OtherBlock.number();
     }
     if block.len() != at.len || at.start > usize::MAX - at.len {
-        return Refusal::OtherBlock as u32;
+        return Refusal::OtherBlock.number();
     }
     let slice = BlockSlice {
         first: at.first_doc,

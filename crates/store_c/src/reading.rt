@@ -1,8 +1,8 @@
 //! Reading, as C calls it. A store is opened once, which fills a table of its blocks, and read from many times. Its
 //! bytes and the table stay the caller's, who passes them again at each call; nothing is kept of them.
-ghost use Rattle.std.specs.Prelude.{◌≡◌, ◌≢◌, ◌+◌, ◌<◌, ◌≤◌, ◌⊎◌, length, take, drop, None, Some};
+ghost use Rattle.std.specs.Prelude.{◌≡◌, ◌≢◌, ◌+◌, ◌<◌, ◌≤◌, ◌⊎◌, ◌↔◌, ℕ, length, take, drop, None, Some};
 ghost use Rattle.store_format.specs.Block.{damaged};
-ghost use Rattle.store_c.specs.Calls.{IsTableOf, Fills, IsPlace, ArePlaces, HasSlot, RefusesFile};
+ghost use Rattle.store_c.specs.Calls.{IsTableOf, Fills, HasCounts, IsByRoom, IsPlace, ArePlaces, HasSlot, RefusesFile};
 
 use crate::block::Block;
 use crate::filling::fill_table;
@@ -33,6 +33,9 @@ pub extern "C" fn zevk_open(
     // Each refusal.
     ensures no_room { result ≡ 32 → length table.old < count.new }
     ensures refused { result ≢ 0 → result ≢ 10 → result ≢ 32 → RefusesFile file.now result }
+    ensures first { (number : ℕ) → RefusesFile file.now number → number ≢ 10 → result ≢ 10 → result ≡ number }
+    ensures counts { (blocks docs : ℕ) → HasCounts file.now blocks docs → result ≢ 10
+        → (count.new ≡ blocks) × (num_docs.new ≡ docs) × IsByRoom result blocks (length table.old) }
 
     ensures stays { result ≢ 0 → result ≢ 32 → (table.new ≡ table.old) × (count.new ≡ count.old)
         × (num_docs.new ≡ num_docs.old) }
@@ -46,7 +49,7 @@ pub extern "C" fn zevk_open(
     if *count <= table.len() {
         DONE
     } else {
-        Refusal::NoRoom as u32
+        Refusal::NoRoom.number()
     }
 }
 
@@ -61,8 +64,8 @@ pub extern "C" fn zevk_locate(file: &[u8], table: &[Block], doc_id: u32, place: 
     ensures done { result ≡ 0 → IsPlace file.now table.now doc_id place.new }
 
     // Each refusal.
-    ensures no_document { result ≡ 6 → IsTableOf file.now table.now → HasSlot file.now doc_id None }
-    ensures damaged { result ≡ 7 → IsTableOf file.now table.now → HasSlot file.now doc_id (Some damaged) }
+    ensures no_document { IsTableOf file.now table.now → result ≡ 6 ↔ HasSlot file.now doc_id None }
+    ensures damaged { IsTableOf file.now table.now → result ≡ 7 ↔ HasSlot file.now doc_id (Some damaged) }
     ensures other_table { result ≡ 33 → IsTableOf file.now table.now → ⊥ }
     ensures no_other { result ≢ 0 → result ≢ 6 → result ≢ 7 → result ≡ 33 }
 
@@ -73,7 +76,7 @@ pub extern "C" fn zevk_locate(file: &[u8], table: &[Block], doc_id: u32, place: 
             *place = found;
             DONE
         }
-        Err(refusal) => refusal as u32,
+        Err(refusal) => refusal.number(),
     }
 }
 
@@ -93,9 +96,11 @@ pub extern "C" fn zevk_locate_run(
     ensures done { result ≡ 0 → count.new ≡ length places.old }
 
     // Each refusal.
-    ensures no_document { result ≡ 6 → IsTableOf file.now table.now → HasSlot file.now (first + count.new) None }
-    ensures damaged { result ≡ 7 → IsTableOf file.now table.now
-        → HasSlot file.now (first + count.new) (Some damaged) }
+    ensures stops { result ≢ 0 → count.new < length places.old }
+    ensures no_document { IsTableOf file.now table.now
+        → result ≡ 6 ↔ (count.new < length places.old) × HasSlot file.now (first + count.new) None }
+    ensures damaged { IsTableOf file.now table.now
+        → result ≡ 7 ↔ (count.new < length places.old) × HasSlot file.now (first + count.new) (Some damaged) }
     ensures other_table { result ≡ 33 → IsTableOf file.now table.now → ⊥ }
     ensures no_other { result ≢ 0 → result ≢ 6 → result ≢ 7 → result ≡ 33 }
 
@@ -104,7 +109,7 @@ pub extern "C" fn zevk_locate_run(
     let (found, refusal) = locating::places_from(file, table, first, places);
     *count = found;
     match refusal {
-        Some(refusal) => refusal as u32,
+        Some(refusal) => refusal.number(),
         None => DONE,
     }
 }

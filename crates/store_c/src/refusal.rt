@@ -1,4 +1,6 @@
 //! Why a call that reads was refused.
+ghost use Rattle.std.specs.Prelude.{◌≡◌};
+ghost use Rattle.store_c.specs.Calls.{refusal_number};
 
 /// Why a call that reads was refused, by the number that C is told. Up to 16 these are those of `StoreError`.
 #[derive(Clone, Copy, PartialEq, Eq)]
@@ -15,4 +17,13 @@ pub enum Refusal {
     TailTooShort = 36,
     /// The place is of no block with this document and so many bytes.
     OtherBlock = 37,
+}
+
+impl Refusal {
+    /// The number that C is given.
+    pub(crate) fn number(self) -> u32
+        ensures { result ≡ refusal_number self }
+    {
+        self as u32
+    }
 }

@@ -2,7 +2,7 @@
 ghost use Rattle.std.specs.Prelude.{◌≡◌, ◌≢◌, ◌≤◌, length, take, OnOk, IfErr, OnErr};
 ghost use Rattle.store_format.specs.StoreFile.{checkpoints_of};
 ghost use Rattle.store_format.specs.declared.version.DocStoreVersion.TheVariants.{V1};
-ghost use Rattle.store_c.specs.Writing.{PutsBlocks, RefusesBlocks};
+ghost use Rattle.store_c.specs.Writing.{PutsBlocks, RefusesBlocks, TakesBlocks};
 
 use crate::block::Block;
 use crate::filling::fill;
@@ -23,6 +23,7 @@ pub(crate) fn stack(
     ensures stacked { OnOk result (PutsBlocks view.now writer.old table.old writer.new table.new) }
     ensures version { OnOk result (view.now.version ≢ V1) }
     ensures count { OnOk result (count.new ≡ length (checkpoints_of view.now.store)) }
+    ensures takes { OnOk result (TakesBlocks view.now writer.old table.old) }
     ensures refused { IfErr result (RefusesBlocks view.now writer.old table.old) }
     ensures room { IfErr result (λ refusal. (refusal ≡ WriterRefusal.NoRoom
         → count.new ≡ length (checkpoints_of view.now.store)) × (refusal ≢ WriterRefusal.NoRoom

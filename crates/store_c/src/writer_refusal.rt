@@ -1,4 +1,6 @@
 //! Why a call that writes was refused.
+ghost use Rattle.std.specs.Prelude.{◌≡◌};
+ghost use Rattle.store_c.specs.Writing.{writer_number};
 
 /// Why a call that writes was refused, by the number that C is told. Up to 16 these are those of `StoreError`.
 #[derive(Clone, Copy, PartialEq, Eq)]
@@ -19,4 +21,13 @@ pub enum WriterRefusal {
     OpenBlock = 34,
     /// The writer's numbers and its table are not as these calls left them.
     OtherWriter = 35,
+}
+
+impl WriterRefusal {
+    /// The number that C is given.
+    pub(crate) fn number(self) -> u32
+        ensures { result ≡ writer_number self }
+    {
+        self as u32
+    }
 }

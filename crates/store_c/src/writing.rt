@@ -1,12 +1,14 @@
 //! Writing, as C calls it. A writer's numbers, the starts of the documents of its open block and the table of its
 //! blocks are the caller's memory, and so are the documents: the caller writes them, and what these calls tell to write
 //! behind them.
-ghost use Rattle.std.specs.Prelude.{◌≡◌, ◌≢◌, ◌⊎◌, ◌+◌, ◌<◌, ◌≤◌, length, take, drop};
+ghost use Rattle.std.specs.Prelude.{◌≡◌, ◌≢◌, ◌⊎◌, ◌↔◌, ◌+◌, ◌-◌, ◌^◌, ◌<◌, ◌≤◌, ℕ, List, length, take, drop};
 ghost use Rattle.store_format.specs.StoreFile.{checkpoints_of};
 ghost use Rattle.store_format.specs.declared.version.DocStoreVersion.TheVariants.{V1};
-ghost use Rattle.store_c.specs.Calls.{RefusesFile};
-ghost use Rattle.store_c.specs.Writing.{memory, Begins, PutsDocument, EndsBlock, PutsStore, EndsFile, HasEnd};
-ghost use Rattle.store_c.specs.Writing.{IsTooLong, HasNoNumber, IsOther, RefusesStore, HasTooManyWith};
+ghost use Rattle.store_reader.specs.Viewing.{count_in};
+ghost use Rattle.docstore.specs.Writer.{Writing, IsTooLarge, num_docs};
+ghost use Rattle.store_c.specs.Calls.{RefusesFile, IsByRoom};
+ghost use Rattle.store_c.specs.Writing.{memory, Holds, Begins, PutsDocument, EndsBlock, PutsStore, EndsFile, HasEnd};
+ghost use Rattle.store_c.specs.Writing.{LacksRoom, HasRoom, HasNoEnd, IsOther, MayFollow, RefusesStore, ComesFor};
 
 use crate::block::Block;
 use crate::ending::end_of_file;
@@ -35,8 +37,8 @@ pub extern "C" fn zevk_writer_begin(writer: &mut Writer, block_size: usize)
 /// Puts a document of so many bytes, which the caller writes behind what was written, and behind it the first `count`
 /// of the starts, four bytes each from the lowest on: none, or the table of the block that this document ends.
 ///
-/// It is refused by 14 where there is no number left for a document, by 13 where its block has no place in 32 bits, and
-/// by 32 where there is no room for two more starts or for one more block.
+/// It is refused by 32 where there is no room for two more starts or for one more block; then by 14 where there is no
+/// number left for a document; and then by 13 where its block has no place in 32 bits.
 #[unsafe(no_mangle)]
 pub extern "C" fn zevk_writer_put(
     writer: &mut Writer,
@@ -49,10 +51,13 @@ pub extern "C" fn zevk_writer_put(
         (memory writer.new starts.new table.new) }
     ensures count { result ≡ 0 → count.new ≤ length starts.old }
 
-    // Each refusal.
-    ensures too_large { result ≡ 13 → IsTooLong len (memory writer.old starts.old table.old) }
-    ensures too_many { result ≡ 14 → HasNoNumber (memory writer.old starts.old table.old) }
-    ensures no_room { result ≡ 32 → (length starts.old < writer.old.docs + 2) ⊎ (length table.old ≤ writer.old.blocks) }
+    // Each refusal, in the order in which they win.
+    ensures no_room { result ≡ 32 ↔ LacksRoom 2 (memory writer.old starts.old table.old) }
+    ensures too_many { (written : List ℕ) (w : Writing) → Holds (memory writer.old starts.old table.old) written w
+        → result ≡ 14 ↔ HasRoom 2 (memory writer.old starts.old table.old) × (num_docs w ≡ 2 ^ 32 - 1) }
+    ensures too_large { (written document : List ℕ) (w : Writing) → length document ≡ len
+        → Holds (memory writer.old starts.old table.old) written w
+        → result ≡ 13 ↔ HasRoom 2 (memory writer.old starts.old table.old) × IsTooLarge w document }
     ensures no_other { result ≢ 0 → result ≢ 13 → result ≢ 14 → result ≡ 32 }
 
     ensures stays { result ≢ 0 → (memory writer.new starts.new table.new ≡ memory writer.old starts.old table.old)
@@ -63,7 +68,7 @@ pub extern "C" fn zevk_writer_put(
             *count = starts;
             DONE
         }
-        Err(refusal) => refusal as u32,
+        Err(refusal) => refusal.number(),
     }
 }
 
@@ -83,9 +88,11 @@ pub extern "C" fn zevk_writer_end_block(
         (memory writer.new starts.new table.new) }
     ensures count { result ≡ 0 → count.new ≤ length starts.old }
 
-    // Each refusal.
-    ensures no_room { result ≡ 32 → (0 < writer.old.docs)
-        × ((length starts.old ≤ writer.old.docs) ⊎ (length table.old ≤ writer.old.blocks)) }
+    // Each refusal, in the order in which they win.
+    ensures no_room { result ≡ 32
+        ↔ (0 < writer.old.docs) × LacksRoom 1 (memory writer.old starts.old table.old) }
+    ensures no_end { result ≡ 35 ↔ (0 < writer.old.docs) × HasRoom 1 (memory writer.old starts.old table.old)
+        × HasNoEnd (memory writer.old starts.old table.old) }
     ensures other { result ≡ 35 → IsOther writer.old table.old }
     ensures no_other { result ≢ 0 → result ≢ 32 → result ≡ 35 }
 
@@ -97,17 +104,18 @@ pub extern "C" fn zevk_writer_end_block(
             *count = starts;
             DONE
         }
-        Err(refusal) => refusal as u32,
+        Err(refusal) => refusal.number(),
     }
 }
 
 /// Puts the blocks of the store whose file these bytes are behind those that were ended. The caller writes its data
 /// behind what was written: the first `len` bytes of the file. It has `count` blocks.
 ///
-/// It is refused by the number of the first refusal of the footer or the index, by 10 where memory runs out, by 11
-/// where its documents may be in an older form, by 34 where the open block has documents, by 14 where the documents of
-/// both can't be numbered, by 35 where the numbers are not as these calls left them, and by 32 where there is no room
-/// for so many blocks. Then `count` is told, and the rows behind those that were ended are anything.
+/// It is refused, in this order: by the number of the first refusal of the footer or the index, by 10 where memory runs
+/// out, by 11 where its documents may be in an older form, by 34 where the open block has documents, by 14 where the
+/// documents of both can't be numbered, and by 32 where there is no room for the rows of its blocks. Then `count` is
+/// set, and the rows after those that were ended may hold anything. It is refused by 35 only where the numbers are not
+/// as these calls left them.
 #[unsafe(no_mangle)]
 pub extern "C" fn zevk_writer_stack(
     alloc: Global,
@@ -120,15 +128,20 @@ pub extern "C" fn zevk_writer_stack(
     ensures stacked { result ≡ 0
         → PutsStore file.now len.new count.new writer.old table.old writer.new table.new }
 
-    // Each refusal.
-    ensures old_version { result ≡ 11 → RefusesStore file.now (λ view. view.version ≡ V1) }
-    ensures too_many { result ≡ 14 → RefusesStore file.now (λ view. HasTooManyWith view writer.old table.old) }
-    ensures open_block { result ≡ 34 → 0 < writer.old.docs }
-    ensures other { result ≡ 35 → IsOther writer.old table.old }
-    ensures no_room { result ≡ 32 → RefusesStore file.now (λ view. (count.new ≡ length (checkpoints_of view.store))
-        × (length table.old < writer.old.blocks + count.new)) }
+    // Each refusal, in the order in which they win.
     ensures refused { result ≢ 0 → result ≢ 10 → result ≢ 11 → result ≢ 14 → result ≢ 32 → result ≢ 34
         → result ≢ 35 → RefusesFile file.now result }
+    ensures first { (number : ℕ) → RefusesFile file.now number → number ≢ 10 → result ≢ 10 → result ≡ number }
+    ensures old_version { ComesFor 11 result file.now (λ view. view.version ≡ V1) }
+    ensures open_block { ComesFor 34 result file.now (λ view. (view.version ≢ V1) × (0 < writer.old.docs)) }
+    ensures too_many { (starts written : List ℕ) (w : Writing) → Holds (memory writer.old starts table.old) written w
+        → ComesFor 14 result file.now (λ view. MayFollow view writer.old × (2 ^ 32 ≤ num_docs w + count_in view)) }
+    ensures room { (starts written : List ℕ) (w : Writing) → Holds (memory writer.old starts table.old) written w
+        → ComesFor 32 result file.now (λ view. MayFollow view writer.old × (num_docs w + count_in view < 2 ^ 32)
+        × (length table.old < writer.old.blocks + length (checkpoints_of view.store))) }
+    ensures no_room { result ≡ 32 → RefusesStore file.now (λ view. (count.new ≡ length (checkpoints_of view.store))
+        × (length table.old < writer.old.blocks + count.new)) }
+    ensures other { result ≡ 35 → IsOther writer.old table.old }
 
     ensures kept { result ≢ 0 → (writer.new ≡ writer.old) × (len.new ≡ len.old) }
     ensures stays { result ≢ 0 → result ≢ 32 → (table.new ≡ table.old) × (count.new ≡ count.old) }
@@ -143,16 +156,17 @@ pub extern "C" fn zevk_writer_stack(
             *len = view.block_data().len();
             DONE
         }
-        Err(refusal) => refusal as u32,
+        Err(refusal) => refusal.number(),
     }
 }
 
 /// Gives what the caller writes behind what was written, and the file is whole: its index, with so many blocks in a
 /// block of it, and its footer. It tells how many bytes they have.
 ///
-/// It is refused by 16 where the period is below 2 or above 64, by 34 where the open block has documents, by 35 where
-/// the numbers or the table are not as these calls left them, by 10 where memory runs out, and by 32 where they have no
-/// room. Then exactly their length is told, so a second call with so much room is not refused by 32.
+/// It is refused, in this order: by 16 where the period is below 2 or above 64, by 34 where the open block has
+/// documents, by 35 where the numbers or the table are not as these calls left them, and by 32 where they have no room.
+/// Then exactly their length is set, so a second call with so much room is done. It is refused by 10 where memory runs
+/// out, before or in place of 35.
 #[unsafe(no_mangle)]
 pub extern "C" fn zevk_writer_close(
     alloc: Global,
@@ -165,12 +179,14 @@ pub extern "C" fn zevk_writer_close(
     ensures closed { result ≡ 0 → EndsFile period (take len.new end.new) writer.now table.now }
     ensures within { result ≡ 0 → len.new ≤ length end.old }
 
-    // Each refusal.
-    ensures bad_period { result ≡ 16 → (period < 2) ⊎ (64 < period) }
-    ensures open_block { result ≡ 34 → 0 < writer.now.docs }
+    // Each refusal, in the order in which they win.
+    ensures bad_period { result ≡ 16 ↔ (period < 2) ⊎ (64 < period) }
+    ensures open_block { result ≡ 34 ↔ (2 ≤ period) × (period ≤ 64) × (0 < writer.now.docs) }
     ensures other { result ≡ 35 → IsOther writer.now table.now }
     ensures no_room { result ≡ 32 → length end.old < len.new }
-    ensures exact { result ≡ 32 → HasEnd period len.new writer.now table.now }
+    ensures exact { (result ≡ 0) ⊎ (result ≡ 32) → HasEnd period len.new writer.now table.now }
+    ensures room { (n : ℕ) → HasEnd period n writer.now table.now → result ≢ 10
+        → (len.new ≡ n) × IsByRoom result n (length end.old) }
     ensures no_other { result ≢ 0 → result ≢ 10 → result ≢ 16 → result ≢ 32 → result ≢ 34 → result ≡ 35 }
 
     ensures stays { result ≢ 0 → end.new ≡ end.old }
@@ -178,23 +194,23 @@ pub extern "C" fn zevk_writer_close(
     ensures kept { result ≢ 0 → result ≢ 32 → len.new ≡ len.old }
 {
     if period < 2 || period > 64 {
-        return WriterRefusal::BadPeriod as u32;
+        return WriterRefusal::BadPeriod.number();
     }
     if writer.docs > 0 {
-        return WriterRefusal::OpenBlock as u32;
+        return WriterRefusal::OpenBlock.number();
     }
     let Some(ends) = table.get(..writer.blocks) else {
-        return WriterRefusal::OtherWriter as u32;
+        return WriterRefusal::OtherWriter.number();
     };
     let bytes = match end_of_file(alloc, ends, period) {
         Ok(bytes) => bytes,
-        Err(refusal) => return refusal as u32,
+        Err(refusal) => return refusal.number(),
     };
     *len = bytes.len();
     if bytes.len() <= end.len() {
         end[..bytes.len()].copy_from_slice(&bytes);
         DONE
     } else {
-        WriterRefusal::NoRoom as u32
+        WriterRefusal::NoRoom.number()
     }
 }

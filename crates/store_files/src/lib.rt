@@ -14,4 +14,4 @@ pub use disk_file::DiskFile;
 pub use disk_sink::DiskSink;
 pub use output_file::LockFile;
 pub use read_at::{OsFile, ReadAt};
-pub use whole::load;
+pub use whole::{load, read_all};

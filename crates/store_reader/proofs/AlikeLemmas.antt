@@ -141,13 +141,13 @@ footers_once b e d p q = (elim (nat_lt (length b) 28) as (λ y. nat_lt (length b
   | false ↦ λ t. let le = ltb-false _ _ t in says_once (slice_range b (length b - 28) (length b)) e d (p.long le) (q.long le)
 ]) refl
 
-footer_or_refusal : (b : List ℕ) (f : DocStoreFooter) (e : StoreError) → FindsFooter b (Ok f) → FindsFooter b (Err e) → ⊥
+pub footer_or_refusal : (b : List ℕ) (f : DocStoreFooter) (e : StoreError) → FindsFooter b (Ok f) → FindsFooter b (Err e) → ⊥
 footer_or_refusal b f e p q = (elim (nat_lt (length b) 28) as (λ y. nat_lt (length b) 28 ≡ y → ⊥) [
   | true ↦ λ t. let no = p.short (ltb-true _ _ t) in cc
   | false ↦ λ t. let le = ltb-false _ _ t in says_no_refusal (slice_range b (length b - 28) (length b)) f e (p.long le) (q.long le)
 ]) refl
 
-one_footer : (b : List ℕ) (f g : DocStoreFooter) → FindsFooter b (Ok f) → FindsFooter b (Ok g) → f.offset ≡ g.offset
+pub one_footer : (b : List ℕ) (f g : DocStoreFooter) → FindsFooter b (Ok f) → FindsFooter b (Ok g) → f.offset ≡ g.offset
 one_footer b f g p q = (elim (nat_lt (length b) 28) as (λ y. nat_lt (length b) 28 ≡ y → f.offset ≡ g.offset) [
   | true ↦ λ t. let no = p.short (ltb-true _ _ t) in absurd cc
   | false ↦ λ t. let le = ltb-false _ _ t in says_one (slice_range b (length b - 28) (length b)) f g (p.long le) (q.long le)
@@ -163,7 +163,7 @@ indexes_once b f g e d same p q = (elim (nat_lt (length b - 28) f.offset) as (λ
   ]
 ]) refl
 
-refused_once : (b : List ℕ) (e d : StoreError) → Finds b (Err e) → Finds b (Err d) → (d ≡ e) ⊎ (e ≡ Memory) ⊎ (d ≡ Memory)
+pub refused_once : (b : List ℕ) (e d : StoreError) → Finds b (Err e) → Finds b (Err d) → (d ≡ e) ⊎ (e ≡ Memory) ⊎ (d ≡ Memory)
 refused_once b e d p q = go p.footer q.footer p.reads q.reads p.goes_on q.goes_on
   where
     go : (said told : Result DocStoreFooter StoreError) → FindsFooter b said → FindsFooter b told → FindsFrom b said (Err e) → FindsFrom b told (Err d) → (d ≡ e) ⊎ (e ≡ Memory) ⊎ (d ≡ Memory)

@@ -15,6 +15,7 @@ use Rattle.store_reader.specs.StoreSlices.{IsLaidOut}
 use Rattle.store_format.specs.declared.version.DocStoreVersion.{DocStoreVersion}
 use Rattle.store_reader.specs.StoreTails.{TailBytes, IsTailOf, IsStoreTail, IsWanted, RefusesTail, TailsAreWantedOnce}
 use Rattle.store_reader.specs.Viewing.{FindsFooter}
+use Rattle.store_reader.proofs.AlikeLemmas.{one_footer}
 use Rattle.store_reader.proofs.RefusedLemmas.{parts_of, footer_of}
 use Rattle.store_reader.proofs.StoreSliceLemmas.{found_tail, laid_out, footer_no_store, offset_no_store, index_no_store, finds_footer, finds_past, finds_no_index}
 
@@ -139,6 +140,19 @@ wanted_index file_len tail f long few finds within lacks = record {
       let size = (parts_of file s).size in
       omega arith;
 }
+
+-- no bytes are wanted of a file that is shorter than a footer, or than the tail
+pub none_wanted : (file_len : ℕ) (tail : List ℕ) (wanted : ℕ) → (file_len < 28) ⊎ (file_len < length tail) → IsWanted file_len tail wanted → ⊥
+none_wanted file_len tail wanted why lacks =
+    let short = lacks.short in
+    let within = lacks.within in
+    elim why [ inl lt ↦ let is = lacks.footer (omega arith) in omega (arith, is) | inr lt ↦ omega arith ]
+
+-- those that are wanted are the rest of the file from the offset on
+pub wanted_from : (file_len : ℕ) (tail : List ℕ) (f : DocStoreFooter) (wanted : ℕ) → 28 ≤ length tail → FindsFooter tail (Ok f) → IsWanted file_len tail wanted → f.offset + wanted ≡ file_len
+wanted_from file_len tail f wanted long finds lacks =
+    let is = lacks.index long in
+    omega (arith, is.2, one_footer tail f is.0 finds is.1)
 
 -- the same footer begins the index at the same byte
 pub wanted_once : TailsAreWantedOnce

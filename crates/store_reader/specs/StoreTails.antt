@@ -32,6 +32,14 @@ pub record IsStoreTail (file_len : ℕ) (tail : List ℕ) (data_len : ℕ) (inde
   pub laid_out : (file : List ℕ) → IsTailOf file file_len tail → (s : IsSomeStore file)
       → IsLaidOut file data_len index (version_number version) s
 
+-- The footer at the end of these bytes is read, and the index begins where it says: in them, and before the footer of a
+-- file of this length.
+pub record HasIndexIn (file_len : ℕ) (tail : List ℕ) : Type 0 where
+  pub footer : DocStoreFooter
+  pub reads : FindsFooter tail (Ok footer)
+  pub within : footer.offset + 28 ≤ file_len
+  pub whole : file_len ≤ footer.offset + length tail
+
 -- The tail lacks bytes, and this many are enough: a footer's, or all from where the footer says that the index begins.
 pub record IsWanted (file_len : ℕ) (tail : List ℕ) (wanted : ℕ) : Type 0 where
   pub short : length tail < wanted

@@ -14,6 +14,7 @@ ghost use Rattle.store_reader.specs.Opening.{IsSomeStore};
 ghost use Rattle.store_reader.specs.Viewing.{Finds, given, placed_in};
 ghost use Rattle.store_reader.specs.StoreSlices.{document_in, count_of_store, IsBlockSlice, AreLeft, IsAmid};
 ghost use Rattle.store_reader.specs.StoreSlices.{RefusesOne, RefusesReading};
+ghost use Rattle.store_reader.specs.StoreTails.{HasIndexIn};
 
 use crate::alive_slice_documents::AliveSliceDocuments;
 use crate::block_slice::BlockSlice;
@@ -59,6 +60,7 @@ impl<'a> StoreSlice<'a> {
         ensures found { IfErr result (λ e. Finds file.entry.now (Err e)) }
         ensures refused { IfErr result (λ e. IsSomeStore file.entry.now → ⊥) }
         ensures causes { IfErr result (λ e. e ≢ StoreError.Memory) }
+        ensures index { IfOk result (λ _. HasIndexIn (length file.entry.now) file.entry.now) }
     {
         let footer = footer_of(alloc, file)?;
         let end = file.len() - FOOTER_LEN as usize;

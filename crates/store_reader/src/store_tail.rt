@@ -1,9 +1,10 @@
 //! A store of whose file only the end is at hand.
-ghost use Rattle.std.specs.Prelude.{◌≡◌, ◌≤◌, ◌<◌, ◌+◌, ◌⊎◌, ℕ, List, length, IfOk, IfErr, MatchResult, Some, None};
+ghost use Rattle.std.specs.Prelude.{◌≡◌, ◌≢◌, ◌≤◌, ◌<◌, ◌+◌, ◌⊎◌, ℕ, List, length, IfOk, IfErr, MatchResult};
+ghost use Rattle.std.specs.Prelude.{Some, None, Err};
 ghost use Rattle.layered_index.specs.Checkpoint.{first_past};
 ghost use Rattle.store_format.specs.StoreFile.{checkpoints_of};
 ghost use Rattle.store_reader.specs.Opening.{IsSomeStore};
-ghost use Rattle.store_reader.specs.StoreTails.{IsTailOf, RefusesEnd};
+ghost use Rattle.store_reader.specs.StoreTails.{IsTailOf, IsWanted, HasIndexIn, RefusesEnd};
 
 use crate::tail_error::TailError;
 use crate::view_opening::footer_of;
@@ -44,6 +45,11 @@ impl<'a> StoreTail<'a> {
         ensures ok { IfOk result (λ store. store ≡ record { file_len = file_len; bytes = tail.entry.now }) }
         ensures fits { IfOk result (λ _. length tail.entry.now ≤ file_len) }
         ensures refused { IfErr result (RefusesEnd file_len tail.entry.now) }
+
+        // What follows.
+        ensures index { IfOk result (λ _. HasIndexIn file_len tail.entry.now) }
+        ensures short { (wanted : ℕ) → IsWanted file_len tail.entry.now wanted → result ≡ Err (TailError.Short wanted) }
+        ensures causes { IfErr result (λ e. e ≢ TailError.Store StoreError.Memory) }
     {
         if file_len < FOOTER_LEN as usize || file_len < tail.len() {
             return Err(TailError::Store(StoreError::ShortFile(file_len as u64)));

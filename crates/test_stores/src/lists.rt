@@ -72,7 +72,7 @@ fn what_was_written_is_answered_with_every_capacity(rt: HostRuntime) -> Result<(
     let asked = written_and_asked(rt.alloc(), 0, 8, &schema, &mut commands, 0, 100, &calls)?;
     drop(commands);
     assert_eq!(rt; asked.results.as_slice(), RESULTS.as_slice());
-    assert!(rt; are_right(&asked.first) && are_right(&asked.second));
+    assert!(rt; are_right(&asked.first.answers) && are_right(&asked.second.answers));
     Ok(())
 }
 

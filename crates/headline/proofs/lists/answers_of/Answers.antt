@@ -2,9 +2,10 @@ use Rattle.std.proofs.Common.{◌≡◌, ℕ, List, map, sym, ap, ◌∙◌, sub
 use Rattle.std.specs.List.{AllByRecursion}
 use Rattle.store_base.specs.Files.{Part}
 use Rattle.store_base.specs.declared.error.StoreError.TheVariants.{Read, Memory}
-use Rattle.store_reader.specs.CallAnswers.{CanAnswer, HasRefusal, exact_results, results_of}
+use Rattle.store_reader.specs.CallAnswers.{CanAnswer, HasRefusal, exact_results, keys_of_calls, results_of}
+use Rattle.store_reader.specs.LookLaws.{AreLookUps}
 use Rattle.store_format.specs.Footer.{version_number}
-use Rattle.store_reader.specs.Reading.{Reading, store_of}
+use Rattle.store_reader.specs.Reading.{Reading, IsSameStore, store_of}
 use Rattle.store_format.specs.Slots.{slots}
 use Rattle.store_format.specs.StoreFile.{StoreBlock}
 use Rattle.headline.proofs.ListLemmas.{docs_seen}
@@ -18,7 +19,7 @@ answer_all-requires c =
     subst (λ (n : ℕ). AllByRecursion (CanAnswer n) c.args.calls.now) (sym (docs_seen r opened.seen)) (c.requires.sets r.period (version_number r.version) (store_of r) opened.store)
 
 pub returns-clause-exact : goal.returns-clause-exact
-returns-clause-exact c = λ period version bs store.
+returns-clause-exact c period version bs store =
     let r = c.in_ok-reader.reader in
     let opened = c.in_ok-reader.ensures in
     let answers = c.in_ok-answers.answers.items in
@@ -28,5 +29,12 @@ returns-clause-exact c = λ period version bs store.
     let none = ap (λ (p : Part). p.failures) file ∙ ap (λ (p : Part). p.failures) (sym c.reader-2.view_is) in
     let read : HasRefusal answers Read → ⊥ = λ h. no_rise _ _ opened.failures none (c.in_ok-answers.ensures.failed h) in
     let memory : HasRefusal answers Memory → ⊥ = λ h. let no = c.if-any_lacks_memory.ensures.1 (subst (λ xs. HasRefusal xs Memory) (sym c.deref.ensures.value) h) in cc in
-    subst (λ (xs : List StoreBlock). map results_of answers ≡ map (exact_results (slots xs)) c.args.calls.now) same
-    (c.answers_are_exact.ensures (slots (store_of r)) c.args.calls.now answers (c.in_ok-answers.ensures.answers opened.honest) read memory)
+    record {
+      opened = r;
+      store = opened.store;
+      cache = opened.cache;
+      same_store = subst (λ (x : Reading). IsSameStore r x) (sym c.of.ensures) c.in_ok-answers.ensures.same_store;
+      looks = subst (λ (x : Reading). AreLookUps (keys_of_calls r.checkpoints c.args.calls.now) r x) (sym c.of.ensures) c.in_ok-answers.ensures.looks;
+      answers = subst (λ (xs : List StoreBlock). map results_of answers ≡ map (exact_results (slots xs)) c.args.calls.now) same
+          (c.answers_are_exact.ensures (slots (store_of r)) c.args.calls.now answers (c.in_ok-answers.ensures.answers opened.honest) read memory);
+    }

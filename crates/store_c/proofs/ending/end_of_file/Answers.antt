@@ -4,17 +4,23 @@ use Rattle.std.proofs.lemmas.List.{length-map}
 use Rattle.docstore.proofs.PendingLemmas.{from_ok}
 use Rattle.store_c.specs.declared.block.BlockEnd.{BlockEnd}
 use Rattle.store_c.specs.Calls.{end_of, ends_in, start_in}
-use Rattle.store_c.proofs.EndLemmas.{same_blocks, last_byte}
+use Rattle.store_c.proofs.EndLemmas.{last_byte}
 use Rattle.store_c.proofs.ending.end_of_file.Goals as goal
 
 pub returns-clause-end : goal.returns-clause-end
-returns-clause-end c cs line ends =
+returns-clause-end c =
     let index = c.in_ok-index.ensures.index in
-    let same : c.in_ok-index.index.checkpoints ≡ cs = same_blocks 0 0 _ cs index.in_line line (index.ends_are ∙ ends) in
+    let cs = c.in_ok-index.index.checkpoints in
+    let ends = sym index.ends_are in
     let last : c.start_of-last.result.end_byte ≡ bytes_end 0 cs = ap (λ (b : BlockEnd). b.end_byte)
     (c.start_of-last.ensures ∙ ap (start_in _ (ends_in c.args.ends.now)) (sym (length-map c.args.ends.now end_of)))
     ∙ last_byte 0 0 cs (ends_in c.args.ends.now) ends in
     let first = from_ok c.serialize_into.result (sym c.if-is_err.ensures.value) c.serialize_into.ensures.ok in
     let second = from_ok c.serialize.result (sym c.if-is_err-2.ensures.value) c.serialize.ensures.ok in
     let f = c.with_period-footer.ensures in
-    rw (c.into_bytes.ensures, second, first, c.new-end.ensures.content, f.offset, f.decompressor, f.period, index.period_is, same, last) refl
+    record {
+      checkpoints = cs;
+      in_line = index.in_line;
+      ends_are = ends;
+      is = rw (c.into_bytes.ensures, second, first, c.new-end.ensures.content, f.offset, f.decompressor, f.period, index.period_is, last) refl;
+    }

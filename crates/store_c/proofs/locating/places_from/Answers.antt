@@ -21,11 +21,14 @@ loop-at-preserved c =
     }
 
 pub returns-then-room-places-clause-next : goal.returns-then-room-places-clause-next
-returns-then-room-places-clause-next c known =
+returns-then-room-places-clause-next c =
     let room = c.min-room.ensures in
     let left = c.saturating_sub-left.ensures in
     let few = c.if-room-places.true in
-    let size = c.loop-at.invariant.size in
-    let count = c.num_docs.ensures (checkpoints_of known.view.store) known.ends in
-    let past : docs_end 0 (checkpoints_of known.view.store) ≤ c.args.first + c.min-room.result = omega arith in
-    has_past c.args.file.now known.view known.of _ past
+    let size = c.loop-at.invariant.size in (
+      omega arith,
+      λ known.
+          let count = c.num_docs.ensures (checkpoints_of known.view.store) known.ends in
+          let past : docs_end 0 (checkpoints_of known.view.store) ≤ c.args.first + c.min-room.result = omega arith in
+          has_past c.args.file.now known.view known.of _ past,
+    )

@@ -1,4 +1,4 @@
-use Rattle.std.proofs.Common.{[], length, refl, ap, ◌∙◌, arith}
+use Rattle.std.proofs.Common.{[], length, refl, ap, ◌∙◌, arith, rules}
 use Rattle.docstore.proofs.TakenLemmas.{length-slots}
 use Rattle.store_format.specs.Footer.{version_number}
 use Rattle.store_format.specs.StoreFile.{IsStore}
@@ -7,7 +7,7 @@ use Rattle.store_c.specs.declared.block.BlockEnd.{BlockEnd}
 use Rattle.store_c.specs.Writing.{memory}
 use Rattle.store_c.proofs.TableViewLemmas.{no_more}
 use Rattle.store_c.proofs.MemoryLemmas.{has_finished, open_at}
-use Rattle.store_c.proofs.StackLemmas.{in_line_behind, rows_fit, has_place, stacked}
+use Rattle.store_c.proofs.StackLemmas.{in_line_behind, rows_fit, has_place, numbers_with, stacked}
 use Rattle.store_c.proofs.stacking.stack.Goals as goal
 
 -- a view is one of its own bytes
@@ -15,23 +15,28 @@ viewed : (v : Viewing) → IsStore v.period v.file (version_number v.version) v.
 viewed v store = record { file = refl; store = store }
 
 pub returns-then-writer-table-clause-refused : goal.returns-then-writer-table-clause-refused
-returns-then-writer-table-clause-refused c = rows_fit c.args.writer.now c.args.table.now c.if-writer-table.true
+returns-then-writer-table-clause-refused c = ((search rules, omega arith), rows_fit c.args.writer.now c.args.table.now c.if-writer-table.true)
 
 pub returns-then-num_docs-start-clause-refused : goal.returns-then-num_docs-start-clause-refused
-returns-then-num_docs-start-clause-refused c starts text w h =
-    let m = memory c.args.writer.now starts c.args.table.now in
-    let at = ap (λ (b : BlockEnd). b.end_doc) (c.start_of-start.ensures ∙ open_at m w (has_finished m text w h)) in
-    let more = c.if-num_docs-start.true in
-    let count = c.num_docs.ensures.count in
-    omega arith
+returns-then-num_docs-start-clause-refused c = (
+  (search rules, omega arith),
+  λ starts text w h.
+      let m = memory c.args.writer.now starts c.args.table.now in
+      let at = ap (λ (b : BlockEnd). b.end_doc) (c.start_of-start.ensures ∙ open_at m w (has_finished m text w h)) in
+      let more = c.if-num_docs-start.true in
+      let count = c.num_docs.ensures.count in
+      omega arith,
+)
 
 pub returns-then-block_data-start-clause-refused : goal.returns-then-block_data-start-clause-refused
 returns-then-block_data-start-clause-refused c =
     let large = c.if-block_data-start.true in
     let few = c.if-num_docs-start.false in
-    let text = ap length c.block_data.ensures.«data» in
-    has_place c.args.writer.now c.args.table.now [] [] 0 0 c.start_of-start.result _ c.args.view.now c.num_docs.ensures.store refl (omega arith) (omega arith) c.start_of-start.ensures
-    (omega (arith, c.num_docs.ensures.count)) (omega arith)
+    let text = ap length c.block_data.ensures.«data» in (
+      (search rules, omega arith),
+      has_place c.args.writer.now c.args.table.now [] [] 0 0 c.start_of-start.result _ c.args.view.now c.num_docs.ensures.store refl (omega arith) (omega arith) c.start_of-start.ensures
+          (omega (arith, c.num_docs.ensures.count)) (omega arith),
+    )
 
 pub fill-requires-clause-few : goal.fill-requires-clause-few
 fill-requires-clause-few c =
@@ -54,3 +59,28 @@ returns-clause-stacked c =
     let done = stacked c.args.writer.now c.args.table.now _ c.fill.new.table _ c.fill.result c.start_of-start.result c.block_checkpoints.result v c.num_docs.ensures.store c.block_checkpoints.ensures
     (omega arith) (omega arith) c.start_of-start.ensures (omega (arith, c.num_docs.ensures.count)) c.fill.ensures.filled c.fill.ensures.count c.if-count-rows.false in
     done
+
+pub returns-clause-takes : goal.returns-clause-takes
+returns-clause-takes c =
+    let v = c.args.view.now in
+    let few = c.if-num_docs-start.false in
+    let count = c.num_docs.ensures.count in
+    let room = c.if-count-rows.false in
+    let blocks = c.fill.ensures.count in
+    record {
+      may = (search rules, omega arith);
+      numbers = numbers_with v c.args.writer.now c.args.table.now _ (omega arith) c.start_of-start.ensures (omega arith);
+      room = omega (arith, ap length c.block_checkpoints.ensures);
+    }
+
+pub returns-then-count-rows-clause-refused : goal.returns-then-count-rows-clause-refused
+returns-then-count-rows-clause-refused c =
+    let v = c.args.view.now in
+    let few = c.if-num_docs-start.false in
+    let count = c.num_docs.ensures.count in
+    let room = c.if-count-rows.true in
+    let blocks = c.fill.ensures.count in (
+      (search rules, omega arith),
+      numbers_with v c.args.writer.now c.args.table.now _ (omega arith) c.start_of-start.ensures (omega arith),
+      omega (arith, ap length c.block_checkpoints.ensures),
+    )

@@ -34,3 +34,11 @@ invariant_of-result c =
       within = omega (arith, c.if-end-footer.false, c.in_ok-footer.ensures.long);
       laid_out = laid_out bytes f c.in_ok-index.index c.in_ok-footer.ensures.long c.in_ok-footer.ensures.found is;
     }
+
+pub returns-clause-index : goal.returns-clause-index
+returns-clause-index c = record {
+  footer = c.in_ok-footer.footer;
+  reads = c.in_ok-footer.ensures.found;
+  within = omega (arith, c.if-end-footer.false, c.in_ok-footer.ensures.long);
+  whole = omega arith;
+}

@@ -1,6 +1,8 @@
-use Rattle.std.proofs.Common.{◌≡◌, ◌-◌, ◌+◌, ◌≤◌, length, inl, inr, ◌∙◌, arith}
-use Rattle.std.specs.Prelude.{slice_range}
-use Rattle.store_reader.proofs.StoreTailLemmas.{short_file, bad_footer, bad_offset, bad_index, wanted_index, tail_laid_out}
+use Rattle.std.proofs.Common.{◌≡◌, ℕ, ◌-◌, ◌+◌, ◌≤◌, length, inl, inr, sym, ap, ◌∙◌, arith}
+use Rattle.std.specs.Prelude.{slice_range, Err}
+use Rattle.store_reader.specs.declared.tail_error.TailError.TheVariants.{Short}
+use Rattle.store_reader.proofs.AlikeLemmas.{footer_or_refusal}
+use Rattle.store_reader.proofs.StoreTailLemmas.{short_file, bad_footer, bad_offset, bad_index, wanted_index, none_wanted, wanted_from, tail_laid_out}
 use Rattle.store_reader.proofs.store_tail.StoreTail.new.Goals as goal
 use Rattle.store_reader.proofs.store_tail.StoreTail.new.Goals.{then-file_len-via-then-file_len, then-file_len-via-else-file_len+then-file_len-tail}
 
@@ -40,3 +42,47 @@ pub returns-in-Err-new-clause-refused : goal.returns-in-Err-new-clause-refused
 returns-in-Err-new-clause-refused c =
     let none = rw c.part-index_bytes.ensures at c.in-Err-new.ensures.refused in
     bad_index c.args.file_len c.args.tail.now c.in-Ok.footer c.in-Err-new.error (omega arith) (omega arith) c.in-Ok.ensures.found (omega arith) (omega arith) none
+
+pub returns-then-file_len-clause-short : goal.returns-then-file_len-clause-short
+returns-then-file_len-clause-short c wanted lacks =
+    absurd (none_wanted c.args.file_len c.args.tail.now wanted
+    (elim c.then-file_len.branch [
+      | then-file_len-via-then-file_len w ↦ inl (omega (arith, w.if-file_len.true))
+      | then-file_len-via-else-file_len+then-file_len-tail w ↦ inr (omega (arith, w.if-file_len-tail.true))
+    ])
+    lacks)
+
+pub returns-then-tail-clause-short : goal.returns-then-tail-clause-short
+returns-then-tail-clause-short c wanted lacks = ap (λ (n : ℕ). Err (Short n)) (sym (lacks.footer (omega arith)))
+
+pub returns-in-Err-clause-short : goal.returns-in-Err-clause-short
+returns-in-Err-clause-short c wanted lacks =
+    let is = lacks.index (omega arith) in
+    absurd (footer_or_refusal c.args.tail.now is.0 c.in-Err.error is.1 c.in-Err.ensures.found)
+
+pub returns-then-file_len-footer-clause-short : goal.returns-then-file_len-footer-clause-short
+returns-then-file_len-footer-clause-short c wanted lacks =
+    let from = wanted_from c.args.file_len c.args.tail.now c.in-Ok.footer wanted (omega arith) c.in-Ok.ensures.found lacks in
+    let short = lacks.short in
+    absurd (omega arith)
+
+pub returns-then-tail-wanted-clause-short : goal.returns-then-tail-wanted-clause-short
+returns-then-tail-wanted-clause-short c wanted lacks =
+    let from = wanted_from c.args.file_len c.args.tail.now c.in-Ok.footer wanted (omega arith) c.in-Ok.ensures.found lacks in
+    let same : c.args.file_len - c.in-Ok.footer.offset ≡ wanted = omega arith in
+    ap (λ (n : ℕ). Err (Short n)) same
+
+pub returns-in-Ok-new-clause-index : goal.returns-in-Ok-new-clause-index
+returns-in-Ok-new-clause-index c = record { footer = c.in-Ok.footer; reads = c.in-Ok.ensures.found; within = omega arith; whole = omega arith }
+
+pub returns-in-Ok-new-clause-short : goal.returns-in-Ok-new-clause-short
+returns-in-Ok-new-clause-short c wanted lacks =
+    let from = wanted_from c.args.file_len c.args.tail.now c.in-Ok.footer wanted (omega arith) c.in-Ok.ensures.found lacks in
+    let short = lacks.short in
+    absurd (omega arith)
+
+pub returns-in-Err-new-clause-short : goal.returns-in-Err-new-clause-short
+returns-in-Err-new-clause-short c wanted lacks =
+    let from = wanted_from c.args.file_len c.args.tail.now c.in-Ok.footer wanted (omega arith) c.in-Ok.ensures.found lacks in
+    let short = lacks.short in
+    absurd (omega arith)
