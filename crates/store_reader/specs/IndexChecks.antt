@@ -1,5 +1,5 @@
 -- What a check of a file's index finds.
-use Rattle.std.specs.Prelude.{◌≡◌, ℕ, ◌-◌, ◌≤◌, List, length, slice_range, Option, Some, None, Result, Ok}
+use Rattle.std.specs.Prelude.{◌≡◌, ℕ, ◌-◌, ◌≤◌, List, length, slice_range, Option, Some, None, Ok}
 use Rattle.layered_index.specs.declared.index.index_fault.IndexFault.{IndexFault}
 use Rattle.layered_index.specs.IndexReading.{HasIndex}
 use Rattle.layered_index.specs.Faults.{IsFirstFault}
