@@ -143,7 +143,7 @@ store_gets (Err (InvalidArgument k)) reader read old new worked works old_versio
 store_gets (Err (DamagedDocument k)) reader read old new worked works old_version too_many err = absurd err
 store_gets (Err BadDocument) reader read old new worked works old_version too_many err = absurd err
 store_gets (Err Read) reader read old new worked works old_version too_many err = (can_stack (Err Read) old reader worked old_version too_many (λ e. absurd cc) (λ e. absurd cc), err.2)
-store_gets (Err Memory) reader read old new worked works old_version too_many err = can_stack (Err Memory) old reader worked old_version too_many (λ e. absurd cc) (λ e. absurd cc)
+store_gets (Err Memory) reader read old new worked works old_version too_many err = (can_stack (Err Memory) old reader worked old_version too_many (λ e. absurd cc) (λ e. absurd cc), err.2)
 store_gets (Err OldVersion) reader read old new worked works old_version too_many err = (old_version.0 refl).version
 store_gets (Err Unserializable) reader read old new worked works old_version too_many err = absurd err
 store_gets (Err BlockTooLarge) reader read old new worked works old_version too_many err = absurd err

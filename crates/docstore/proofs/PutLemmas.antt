@@ -120,8 +120,8 @@ fails_behind reader id next cause old mid new p le h = record {
         }
 
 -- the reads of a file leave what is told of its blocks
-pub puts_kept : (times id next : ℕ) (reader read : Reading) (old new : BlockOutput) → IsReadTimes times reader read → PutsBlocks read id next old new → PutsBlocks reader id next old new
-puts_kept times id next reader read old new kept p =
+pub puts_kept : (times bytes id next : ℕ) (reader read : Reading) (old new : BlockOutput) → IsReadTimes times bytes reader read → PutsBlocks read id next old new → PutsBlocks reader id next old new
+puts_kept times bytes id next reader read old new kept p =
     let cs : read.checkpoints ≡ reader.checkpoints = ap (λ (r : Reading). r.checkpoints) kept.others in
     record {
       some = p.some;

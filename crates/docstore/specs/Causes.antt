@@ -69,10 +69,11 @@ CanStack at reader = (reader.version ≢ V1) × (at.count + docs_of reader < 2 ^
 abbrev pub HasTooMany : Stage → Reading → Type 0
 HasTooMany at reader = (reader.version ≢ V1) × (2 ^ 32 ≤ at.count + docs_of reader)
 
--- The same of a store. A read fails only where the count of failures of its own file rose in this call.
+-- The same of a store. A read fails only where the count of failures of its own file rose in this call, and memory runs
+-- out only where it didn't.
 abbrev pub StoreGets : Stage → Reading → Reading → Result (Unit {0}) StoreError → Type 0
 StoreGets at old new (Ok x) = CanStack at old
-StoreGets at old new (Err Memory) = CanStack at old
+StoreGets at old new (Err Memory) = CanStack at old × (new.file.failures ≡ old.file.failures)
 StoreGets at old new (Err Read) = CanStack at old × HasRisen old.file.failures new.file.failures
 StoreGets at old new (Err OldVersion) = old.version ≡ V1
 StoreGets at old new (Err TooManyDocs) = HasTooMany at old

@@ -8,7 +8,7 @@ use Rattle.store_format.specs.declared.version.DocStoreVersion.TheVariants.{V1}
 use Rattle.layered_index.specs.declared.index.Checkpoint.{Checkpoint}
 use Rattle.layered_index.specs.Checkpoint.{checkpoint}
 use Rattle.store_format.specs.StoreFile.{StoreBlock, checkpoints_of}
-use Rattle.store_reader.specs.Reading.{Reading, num_docs as docs_of, store_of, IsReadOnce}
+use Rattle.store_reader.specs.Reading.{Reading, num_docs as docs_of, store_of, IsReadWhole}
 use Rattle.docstore.specs.BlockOutput.{BlockOutput, with_blocks, AfterFailedBlock}
 use Rattle.docstore.specs.Writer.{Writing, num_docs, flushed, with_failures, AfterFailed}
 
@@ -25,6 +25,7 @@ shifted docs bytes c = checkpoint (c.doc_range.start + docs) (c.doc_range.end + 
 -- What a refused stacking of blocks leaves: where the reading is refused, the writer as it was.
 abbrev pub AfterStacking : Reading → Reading → BlockOutput → BlockOutput → StoreError → Type 0
 AfterStacking reader read old new Memory = (old.failure ≡ None) × (new ≡ old)
+    × (read.file.failures ≡ reader.file.failures)
 AfterStacking reader read old new Read = (old.failure ≡ None) × (new ≡ old)
     × HasRisen reader.file.failures read.file.failures
 AfterStacking reader read old new (Failed cause) = AfterFailedBlock old.failure cause old new
@@ -79,8 +80,9 @@ IsFlushed old new = (old.output.failure ≡ None) × (new ≡ with_failures new.
 abbrev pub AfterStack : Reading → Reading → Writing → Writing → StoreError → Type 0
 AfterStack reader read old new OldVersion = (new ≡ old) × (read ≡ reader)
 AfterStack reader read old new TooManyDocs = (new ≡ old) × (read ≡ reader)
-AfterStack reader read old new Memory = IsFlushed old new × IsReadOnce reader read
-AfterStack reader read old new Read = IsFlushed old new × IsReadOnce reader read
+AfterStack reader read old new Memory = IsFlushed old new × IsReadWhole reader read
+    × (read.file.failures ≡ reader.file.failures)
+AfterStack reader read old new Read = IsFlushed old new × IsReadWhole reader read
     × HasRisen reader.file.failures read.file.failures
 AfterStack reader read old new (Failed cause) = AfterFailed old.output.failure cause old new
 AfterStack reader read old new _ = ⊥

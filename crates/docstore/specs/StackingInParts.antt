@@ -1,6 +1,6 @@
 -- Putting a store behind what a writer has, a part of its data at a time.
 use Rattle.std.specs.Prelude.{◌≡◌, ℕ, zero, suc, ◌+◌, ◌<◌, ◌≤◌}
-use Rattle.std.specs.Prelude.{Bool, IsTrue}
+use Rattle.std.specs.Prelude.{Bool, IsTrue, Result, IfOk}
 use Rattle.std.specs.Prelude.{List, [], ◌∷◌, ◌++◌, length, take, None}
 use Rattle.store_base.specs.Counts.{HasRisen, raised}
 use Rattle.store_base.specs.declared.error.StoreError.{StoreError}
@@ -9,7 +9,7 @@ use Rattle.layered_index.specs.declared.index.Checkpoint.{Checkpoint}
 use Rattle.layered_index.specs.Checkpoint.{doc_count, byte_len}
 use Rattle.store_format.specs.StoreFile.{StoreBlock, checkpoints_of, docs_in}
 use Rattle.store_reader.specs.Parts.{number_of_parts, front_up_to, rest_from, IsBetween}
-use Rattle.store_reader.specs.Reading.{Reading, part_of, store_of, with_file}
+use Rattle.store_reader.specs.Reading.{Reading, part_of, store_of, with_file, IsReadOnce}
 use Rattle.docstore.specs.BlockOutput.{BlockOutput, with_blocks, with_risen, AfterFailedBlock}
 use Rattle.docstore.specs.Stacking.{with_store}
 use Rattle.docstore.specs.Writer.{Writing, with_failures, AfterFailed}
@@ -17,21 +17,30 @@ use Rattle.docstore.specs.Writer.{Writing, with_failures, AfterFailed}
 -- ---- the file
 
 -- what a count is after so many more; none leave it
-abbrev pub after_reads : ℕ → ℕ → ℕ
-after_reads count zero = count
-after_reads count (suc times) = raised count (suc times)
+abbrev pub after_more : ℕ → ℕ → ℕ
+after_more count zero = count
+after_more count (suc more) = raised count (suc more)
 
--- What so many reads of its data leave of a reader: all but the counts of its file.
-pub record IsReadTimes (times : ℕ) (old new : Reading) : Type 0 where
+-- What so many reads of its data, of so many bytes in all, leave of a reader: all but the counts of its file.
+pub record IsReadTimes (times bytes : ℕ) (old new : Reading) : Type 0 where
   pub content : new.file.content ≡ old.file.content
   pub honest : new.file.honest ≡ old.file.honest
-  pub reads : new.file.reads ≡ after_reads old.file.reads times
+  pub reads : new.file.reads ≡ after_more old.file.reads times
+  pub asked : new.file.asked ≡ after_more old.file.asked bytes
   pub failures : old.file.failures ≤ new.file.failures
   pub others : new ≡ with_file old new.file
 
--- its data was read at most so often
-abbrev pub IsReadAtMost : ℕ → Reading → Reading → Type 0
-IsReadAtMost most old new = (times : ℕ) × (times ≤ most) × IsReadTimes times old new
+-- Its data was read at most so often, and no more bytes than it has in all.
+pub record IsReadAtMost (most : ℕ) (old new : Reading) : Type 0 where
+  pub times : ℕ
+  pub bytes : ℕ
+  pub few : times ≤ most
+  pub within : bytes ≤ length old.file.content
+  pub read : IsReadTimes times bytes old new
+
+-- Its whole data was read, by so many reads.
+abbrev pub IsReadInPieces : ℕ → Reading → Reading → Type 0
+IsReadInPieces times old new = IsReadTimes times (length old.file.content) old new
 
 -- ---- what a refused stacking leaves
 
@@ -52,6 +61,7 @@ pub record BeginsStacking (reader : Reading) (old new : BlockOutput) : Type 0 wh
 -- What a refused stacking of blocks leaves.
 abbrev pub AfterStackingInParts : Reading → Reading → BlockOutput → BlockOutput → StoreError → Type 0
 AfterStackingInParts reader read old new Memory = BeginsStacking reader old new
+    × (read.file.failures ≡ reader.file.failures)
 AfterStackingInParts reader read old new Read = BeginsStacking reader old new
     × HasRisen reader.file.failures read.file.failures
 AfterStackingInParts reader read old new (Failed cause) = AfterFailedBlock old.failure cause old new
@@ -70,6 +80,7 @@ abbrev pub AfterStackInParts : Reading → Reading → Writing → Writing → S
 AfterStackInParts reader read old new OldVersion = (new ≡ old) × (read ≡ reader)
 AfterStackInParts reader read old new TooManyDocs = (new ≡ old) × (read ≡ reader)
 AfterStackInParts reader read old new Memory = BeginsStack reader old new
+    × (read.file.failures ≡ reader.file.failures)
 AfterStackInParts reader read old new Read = BeginsStack reader old new
     × HasRisen reader.file.failures read.file.failures
 AfterStackInParts reader read old new (Failed cause) = AfterFailed old.output.failure cause old new
@@ -106,3 +117,11 @@ pub record PutsPart (size : ℕ) (reader : Reading) (first : Checkpoint) (next :
   pub between : (byte : ℕ) × IsBetween reader.checkpoints next byte
   pub parts : number_of_parts size (rest_from first.doc_range.start reader.checkpoints)
       ≡ 1 + number_of_parts size (rest_from next reader.checkpoints)
+
+-- One read of a part that begins with a block, which is in the data; where it was put, up to this document.
+pub record IsPartTaken (reader read : Reading) (first : Checkpoint) (result : Result ℕ StoreError) : Type 0 where
+  pub len : ℕ
+  pub once : IsReadOnce len reader read
+  pub some : 0 < len
+  pub within : first.byte_range.start + len ≤ length reader.file.content
+  pub ends : IfOk result (λ next. IsBetween reader.checkpoints next (first.byte_range.start + len))

@@ -129,6 +129,7 @@ impl CurrentBlock {
         ensures err { IfErr result (λ cause. FailsFor cause output.old output.new) }
         ensures termination { output.new.termination ≡ output.old.termination }
         ensures count { output.old.failures ≤ output.new.failures }
+        ensures steady { IsErrOf result Cause.Write ⊎ (output.new.failures ≡ output.old.failures) }
         ensures sound { IsSound output.new }
     {
         let count = self.starts.len() as u32;

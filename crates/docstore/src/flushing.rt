@@ -1,6 +1,6 @@
 //! Writes the documents that wait as a block.
 
-ghost use Rattle.std.specs.Prelude.{◌≡◌, ◌+◌, ◌<◌, ◌≤◌, ◌^◌, [], None, OnOk, IfErr, length};
+ghost use Rattle.std.specs.Prelude.{◌≡◌, ◌+◌, ◌<◌, ◌≤◌, ◌^◌, ◌⊎◌, [], None, OnOk, IfErr, IsErrOf, length};
 ghost use Rattle.store_format.specs.StoreFile.{docs_in};
 ghost use Rattle.docstore.specs.BlockOutput.{with_blocks, with_risen, IsSound, FailsFor};
 ghost use Rattle.docstore.specs.Trace.{weight};
@@ -27,6 +27,7 @@ pub(crate) fn flush_if_full<W: TerminatingWrite>(
     ensures few { docs_in output.new.finished + length documents.new < 2 ^ 32 }
     ensures termination { output.new.termination ≡ output.old.termination }
     ensures count { output.old.failures ≤ output.new.failures }
+    ensures steady { IsErrOf result Cause.Write ⊎ (output.new.failures ≡ output.old.failures) }
     ensures sound { IsSound output.new }
 {
     if documents.weight() > block_size {
@@ -50,6 +51,7 @@ pub(crate) fn flush<W: TerminatingWrite>(
     ensures err { IfErr result (λ cause. FailsFor cause output.old output.new) }
     ensures termination { output.new.termination ≡ output.old.termination }
     ensures count { output.old.failures ≤ output.new.failures }
+    ensures steady { IsErrOf result Cause.Write ⊎ (output.new.failures ≡ output.old.failures) }
     ensures sound { IsSound output.new }
 {
     if documents.len() == 0 {

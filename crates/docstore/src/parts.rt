@@ -1,16 +1,16 @@
 //! Puts the blocks of a store behind others, a part of its data at a time.
 
-ghost use Rattle.std.specs.Prelude.{◌≡◌, ◌+◌, ◌<◌, ◌≤◌, ◌^◌, ◌⊎◌, List, None, OnOk, IfOk, IfErr, IsTrue, length};
-ghost use Rattle.std.specs.Prelude.{slice_range};
+ghost use Rattle.std.specs.Prelude.{◌≡◌, ◌+◌, ◌<◌, ◌≤◌, ◌^◌, ◌⊎◌, List, None, OnOk, IfOk, IfErr, IsErrOf, length};
+ghost use Rattle.std.specs.Prelude.{IsTrue, slice_range};
 ghost use Rattle.store_format.specs.StoreFile.{StoreBlock, docs_in};
-ghost use Rattle.store_reader.specs.Reading.{num_docs as docs_of, IsReadOnce};
+ghost use Rattle.store_reader.specs.Reading.{num_docs as docs_of};
 ghost use Rattle.docstore.specs.BlockOutput.{with_blocks, with_risen, IsSound, FailsFor};
 ghost use Rattle.docstore.specs.Stacking.{AreRead, AfterStacking};
 ghost use Rattle.store_reader.specs.Parts.{parts_beyond, number_of_parts};
-ghost use Rattle.docstore.specs.StackingInParts.{IsReadTimes, IsReadAtMost};
+ghost use Rattle.docstore.specs.StackingInParts.{IsReadInPieces, IsReadAtMost};
 ghost use Rattle.store_reader.specs.Parts.{rest_from, IsBetween, IsBlockOf};
 ghost use Rattle.docstore.specs.StackingInParts.{AfterStackingInParts};
-ghost use Rattle.docstore.specs.StackingInParts.{PutsBlocks, PutsPart};
+ghost use Rattle.docstore.specs.StackingInParts.{PutsBlocks, PutsPart, IsPartTaken};
 
 use crate::store_compressor::BlockCompressor;
 use layered_index::Checkpoint;
@@ -39,6 +39,7 @@ fn write_part<W: TerminatingWrite, H: FileHandle>(
     ensures err { IfErr result (λ cause. FailsFor cause output.old output.new) }
     ensures termination { output.new.termination ≡ output.old.termination }
     ensures count { output.old.failures ≤ output.new.failures }
+    ensures steady { IsErrOf result Cause.Write ⊎ (output.new.failures ≡ output.old.failures) }
     ensures sound { IsSound output.new }
 {
     let mut next_id = ids.start;
@@ -65,9 +66,11 @@ fn stack_part<W: TerminatingWrite, H: FileHandle>(
     requires sound { IsSound output.old }
     ensures put { IfOk result (λ next. PutsPart part_bytes reader.old first next output.old output.new) }
     ensures err { IfErr result (AfterStacking reader.old reader.new output.old output.new) }
-    ensures once { IsReadOnce reader.old reader.new }
+    ensures taken { IsPartTaken reader.old reader.new first result }
+    ensures reader { IfOk result (λ _. reader.new.file.failures ≡ reader.old.file.failures) }
     ensures termination { output.new.termination ≡ output.old.termination }
     ensures count { output.old.failures ≤ output.new.failures }
+    ensures steady { IsErrOf result (StoreError.Failed Cause.Write) ⊎ (output.new.failures ≡ output.old.failures) }
     ensures sound { IsSound output.new }
 {
     let part = reader
@@ -93,10 +96,12 @@ pub(crate) fn stack_parts<W: TerminatingWrite, H: FileHandle>(
         × (output.new ≡ with_risen output.new.failures (with_blocks output.old bs))) }
     ensures err { IfErr result (AfterStackingInParts reader.old reader.new output.old output.new) }
     ensures read { OnOk result
-        (IsReadTimes (number_of_parts part_bytes reader.old.checkpoints) reader.old reader.new) }
+        (IsReadInPieces (number_of_parts part_bytes reader.old.checkpoints) reader.old reader.new) }
     ensures kept { IsReadAtMost (number_of_parts part_bytes reader.old.checkpoints) reader.old reader.new }
+    ensures reader { OnOk result (reader.new.file.failures ≡ reader.old.file.failures) }
     ensures termination { output.new.termination ≡ output.old.termination }
     ensures count { output.old.failures ≤ output.new.failures }
+    ensures steady { IsErrOf result (StoreError.Failed Cause.Write) ⊎ (output.new.failures ≡ output.old.failures) }
     ensures sound { IsSound output.new }
 {
     let num_docs = reader.num_docs();

@@ -1,7 +1,7 @@
 //! Writes blocks one behind the other, and their index behind them.
 
-ghost use Rattle.std.specs.Prelude.{◌≡◌, ◌≢◌, ◌+◌, ◌<◌, ◌≤◌, ◌^◌, List, [], ◌∷◌, ◌++◌, length, map, true, None, OnOk};
-ghost use Rattle.std.specs.Prelude.{OnErr, IfOk, IfErr, IfSome, IsErrOf};
+ghost use Rattle.std.specs.Prelude.{◌≡◌, ◌≢◌, ◌+◌, ◌<◌, ◌≤◌, ◌^◌, ◌⊎◌, List, [], ◌∷◌, ◌++◌, length, map, true, None};
+ghost use Rattle.std.specs.Prelude.{OnOk, OnErr, IfOk, IfErr, IfSome, IsErrOf};
 ghost use Rattle.std.specs.List.{sum_by, AllByRecursion};
 ghost use Rattle.layered_index.specs.Checkpoint.{doc_count, docs_end, IsFilled, IsInLineFrom, Covers};
 ghost use Rattle.store_format.specs.Footer.{footer, kind_of, unpacks};
@@ -10,10 +10,10 @@ ghost use Rattle.store_format.specs.StoreFile.{StoreBlock, docs_in, file, reserv
 ghost use Rattle.store_base.specs.Outputs.{terminated_once};
 ghost use Rattle.docstore.specs.BlockOutput.{new_output, with_blocks, with_risen, IsSound, FailsFor, AfterBlock};
 ghost use Rattle.docstore.specs.BlockOutput.{AfterClose, IsEndRefusal};
-ghost use Rattle.store_reader.specs.Reading.{num_docs as docs_of, IsReadOnce};
+ghost use Rattle.store_reader.specs.Reading.{num_docs as docs_of, IsReadWhole};
 ghost use Rattle.docstore.specs.Stacking.{AreRead, shifted, AfterStacking};
 ghost use Rattle.store_reader.specs.Parts.{number_of_parts};
-ghost use Rattle.docstore.specs.StackingInParts.{IsReadTimes, IsReadAtMost, AfterStackingInParts};
+ghost use Rattle.docstore.specs.StackingInParts.{IsReadInPieces, IsReadAtMost, AfterStackingInParts};
 ghost use Rattle.store_reader.specs.Viewing.{count_in};
 
 use crate::block_index::BlockIndex;
@@ -137,6 +137,8 @@ impl<W: TerminatingWrite> BlockCompressor<W> {
 
         ensures termination { self.new.termination ≡ self.old.termination }
         ensures count { self.old.failures ≤ self.new.failures }
+        ensures steady { IsErrOf result (StoreError.Failed Cause.Write)
+            ⊎ (self.new.failures ≡ self.old.failures) }
         ensures sound { IsSound self.new }
     {
         if let Some(cause) = self.failure {
@@ -158,6 +160,7 @@ impl<W: TerminatingWrite> BlockCompressor<W> {
         ensures err { IfErr result (λ cause. FailsFor cause self.old self.new) }
         ensures termination { self.new.termination ≡ self.old.termination }
         ensures count { self.old.failures ≤ self.new.failures }
+        ensures steady { IsErrOf result Cause.Write ⊎ (self.new.failures ≡ self.old.failures) }
         ensures sound { IsSound self.new }
     {
         let start = self.writer.written_bytes() as usize;
@@ -196,9 +199,12 @@ impl<W: TerminatingWrite> BlockCompressor<W> {
             × (self.new ≡ self.old) × (reader.new ≡ reader.old)) }
         ensures err { IfErr result (AfterStacking reader.old reader.new self.old self.new) }
 
-        ensures read { self.old.failure ≡ None → IsReadOnce reader.old reader.new }
+        ensures read { self.old.failure ≡ None → IsReadWhole reader.old reader.new }
+        ensures reader { OnOk result (reader.new.file.failures ≡ reader.old.file.failures) }
         ensures termination { self.new.termination ≡ self.old.termination }
         ensures count { self.old.failures ≤ self.new.failures }
+        ensures steady { IsErrOf result (StoreError.Failed Cause.Write)
+            ⊎ (self.new.failures ≡ self.old.failures) }
         ensures sound { IsSound self.new }
     {
         if let Some(cause) = self.failure {
@@ -229,10 +235,13 @@ impl<W: TerminatingWrite> BlockCompressor<W> {
         ensures err { IfErr result (AfterStackingInParts reader.old reader.new self.old self.new) }
 
         ensures read { OnOk result
-            (IsReadTimes (number_of_parts part_bytes reader.old.checkpoints) reader.old reader.new) }
+            (IsReadInPieces (number_of_parts part_bytes reader.old.checkpoints) reader.old reader.new) }
         ensures kept { IsReadAtMost (number_of_parts part_bytes reader.old.checkpoints) reader.old reader.new }
+        ensures reader { OnOk result (reader.new.file.failures ≡ reader.old.file.failures) }
         ensures termination { self.new.termination ≡ self.old.termination }
         ensures count { self.old.failures ≤ self.new.failures }
+        ensures steady { IsErrOf result (StoreError.Failed Cause.Write)
+            ⊎ (self.new.failures ≡ self.old.failures) }
         ensures sound { IsSound self.new }
     {
         match self.failure {
@@ -250,6 +259,7 @@ impl<W: TerminatingWrite> BlockCompressor<W> {
         ensures err { IfErr result (λ cause. FailsFor cause self.old self.new) }
         ensures termination { self.new.termination ≡ self.old.termination }
         ensures count { self.old.failures ≤ self.new.failures }
+        ensures steady { IsErrOf result Cause.Write ⊎ (self.new.failures ≡ self.old.failures) }
         ensures sound { IsSound self.new }
     {
         self.write_blocks(view.block_data(), view.block_checkpoints())
@@ -265,6 +275,7 @@ impl<W: TerminatingWrite> BlockCompressor<W> {
         ensures err { IfErr result (λ cause. FailsFor cause self.old self.new) }
         ensures termination { self.new.termination ≡ self.old.termination }
         ensures count { self.old.failures ≤ self.new.failures }
+        ensures steady { IsErrOf result Cause.Write ⊎ (self.new.failures ≡ self.old.failures) }
         ensures sound { IsSound self.new }
     {
         let start = self.writer.written_bytes() as usize;

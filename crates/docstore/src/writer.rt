@@ -9,11 +9,11 @@ ghost use Rattle.docstore.specs.BlockOutput.{new_output, AfterClose};
 ghost use Rattle.docstore.specs.Writer.{new_writing, num_docs, flushed, with_document};
 ghost use Rattle.docstore.specs.Writer.{with_failures, HasIdLeft, HasNoIdLeft, IsTooLarge, HasTooMuch, IsStoreWriter};
 ghost use Rattle.docstore.specs.Writer.{Takes, AfterRefusal, AfterDocument};
-ghost use Rattle.store_reader.specs.Reading.{IsReadOnce, IsReadAtMostOnce};
+ghost use Rattle.store_reader.specs.Reading.{IsReadWhole, IsReadAtMostOnce};
 ghost use Rattle.docstore.specs.Stacking.{AreRead, with_store, IsOld, HasTooMany, AfterStack};
 ghost use Rattle.docstore.specs.Stacking.{HasRoomFor, HasNoIdsFor, HasNoRoomFor, AfterStackedView};
 ghost use Rattle.store_reader.specs.Parts.{number_of_parts};
-ghost use Rattle.docstore.specs.StackingInParts.{IsReadTimes, IsReadAtMost, AfterStackInParts};
+ghost use Rattle.docstore.specs.StackingInParts.{IsReadInPieces, IsReadAtMost, AfterStackInParts};
 ghost use Rattle.store_reader.specs.Viewing.{count_in};
 
 use crate::close_error::CloseError;
@@ -23,7 +23,7 @@ use crate::store_compressor::BlockCompressor;
 use layered_index::CHECKPOINT_PERIOD;
 use std::alloc::Global;
 use std::marker::Model;
-use store_base::{Document, FileHandle, Schema, StoreError, TerminatingWrite};
+use store_base::{Cause, Document, FileHandle, Schema, StoreError, TerminatingWrite};
 use store_format::{Compressor, DocStoreVersion};
 use store_reader::{StoreReader, StoreView};
 
@@ -192,6 +192,8 @@ impl<W: TerminatingWrite> StoreWriter<W> {
 
         ensures termination { self.new.output.termination ≡ self.old.output.termination }
         ensures count { self.old.output.failures ≤ self.new.output.failures }
+        ensures steady { IsErrOf result (StoreError.Failed Cause.Write)
+            ⊎ (self.new.output.failures ≡ self.old.output.failures) }
         ensures sound { IsStoreWriter self.new }
     {
         self.check_id_left()?;
@@ -230,6 +232,8 @@ impl<W: TerminatingWrite> StoreWriter<W> {
 
         ensures termination { self.new.output.termination ≡ self.old.output.termination }
         ensures count { self.old.output.failures ≤ self.new.output.failures }
+        ensures steady { IsErrOf result (StoreError.Failed Cause.Write)
+            ⊎ (self.new.output.failures ≡ self.old.output.failures) }
         ensures sound { IsStoreWriter self.new }
     {
         self.check_id_left()?;
@@ -263,11 +267,14 @@ impl<W: TerminatingWrite> StoreWriter<W> {
         ensures err { IfErr result (AfterStack reader.old reader.new self.old self.new) }
 
         // The reader keeps its store.
-        ensures read { OnOk result (IsReadOnce reader.old reader.new) }
+        ensures read { OnOk result (IsReadWhole reader.old reader.new) }
         ensures kept { IsReadAtMostOnce reader.old reader.new }
+        ensures reader { OnOk result (reader.new.file.failures ≡ reader.old.file.failures) }
 
         ensures termination { self.new.output.termination ≡ self.old.output.termination }
         ensures count { self.old.output.failures ≤ self.new.output.failures }
+        ensures steady { IsErrOf result (StoreError.Failed Cause.Write)
+            ⊎ (self.new.output.failures ≡ self.old.output.failures) }
         ensures sound { IsStoreWriter self.new }
     {
         self.check_room_for(reader.version(), reader.num_docs())?;
@@ -301,11 +308,14 @@ impl<W: TerminatingWrite> StoreWriter<W> {
 
         // The reader keeps its store.
         ensures read { OnOk result
-            (IsReadTimes (number_of_parts part_bytes reader.old.checkpoints) reader.old reader.new) }
+            (IsReadInPieces (number_of_parts part_bytes reader.old.checkpoints) reader.old reader.new) }
         ensures kept { IsReadAtMost (number_of_parts part_bytes reader.old.checkpoints) reader.old reader.new }
+        ensures reader { OnOk result (reader.new.file.failures ≡ reader.old.file.failures) }
 
         ensures termination { self.new.output.termination ≡ self.old.output.termination }
         ensures count { self.old.output.failures ≤ self.new.output.failures }
+        ensures steady { IsErrOf result (StoreError.Failed Cause.Write)
+            ⊎ (self.new.output.failures ≡ self.old.output.failures) }
         ensures sound { IsStoreWriter self.new }
     {
         let num_docs = reader.num_docs();
@@ -337,6 +347,8 @@ impl<W: TerminatingWrite> StoreWriter<W> {
 
         ensures termination { self.new.output.termination ≡ self.old.output.termination }
         ensures count { self.old.output.failures ≤ self.new.output.failures }
+        ensures steady { IsErrOf result (StoreError.Failed Cause.Write)
+            ⊎ (self.new.output.failures ≡ self.old.output.failures) }
         ensures sound { IsStoreWriter self.new }
     {
         self.check_room_for(view.version(), view.num_docs())?;

@@ -1,13 +1,14 @@
 -- A seek in a file finds, layer by layer, what is found in the bytes of its index.
-use Rattle.std.proofs.Common.{◌≡◌, ℕ, ◌+◌, ◌-◌, ◌<◌, ◌≤◌, ◌^◌, ◌⊎◌, inl, inr, Bool, true, false, eqb, ltb, List, ◌++◌, length, take, drop, Option, Some, None, Result}
+use Rattle.std.proofs.Common.{◌≡◌, ℕ, ◌+◌, ◌-◌, ◌*◌, ◌<◌, ◌≤◌, ◌^◌, ◌⊎◌, inl, inr, Bool, true, false, eqb, ltb, List, ◌++◌, length, take, drop, Option, Some, None, Result}
 use Rattle.std.proofs.Common.{Ok, Err, refl, sym, ◌∙◌, ap, subst, arith}
 use Rattle.std.proofs.lemmas.Bool.{lt-ltb, le-ltb, cond-true, cond-false, ne_eqb}
 use Rattle.std.proofs.lemmas.List.{length-take, length-drop, drop-drop}
 use Rattle.std.proofs.Common.{eq-eqb}
+use Rattle.std.proofs.lemmas.Nat.{mul-le}
 use Rattle.std.specs.Prelude.{slice_range, is_some, MatchResult, IsTrue}
 use Rattle.store_base.proofs.Ranges.{part_of_part}
 use Rattle.store_base.specs.Counts.{HasRisen}
-use Rattle.store_base.specs.Files.{Part}
+use Rattle.store_base.specs.Files.{Part, ReadsOnce}
 use Rattle.store_base.specs.VInt.{number_below}
 use Rattle.store_base.specs.ReadingLemmas.{some_is}
 use Rattle.store_base.specs.declared.error.StoreError.{StoreError}
@@ -15,7 +16,7 @@ use Rattle.layered_index.specs.declared.index.Checkpoint.{Checkpoint}
 use Rattle.layered_index.specs.Checkpoint.{first_past}
 use Rattle.layered_index.specs.Layers.{digit_count}
 use Rattle.layered_index.specs.IndexReading.{IsIndexPart}
-use Rattle.layered_index.specs.IndexHeads.{longest_head, HeadBytes, index_in, ReadsAtMost, RefusesRead, AnswersByReads}
+use Rattle.layered_index.specs.IndexHeads.{longest_head, longest_run, HeadBytes, index_in, ReadsAtMost, ReadsRuns, RefusesRead, AnswersByReads}
 use Rattle.layered_index.specs.Sought.{IndexBytes, next_layer, after_numbers, found_in, found_in_index}
 use Rattle.layered_index.proofs.CutOffLemmas.{below_grown}
 use Rattle.layered_index.proofs.FileHeadLemmas.{Heads}
@@ -39,11 +40,11 @@ seek_begins content head target count ends texts numbers same heads =
     subst (λ (t : List ℕ). Seeks content head target count 0 0 t texts None) (sym same) (found_first seen seen false target count _ _ refl heads.headed)
 
 -- what was sought in the file as it is now was sought in it as it was
-pub layer_sought : (i : ℕ) (old now : Part) (u v : HeadBytes) (target start end : ℕ) (found : Option Checkpoint)
-    (result : Result (Option Checkpoint) StoreError) → ReadsAtMost i old now → u ≡ v → IsTrue old.honest
+pub layer_sought : (i b : ℕ) (old now : Part) (u v : HeadBytes) (target start end : ℕ) (found : Option Checkpoint)
+    (result : Result (Option Checkpoint) StoreError) → ReadsAtMost i b old now → u ≡ v → IsTrue old.honest
     → (IsTrue now.honest → AnswersByReads (found_in false u.period target found (slice_range now.content start end)) result)
     → AnswersByReads (found_in false v.period target found (slice_range old.content start end)) result
-layer_sought i old now u v target start end found result kept same honest answers =
+layer_sought i b old now u v target start end found result kept same honest answers =
     subst (λ (w : HeadBytes). AnswersByReads (found_in false w.period target found (slice_range old.content start end)) result) same
     (subst (λ (content : List ℕ). AnswersByReads (found_in false u.period target found (slice_range content start end)) result) kept.content
     (answers (subst (λ (b : Bool). IsTrue b) (sym kept.honest) honest)))
@@ -175,26 +176,52 @@ answers_truly content head target count ends texts cs result heads fits is answe
 
 -- ---- counts of reads
 
-pub reads_fewer : (i j : ℕ) (old new : Part) → i ≤ j → ReadsAtMost i old new → ReadsAtMost j old new
-reads_fewer i j old new le r = record { content = r.content; honest = r.honest; reads = omega (arith, r.reads); failures = r.failures }
+pub reads_fewer : (i j b d : ℕ) (old new : Part) → i ≤ j → b ≤ d → ReadsAtMost i b old new → ReadsAtMost j d old new
+reads_fewer i j b d old new le less r = record { content = r.content; honest = r.honest; reads = omega (arith, r.reads); asked = omega (arith, r.asked); failures = r.failures }
 
-pub reads_more : (i : ℕ) (old mid new : Part) → ReadsAtMost i old mid → ReadsAtMost 1 mid new → ReadsAtMost (i + 1) old new
-reads_more i old mid new p q = record {
+-- reads, and then others
+pub reads_then : (i j b d : ℕ) (old mid new : Part) → ReadsAtMost i b old mid → ReadsAtMost j d mid new → ReadsAtMost (i + j) (b + d) old new
+reads_then i j b d old mid new p q = record {
   content = q.content ∙ p.content;
   honest = q.honest ∙ p.honest;
   reads = omega (arith, p.reads, q.reads);
+  asked = omega (arith, p.asked, q.asked);
   failures = omega (arith, p.failures, q.failures);
 }
 
-pub none_read : (old : Part) → ReadsAtMost 0 old old
-none_read old = record { content = refl; honest = refl; reads = omega arith; failures = omega arith }
+pub none_read : (old : Part) → ReadsAtMost 0 0 old old
+none_read old = record { content = refl; honest = refl; reads = omega arith; asked = omega arith; failures = omega arith }
+
+pub once_at_most : (len : ℕ) (old new : Part) → ReadsOnce len old new → ReadsAtMost 1 len old new
+once_at_most len old new once = record { content = once.content; honest = once.honest; reads = omega (arith, once.reads); asked = omega (arith, once.asked); failures = once.failures }
+
+one_more_run : (i r : ℕ) → i * r + r ≡ (i + 1) * r
+one_more_run i r = omega arith
+
+pub no_runs : (period : ℕ) (old : Part) → ReadsRuns period 0 old old
+no_runs period old = record { content = refl; honest = refl; reads = omega arith; asked = omega arith; failures = omega arith }
+
+-- one run more
+pub reads_more : (period inner i : ℕ) (old mid new : Part) → inner ≡ period → ReadsRuns period i old mid → ReadsAtMost 1 (longest_run inner) mid new → ReadsRuns period (i + 1) old new
+reads_more period inner i old mid new same p q =
+    let one : ReadsAtMost 1 (longest_run period) mid new = subst (λ (n : ℕ). ReadsAtMost 1 (longest_run n) mid new) same q in
+    subst (λ (b : ℕ). ReadsAtMost (i + 1) b old new) (one_more_run i (longest_run period)) (reads_then i 1 (i * longest_run period) (longest_run period) old mid new p one)
+
+pub runs_fewer : (period i j : ℕ) (old new : Part) → i ≤ j → ReadsRuns period i old new → ReadsRuns period j old new
+runs_fewer period i j old new le r =
+    reads_fewer i j (i * longest_run period) (j * longest_run period) old new le (mul-le i (longest_run period) j (longest_run period) le (omega arith)) r
+
+-- no run of a shorter period is longer
+pub runs_shorter : (period most i : ℕ) (old new : Part) → period ≤ most → ReadsRuns period i old new → ReadsRuns most i old new
+runs_shorter period most i old new le r =
+    reads_fewer i i (i * longest_run period) (i * longest_run most) old new (omega arith) (mul-le i (longest_run period) i (longest_run most) (omega arith) (omega arith)) r
 
 pub risen_later : (old mid new : ℕ) → old ≤ mid → HasRisen mid new → HasRisen old new
 risen_later old mid new le r = record { no_lower = omega (arith, r.no_lower); risen = λ lt. omega (arith, r.risen lt) }
 
 -- as many as the layers of the list
 pub reads_by_digits : (content : List ℕ) (head : HeadBytes) (count ends texts i : ℕ) (old new : Part) (cs : List Checkpoint) → Heads content head count ends texts → i ≤ count
-    → IsIndexPart head.period (index_in content head) cs → ReadsAtMost i old new → new.reads ≤ old.reads + digit_count head.period (length cs)
+    → IsIndexPart head.period (index_in content head) cs → ReadsRuns head.period i old new → ReadsRuns head.period (digit_count head.period (length cs)) old new
 reads_by_digits content head count ends texts i old new cs heads le is r =
     let digits = head_digits head.period (index_in content head) count _ _ cs heads.headed is in
-    subst (λ (n : ℕ). new.reads ≤ old.reads + n) digits (reads_fewer i count old new le r).reads
+    subst (λ (n : ℕ). ReadsRuns head.period n old new) digits (runs_fewer head.period i count old new le r)

@@ -1,5 +1,6 @@
 -- Seeks in an index that lies in a file: its head, which is read once, and the runs that are read on the way down.
-use Rattle.std.specs.Prelude.{◌≡◌, ◌⊎◌, ℕ, ◌+◌, ◌*◌, ◌^◌, ◌<◌, ◌≤◌, ◌==◌, if◌then◌else◌, List, length, take, drop, slice_range}
+use Rattle.std.specs.Prelude.{◌≡◌, ◌⊎◌, ℕ, ◌+◌, ◌-◌, ◌*◌, ◌^◌, ◌<◌, ◌≤◌, ◌==◌, min, if◌then◌else◌, List, length, take, drop}
+use Rattle.std.specs.Prelude.{slice_range}
 use Rattle.std.specs.Prelude.{Option, Some, None, Result, Ok, Err}
 use Rattle.store_base.specs.Files.{Part}
 use Rattle.store_base.specs.VInt.{◌>>=◌, number_below}
@@ -14,6 +15,13 @@ longest_head = 641
 -- No run of so many checkpoints has more bytes: numbers of ten, five and ten bytes, and two of five for each.
 abbrev pub longest_run : ℕ → ℕ
 longest_run period = 25 + 10 * period
+
+-- how many bytes are read of an index that lies there for its head, and of a run that lies there
+abbrev pub head_bytes : ℕ → ℕ → ℕ
+head_bytes start end = min (end - start) longest_head
+
+abbrev pub run_bytes : ℕ → ℕ → ℕ → ℕ
+run_bytes period start end = min (end - start) (longest_run period)
 
 -- where the documents of a run end, if its bytes are a block of at most so many checkpoints
 abbrev pub run_end : ℕ → List ℕ → Option ℕ
@@ -57,12 +65,17 @@ abbrev pub HasNoHead : List ℕ → Type 0
 HasNoHead bytes = (count : ℕ) (ends rest : List ℕ) → number_below 65 bytes ≡ Some (count, ends)
     → after_numbers count ends ≡ Some rest → ⊥
 
--- what at most so many reads leave of a file
-pub record ReadsAtMost (most : ℕ) (old new : Part) : Type 0 where
+-- what at most so many reads of at most so many bytes in all leave of a file
+pub record ReadsAtMost (most bytes : ℕ) (old new : Part) : Type 0 where
   pub content : new.content ≡ old.content
   pub honest : new.honest ≡ old.honest
   pub reads : new.reads ≤ old.reads + most
+  pub asked : new.asked ≤ old.asked + bytes
   pub failures : old.failures ≤ new.failures
+
+-- what at most so many reads of a run each leave of a file
+abbrev pub ReadsRuns : ℕ → ℕ → Part → Part → Type 0
+ReadsRuns period count old new = ReadsAtMost count (count * longest_run period) old new
 
 -- a read failed, or memory ran out
 abbrev pub RefusesRead : StoreError → Type 0

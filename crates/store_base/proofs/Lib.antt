@@ -7,3 +7,4 @@ pub mod Ranges
 pub mod BitsetLemmas
 pub mod RecordLoops
 pub mod RecordTexts
+pub mod Steady

@@ -1,9 +1,10 @@
 //! Files that are read in parts.
 //!
-//! A file may lie, and its reads may fail. What it holds, whether it is honest, and how often it failed and was read
-//! are told by ghost members, so a caller's promise can say "where the file is honest" and "only where a read failed".
+//! A file may lie, and its reads may fail. What it holds, whether it is honest, how often it failed and was read, and
+//! for how many bytes are told by ghost members, so a caller's promise can say "where the file is honest", "only where
+//! a read failed" and "no more than this block".
 
-ghost use Rattle.std.specs.Prelude.{◌≡◌, ◌≤◌, ◌-◌, ℕ, List, Bool, length, IfOk, IsTrue, IsErrOf, slice_range};
+ghost use Rattle.std.specs.Prelude.{◌≡◌, ◌≤◌, ◌-◌, ◌⊎◌, ℕ, List, Bool, length, IfOk, IsTrue, IsErrOf, slice_range};
 ghost use Rattle.store_base.specs.Counts.{HasRisen, raised};
 ghost use Rattle.store_base.specs.Files.{ReadsOnce};
 
@@ -24,6 +25,9 @@ pub trait HasLen {
 }
 
 /// A file that is read in parts. No call changes what it holds, whether it is honest, or its length.
+///
+/// A type that implements it counts each read and the bytes that it asks for, also where the read fails; it counts a
+/// failure exactly where a read returns `Device`, so `Memory` is never a fault of the device.
 pub trait FileHandle: Drop {
     /// What it holds.
     ghost content: { Self → List ℕ };
@@ -36,6 +40,9 @@ pub trait FileHandle: Drop {
 
     /// How often it was read, up to the greatest u64.
     ghost reads: { Self → ℕ };
+
+    /// How many bytes its reads asked for, up to the greatest u64.
+    ghost asked: { Self → ℕ };
 
     /// The length in bytes.
     fn len(&self) -> u64
@@ -50,8 +57,10 @@ pub trait FileHandle: Drop {
             → IfOk result (λ bytes. bytes ≡ slice_range (content self.old) range.start range.end) }
 
         ensures device { IsErrOf result ReadFault.Device → HasRisen (failures self.old) (failures self.new) }
+        ensures steady { IsErrOf result ReadFault.Device ⊎ (failures self.new ≡ failures self.old) }
         ensures failures { failures self.old ≤ failures self.new }
         ensures reads { reads self.new ≡ raised (reads self.old) 1 }
+        ensures asked { asked self.new ≡ raised (asked self.old) (range.end - range.start) }
 
         ensures content { content self.new ≡ content self.old }
         ensures honest { honest self.new ≡ honest self.old };
@@ -77,6 +86,7 @@ impl<H: FileHandle> Model for FileSlice<H> {
       honest = H.honest s.handle;
       failures = H.failures s.handle;
       reads = H.reads s.handle;
+      asked = H.asked s.handle;
     } };
 
     ghost invariant = { λ s. (s.start ≤ s.end) × (s.end ≤ length (H.content s.handle)) × (s.end < 2 ^ 64) };
@@ -89,6 +99,7 @@ impl<H: FileHandle> FileSlice<H> {
         ensures honest { result.honest ≡ H.honest handle }
         ensures failures { result.failures ≡ H.failures handle }
         ensures reads { result.reads ≡ H.reads handle }
+        ensures asked { result.asked ≡ H.asked handle }
     {
         let end = handle.len();
         FileSlice {
@@ -109,7 +120,8 @@ impl<H: FileHandle> FileSlice<H> {
         ensures length { IfOk result (λ bytes. length bytes ≡ length self.old.content) }
         ensures bytes { IsTrue self.old.honest → IfOk result (λ bytes. bytes ≡ self.old.content) }
         ensures device { IsErrOf result ReadFault.Device → HasRisen self.old.failures self.new.failures }
-        ensures once { ReadsOnce self.old self.new }
+        ensures steady { IsErrOf result ReadFault.Device ⊎ (self.new.failures ≡ self.old.failures) }
+        ensures once { ReadsOnce (length self.old.content) self.old self.new }
     {
         self.handle.read_bytes(alloc, self.start..self.end)
     }
@@ -122,7 +134,8 @@ impl<H: FileHandle> FileSlice<H> {
         ensures bytes { IsTrue self.old.honest
             → IfOk result (λ bytes. bytes ≡ slice_range self.old.content range.start range.end) }
         ensures device { IsErrOf result ReadFault.Device → HasRisen self.old.failures self.new.failures }
-        ensures once { ReadsOnce self.old self.new }
+        ensures steady { IsErrOf result ReadFault.Device ⊎ (self.new.failures ≡ self.old.failures) }
+        ensures once { ReadsOnce (range.end - range.start) self.old self.new }
     {
         self.handle
             .read_bytes(alloc, self.start + range.start..self.start + range.end)
@@ -136,6 +149,7 @@ impl<H: FileHandle> FileSlice<H> {
         ensures honest { result.honest ≡ self.honest }
         ensures failures { result.failures ≡ self.failures }
         ensures reads { result.reads ≡ self.reads }
+        ensures asked { result.asked ≡ self.asked }
     {
         let start = self.start + range.start;
         let end = self.start + range.end;

@@ -14,15 +14,16 @@ use std::ops::Range;
 pub struct MemFile {
     bytes: OwnedBytes,
     reads: u64,
+    asked: u64,
 }
 
-/// Clauses see what it holds, and how often it was read.
+/// Clauses see what it holds, how often it was read, and for how many bytes.
 impl Model for MemFile {
     ghost use Rattle.store_base.specs.Files.{Content};
 
     ghost Value = { Content };
 
-    ghost view = { λ f. record { content = f.bytes; reads = f.reads } };
+    ghost view = { λ f. record { content = f.bytes; reads = f.reads; asked = f.asked } };
 }
 
 impl MemFile {
@@ -30,10 +31,12 @@ impl MemFile {
     pub fn new(alloc: Global, bytes: Vec<u8>) -> Result<MemFile, NoMemory>
         ensures content { IfOk result (λ f. f.content ≡ bytes.items) }
         ensures reads { IfOk result (λ f. f.reads ≡ 0) }
+        ensures asked { IfOk result (λ f. f.asked ≡ 0) }
     {
         Ok(MemFile {
             bytes: OwnedBytes::new(alloc, bytes)?,
             reads: 0,
+            asked: 0,
         })
     }
 }
@@ -47,12 +50,15 @@ impl FileHandle for MemFile {
 
     ghost reads = { λ f. f.reads };
 
+    ghost asked = { λ f. f.asked };
+
     fn len(&self) -> u64 {
         self.bytes.len() as u64
     }
 
     fn read_bytes(&mut self, _alloc: Global, range: Range<u64>) -> Result<OwnedBytes, ReadFault> {
         self.reads = self.reads.saturating_add(1);
+        self.asked = self.asked.saturating_add(range.end - range.start);
         Ok(self.bytes.slice(range.start as usize..range.end as usize)?)
     }
 }

@@ -75,9 +75,10 @@ impl TerminatingWrite for MemSink {
         ensures count { self.old.failures ≤ self.new.failures }
         ensures fault { OnErr result (HasRisen self.old.failures self.new.failures) }
 
-        // Beside what every output promises: a fault leaves what was written, and nothing else is one.
-        ensures kept { OnErr result (self.new.content ≡ self.old.content) }
         ensures steady { OnOk result (self.new.failures ≡ self.old.failures) }
+
+        // Beside what every output promises: a fault leaves what was written.
+        ensures kept { OnErr result (self.new.content ≡ self.old.content) }
     {
         match self.bytes.extend_from_slice(bytes) {
             Ok(()) => Ok(()),

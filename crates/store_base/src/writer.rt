@@ -26,7 +26,8 @@ pub trait TerminatingWrite: Drop {
         ensures ok { OnOk result (content self.new ≡ content self.old ++ bytes.now) }
         ensures termination { termination self.new ≡ termination self.old }
         ensures count { failures self.old ≤ failures self.new }
-        ensures fault { OnErr result (HasRisen (failures self.old) (failures self.new)) };
+        ensures fault { OnErr result (HasRisen (failures self.old) (failures self.new)) }
+        ensures steady { OnOk result (failures self.new ≡ failures self.old) };
 
     /// Ends the output: nothing will be written behind this.
     fn terminate(&mut self) -> Result<(), WriteFault>
@@ -34,7 +35,8 @@ pub trait TerminatingWrite: Drop {
             ≡ terminated_once (is_ok result) (content self.old) (termination self.old) }
         ensures content { OnOk result (content self.new ≡ content self.old) }
         ensures count { failures self.old ≤ failures self.new }
-        ensures fault { OnErr result (HasRisen (failures self.old) (failures self.new)) };
+        ensures fault { OnErr result (HasRisen (failures self.old) (failures self.new)) }
+        ensures steady { OnOk result (failures self.new ≡ failures self.old) };
 }
 
 /// An output that counts the bytes of its writes that answered Ok.
@@ -90,6 +92,7 @@ impl<W: TerminatingWrite> TerminatingWrite for CountingWriter<W> {
         ensures termination { W.termination self.new.output ≡ W.termination self.old.output }
         ensures count { W.failures self.old.output ≤ W.failures self.new.output }
         ensures fault { OnErr result (HasRisen (W.failures self.old.output) (W.failures self.new.output)) }
+        ensures steady { OnOk result (W.failures self.new.output ≡ W.failures self.old.output) }
         ensures written { self.new.written
             ≡ (if is_ok result then raised self.old.written (length bytes.now) else self.old.written) }
     {
@@ -104,6 +107,7 @@ impl<W: TerminatingWrite> TerminatingWrite for CountingWriter<W> {
         ensures content { OnOk result (W.content self.new.output ≡ W.content self.old.output) }
         ensures count { W.failures self.old.output ≤ W.failures self.new.output }
         ensures fault { OnErr result (HasRisen (W.failures self.old.output) (W.failures self.new.output)) }
+        ensures steady { OnOk result (W.failures self.new.output ≡ W.failures self.old.output) }
         ensures written { self.new.written ≡ self.old.written }
     {
         self.output.terminate()

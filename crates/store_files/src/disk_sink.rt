@@ -1,6 +1,6 @@
 //! An output on disk that takes its name only once it is whole.
 
-ghost use Rattle.std.specs.Prelude.{◌≡◌, ◌++◌, ◌≤◌, [], length, IfOk, OnErr, IsErr};
+ghost use Rattle.std.specs.Prelude.{◌≡◌, ◌++◌, ◌≤◌, [], length, IfOk, OnOk, OnErr, IsErr};
 ghost use Rattle.store_base.specs.Counts.{HasRisen};
 ghost use Rattle.store_base.specs.Outputs.{never_terminated};
 
@@ -154,6 +154,7 @@ where
         ensures termination { self.new.termination ≡ self.old.termination }
         ensures count { self.old.failures ≤ self.new.failures }
         ensures fault { OnErr result (HasRisen self.old.failures self.new.failures) }
+        ensures steady { OnOk result (self.new.failures ≡ self.old.failures) }
     {
         if let Err(error) = self.file.write_all(&self.buffer) {
             return self.fail(error);

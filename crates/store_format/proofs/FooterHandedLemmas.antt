@@ -1,5 +1,5 @@
 -- What reading a footer leaves of a file, and when it fails for a read.
-use Rattle.std.proofs.Common.{◌≡◌, ℕ, ◌-◌, ◌≤◌, true, false, List, length, nat_lt, refl, ap, arith}
+use Rattle.std.proofs.Common.{◌≡◌, ◌⊎◌, inl, inr, ℕ, ◌-◌, ◌≤◌, true, false, List, length, nat_lt, refl, ap, ◌∙◌, arith}
 use Rattle.std.specs.Prelude.{Result, Ok, Err}
 use Rattle.std.proofs.lemmas.Bool.{ltb-true, ltb-false}
 use Rattle.store_base.specs.Counts.{HasRisen}
@@ -33,6 +33,23 @@ footer_failed old mid r = (elim (nat_lt (length old.content) 28) as (λ y. nat_l
     go : (came : Result (List ℕ) StoreError) → Comes old (length old.content - 28) (length old.content) came mid → SaysFrom came (Err Read) → HasRisen old.failures mid.failures
     go (Err d) comes is = comes.failed (cc)
     go (Ok b) comes is = absurd is
+
+-- where the footer is refused for another cause, or comes, no failure was counted
+pub footer_steady : (old mid : Part) (said : Result DocStoreFooter StoreError) → ExtractsFooter old said mid → (said ≡ Err Read) ⊎ (mid.failures ≡ old.failures)
+footer_steady old mid said r = (elim (nat_lt (length old.content) 28) as (λ y. nat_lt (length old.content) 28 ≡ y → (said ≡ Err Read) ⊎ (mid.failures ≡ old.failures)) [
+  | true ↦ λ t. inr (ap (λ (p : Part). p.failures) (r.short (ltb-true _ _ t)).1)
+  | false ↦ λ t. let long = r.long (ltb-false _ _ t) in go long.0 long.1 long.2
+]) refl
+  where
+    go : (came : Result (List ℕ) StoreError) → Comes old (length old.content - 28) (length old.content) came mid → SaysFrom came said → (said ≡ Err Read) ⊎ (mid.failures ≡ old.failures)
+    go (Err d) comes is = elim comes.steady [
+      | inl failed ↦ inl (is ∙ ap Err (same_error d failed))
+      | inr stays ↦ inr stays
+    ]
+      where
+        same_error : (d : StoreError) → ◌≡◌ {A = Result (List ℕ) StoreError} (Err d) (Err Read) → d ≡ Read
+        same_error d e = cc
+    go (Ok b) comes is = elim comes.steady [ inl failed ↦ absurd (cc) | inr stays ↦ inr stays ]
 
 -- Where the footer is refused the file is left too.
 pub footer_handed : (old mid : Part) (said : Result DocStoreFooter StoreError) → ExtractsFooter old said mid → mid.content ≡ old.content

@@ -27,6 +27,12 @@ pub record ExtractsFooter (old : Part) (result : Result DocStoreFooter StoreErro
   pub long : 28 ≤ length old.content → (came : Result (List ℕ) StoreError)
       × Comes old (length old.content - 28) (length old.content) came new × SaysFrom came result
 
--- a part of a part, of this content; the file has failed and was read as often
+-- a part of a part, of this content; the file has failed and was read as often, and for as many bytes
 abbrev pub narrowed : Part → List ℕ → Part
-narrowed file content = record { content = content; honest = file.honest; failures = file.failures; reads = file.reads }
+narrowed file content = record {
+  content = content;
+  honest = file.honest;
+  failures = file.failures;
+  reads = file.reads;
+  asked = file.asked;
+}

@@ -55,7 +55,7 @@ unfailed_left (InParts size) reader old new h = ap (λ (w : Writing). w.output.f
 
 unfailed_store : (stacking : Stacking) (reader read : Reading) (old new : Writing) (e : StoreError) → RefusesStore (Leaves stacking) reader read old new e → IsUnfailed e old new
 unfailed_store stacking reader read old new TooManyDocs h = inr (failure_of old new h.1)
-unfailed_store stacking reader read old new Memory h = inr (unfailed_left stacking reader old new h)
+unfailed_store stacking reader read old new Memory h = inr (unfailed_left stacking reader old new h.0)
 unfailed_store stacking reader read old new Read h = inr (unfailed_left stacking reader old new h.0)
 unfailed_store stacking reader read old new (Failed cause) h = inl (cause, refl)
 unfailed_store stacking reader read old new (ShortFile k) h = absurd h

@@ -47,7 +47,7 @@ left_is news i y lt = slice_get-get_or (set news i y) i y (omega (arith, lt, len
 
 pub all_kept : {H : Type 0} (xs : List (MergeInput H)) → AreInputsKept xs xs
 all_kept [] = tt
-all_kept (x ∷ xs) = (record { store = same_as_it_is x.reader; set = refl }, all_kept xs)
+all_kept (x ∷ xs) = (record { store = same_as_it_is x.reader; set = refl; asked = omega arith }, all_kept xs)
 
 each_push : {H : Type 0} (Is : MergeInput H → MergeInput H → Type 0) (xs ys : List (MergeInput H)) (x y : MergeInput H) → AreEach Is xs ys → Is x y
     → AreEach Is (xs ++ x ∷ []) (ys ++ y ∷ [])

@@ -51,7 +51,7 @@ pub refused_begun : StoresAreStackedInOrder → (reader read : Reading) (old new
     → new.output.failure ≡ old.output.failure → BeginsSlots reader old new
 refused_begun law reader read old new OldVersion sound h same = nothing_begun reader old new (ap taken h.0)
 refused_begun law reader read old new TooManyDocs sound h same = nothing_begun reader old new (ap taken h.0)
-refused_begun law reader read old new Memory sound h same = blocks_begun law reader old new same sound h
+refused_begun law reader read old new Memory sound h same = blocks_begun law reader old new same sound h.0
 refused_begun law reader read old new Read sound h same = blocks_begun law reader old new same sound h.0
 refused_begun law reader read old new (Failed cause) sound h same = nothing_begun reader old new (ap taken (unfailed old.output.failure cause old new refl same h))
 refused_begun law reader read old new (ShortFile k) sound h same = absurd h

@@ -1,5 +1,5 @@
 -- The inputs of a merge, and what the taking of one leaves.
-use Rattle.std.specs.Prelude.{◌≡◌, ◌≢◌, ◌≤◌, List, [], ◌∷◌, ◌++◌, length, IfSome, None}
+use Rattle.std.specs.Prelude.{◌≡◌, ◌≢◌, ◌≤◌, ◌+◌, List, [], ◌∷◌, ◌++◌, length, IfSome, None}
 use Rattle.store_format.specs.declared.version.DocStoreVersion.TheVariants.{V1}
 use Rattle.docstore.specs.Laws.{taken}
 use Rattle.store_reader.specs.Reading.{Reading, IsSameStore, num_docs as docs_of}
@@ -20,10 +20,15 @@ pub record CanBeTaken {H : Type 0} (x : MergeInput H) : Type 0 where
   pub set : HasWholeSet x
   pub version : x.reader.version ≢ V1
 
--- What a merge leaves of an input: its store and its set.
+-- A reader's file was asked for no more bytes than its data has.
+abbrev pub IsAskedOnce : Reading → Reading → Type 0
+IsAskedOnce old new = new.file.asked ≤ old.file.asked + length old.file.content
+
+-- What a merge leaves of an input: its store and its set. It was asked for its data once at most.
 pub record IsInputKept {H : Type 0} (x left : MergeInput H) : Type 0 where
   pub store : IsSameStore x.reader left.reader
   pub set : left.alive ≡ x.alive
+  pub asked : IsAskedOnce x.reader left.reader
 
 -- the same said of each input and what is left of it
 abbrev pub AreEach : {H : Type 0} → (MergeInput H → MergeInput H → Type 0) → List (MergeInput H)

@@ -55,7 +55,7 @@ abbrev pub RefusesStore : (Reading → Writing → Writing → Type 0) → Readi
     → Writing → StoreError
     → Type 0
 RefusesStore Left reader read old new TooManyDocs = HasTooMany old reader × (new ≡ old)
-RefusesStore Left reader read old new Memory = Left reader old new
+RefusesStore Left reader read old new Memory = Left reader old new × (read.file.failures ≡ reader.file.failures)
 RefusesStore Left reader read old new Read = Left reader old new × HasRisen reader.file.failures read.file.failures
 RefusesStore Left reader read old new (Failed cause) = AfterFailed old.output.failure cause old new
 RefusesStore Left reader read old new _ = ⊥

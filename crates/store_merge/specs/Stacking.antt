@@ -3,10 +3,10 @@ use Rattle.std.specs.Prelude.{◌≡◌, ℕ, true, IsTrue, List, ◌++◌}
 use Rattle.store_format.specs.Block.{Slot}
 use Rattle.store_format.specs.Slots.{slots}
 use Rattle.docstore.specs.Laws.{taken}
-use Rattle.store_reader.specs.Reading.{Reading, IsReadOnce, store_of}
+use Rattle.store_reader.specs.Reading.{Reading, IsReadWhole, store_of}
 use Rattle.docstore.specs.Stacking.{IsFlushed}
 use Rattle.store_reader.specs.Parts.{number_of_parts}
-use Rattle.docstore.specs.StackingInParts.{IsReadTimes, BeginsStack}
+use Rattle.docstore.specs.StackingInParts.{IsReadInPieces, BeginsStack}
 use Rattle.docstore.specs.Writer.{Writing}
 use Rattle.store_merge.specs.declared.input.MergeInput.{MergeInput}
 use Rattle.store_merge.specs.declared.stacking.Stacking.{Stacking}
@@ -22,13 +22,13 @@ abbrev pub Leaves : Stacking → Reading → Writing → Writing → Type 0
 Leaves Whole reader old new = LeavesFlushed reader old new
 Leaves (InParts size) reader old new = BeginsStack reader old new
 
--- The store was read once for each of its parts of so many bytes.
+-- The store's whole data was read, once for each of its parts of so many bytes.
 abbrev pub IsReadInParts : ℕ → Reading → Reading → Type 0
-IsReadInParts size old new = IsReadTimes (number_of_parts size old.checkpoints) old new
+IsReadInParts size old new = IsReadInPieces (number_of_parts size old.checkpoints) old new
 
 -- the same, by how it was stacked
 abbrev pub IsReadBy : Stacking → Reading → Reading → Type 0
-IsReadBy Whole old new = IsReadOnce old new
+IsReadBy Whole old new = IsReadWhole old new
 IsReadBy (InParts size) old new = IsReadInParts size old new
 
 -- The input was read so if it is stacked.

@@ -1,5 +1,5 @@
 //! Copies the documents of a store one by one.
-ghost use Rattle.std.specs.Prelude.{◌≡◌, ◌≤◌, ◌⊎◌, Ok, Err, OnOk, IfErr, IfSome, length};
+ghost use Rattle.std.specs.Prelude.{◌≡◌, ◌≤◌, ◌⊎◌, Ok, Err, OnOk, IfErr, IfSome, IsErrOf, length};
 ghost use Rattle.store_reader.specs.Reading.{IsSameStore, num_docs, store_of};
 ghost use Rattle.store_format.specs.Slots.{slots};
 ghost use Rattle.store_reader.specs.Walking.{set_of};
@@ -7,11 +7,12 @@ ghost use Rattle.docstore.specs.Writer.{IsStoreWriter};
 ghost use Rattle.store_merge.specs.Bringing.{IsCopied};
 ghost use Rattle.store_merge.specs.Choice.{alive_of};
 ghost use Rattle.store_merge.specs.Copying.{IsTaken, IsRefused};
+ghost use Rattle.store_merge.specs.Inputs.{IsAskedOnce};
 ghost use Rattle.store_merge.specs.Refusals.{StopsAt};
 
 use docstore::{StoreError, StoreReader, StoreWriter, laws};
 use std::alloc::Global;
-use store_base::{AliveBitSet, FileHandle, OwnedBytes, TerminatingWrite};
+use store_base::{AliveBitSet, Cause, FileHandle, OwnedBytes, TerminatingWrite};
 
 // Takes one document of an iteration, or answers why it did not come.
 fn take_document<W: TerminatingWrite>(
@@ -22,6 +23,8 @@ fn take_document<W: TerminatingWrite>(
     ensures taken { OnOk result (IsTaken document writer.old writer.new) }
     ensures err { IfErr result (IsRefused document writer.old writer.new) }
     ensures count { writer.old.output.failures ≤ writer.new.output.failures }
+    ensures steady { IsErrOf result (StoreError.Failed Cause.Write)
+        ⊎ (writer.new.output.failures ≡ writer.old.output.failures) }
     ensures sound { IsStoreWriter writer.new }
 {
     laws::documents_are_taken_in_order();
@@ -43,9 +46,14 @@ pub fn copy_documents<W: TerminatingWrite, H: FileHandle>(
         (alive_of reader.old (set_of alive.entry)) writer.old writer.new) }
     ensures stopped { IfErr result (StopsAt (set_of alive.entry) reader.old reader.new writer.old writer.new) }
     ensures same_store { IsSameStore reader.old reader.new }
+    ensures asked { IsAskedOnce reader.old reader.new }
     ensures count { writer.old.output.failures ≤ writer.new.output.failures }
+    ensures steady { IsErrOf result (StoreError.Failed Cause.Write)
+        ⊎ (writer.new.output.failures ≡ writer.old.output.failures) }
     ensures sound { IsStoreWriter writer.new }
 {
+    // By its clause the blocks cover the data.
+    reader.num_docs();
     for document in reader.iter_raw(alloc, alive) {
         take_document(writer, document)?;
     }

@@ -1,10 +1,10 @@
 //! Merges stores with live sets.
-ghost use Rattle.std.specs.Prelude.{◌≡◌, ◌≤◌, ◌⊎◌, ◌++◌, None, Err, OnOk, IfErr, IfSome};
+ghost use Rattle.std.specs.Prelude.{◌≡◌, ◌≤◌, ◌⊎◌, ◌++◌, None, Err, OnOk, IfErr, IfSome, IsErrAnd};
 ghost use Rattle.std.specs.List.{AllByRecursion, flat_map};
 ghost use Rattle.docstore.specs.Laws.{taken};
 ghost use Rattle.docstore.specs.StackingInParts.{BeginsStack};
 ghost use Rattle.docstore.specs.Writer.{IsStoreWriter};
-ghost use Rattle.store_reader.specs.Reading.{IsReadOnce};
+ghost use Rattle.store_reader.specs.Reading.{IsReadWhole};
 ghost use Rattle.store_merge.specs.Choice.{first_old, alive_slots};
 ghost use Rattle.store_merge.specs.Inputs.{HasWholeSet, CanBeTaken, AreInputsKept, AreStackedBy};
 ghost use Rattle.store_merge.specs.Stacking.{Leaves, LeavesFlushed, IsReadBy, IsReadInParts};
@@ -17,7 +17,7 @@ use crate::stacking::Stacking;
 use crate::taking::take_input;
 use docstore::{StoreError, StoreWriter, laws};
 use std::alloc::Global;
-use store_base::{FileHandle, TerminatingWrite};
+use store_base::{Cause, FileHandle, TerminatingWrite};
 
 // Takes the inputs in order, up to the first that is refused.
 fn take_inputs<W: TerminatingWrite, H: FileHandle>(
@@ -33,6 +33,8 @@ fn take_inputs<W: TerminatingWrite, H: FileHandle>(
     ensures read { OnOk result (AreStackedBy (IsReadBy stacking) inputs.old inputs.new) }
     ensures kept { AreInputsKept inputs.old inputs.new }
     ensures count { writer.old.output.failures ≤ writer.new.output.failures }
+    ensures steady { IsErrAnd result (λ e. e.error ≡ StoreError.Failed Cause.Write)
+        ⊎ (writer.new.output.failures ≡ writer.old.output.failures) }
     ensures sound { IsStoreWriter writer.new }
 {
     for (place, input) in inputs.iter_mut().enumerate() {
@@ -79,10 +81,12 @@ fn merge_by<W: TerminatingWrite, H: FileHandle>(
     ensures works { IfErr result (λ e. IsFailed e.error
         ⊎ (writer.new.output.failure ≡ writer.old.output.failure)) }
 
-    // The inputs keep their stores and sets.
+    // The inputs keep their stores and sets. Each was asked for no more bytes than its data has, stacked or copied.
     ensures kept { AreInputsKept inputs.old inputs.new }
 
     ensures count { writer.old.output.failures ≤ writer.new.output.failures }
+    ensures steady { IsErrAnd result (λ e. e.error ≡ StoreError.Failed Cause.Write)
+        ⊎ (writer.new.output.failures ≡ writer.old.output.failures) }
     ensures sound { IsStoreWriter writer.new }
 {
     // So what is stacked of an honest file is each of its slots.
@@ -122,8 +126,8 @@ pub fn merge<W: TerminatingWrite, H: FileHandle>(
     ensures ended { first_old inputs.old ≡ None
         → IfErr result (IsEnded LeavesFlushed inputs.old inputs.new writer.old writer.new) }
 
-    // Each input that is stacked was read once.
-    ensures read { OnOk result (AreStackedBy IsReadOnce inputs.old inputs.new) }
+    // The whole data of each input that is stacked was read once.
+    ensures read { OnOk result (AreStackedBy IsReadWhole inputs.old inputs.new) }
 
     // What follows, where the files are honest.
     ensures grown { OnOk result (AllByRecursion IsHonest inputs.old
@@ -136,10 +140,12 @@ pub fn merge<W: TerminatingWrite, H: FileHandle>(
     ensures works { IfErr result (λ e. IsFailed e.error
         ⊎ (writer.new.output.failure ≡ writer.old.output.failure)) }
 
-    // The inputs keep their stores and sets.
+    // The inputs keep their stores and sets. Each was asked for no more bytes than its data has, stacked or copied.
     ensures kept { AreInputsKept inputs.old inputs.new }
 
     ensures count { writer.old.output.failures ≤ writer.new.output.failures }
+    ensures steady { IsErrAnd result (λ e. e.error ≡ StoreError.Failed Cause.Write)
+        ⊎ (writer.new.output.failures ≡ writer.old.output.failures) }
     ensures sound { IsStoreWriter writer.new }
 {
     merge_by(alloc, writer, inputs, Stacking::Whole)
@@ -166,7 +172,7 @@ pub fn merge_in_parts<W: TerminatingWrite, H: FileHandle>(
     ensures ended { first_old inputs.old ≡ None
         → IfErr result (IsEnded BeginsStack inputs.old inputs.new writer.old writer.new) }
 
-    // Each input that is stacked was read once for each of its parts.
+    // The whole data of each input that is stacked was read, once for each of its parts.
     ensures read { OnOk result (AreStackedBy (IsReadInParts part_bytes) inputs.old inputs.new) }
 
     // What follows, where the files are honest.
@@ -180,10 +186,12 @@ pub fn merge_in_parts<W: TerminatingWrite, H: FileHandle>(
     ensures works { IfErr result (λ e. IsFailed e.error
         ⊎ (writer.new.output.failure ≡ writer.old.output.failure)) }
 
-    // The inputs keep their stores and sets.
+    // The inputs keep their stores and sets. Each was asked for no more bytes than its data has, stacked or copied.
     ensures kept { AreInputsKept inputs.old inputs.new }
 
     ensures count { writer.old.output.failures ≤ writer.new.output.failures }
+    ensures steady { IsErrAnd result (λ e. e.error ≡ StoreError.Failed Cause.Write)
+        ⊎ (writer.new.output.failures ≡ writer.old.output.failures) }
     ensures sound { IsStoreWriter writer.new }
 {
     merge_by(alloc, writer, inputs, Stacking::InParts(part_bytes))

@@ -1,9 +1,9 @@
 //! Takes one input of a merge.
-ghost use Rattle.std.specs.Prelude.{◌≡◌, ◌≢◌, ◌≤◌, OnOk, IfErr};
+ghost use Rattle.std.specs.Prelude.{◌≡◌, ◌≢◌, ◌≤◌, ◌⊎◌, OnOk, IfErr, IsErrOf};
 ghost use Rattle.docstore.specs.Laws.{taken};
 ghost use Rattle.store_reader.specs.Reading.{IsSameStore};
 ghost use Rattle.docstore.specs.Writer.{IsStoreWriter};
-ghost use Rattle.store_merge.specs.Inputs.{CanBeTaken, IsInputKept, IsInputTaken, IsStacked};
+ghost use Rattle.store_merge.specs.Inputs.{CanBeTaken, IsAskedOnce, IsInputKept, IsInputTaken, IsStacked};
 ghost use Rattle.store_merge.specs.Refusals.{RefusesInput, RefusesStore, HasGrown};
 ghost use Rattle.store_merge.specs.Stacking.{Leaves, IsReadBy, IsStackedBy, BeginsSlots};
 
@@ -13,7 +13,7 @@ use crate::input::MergeInput;
 use crate::stacking::Stacking;
 use docstore::{DocStoreVersion, StoreError, StoreReader, StoreWriter, laws};
 use std::alloc::Global;
-use store_base::{FileHandle, TerminatingWrite};
+use store_base::{Cause, FileHandle, TerminatingWrite};
 
 // Puts a store behind what the writer has taken.
 fn stack_store<W: TerminatingWrite, H: FileHandle>(
@@ -29,7 +29,10 @@ fn stack_store<W: TerminatingWrite, H: FileHandle>(
         → BeginsSlots reader.old writer.old writer.new) }
     ensures read { OnOk result (IsReadBy stacking reader.old reader.new) }
     ensures same_store { IsSameStore reader.old reader.new }
+    ensures asked { IsAskedOnce reader.old reader.new }
     ensures count { writer.old.output.failures ≤ writer.new.output.failures }
+    ensures steady { IsErrOf result (StoreError.Failed Cause.Write)
+        ⊎ (writer.new.output.failures ≡ writer.old.output.failures) }
     ensures sound { IsStoreWriter writer.new }
 {
     laws::stores_are_stacked_in_order();
@@ -56,6 +59,8 @@ pub fn take_input<W: TerminatingWrite, H: FileHandle>(
     ensures read { OnOk result (IsStackedBy (IsReadBy stacking) input.old input.new) }
     ensures kept { IsInputKept input.old input.new }
     ensures count { writer.old.output.failures ≤ writer.new.output.failures }
+    ensures steady { IsErrOf result (StoreError.Failed Cause.Write)
+        ⊎ (writer.new.output.failures ≡ writer.old.output.failures) }
     ensures sound { IsStoreWriter writer.new }
 {
     let is_stacked = is_stacked(input);

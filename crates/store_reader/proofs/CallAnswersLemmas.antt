@@ -46,7 +46,7 @@ pub looks_of_get : (id : ℕ) (call : ReadCall) (result : Result (List ℕ) Stor
 looks_of_get id call result old new is none some =
     subst (λ (c : ReadCall). AreLookUps (keys_of_call old.checkpoints c) old new) (sym is)
     ((elim (nat_lt id (num_docs old)) as (λ y. nat_lt id (num_docs old) ≡ y → AreLookUps (keys_of_call old.checkpoints (Bytes id)) old new) [
-      | true ↦ λ t. let a = some (ltb-true _ _ t) in rw t (rw a.looked.seeks (look_once a.checkpoint old a.came new a.looked.looks_up))
+      | true ↦ λ t. let a = some (ltb-true _ _ t) in rw t (rw a.looked.seeks (look_once id a.checkpoint old a.came new a.looked))
       | false ↦ λ t. rw t (subst (λ (r : Reading). AreLookUps [] old r) (sym (none (ltb-false _ _ t))) (no_looks old))
     ]) refl)
 

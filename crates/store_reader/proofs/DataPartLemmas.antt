@@ -2,7 +2,7 @@
 use Rattle.std.proofs.Common.{◌≡◌, ℕ, ◌+◌, ◌-◌, ◌<◌, ◌≤◌, ◌⊎◌, inl, inr, List, length, Some, None, IsTrue, IfSome, refl, ◌∙◌, ap, arith}
 use Rattle.std.specs.Prelude.{slice_range}
 use Rattle.layered_index.specs.declared.index.Checkpoint.{Checkpoint}
-use Rattle.layered_index.specs.Checkpoint.{docs_end, first_past, Covers}
+use Rattle.layered_index.specs.Checkpoint.{byte_len, docs_end, first_past, Covers}
 use Rattle.store_reader.specs.Reading.{Reading}
 use Rattle.store_reader.specs.Parts.{parts_beyond, number_of_parts, rest_from, IsBetween, IsPartFrom}
 use Rattle.store_reader.proofs.SeekLemmas.{within, none_past}
@@ -59,3 +59,9 @@ part_from size reader id first last bytes covers e p len own =
         → (last.doc_range.end ≡ first.doc_range.end) ⊎ (length bytes ≤ size)
     few end (inl same) = inl (ap (λ (c : Checkpoint). c.doc_range.end) same)
     few end (inr le) = inr (omega (arith, end, le))
+
+-- how many bytes a part has at most
+pub few_bytes : (size : ℕ) (first last : Checkpoint) → (last ≡ first) ⊎ (last.byte_range.end ≤ first.byte_range.start + size)
+    → (last.byte_range.end - first.byte_range.start ≡ byte_len first) ⊎ (last.byte_range.end - first.byte_range.start ≤ size)
+few_bytes size first last (inl same) = inl (ap (λ (c : Checkpoint). c.byte_range.end - first.byte_range.start) same)
+few_bytes size first last (inr le) = inr (omega (arith, le))

@@ -1,18 +1,19 @@
 -- Where an answer is a failed read, the file's count of failures has risen.
-use Rattle.std.proofs.Common.{◌≡◌, ◌⊎◌, inl, inr, ℕ, ◌-◌, ◌≤◌, Bool, List, [], ◌∷◌, ◌++◌, take, Option, Some, sym, ap, ◌∙◌, subst, arith}
-use Rattle.std.proofs.lemmas.List.Elements.{Contains-append_cases, Contains-push_cases}
+use Rattle.std.proofs.Common.{◌≡◌, ◌⊎◌, inl, inr, ℕ, ◌+◌, ◌-◌, ◌<◌, ◌≤◌, Bool, List, [], ◌∷◌, ◌++◌, length, take, get_or, Option, Some, sym, ap, ◌∙◌, subst, arith}
+use Rattle.std.proofs.lemmas.List.Elements.{Contains-append_cases, Contains-append_left, Contains-append_right, Contains-push_cases}
 use Rattle.std.proofs.lemmas.Grind.{flat_map-append}
-use Rattle.std.proofs.lemmas.List.{append-nil}
-use Rattle.std.specs.List.{Contains, flat_map}
+use Rattle.std.proofs.lemmas.List.{append-nil, take_more}
+use Rattle.std.specs.List.{AllByRecursion, Contains, flat_map}
 use Rattle.std.specs.Prelude.{Result, Ok, Err}
 use Rattle.store_base.specs.Counts.{HasRisen}
 use Rattle.store_base.specs.declared.error.StoreError.{StoreError}
 use Rattle.store_base.specs.declared.error.StoreError.TheVariants.{Read, Memory}
 use Rattle.layered_index.specs.declared.index.Checkpoint.{Checkpoint}
 use Rattle.store_reader.specs.declared.answers.Answer.{Answer}
+use Rattle.store_reader.specs.declared.answers.ReadCall.{ReadCall}
 use Rattle.store_reader.specs.declared.walk.Walk.{Walk}
 use Rattle.store_reader.specs.GetAnswer.{IsLookedUp, AnswersFrom}
-use Rattle.store_reader.specs.CallAnswers.{HasRefusal, results_of}
+use Rattle.store_reader.specs.CallAnswers.{IsGet, HasRefusal, results_of}
 use Rattle.store_reader.specs.LookingUp.{Takes}
 use Rattle.store_reader.specs.Reading.{Reading, IsSameStore}
 use Rattle.store_reader.specs.Walking.{IsTaken, LooksAlong, GivesNext}
@@ -72,3 +73,24 @@ answer_failed first old new answers answer before after so_far here some =
       | inl earlier ↦ risen_on first.file.failures old.file.failures new.file.failures (so_far earlier) after.failures
       | inr now ↦ risen_before first.file.failures old.file.failures new.file.failures before.failures (here now)
     ]
+
+-- ---- where it stays
+
+all_but_last : {A : Type 0} (P : A → Type 0) (xs : List A) (x : A) → AllByRecursion P (xs ++ x ∷ []) → AllByRecursion P xs × P x
+all_but_last P [] x all = (tt, all.0)
+all_but_last P (y ∷ xs) x all = let on = all_but_last P xs x all.1 in ((all.0, on.0), on.1)
+
+-- one more get that is not a failed read
+pub gets_steady : (first old new : Reading) (calls : List ReadCall) (i : ℕ) (call : ReadCall) (answers : List Answer) (answer : Answer) → i < length calls → call ≡ get_or calls i call
+    → (AllByRecursion IsGet (take i calls) → (HasRefusal answers Read → ⊥) → old.file.failures ≡ first.file.failures)
+    → (IsGet call → (Contains (results_of answer) (Err Read) → ⊥) → new.file.failures ≡ old.file.failures)
+    → AllByRecursion IsGet (take (i + 1) calls) → (HasRefusal (answers ++ answer ∷ []) Read → ⊥) → new.file.failures ≡ first.file.failures
+gets_steady first old new calls i call answers answer lt at so_far here gets none =
+    let next : take (i + 1) calls ≡ take i calls ++ call ∷ [] = take_more calls i call lt ∙ ap (λ (c : ReadCall). take i calls ++ c ∷ []) (sym at) in
+    let each = all_but_last IsGet (take i calls) call (subst (λ (cs : List ReadCall). AllByRecursion IsGet cs) next gets) in
+    let joined : flat_map results_of (answers ++ answer ∷ []) ≡ flat_map results_of answers ++ results_of answer =
+    flat_map-append results_of answers (answer ∷ []) ∙ ap (λ (xs : List (Result (List ℕ) StoreError)). flat_map results_of answers ++ xs) (append-nil (results_of answer)) in
+    let told : Contains (flat_map results_of answers ++ results_of answer) (Err Read) → ⊥ =
+    λ some. none (subst (λ (xs : List (Result (List ℕ) StoreError)). Contains xs (Err Read)) (sym joined) some) in
+    here each.1 (λ some. told (Contains-append_right (flat_map results_of answers) (results_of answer) (Err Read) some))
+    ∙ so_far each.0 (λ some. told (Contains-append_left (flat_map results_of answers) (results_of answer) (Err Read) some))

@@ -27,21 +27,22 @@ use Rattle.store_reader.proofs.ReaderStoreLemmas.{length-slice}
 
 -- a file of these bytes whose reads give what it holds, and never fail
 pub still : List ℕ → Part
-still bytes = record { content = bytes; honest = true; failures = 0; reads = 0 }
+still bytes = record { content = bytes; honest = true; failures = 0; reads = 0; asked = 0 }
 
--- the file after one read
-read_of : Part → Part
-read_of old = record { content = old.content; honest = old.honest; failures = old.failures; reads = raised old.reads 1 }
+-- the file after one read of so many bytes
+read_of : ℕ → Part → Part
+read_of len old = record { content = old.content; honest = old.honest; failures = old.failures; reads = raised old.reads 1; asked = raised old.asked len }
 
 -- bytes of a range came
-came_ok : (old : Part) (from to : ℕ) → from ≤ to → to ≤ length old.content → Comes old from to (Ok (slice_range old.content from to)) (read_of old)
+came_ok : (old : Part) (from to : ℕ) → from ≤ to → to ≤ length old.content → Comes old from to (Ok (slice_range old.content from to)) (read_of (to - from) old)
 unfolding read_of
 came_ok old from to order le = record {
   size = length-slice old.content from to le;
   bytes = λ _. refl;
   failed = λ e. absurd cc;
+  steady = inr refl;
   only = tt;
-  once = record { content = refl; honest = refl; reads = refl; failures = omega arith };
+  once = record { content = refl; honest = refl; reads = refl; asked = refl; failures = omega arith };
 }
 
 -- what came of the bytes decides
@@ -57,7 +58,7 @@ unfolding still read_of
 extracts_still bytes said found = (elim (nat_lt (length bytes) 28) as (λ y. nat_lt (length bytes) 28 ≡ y → (mid : Part) × ExtractsFooter (still bytes) said mid × (mid.content ≡ bytes)) [
   | true ↦ λ t. let lt = ltb-true _ _ t in (still bytes, record { short = λ _. (found.short lt, refl); long = λ le. absurd (omega arith) }, refl)
   | false ↦ λ t. let le = ltb-false _ _ t in (
-    read_of (still bytes),
+    read_of (length bytes - (length bytes - 28)) (still bytes),
     record { short = λ lt. absurd (omega arith); long = λ _. (Ok _, came_ok (still bytes) _ _ (omega arith) (omega arith), found.long le) },
     refl,
   )
@@ -69,7 +70,7 @@ unfolding read_of
 reads_still old f result found = (elim (nat_lt (length old.content - 28) f.offset) as (λ y. nat_lt (length old.content - 28) f.offset ≡ y → (after : Part) × ReadsIndex old f result after) [
   | true ↦ λ t. let lt = ltb-true _ _ t in (old, record { past = λ _. (found.past lt, refl); within = λ le. absurd (omega arith) })
   | false ↦ λ t. let le = ltb-false _ _ t in (
-    read_of old,
+    read_of (length old.content - 28 - f.offset) old,
     record { past = λ lt. absurd (omega arith); within = λ _. (Ok _, came_ok old _ _ le (omega arith), found.within le) },
   )
 ]) refl

@@ -2,6 +2,7 @@
 use Rattle.std.proofs.Common.{◌≡◌, ℕ, ◌-◌, ◌≤◌, List, length, arith, Option, Some, refl, sym, ap, ◌∙◌, subst, inl, inr, ◌⊎◌}
 use Rattle.std.specs.Prelude.{Result, Ok, Err, IsTrue, IfOk, slice_get}
 use Rattle.store_base.specs.Counts.{HasRisen}
+use Rattle.store_base.specs.Files.{Part}
 use Rattle.layered_index.specs.declared.index.Checkpoint.{Checkpoint}
 use Rattle.store_base.specs.declared.error.StoreError.{StoreError}
 use Rattle.store_base.specs.declared.error.StoreError.TheVariants.{InvalidArgument, Read, Memory}
@@ -26,6 +27,14 @@ pub has_failed : (old new : Reading) (id : ℕ) (c : Checkpoint) → IsLookedUp 
 has_failed old new id c looked = elim looked.looks_up.cause [
   | inl hit ↦ let given = hit.given in absurd cc
   | inr miss ↦ miss.read.failed refl
+]
+
+-- the count of failures stays, unless the look-up fails for a read
+pub look_steady : (old new : Reading) (id : ℕ) (c : Checkpoint) (came : Result (List ℕ) StoreError) → IsLookedUp old id c came new
+    → (came ≡ Err Read) ⊎ (new.file.failures ≡ old.file.failures)
+look_steady old new id c came looked = elim looked.looks_up.cause [
+  | inl hit ↦ inr (ap (λ (p : Part). p.failures) hit.file_stays)
+  | inr miss ↦ miss.read.steady
 ]
 
 -- the slot of a document is that of its place in the block that a seek finds
@@ -58,6 +67,15 @@ module _ (old new : Reading) (id : ℕ) where
   -- a read fails only where the file's count of failures rises
   pub read_failed : (result : Result (List ℕ) StoreError) → IsAnswered old id result new → result ≡ Err Read → HasRisen old.file.failures new.file.failures
   read_failed result a e = failed a.checkpoint a.came result a.looked a.answer e
+
+  stays : (c : Checkpoint) (came result : Result (List ℕ) StoreError) → IsLookedUp old id c came new → AnswersFrom id (id - c.doc_range.start) came result
+      → (result ≡ Err Read) ⊎ (new.file.failures ≡ old.file.failures)
+  stays c (Ok block) result looked answer = elim (look_steady old new id c (Ok block) looked) [ inl failed ↦ absurd (cc) | inr same ↦ inr same ]
+  stays c (Err f) result looked answer = elim (look_steady old new id c (Err f) looked) [ inl failed ↦ inl (answer ∙ failed) | inr same ↦ inr same ]
+
+  -- the count of failures stays, unless the answer is a failed read
+  pub answer_steady : (result : Result (List ℕ) StoreError) → IsAnswered old id result new → (result ≡ Err Read) ⊎ (new.file.failures ≡ old.file.failures)
+  answer_steady result a = stays a.checkpoint a.came result a.looked a.answer
 
   truly : (c : Checkpoint) (came result : Result (List ℕ) StoreError) → IsLookedUp old id c came new → IfOk came (λ block. block ≡ part_of old.file.content c)
       → AnswersFrom id (id - c.doc_range.start) came result

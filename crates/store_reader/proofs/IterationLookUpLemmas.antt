@@ -82,18 +82,23 @@ listed_first first set now w next place looks =
     }
 
 -- the blocks on the way to an id
-looks_to : (first : Reading) (set : Option (ℕ → Bool)) (count : ℕ) (old : Reading) (from : Walk) (id : ℕ) (new : Reading) (to : Walk) → old.checkpoints ≡ first.checkpoints
-    → IsListedTo first set count old from → WalksTo set old from id new to
+pub looks_joined : (first old : Reading) (from : Walk) (set : Option (ℕ → Bool)) (id : ℕ) (new : Reading) (to : Walk) → old.checkpoints ≡ first.checkpoints
+    → LooksAlong (take from.place first.checkpoints) first (Err Memory) old from.block → WalksTo set old from id new to
     → LooksAlong (take to.place first.checkpoints) first (Err Memory) new to.block
-looks_to first set count old from id new to same listed walks =
+looks_joined first old from set id new to same looks walks =
     let cs = first.checkpoints in
     let from_none : from.place - 0 ≡ from.place = omega arith in
     let to_none : to.place - 0 ≡ to.place = omega arith in
     let joined : take to.place cs ≡ take from.place cs ++ slice_range cs from.place to.place =
     ap (λ (n : ℕ). take n cs) (sym to_none) ∙ range_joined cs 0 from.place to.place (omega arith) walks.later ∙ ap (λ (n : ℕ). take n cs ++ slice_range cs from.place to.place) from_none in
     subst (λ (xs : List Checkpoint). LooksAlong xs first (Err Memory) new to.block) (sym joined)
-    (looks_on (take from.place cs) (slice_range cs from.place to.place) first (Err Memory) old from.block new to.block listed.looks
+    (looks_on (take from.place cs) (slice_range cs from.place to.place) first (Err Memory) old from.block new to.block looks
     (subst (λ (xs : List Checkpoint). LooksAlong (slice_range xs from.place to.place) old from.block new to.block) same walks.looks))
+
+looks_to : (first : Reading) (set : Option (ℕ → Bool)) (count : ℕ) (old : Reading) (from : Walk) (id : ℕ) (new : Reading) (to : Walk) → old.checkpoints ≡ first.checkpoints
+    → IsListedTo first set count old from → WalksTo set old from id new to
+    → LooksAlong (take to.place first.checkpoints) first (Err Memory) new to.block
+looks_to first set count old from id new to same listed walks = looks_joined first old from set id new to same listed.looks walks
 
 -- one more item
 pub listed_on : (first : Reading) (set : Option (ℕ → Bool)) (count : ℕ) (old : Reading) (from : Walk) (item : Result (List ℕ) StoreError) (new : Reading) (to : Walk)

@@ -9,6 +9,7 @@ pub mod ReaderStoreLemmas
 pub mod StoreSlotLemmas
 pub mod GetAnswerLemmas
 pub mod WalkingLemmas
+pub mod AskedLemmas
 pub mod RecentLemmas
 pub mod BlocksAlongLemmas
 pub mod OpenedLemmas

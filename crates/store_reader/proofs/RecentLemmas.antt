@@ -1,9 +1,9 @@
 -- What look-ups one after the other do, and what they leave.
 use Rattle.std.proofs.Common.{◌≡◌, ℕ, ◌+◌, ◌<◌, ◌≤◌, ◌^◌, Bool, true, false, List, [], ◌∷◌, ◌++◌, map, is_some, refl, sym, ap, ◌∙◌, subst, arith, inl, inr}
 use Rattle.std.proofs.lemmas.List.{map-append}
-use Rattle.std.proofs.lemmas.List.Sums.{fold-append}
+use Rattle.std.proofs.lemmas.List.Sums.{fold-append, sum_by-append}
 use Rattle.std.specs.Prelude.{if◌then◌else◌, ◌==◌, Result, Ok, Err}
-use Rattle.std.specs.List.{list_any}
+use Rattle.std.specs.List.{list_any, sum_by}
 use Rattle.std.specs.Map.{keys_of}
 use Rattle.store_base.specs.Counts.{raised}
 use Rattle.store_base.specs.Files.{Part}
@@ -14,9 +14,10 @@ use Rattle.store_reader.specs.Cache.{CacheState, LookUp, look_up, recent, misses
 use Rattle.store_reader.specs.Kept.{Blocks, state_of}
 use Rattle.store_reader.specs.LookingUp.{LooksUp, cache_missed}
 use Rattle.store_reader.specs.Iteration.{keys_along}
-use Rattle.store_reader.specs.LookLaws.{AreLookUps, LooksAreRecent, LookUpsAreCounted}
+use Rattle.store_reader.specs.LookLaws.{bytes_at, AreLookUps, LooksAreRecent, LookUpsAreCounted}
 use Rattle.store_reader.specs.Reading.{Reading, IsSameStore}
 use Rattle.store_reader.specs.Walking.{LooksAlong}
+use Rattle.store_reader.proofs.AskedLemmas.{asked_once, found_bytes}
 use Rattle.store_reader.proofs.KeptLemmas.{any_from_some, apart_from_none}
 
 -- the capacity stays
@@ -106,18 +107,21 @@ misses_then capacity s (l ∷ ls) ms = omega (arith, misses_then capacity (look_
 
 -- no look-up
 pub no_looks : (r : Reading) → AreLookUps [] r r
-no_looks r = record { looks = []; order = refl; state = refl; capacity = refl; reads = λ few. omega arith }
+no_looks r = record { looks = []; order = refl; state = refl; capacity = refl; checkpoints = refl; asked = omega arith; reads = λ few. omega arith }
 
 -- one look-up
-pub look_once : (c : Checkpoint) (old : Reading) (came : Result (List ℕ) StoreError) (new : Reading) → LooksUp c old.file old.cache came new.file new.cache
+pub look_once : (id : ℕ) (c : Checkpoint) (old : Reading) (came : Result (List ℕ) StoreError) (new : Reading) → IsLookedUp old id c came new
     → AreLookUps (c.byte_range.start ∷ []) old new
-look_once c old came new one =
+look_once id c old came new looked =
+    let one = looked.looks_up in
     let left = leaves c old.file old.cache came new.file new.cache one in
     record {
       looks = record { key = c.byte_range.start; kept = one.is_kept } ∷ [];
       order = refl;
       state = one.step;
       capacity = left.capacity;
+      checkpoints = ap (λ (r : Reading). r.checkpoints) looked.stays;
+      asked = omega (arith, asked_once c old.file old.cache came new.file new.cache one, found_bytes old.checkpoints id c looked.seeks);
       reads = λ few. omega (arith, left.reads few);
     }
 
@@ -135,6 +139,11 @@ looks_then ks ls old mid new p q =
       order = map-append (λ (l : LookUp). l.key) p.looks q.looks ∙ ap (λ (xs : List ℕ). xs ++ map (λ (l : LookUp). l.key) q.looks) p.order ∙ ap (λ (ys : List ℕ). ks ++ ys) q.order;
       state = q.state ∙ ap (λ (m : ℕ). recent m (state_of mid.cache) q.looks) p.capacity ∙ ap (λ (t : CacheState). recent n t q.looks) p.state ∙ sym (fold-append (look_up n) s p.looks q.looks);
       capacity = q.capacity ∙ p.capacity;
+      checkpoints = q.checkpoints ∙ p.checkpoints;
+      asked =
+          let later : new.file.asked ≤ mid.file.asked + sum_by (bytes_at old.checkpoints) ls =
+          subst (λ (cs : List Checkpoint). new.file.asked ≤ mid.file.asked + sum_by (bytes_at cs) ls) p.checkpoints q.asked in
+          omega (arith, p.asked, later, sum_by-append (bytes_at old.checkpoints) ks ls);
       reads = λ few.
           let read = p.reads few in
           let less : mid.file.reads < 2 ^ 64 = subst (λ (k : ℕ). k < 2 ^ 64) (sym read) (few_raised old.file.reads here few) in
@@ -145,7 +154,7 @@ looks_then ks ls old mid new p q =
 pub looks_are_recent : LooksAreRecent
 looks_are_recent [] old block new block' l = subst (λ (r : Reading). AreLookUps [] old r) (sym l.0) (no_looks old)
 looks_are_recent (c ∷ cs) old block new block' l =
-    looks_then (c.byte_range.start ∷ []) (keys_along cs) old l.0 new (look_once c old l.2.came l.0 l.2.looked.looks_up) (looks_are_recent cs l.0 l.1 new block' l.3)
+    looks_then (c.byte_range.start ∷ []) (keys_along cs) old l.0 new (look_once c.doc_range.start c old l.2.came l.0 l.2.looked) (looks_are_recent cs l.0 l.1 new block' l.3)
 
 counted_one : (capacity : ℕ) (s : CacheState) (l : LookUp) → s.hits + s.misses + 1 < 2 ^ 64 → (look_up capacity s l).hits + (look_up capacity s l).misses ≡ s.hits + s.misses + 1
 counted_one capacity s l few = (elim (list_any (λ k. k == l.key) s.keys) as (λ y. list_any (λ k. k == l.key) s.keys ≡ y

@@ -1,19 +1,19 @@
 -- A store in a file that is sought: what opening and a seek find, and what reads leave of the file.
-use Rattle.std.proofs.Common.{◌≡◌, ℕ, ◌+◌, ◌-◌, ◌<◌, ◌≤◌, ◌⊎◌, inl, inr, List, length, Option, Some, None, sym, ap, ◌∙◌, subst, arith}
+use Rattle.std.proofs.Common.{◌≡◌, ℕ, ◌+◌, ◌-◌, ◌*◌, ◌<◌, ◌≤◌, ◌⊎◌, inl, inr, List, length, Option, Some, None, sym, ap, ◌∙◌, subst, arith}
 use Rattle.std.proofs.lemmas.Bool.{cases_lt}
 use Rattle.std.proofs.lemmas.Option.{slice_get_past}
-use Rattle.std.specs.Prelude.{Result, Ok, Err, IsTrue, Bool, slice_range, slice_get}
+use Rattle.std.specs.Prelude.{Result, Ok, Err, IsTrue, IfSome, Bool, slice_range, slice_get}
 use Rattle.store_base.specs.Counts.{HasRisen}
 use Rattle.store_base.specs.Files.{Part, ReadsOnce}
 use Rattle.store_base.specs.declared.error.StoreError.{StoreError}
 use Rattle.store_base.specs.declared.error.StoreError.TheVariants.{BadIndex, BadOffset, InvalidArgument}
 use Rattle.layered_index.specs.declared.index.Checkpoint.{Checkpoint}
-use Rattle.layered_index.specs.Checkpoint.{first_past}
+use Rattle.layered_index.specs.Checkpoint.{byte_len, first_past}
 use Rattle.layered_index.specs.Layers.{digit_count}
 use Rattle.layered_index.specs.IndexReading.{IsIndexPart, HasIndex}
-use Rattle.layered_index.specs.IndexHeads.{HeadBytes, index_in, IsHeadOf, ReadsAtMost, RefusesRead, RefusesSeek}
+use Rattle.layered_index.specs.IndexHeads.{HeadBytes, index_in, longest_run, IsHeadOf, ReadsAtMost, ReadsRuns, RefusesRead, RefusesSeek}
 use Rattle.layered_index.specs.Sought.{IndexBytes}
-use Rattle.layered_index.proofs.FileSeekLemmas.{none_read, reads_fewer}
+use Rattle.layered_index.proofs.FileSeekLemmas.{none_read, once_at_most, reads_fewer, reads_then, runs_shorter}
 use Rattle.store_format.specs.declared.footer.DocStoreFooter.{DocStoreFooter}
 use Rattle.store_format.specs.declared.version.DocStoreVersion.{DocStoreVersion}
 use Rattle.store_format.specs.Block.{Slot, slot}
@@ -23,7 +23,7 @@ use Rattle.store_format.specs.Slots.{slots}
 use Rattle.store_format.specs.StoreFile.{checkpoints_of}
 use Rattle.store_reader.specs.GetAnswer.{Answers, AnswersTruly}
 use Rattle.store_reader.specs.Opening.{IsSomeStore}
-use Rattle.store_reader.specs.SeekingReaders.{IsSeeking, RefusesFile}
+use Rattle.store_reader.specs.SeekingReaders.{IsSeeking, ReadsBlock, RefusesFile}
 use Rattle.store_reader.specs.StoreSlices.{IsLaidOut}
 use Rattle.store_reader.specs.Viewing.{FindsFooter}
 use Rattle.store_reader.proofs.AlikeLemmas.{footer_found}
@@ -31,14 +31,13 @@ use Rattle.store_reader.proofs.StoreSliceLemmas.{laid_out, footer_no_store, offs
 
 -- ---- reads
 
-pub once_at_most : (old new : Part) → ReadsOnce old new → ReadsAtMost 1 old new
-once_at_most old new once = record { content = once.content; honest = once.honest; reads = omega (arith, once.reads); failures = once.failures }
-
 -- the footer takes one read, or none
-pub footer_read : (old mid : Part) (said : Result DocStoreFooter StoreError) → ExtractsFooter old said mid → ReadsAtMost 1 old mid
+pub footer_read : (old mid : Part) (said : Result DocStoreFooter StoreError) → ExtractsFooter old said mid → ReadsAtMost 1 28 old mid
 footer_read old mid said r = elim (cases_lt (length old.content) 28) [
-  | inl short ↦ subst (ReadsAtMost 1 old) (sym (r.short short).1) (reads_fewer 0 1 old old (omega arith) (none_read old))
-  | inr long ↦ once_at_most old mid (r.long long).1.once
+  | inl short ↦ subst (ReadsAtMost 1 28 old) (sym (r.short short).1) (reads_fewer 0 1 0 28 old old (omega arith) (omega arith) (none_read old))
+  | inr long ↦
+      let size = length old.content - (length old.content - 28) in
+      reads_fewer 1 1 size 28 old mid (omega arith) (omega arith) (once_at_most size old mid (r.long long).1.once)
 ]
 
 -- a file with a footer is long enough for it
@@ -48,8 +47,8 @@ footer_fits old mid f r = elim (cases_lt (length old.content) 28) [ inl short �
     ok_not_err : {e : StoreError} → ◌≡◌ {A = Result DocStoreFooter StoreError} (Ok f) (Err e) → ⊥
     ok_not_err e = cc
 
-pub risen_after : (i : ℕ) (old mid new : Part) → ReadsAtMost i old mid → HasRisen mid.failures new.failures → HasRisen old.failures new.failures
-risen_after i old mid new before risen =
+pub risen_after : (i b : ℕ) (old mid new : Part) → ReadsAtMost i b old mid → HasRisen mid.failures new.failures → HasRisen old.failures new.failures
+risen_after i b old mid new before risen =
     let le = before.failures in
     record { no_lower = omega (arith, risen.no_lower); risen = λ lt. omega (arith, risen.risen lt) }
 
@@ -68,7 +67,8 @@ pub record IsReadHead (mid : Part) (f : DocStoreFooter) (index : HeadBytes) (new
   pub start : index.start ≡ f.offset
   pub end : index.end ≡ length mid.content - 28
   pub head : IsTrue mid.honest → IsHeadOf mid.content index
-  pub once : ReadsOnce mid new
+  pub len : ℕ
+  pub once : ReadsOnce len mid new
 
 pub seeking_made : (old mid new : Part) (f : DocStoreFooter) (index : HeadBytes) → ExtractsFooter old (Ok f) mid → f.offset ≤ length mid.content - 28 → IsReadHead mid f index new
     → IsSeeking new f.offset index f.doc_store_version
@@ -130,9 +130,9 @@ refused_head old mid f e r order (inl is) bad =
 -- ---- the state
 
 -- reads leave it
-pub seeks_still : (most : ℕ) (old new : Part) (data_len : ℕ) (index : HeadBytes) (version : DocStoreVersion) → ReadsAtMost most old new → IsSeeking old data_len index version
+pub seeks_still : (most bytes : ℕ) (old new : Part) (data_len : ℕ) (index : HeadBytes) (version : DocStoreVersion) → ReadsAtMost most bytes old new → IsSeeking old data_len index version
     → IsSeeking new data_len index version
-seeks_still most old new data_len index version kept is = record {
+seeks_still most bytes old new data_len index version kept is = record {
   begins = is.begins;
   order = is.order;
   ends = is.ends ∙ ap length (sym kept.content);
@@ -154,15 +154,48 @@ sought_stored R a b data_len index version same is honest s says =
     subst (λ (p : Part). IsTrue p.honest → IsHeadOf p.content index → (cs : List Checkpoint) → IsIndexPart index.period (index_in p.content index) cs → R cs) same says
     honest (seen.head honest) (checkpoints_of s.blocks) (stored_index b.content data_len _ (version_number version) s (seen.laid_out honest s))
 
--- as many reads as the store's index has layers
+-- as many runs as the store's index has layers
 pub reads_stored : (a b new : Part) (data_len : ℕ) (index : HeadBytes) (version : DocStoreVersion) → a ≡ b → IsSeeking a data_len index version → IsTrue b.honest → (s : IsSomeStore b.content)
     → (IsTrue a.honest → IsHeadOf a.content index → (cs : List Checkpoint) → IsIndexPart index.period (index_in a.content index) cs
-    → new.reads ≤ a.reads + digit_count index.period (length cs)) → new.reads ≤ b.reads + digit_count s.period (length (checkpoints_of s.blocks))
+    → ReadsRuns index.period (digit_count index.period (length cs)) a new) → ReadsRuns s.period (digit_count s.period (length (checkpoints_of s.blocks))) b new
 reads_stored a b new data_len index version same is honest s says =
     let laid = (seen_file a b data_len index version same is).laid_out honest s in
-    subst (λ (p : Part). new.reads ≤ p.reads + digit_count s.period (length (checkpoints_of s.blocks))) same
-    (subst (λ (n : ℕ). new.reads ≤ a.reads + digit_count n (length (checkpoints_of s.blocks))) laid.period_is
-    (sought_stored (λ cs. new.reads ≤ a.reads + digit_count index.period (length cs)) a b data_len index version same is honest s says))
+    subst (λ (p : Part). ReadsRuns s.period (digit_count s.period (length (checkpoints_of s.blocks))) p new) same
+    (subst (λ (n : ℕ). ReadsRuns n (digit_count n (length (checkpoints_of s.blocks))) a new) laid.period_is
+    (sought_stored (λ cs. ReadsRuns index.period (digit_count index.period (length cs)) a new) a b data_len index version same is honest s says))
+
+-- no more than of the longest period
+pub runs_kept : (period : ℕ) (a b new : Part) → a ≡ b → period ≤ 64 → ReadsRuns period 64 a new → ReadsRuns 64 64 b new
+runs_kept period a b new same few kept = subst (λ (p : Part). ReadsRuns 64 64 p new) same (runs_shorter period 64 64 a new few kept)
+
+pub run_kept : (period : ℕ) (a b new : Part) → a ≡ b → period ≤ 64 → ReadsAtMost 1 (longest_run period) a new → ReadsAtMost 1 665 b new
+run_kept period a b new same few kept = subst (λ (p : Part). ReadsAtMost 1 665 p new) same (reads_fewer 1 1 (longest_run period) 665 a new (omega arith) (omega arith) kept)
+
+-- and then a block
+pub block_read : (period runs len most : ℕ) (old mid inside new : Part) → inside ≡ mid → ReadsRuns period runs old mid → ReadsOnce len inside new → len ≤ most → ReadsBlock period runs most old new
+block_read period runs len most old mid inside new same kept once le =
+    let one : ReadsAtMost 1 len mid new = subst (λ (p : Part). ReadsAtMost 1 len p new) same (once_at_most len inside new once) in
+    reads_fewer (runs + 1) (runs + 1) (runs * longest_run period + len) (runs * longest_run period + most) old new (omega arith) (omega arith)
+    (reads_then runs 1 (runs * longest_run period) len old mid new kept one)
+
+-- or none
+pub no_block_read : (period runs most : ℕ) (old new : Part) → ReadsRuns period runs old new → ReadsBlock period runs most old new
+no_block_read period runs most old new kept = reads_fewer runs (runs + 1) (runs * longest_run period) (runs * longest_run period + most) old new (omega arith) (omega arith) kept
+
+pub whatever_is : (o : Option Checkpoint) (P : Checkpoint → Type 0) → ((c : Checkpoint) → P c) → IfSome o P
+whatever_is None P all = tt
+whatever_is (Some c) P all = all c
+
+pub found_not_none : (o : Option Checkpoint) (c : Checkpoint) → o ≡ Some c → o ≡ None → ⊥
+found_not_none o c is none = cc
+
+-- the block that a seek found was read
+pub some_found : (period id : ℕ) (c : Checkpoint) (cs : List Checkpoint) (old mid inside new : Part) → first_past cs id ≡ Some c → inside ≡ mid
+    → ReadsRuns period (digit_count period (length cs)) old mid → ReadsOnce (byte_len c) inside new
+    → IfSome (first_past cs id) (λ block. ReadsBlock period (digit_count period (length cs)) (byte_len block) old new)
+some_found period id c cs old mid inside new seeks same kept once =
+    subst (λ (o : Option Checkpoint). IfSome o (λ block. ReadsBlock period (digit_count period (length cs)) (byte_len block) old new)) (sym seeks)
+    (block_read period (digit_count period (length cs)) (byte_len c) (byte_len c) old mid inside new same kept once (omega arith))
 
 -- ---- a document
 
@@ -186,8 +219,8 @@ slot_missing file s id e (inl none) = inl (none.0, slice_get_past (slots s.block
 slot_missing file s id e (inr failed) = inr (inr failed)
 
 -- what a read brings that follows others
-pub part_came : (i from to : ℕ) (old mid inside : Part) (block : List ℕ) → inside ≡ mid → ReadsAtMost i old mid → IsTrue old.honest
+pub part_came : (i b from to : ℕ) (old mid inside : Part) (block : List ℕ) → inside ≡ mid → ReadsAtMost i b old mid → IsTrue old.honest
     → (IsTrue inside.honest → block ≡ slice_range inside.content from to) → block ≡ slice_range old.content from to
-part_came i from to old mid inside block same kept honest came =
+part_came i b from to old mid inside block same kept honest came =
     let then : IsTrue mid.honest → block ≡ slice_range mid.content from to = subst (λ (p : Part). IsTrue p.honest → block ≡ slice_range p.content from to) same came in
     then (subst (λ (b : Bool). IsTrue b) (sym kept.honest) honest) ∙ ap (λ (c : List ℕ). slice_range c from to) kept.content

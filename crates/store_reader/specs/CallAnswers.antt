@@ -26,6 +26,11 @@ abbrev pub CanAnswer : ℕ → ReadCall → Type 0
 CanAnswer count (Bytes id) = Unit {0}
 CanAnswer count (Iter alive take) = IfSome alive (λ set. count ≤ length set)
 
+-- It is a get.
+abbrev pub IsGet : ReadCall → Type 0
+IsGet (Bytes id) = Unit {0}
+IsGet (Iter alive take) = ⊥
+
 -- A document's slot answers a get; the first slots whose ids are alive answer an iteration, one by one; failed reads
 -- and want of memory aside.
 abbrev pub IsAnswer : List Slot → ReadCall → Answer → Type 0

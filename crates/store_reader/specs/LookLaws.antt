@@ -1,24 +1,31 @@
 -- What look-ups one after the other do, and which blocks an iteration has looked up.
-use Rattle.std.specs.Prelude.{◌≡◌, ℕ, ◌+◌, ◌<◌, ◌≤◌, ◌^◌, Bool, true, List, length, map, take, Option, Result}
+use Rattle.std.specs.Prelude.{◌≡◌, ℕ, ◌+◌, ◌<◌, ◌≤◌, ◌^◌, ◌==◌, if◌then◌else◌, Bool, true, List, length, map, take}
+use Rattle.std.specs.Prelude.{Option, Result}
+use Rattle.std.specs.List.{sum_by}
 use Rattle.store_base.specs.Counts.{raised}
 use Rattle.store_base.specs.declared.error.StoreError.{StoreError}
 use Rattle.layered_index.specs.declared.index.Checkpoint.{Checkpoint}
 use Rattle.store_reader.specs.declared.walk.Walk.{Walk}
 use Rattle.store_reader.specs.Cache.{CacheState, LookUp, recent, misses_along}
-use Rattle.layered_index.specs.Checkpoint.{Covers}
+use Rattle.layered_index.specs.Checkpoint.{byte_len, Covers}
 use Rattle.store_reader.specs.Iteration.{is_in, looked_along, alive_below, keys_along}
 use Rattle.store_reader.specs.Kept.{state_of}
 use Rattle.store_reader.specs.Reading.{Reading, num_docs}
 use Rattle.store_reader.specs.Walking.{IsWalk, LooksAlong}
 
+-- how many bytes the block has that begins with this one
+abbrev pub bytes_at : List Checkpoint → ℕ → ℕ
+bytes_at cs key = sum_by (λ c. if c.byte_range.start == key then byte_len c else 0) cs
+
 -- Look-ups of these keys in order, with what became of each. The file was read once for each that didn't find its key;
--- its count is
--- one of 64 bits.
+-- its count is one of 64 bits. No more bytes were asked for than their blocks have.
 pub record AreLookUps (keys : List ℕ) (old new : Reading) : Type 0 where
   pub looks : List LookUp
   pub order : map (λ l. l.key) looks ≡ keys
   pub state : state_of new.cache ≡ recent old.cache.capacity (state_of old.cache) looks
   pub capacity : new.cache.capacity ≡ old.cache.capacity
+  pub checkpoints : new.checkpoints ≡ old.checkpoints
+  pub asked : new.file.asked ≤ old.file.asked + sum_by (bytes_at old.checkpoints) keys
   pub reads : old.file.reads < 2 ^ 64 → new.file.reads
       ≡ raised old.file.reads (misses_along old.cache.capacity (state_of old.cache) looks)
 

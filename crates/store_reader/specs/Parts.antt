@@ -1,10 +1,11 @@
 -- Parts of a store's data: whole blocks that follow one another.
 use Rattle.std.specs.Prelude.{◌≡◌, ◌⊎◌, ℕ, ◌+◌, ◌<◌, ◌≤◌, nat_lt, nat_le, if◌then◌else◌, IsTrue}
-use Rattle.std.specs.Prelude.{List, [], ◌∷◌, length, slice_range, Some, IfSome}
+use Rattle.std.specs.Prelude.{List, [], ◌∷◌, length, slice_range, Option, Some, IfSome, Result, IfOk}
+use Rattle.store_base.specs.declared.error.StoreError.{StoreError}
 use Rattle.layered_index.specs.declared.index.Checkpoint.{Checkpoint}
 use Rattle.layered_index.specs.Checkpoint.{byte_len, docs_end, bytes_end, first_past}
 use Rattle.store_reader.specs.declared.data_part.DataPart.{DataPart}
-use Rattle.store_reader.specs.Reading.{Reading, num_docs}
+use Rattle.store_reader.specs.Reading.{Reading, num_docs, IsReadOnce}
 
 -- ---- parts
 
@@ -72,3 +73,22 @@ pub record IsPartFrom (size : ℕ) (reader : Reading) (id : ℕ) (part : DataPar
   pub full : IfSome (first_past reader.checkpoints part.ids.end) (λ next. part.start + size < next.byte_range.end)
   pub parts : number_of_parts size (rest_from part.ids.start reader.checkpoints)
       ≡ 1 + number_of_parts size (rest_from part.ids.end reader.checkpoints)
+
+-- One read of a block, the one that has a document.
+pub record IsBlockRead (old : Reading) (id : ℕ) (new : Reading) : Type 0 where
+  pub block : Checkpoint
+  pub seeks : first_past old.checkpoints id ≡ Some block
+  pub once : IsReadOnce (byte_len block) old new
+
+-- One read of the block that has a document and of blocks behind it: as many bytes as the part has, if it came; at
+-- least those of the block, no more than these or so many, and none behind the data.
+pub record IsPartRead (size : ℕ) (old : Reading) (id : ℕ) (result : Result (Option DataPart) StoreError)
+    (new : Reading) : Type 0 where
+  pub first : Checkpoint
+  pub seeks : first_past old.checkpoints id ≡ Some first
+  pub len : ℕ
+  pub once : IsReadOnce len old new
+  pub came : IfOk result (λ found. IfSome found (λ part. length part.bytes ≡ len))
+  pub some : byte_len first ≤ len
+  pub few : (len ≡ byte_len first) ⊎ (len ≤ size)
+  pub within : first.byte_range.start + len ≤ length old.file.content

@@ -40,14 +40,18 @@ with_parts r file cache = record {
 abbrev pub with_file : Reading → Part → Reading
 with_file r file = with_parts r file r.cache
 
--- What one read of its data leaves of a reader: all but the counts of its file.
-pub record IsReadOnce (old new : Reading) : Type 0 where
-  pub once : ReadsOnce old.file new.file
+-- What one read of so many bytes of its data leaves of a reader: all but the counts of its file.
+pub record IsReadOnce (len : ℕ) (old new : Reading) : Type 0 where
+  pub once : ReadsOnce len old.file new.file
   pub others : new ≡ with_file old new.file
 
--- its data was read once, or not at all
+-- its whole data was read once
+abbrev pub IsReadWhole : Reading → Reading → Type 0
+IsReadWhole old new = IsReadOnce (length old.file.content) old new
+
+-- its whole data was read once, or nothing at all
 abbrev pub IsReadAtMostOnce : Reading → Reading → Type 0
-IsReadAtMostOnce old new = (new ≡ old) ⊎ IsReadOnce old new
+IsReadAtMostOnce old new = (new ≡ old) ⊎ IsReadWhole old new
 
 -- the bytes that data has for a block
 abbrev pub part_of : List ℕ → Checkpoint → List ℕ

@@ -1,9 +1,9 @@
 -- A store in a file that is sought by a few small reads.
-use Rattle.std.specs.Prelude.{◌≡◌, ◌⊎◌, ℕ, ◌+◌, ◌≤◌, IsTrue, length, Err}
+use Rattle.std.specs.Prelude.{◌≡◌, ◌⊎◌, ℕ, ◌+◌, ◌*◌, ◌≤◌, IsTrue, length, Err}
 use Rattle.store_base.specs.Files.{Part}
 use Rattle.store_base.specs.declared.error.StoreError.{StoreError}
 use Rattle.store_base.specs.declared.error.StoreError.TheVariants.{InvalidArgument}
-use Rattle.layered_index.specs.IndexHeads.{HeadBytes, index_in, IsHeadOf, RefusesRead, RefusesSeek}
+use Rattle.layered_index.specs.IndexHeads.{HeadBytes, index_in, longest_run, IsHeadOf, ReadsAtMost, RefusesRead, RefusesSeek}
 use Rattle.store_format.specs.declared.version.DocStoreVersion.{DocStoreVersion}
 use Rattle.store_format.specs.Footer.{version_number}
 use Rattle.store_reader.specs.Opening.{IsSomeStore}
@@ -19,6 +19,10 @@ pub record IsSeeking (file : Part) (data_len : ℕ) (index : HeadBytes) (version
   pub head : IsTrue file.honest → IsHeadOf file.content index
   pub laid_out : IsTrue file.honest → (s : IsSomeStore file.content) → IsLaidOut file.content data_len
       (record { period = index.period; bytes = index_in file.content index }) (version_number version) s
+
+-- What at most so many reads of a run each and one of so many bytes leave of a file.
+abbrev pub ReadsBlock : ℕ → ℕ → ℕ → Part → Part → Type 0
+ReadsBlock period runs len old new = ReadsAtMost (runs + 1) (runs * longest_run period + len) old new
 
 -- The file is refused as the file of no store is, for the first fault of its footer or of the head of its index; or a
 -- read failed or memory ran out.

@@ -1,12 +1,12 @@
 //! The data of a store, read in parts: whole blocks that follow one another, by one read of the file.
-ghost use Rattle.std.specs.Prelude.{◌≡◌, ◌<◌, ◌≤◌, ◌+◌, ◌⊎◌, ◌↔◌, IfErr, IfOk, IfSome, IsErrOf, IsNone, IsOkAnd, length};
+ghost use Rattle.std.specs.Prelude.{◌≡◌, ◌<◌, ◌≤◌, ◌+◌, ◌⊎◌, ◌↔◌, IfErr, IfOk, IfSome, IsErrOf, IsNone, IsOkAnd};
 ghost use Rattle.store_base.specs.Counts.{HasRisen};
 ghost use Rattle.layered_index.specs.Checkpoint.{Covers, first_past};
 ghost use Rattle.store_reader.specs.Parts.{parts_beyond, number_of_parts, rest_from, IsBetween, IsBlockOf};
-ghost use Rattle.store_reader.specs.Parts.{place_of, IsPartFrom};
+ghost use Rattle.store_reader.specs.Parts.{place_of, IsPartFrom, IsBlockRead, IsPartRead};
 ghost use Rattle.std.specs.Option.{option_map};
-ghost use Rattle.std.specs.Prelude.{IsTrue, slice_range};
-ghost use Rattle.store_reader.specs.Reading.{IsReadOnce, num_docs};
+ghost use Rattle.std.specs.Prelude.{IsTrue, length, slice_range};
+ghost use Rattle.store_reader.specs.Reading.{num_docs};
 
 use crate::reader::StoreReader;
 use layered_index::Checkpoint;
@@ -69,13 +69,15 @@ impl<H: FileHandle> StoreReader<H> {
         ensures place { IfOk result (λ block. option_map place_of block ≡ first_past self.old.checkpoints doc_id) }
         ensures bytes { IsTrue self.old.file.honest → IfOk result (λ block. IfSome block (λ part.
             part.bytes ≡ slice_range self.old.file.content part.start (part.start + length part.bytes))) }
-        ensures has { IfOk result (λ block. IfSome block (λ part. (part.ids.start ≤ doc_id) × (doc_id < part.ids.end))) }
+        ensures has { IfOk result (λ block. IfSome block (λ part.
+            (part.ids.start ≤ doc_id) × (doc_id < part.ids.end))) }
         ensures within { IfOk result (λ block. IfSome block (λ part. part.ids.end ≤ num_docs self.old)) }
         ensures none { IsOkAnd result IsNone ↔ (num_docs self.old ≤ doc_id) }
         ensures no_read { num_docs self.old ≤ doc_id → self.new ≡ self.old }
-        ensures once { doc_id < num_docs self.old → IsReadOnce self.old self.new }
+        ensures once { doc_id < num_docs self.old → IsBlockRead self.old doc_id self.new }
         ensures causes { IfErr result (λ e. (e ≡ StoreError.Read) ⊎ (e ≡ StoreError.Memory)) }
         ensures failed { IsErrOf result StoreError.Read → HasRisen self.old.file.failures self.new.file.failures }
+        ensures steady { IsErrOf result StoreError.Read ⊎ (self.new.file.failures ≡ self.old.file.failures) }
     {
         let Some(block) = self.block_of(doc_id) else {
             return Ok(None);
@@ -101,7 +103,8 @@ impl<H: FileHandle> StoreReader<H> {
         ensures part { IfOk result (λ found. IfSome found (IsPartFrom part_bytes self.old doc_id)) }
         ensures causes { IfErr result (λ e. (e ≡ StoreError.Read) ⊎ (e ≡ StoreError.Memory)) }
         ensures failed { IsErrOf result StoreError.Read → HasRisen self.old.file.failures self.new.file.failures }
-        ensures once { doc_id < num_docs self.old → IsReadOnce self.old self.new }
+        ensures steady { IsErrOf result StoreError.Read ⊎ (self.new.file.failures ≡ self.old.file.failures) }
+        ensures once { doc_id < num_docs self.old → IsPartRead part_bytes self.old doc_id result self.new }
         ensures covers { Covers self.old.checkpoints (length self.old.file.content) }
     {
         let Some(first) = self.block_of(doc_id) else {

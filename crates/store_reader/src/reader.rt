@@ -9,7 +9,7 @@ ghost use Rattle.store_format.specs.Footer.{version_number};
 ghost use Rattle.store_reader.specs.Kept.{last_key};
 ghost use Rattle.layered_index.specs.Layers.{digit_count, index_part};
 ghost use Rattle.store_reader.specs.Opening.{IsOpened, IsRefused, RefusesNoStore};
-ghost use Rattle.store_reader.specs.Reading.{IsReadOnce, IsSameStore, IsSeen, num_docs, store_of};
+ghost use Rattle.store_reader.specs.Reading.{IsReadOnce, IsReadWhole, IsSameStore, IsSeen, num_docs, store_of};
 ghost use Rattle.store_format.specs.Slots.{slots};
 ghost use Rattle.store_format.specs.StoreFile.{IsStore};
 ghost use Rattle.store_reader.specs.Walking.{set_of, set_in, IsEntered, IsWalk, LooksAlong};
@@ -83,6 +83,13 @@ impl<H: FileHandle> StoreReader<H> {
         ensures seen { IfOk result IsSeen }
         ensures handed_back { IfErr result (λ e. e.file.content ≡ file.content) }
         ensures failed { IfErr result (λ e. e.error ≡ StoreError.Read → HasRisen file.failures e.file.failures) }
+        ensures steady { MatchResult result (λ r. r.file.failures ≡ file.failures)
+            (λ e. (e.error ≡ StoreError.Read) ⊎ (e.file.failures ≡ file.failures)) }
+
+        // The footer is read, and all that lies between the data and the footer.
+        ensures asked { MatchResult result
+            (λ r. r.file.asked ≡ raised (raised file.asked 28) (length file.content - 28 - length r.file.content))
+            (λ e. e.file.asked ≤ file.asked + length file.content) }
     {
         let (footer, index) = match read_store(&mut file, alloc) {
             Ok(found) => found,
@@ -119,6 +126,8 @@ impl<H: FileHandle> StoreReader<H> {
             → AnswersTruly doc_id (slice_get (slots (store_of self.old)) doc_id) result }
         ensures failed { IsErrOf result StoreError.Read
             → HasRisen self.old.file.failures self.new.file.failures }
+        ensures steady { IsErrOf result StoreError.Read
+            ⊎ (self.new.file.failures ≡ self.old.file.failures) }
         ensures same_store { IsSameStore self.old self.new }
     {
         let mut steps = Steps::new();
@@ -148,6 +157,8 @@ impl<H: FileHandle> StoreReader<H> {
             → AnswersTruly doc_id (slice_get (slots (store_of self.old)) doc_id) result }
         ensures failed { IsErrOf result StoreError.Read
             → HasRisen self.old.file.failures self.new.file.failures }
+        ensures steady { IsErrOf result StoreError.Read
+            ⊎ (self.new.file.failures ≡ self.old.file.failures) }
         ensures same_store { IsSameStore self.old self.new }
     {
         let Some(checkpoint) = self.index.seek_guided(doc_id, steps) else {
@@ -181,6 +192,8 @@ impl<H: FileHandle> StoreReader<H> {
             doc_id (slice_get (slots (store_of self.old)) doc_id) result }
         ensures failed { IsErrOf result StoreError.Read
             → HasRisen self.old.file.failures self.new.file.failures }
+        ensures steady { IsErrOf result StoreError.Read
+            ⊎ (self.new.file.failures ≡ self.old.file.failures) }
         ensures same_store { IsSameStore self.old self.new }
     {
         let bytes = self.get_document_bytes(alloc, doc_id);
@@ -338,7 +351,8 @@ impl<H: FileHandle> StoreReader<H> {
         ensures bytes { IsTrue self.old.file.honest → IfOk result (λ bytes. bytes ≡ self.old.file.content) }
         ensures causes { IfErr result (λ e. (e ≡ StoreError.Read) ⊎ (e ≡ StoreError.Memory)) }
         ensures failed { IsErrOf result StoreError.Read → HasRisen self.old.file.failures self.new.file.failures }
-        ensures once { IsReadOnce self.old self.new }
+        ensures steady { IsErrOf result StoreError.Read ⊎ (self.new.file.failures ≡ self.old.file.failures) }
+        ensures once { IsReadWhole self.old self.new }
     {
         Ok(self.file.read_bytes(alloc)?)
     }
@@ -364,7 +378,8 @@ impl<H: FileHandle> StoreReader<H> {
             → IfOk result (λ bytes. bytes ≡ slice_range self.old.file.content range.start range.end) }
         ensures causes { IfErr result (λ e. (e ≡ StoreError.Read) ⊎ (e ≡ StoreError.Memory)) }
         ensures failed { IsErrOf result StoreError.Read → HasRisen self.old.file.failures self.new.file.failures }
-        ensures once { IsReadOnce self.old self.new }
+        ensures steady { IsErrOf result StoreError.Read ⊎ (self.new.file.failures ≡ self.old.file.failures) }
+        ensures once { IsReadOnce (range.end - range.start) self.old self.new }
     {
         let range = range.start as u64..range.end as u64;
         Ok(self.file.read_range(alloc, range)?)

@@ -1,16 +1,16 @@
 //! A store in a file that is sought by a few small reads: its index is never read whole.
 ghost use Rattle.std.specs.Prelude.{◌≡◌, ◌≤◌, ◌<◌, ◌+◌, ◌⊎◌, length, slice_get, IsTrue, IfOk, IfErr, IsErrOf};
-ghost use Rattle.std.specs.Prelude.{MatchResult, Ok, Some, None};
+ghost use Rattle.std.specs.Prelude.{MatchResult, IfSome, Ok, Some, None};
 ghost use Rattle.store_base.specs.Counts.{HasRisen};
-ghost use Rattle.layered_index.specs.Checkpoint.{first_past};
-ghost use Rattle.layered_index.specs.IndexHeads.{ReadsAtMost, RefusesRead, RefusesSeek};
+ghost use Rattle.layered_index.specs.Checkpoint.{byte_len, first_past};
+ghost use Rattle.layered_index.specs.IndexHeads.{ReadsAtMost, ReadsRuns, RefusesRead, RefusesSeek};
 ghost use Rattle.layered_index.specs.Layers.{digit_count};
 ghost use Rattle.store_format.specs.Footer.{version_number};
 ghost use Rattle.store_format.specs.Slots.{slots};
 ghost use Rattle.store_format.specs.StoreFile.{checkpoints_of};
 ghost use Rattle.store_reader.specs.GetAnswer.{AnswersTruly};
 ghost use Rattle.store_reader.specs.Opening.{IsSomeStore};
-ghost use Rattle.store_reader.specs.SeekingReaders.{IsSeeking, RefusesFile, RefusesBlock, RefusesGet};
+ghost use Rattle.store_reader.specs.SeekingReaders.{IsSeeking, ReadsBlock, RefusesFile, RefusesBlock, RefusesGet};
 
 use crate::slot::document_in;
 use layered_index::{Checkpoint, IndexHead};
@@ -52,7 +52,8 @@ fn read_head<H: FileHandle>(
     ensures head { IfOk result (λ r. IsSeeking file.new r.0.offset r.1 r.0.doc_store_version) }
     ensures refused { IfErr result (RefusesFile file.old) }
     ensures device { IsErrOf result StoreError.Read → HasRisen file.old.failures file.new.failures }
-    ensures kept { ReadsAtMost 2 file.old file.new }
+    ensures steady { IsErrOf result StoreError.Read ⊎ (file.new.failures ≡ file.old.failures) }
+    ensures kept { ReadsAtMost 2 669 file.old file.new }
 {
     let footer = read_footer(file, alloc)?;
     let end = file.len() - FOOTER_LEN;
@@ -68,10 +69,12 @@ impl<H: FileHandle> SeekingReader<H> {
     /// calls that meet it. The first error counts: those of the footer, then `BadOffset`, then `BadIndex`; or `Read`
     /// and `Memory`. An error hands the file back.
     pub fn open(alloc: Global, mut file: FileSlice<H>) -> Result<SeekingReader<H>, OpenError<H>>
-        ensures opened { IfOk result (λ store. ReadsAtMost 2 file store) }
+        ensures opened { IfOk result (λ store. ReadsAtMost 2 669 file store) }
         ensures refused { IfErr result (λ e. RefusesFile file e.error) }
-        ensures handed_back { IfErr result (λ e. ReadsAtMost 2 file e.file) }
+        ensures handed_back { IfErr result (λ e. ReadsAtMost 2 669 file e.file) }
         ensures failed { IfErr result (λ e. e.error ≡ StoreError.Read → HasRisen file.failures e.file.failures) }
+        ensures steady { MatchResult result (λ store. store.failures ≡ file.failures)
+            (λ e. (e.error ≡ StoreError.Read) ⊎ (e.file.failures ≡ file.failures)) }
     {
         match read_head(&mut file, alloc) {
             Ok((footer, index)) => Ok(SeekingReader {
@@ -97,9 +100,10 @@ impl<H: FileHandle> SeekingReader<H> {
         ensures within { IfOk result (λ c. c.byte_range.end + 28 ≤ length self.old.content) }
         ensures refused { IfErr result (RefusesBlock doc_id) }
         ensures failed { IsErrOf result StoreError.Read → HasRisen self.old.failures self.new.failures }
-        ensures kept { ReadsAtMost 64 self.old self.new }
-        ensures reads { IsTrue self.old.honest → (s : IsSomeStore self.old.content) → self.new.reads
-            ≤ self.old.reads + digit_count s.period (length (checkpoints_of s.blocks)) }
+        ensures steady { IsErrOf result StoreError.Read ⊎ (self.new.failures ≡ self.old.failures) }
+        ensures kept { ReadsRuns 64 64 self.old self.new }
+        ensures reads { IsTrue self.old.honest → (s : IsSomeStore self.old.content)
+            → ReadsRuns s.period (digit_count s.period (length (checkpoints_of s.blocks))) self.old self.new }
     {
         let Some(checkpoint) = self.index.seek(alloc, &mut self.file, doc_id)? else {
             return Err(StoreError::InvalidArgument(doc_id));
@@ -117,9 +121,14 @@ impl<H: FileHandle> SeekingReader<H> {
             → AnswersTruly doc_id (slice_get (slots s.blocks) doc_id) result }
         ensures refused { IfErr result (RefusesGet doc_id) }
         ensures failed { IsErrOf result StoreError.Read → HasRisen self.old.failures self.new.failures }
-        ensures kept { ReadsAtMost 65 self.old self.new }
-        ensures reads { IsTrue self.old.honest → (s : IsSomeStore self.old.content) → self.new.reads
-            ≤ self.old.reads + (digit_count s.period (length (checkpoints_of s.blocks)) + 1) }
+        ensures steady { IsErrOf result StoreError.Read ⊎ (self.new.failures ≡ self.old.failures) }
+        ensures kept { ReadsBlock 64 64 (length self.old.content) self.old self.new }
+        ensures reads { IsTrue self.old.honest → (s : IsSomeStore self.old.content) → IfSome
+            (first_past (checkpoints_of s.blocks) doc_id) (λ block. ReadsBlock s.period
+            (digit_count s.period (length (checkpoints_of s.blocks))) (byte_len block) self.old self.new) }
+        ensures none { IsTrue self.old.honest → (s : IsSomeStore self.old.content)
+            → first_past (checkpoints_of s.blocks) doc_id ≡ None
+            → ReadsRuns s.period (digit_count s.period (length (checkpoints_of s.blocks))) self.old self.new }
     {
         let checkpoint = self.block_of(alloc, doc_id)?;
         let bytes = checkpoint.byte_range.start as u64..checkpoint.byte_range.end as u64;
@@ -134,7 +143,8 @@ impl<H: FileHandle> SeekingReader<H> {
             → MatchResult result (λ count. count ≡ length (slots s.blocks)) RefusesRead }
         ensures refused { IfErr result RefusesSeek }
         ensures failed { IsErrOf result StoreError.Read → HasRisen self.old.failures self.new.failures }
-        ensures kept { ReadsAtMost 1 self.old self.new }
+        ensures steady { IsErrOf result StoreError.Read ⊎ (self.new.failures ≡ self.old.failures) }
+        ensures kept { ReadsAtMost 1 665 self.old self.new }
     {
         self.index.docs_end(alloc, &mut self.file)
     }

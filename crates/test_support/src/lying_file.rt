@@ -14,6 +14,7 @@ pub struct LyingFile {
     honest_reads: u64,
     lying_bytes: usize,
     reads: u64,
+    asked: u64,
 }
 
 /// Clauses see what every file tells.
@@ -23,14 +24,20 @@ impl Model for LyingFile {
 
     ghost Value = { Part };
 
-    ghost view = { λ f. record { content = f.bytes.items; honest = false; failures = 0; reads = f.reads } };
+    ghost view = { λ f. record {
+      content = f.bytes.items;
+      honest = false;
+      failures = 0;
+      reads = f.reads;
+      asked = f.asked;
+    } };
 }
 
 impl LyingFile {
     /// A file that holds these bytes. Its read number n gives each with the number's lowest byte xored in, so the first
     /// 255 reads tell no byte as it is.
     pub fn new(bytes: Vec<u8>) -> LyingFile
-        ensures { result ≡ record { content = bytes.items; honest = false; failures = 0; reads = 0 } }
+        ensures { result ≡ record { content = bytes.items; honest = false; failures = 0; reads = 0; asked = 0 } }
     {
         LyingFile::after_reads(bytes, 0, usize::MAX)
     }
@@ -38,13 +45,14 @@ impl LyingFile {
     /// The same behind so many reads that tell every byte as it is. They aren't counted in the numbers, and only so
     /// many bytes at the front of each later read are told wrong.
     pub fn after_reads(bytes: Vec<u8>, honest_reads: u64, lying_bytes: usize) -> LyingFile
-        ensures { result ≡ record { content = bytes.items; honest = false; failures = 0; reads = 0 } }
+        ensures { result ≡ record { content = bytes.items; honest = false; failures = 0; reads = 0; asked = 0 } }
     {
         LyingFile {
             bytes,
             honest_reads,
             lying_bytes,
             reads: 0,
+            asked: 0,
         }
     }
 }
@@ -69,12 +77,15 @@ impl FileHandle for LyingFile {
 
     ghost reads = { λ f. f.reads };
 
+    ghost asked = { λ f. f.asked };
+
     fn len(&self) -> u64 {
         self.bytes.len() as u64
     }
 
     fn read_bytes(&mut self, alloc: Global, range: Range<u64>) -> Result<OwnedBytes, ReadFault> {
         self.reads = self.reads.saturating_add(1);
+        self.asked = self.asked.saturating_add(range.end - range.start);
         let lies = self.reads.saturating_sub(self.honest_reads);
         let mask = (lies & 0xff) as u8;
         let part = &self.bytes[range.start as usize..range.end as usize];

@@ -23,6 +23,7 @@ pub struct SparseFile {
     tail: Vec<u8>,
     budget: u64,
     reads: u64,
+    asked: u64,
     failures: u64,
 }
 
@@ -38,6 +39,7 @@ impl Model for SparseFile {
       honest = false;
       failures = f.failures;
       reads = f.reads;
+      asked = f.asked;
     } };
 
     ghost invariant = { λ f. f.data_len + length f.tail.items < 2 ^ 64 };
@@ -83,6 +85,7 @@ impl SparseFile {
             tail,
             budget,
             reads: 0,
+            asked: 0,
             failures: 0,
         })
     }
@@ -126,12 +129,15 @@ impl FileHandle for SparseFile {
 
     ghost reads = { λ f. f.reads };
 
+    ghost asked = { λ f. f.asked };
+
     fn len(&self) -> u64 {
         self.data_len + self.tail.len() as u64
     }
 
     fn read_bytes(&mut self, alloc: Global, range: Range<u64>) -> Result<OwnedBytes, ReadFault> {
         self.reads = self.reads.saturating_add(1);
+        self.asked = self.asked.saturating_add(range.end - range.start);
         let Some(left) = self.budget.checked_sub(range.end - range.start) else {
             self.failures = self.failures.saturating_add(1);
             return Err(ReadFault::Device);

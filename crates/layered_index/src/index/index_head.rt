@@ -1,13 +1,14 @@
 //! Seeks in an index that lies in a file: its head is read once, and then one run of each layer.
-ghost use Rattle.std.specs.Prelude.{◌≡◌, ◌≤◌, ◌+◌, List, length, IsTrue, IfOk, IfErr, IfSome, IsErrOf, MatchResult};
-ghost use Rattle.std.specs.Prelude.{slice_range, false};
+ghost use Rattle.std.specs.Prelude.{◌≡◌, ◌≤◌, ◌+◌, ◌⊎◌, List, length, IsTrue, IfOk, IfErr, IfSome, IsErrOf};
+ghost use Rattle.std.specs.Prelude.{MatchResult, slice_range, false};
 ghost use Rattle.store_base.specs.Counts.{HasRisen};
 ghost use Rattle.store_base.specs.Files.{ReadsOnce};
 ghost use Rattle.layered_index.specs.declared.index.Checkpoint.{Checkpoint};
 ghost use Rattle.layered_index.specs.Checkpoint.{docs_end, first_past};
 ghost use Rattle.layered_index.specs.Layers.{digit_count};
 ghost use Rattle.layered_index.specs.IndexReading.{IsIndexPart, HasIndex};
-ghost use Rattle.layered_index.specs.IndexHeads.{index_in, IsHeadOf, HasNoHead, ReadsAtMost};
+ghost use Rattle.layered_index.specs.IndexHeads.{index_in, head_bytes, longest_run, IsHeadOf, HasNoHead};
+ghost use Rattle.layered_index.specs.IndexHeads.{ReadsAtMost, ReadsRuns};
 ghost use Rattle.layered_index.specs.IndexHeads.{end_in_index, RefusesRead, RefusesSeek, AnswersByReads};
 ghost use Rattle.layered_index.specs.Sought.{found_in_index, IsPast};
 
@@ -78,8 +79,8 @@ fn head_in(front: OwnedBytes, start: u64, end: u64, period: u8) -> Result<IndexH
 
 impl IndexHead {
     /// The head of the index part that lies between these bytes of the file, by one read of at most 641 bytes. It
-    /// returns `BadIndex` where the numbers are missing that say where the layers end; damage after them is found by the
-    /// seeks that meet it.
+    /// returns `BadIndex` where the numbers are missing that say where the layers end; damage after them is found by
+    /// the seeks that meet it.
     pub fn read<H: FileHandle>(
         alloc: Global,
         file: &mut FileSlice<H>,
@@ -97,7 +98,8 @@ impl IndexHead {
             → HasIndex period (slice_range file.old.content start end) → ⊥ }
         ensures refused { IfErr result RefusesSeek }
         ensures device { IsErrOf result StoreError.Read → HasRisen file.old.failures file.new.failures }
-        ensures once { ReadsOnce file.old file.new }
+        ensures steady { IsErrOf result StoreError.Read ⊎ (file.new.failures ≡ file.old.failures) }
+        ensures once { ReadsOnce (head_bytes start end) file.old file.new }
     {
         let len = (end - start).min(LONGEST_HEAD);
         let front = file.read_range(alloc, start..start + len)?;
@@ -128,7 +130,9 @@ impl IndexHead {
             → AnswersByReads (end_in_index self.now.period (index_in file.old.content self.now)) result }
         ensures refused { IfErr result RefusesSeek }
         ensures device { IsErrOf result StoreError.Read → HasRisen file.old.failures file.new.failures }
-        ensures once { ReadsAtMost 1 file.old file.new }
+        ensures steady { IsErrOf result StoreError.Read ⊎ (file.new.failures ≡ file.old.failures) }
+        ensures once { ReadsAtMost 1 (longest_run self.now.period) file.old file.new }
+        ensures few { self.now.period ≤ 64 }
     {
         if self.count == 0 {
             return Ok(0);
@@ -162,10 +166,12 @@ impl IndexHead {
         ensures past { IfOk result (λ found. IfSome found (IsPast target)) }
         ensures refused { IfErr result RefusesSeek }
         ensures device { IsErrOf result StoreError.Read → HasRisen file.old.failures file.new.failures }
-        ensures kept { ReadsAtMost 64 file.old file.new }
+        ensures steady { IsErrOf result StoreError.Read ⊎ (file.new.failures ≡ file.old.failures) }
+        ensures kept { ReadsRuns self.now.period 64 file.old file.new }
+        ensures few { self.now.period ≤ 64 }
         ensures reads { IsTrue file.old.honest → IsHeadOf file.old.content self.now
             → (cs : List Checkpoint) → IsIndexPart self.now.period (index_in file.old.content self.now) cs
-            → file.new.reads ≤ file.old.reads + digit_count self.now.period (length cs) }
+            → ReadsRuns self.now.period (digit_count self.now.period (length cs)) file.old file.new }
     {
         let period = self.period as usize;
         let texts_len = self.end - self.texts;

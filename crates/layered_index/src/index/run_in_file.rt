@@ -1,9 +1,10 @@
 //! Seeks in one layer of an index that lies in a file: one read of the run that is sought in.
-ghost use Rattle.std.specs.Prelude.{◌≡◌, ◌≤◌, IsTrue, IfOk, IfErr, IfSome, IsErrOf, length, slice_range, take, false};
+ghost use Rattle.std.specs.Prelude.{◌≡◌, ◌≤◌, ◌⊎◌, IsTrue, IfOk, IfErr, IfSome, IsErrOf, length, slice_range};
+ghost use Rattle.std.specs.Prelude.{take, false};
 ghost use Rattle.store_base.specs.Counts.{HasRisen};
 ghost use Rattle.store_base.specs.Files.{ReadsOnce};
-ghost use Rattle.layered_index.specs.IndexHeads.{longest_run, run_end, ReadsAtMost, RefusesRead, RefusesSeek};
-ghost use Rattle.layered_index.specs.IndexHeads.{AnswersByReads};
+ghost use Rattle.layered_index.specs.IndexHeads.{longest_run, run_bytes, run_end, ReadsAtMost, RefusesRead};
+ghost use Rattle.layered_index.specs.IndexHeads.{RefusesSeek, AnswersByReads};
 ghost use Rattle.layered_index.specs.Sought.{found_on_top, found_in_run, found_in, IsPast};
 
 use crate::index::Checkpoint;
@@ -27,7 +28,8 @@ fn read_run<H: FileHandle>(
         ≡ take (longest_run period) (slice_range file.old.content run.start run.end)) }
     ensures refused { IfErr result RefusesRead }
     ensures device { IsErrOf result StoreError.Read → HasRisen file.old.failures file.new.failures }
-    ensures once { ReadsOnce file.old file.new }
+    ensures steady { IsErrOf result StoreError.Read ⊎ (file.new.failures ≡ file.old.failures) }
+    ensures once { ReadsOnce (run_bytes period run.start run.end) file.old file.new }
 {
     let longest = 25 + 10 * period as u64;
     let len = (run.end - run.start).min(longest);
@@ -51,7 +53,8 @@ fn seek_top_run<H: FileHandle>(
     ensures past { IfOk result (λ found. IfSome found (IsPast target)) }
     ensures refused { IfErr result RefusesSeek }
     ensures device { IsErrOf result StoreError.Read → HasRisen file.old.failures file.new.failures }
-    ensures once { ReadsOnce file.old file.new }
+    ensures steady { IsErrOf result StoreError.Read ⊎ (file.new.failures ≡ file.old.failures) }
+    ensures once { ReadsOnce (run_bytes period layer.start layer.end) file.old file.new }
 {
     let bytes = read_run(alloc, file, period, layer)?;
     let mut steps = Steps::new();
@@ -78,7 +81,8 @@ fn seek_pointed_run<H: FileHandle>(
     ensures past { IfOk result (λ found. IfSome found (IsPast target)) }
     ensures refused { IfErr result RefusesSeek }
     ensures device { IsErrOf result StoreError.Read → HasRisen file.old.failures file.new.failures }
-    ensures once { ReadsOnce file.old file.new }
+    ensures steady { IsErrOf result StoreError.Read ⊎ (file.new.failures ≡ file.old.failures) }
+    ensures once { ReadsOnce (run_bytes period run.start run.end) file.old file.new }
 {
     let bytes = read_run(alloc, file, period, run)?;
     let mut steps = Steps::new();
@@ -102,7 +106,8 @@ pub(crate) fn docs_end_in<H: FileHandle>(
         (run_end period (slice_range file.old.content layer.start layer.end)) result }
     ensures refused { IfErr result RefusesSeek }
     ensures device { IsErrOf result StoreError.Read → HasRisen file.old.failures file.new.failures }
-    ensures once { ReadsOnce file.old file.new }
+    ensures steady { IsErrOf result StoreError.Read ⊎ (file.new.failures ≡ file.old.failures) }
+    ensures once { ReadsOnce (run_bytes period layer.start layer.end) file.old file.new }
 {
     let bytes = read_run(alloc, file, period, layer)?;
     let mut steps = Steps::new();
@@ -131,7 +136,8 @@ pub(crate) fn seek_layer_in<H: FileHandle>(
     ensures past { IfOk result (λ found. IfSome found (IsPast target)) }
     ensures refused { IfErr result RefusesSeek }
     ensures device { IsErrOf result StoreError.Read → HasRisen file.old.failures file.new.failures }
-    ensures once { ReadsAtMost 1 file.old file.new }
+    ensures steady { IsErrOf result StoreError.Read ⊎ (file.new.failures ≡ file.old.failures) }
+    ensures once { ReadsAtMost 1 (longest_run period) file.old file.new }
 {
     let Some(pointer) = above else {
         return seek_top_run(alloc, file, period, target, layer);

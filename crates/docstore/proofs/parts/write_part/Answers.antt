@@ -8,6 +8,7 @@ use Rattle.docstore.specs.BlockOutput.{BlockOutput}
 use Rattle.docstore.specs.StackingInParts.{CameOf}
 use Rattle.docstore.proofs.PartLemmas.{in_part, found_below}
 use Rattle.docstore.proofs.PutLemmas.{nothing_put, puts_joined, block_put, block_came}
+use Rattle.store_base.proofs.Steady.{still}
 use Rattle.docstore.proofs.parts.write_part.Goals as goal
 
 pub loop-next_id-init : goal.loop-next_id-init
@@ -19,6 +20,7 @@ loop-next_id-init g c = record {
   works = c.requires.works;
   termination = refl;
   count = omega arith;
+  steady = refl;
   sound = c.requires.sound;
 }
 
@@ -122,5 +124,6 @@ loop-next_id-preserved g c =
       works = ap (λ (out : BlockOutput). out.failure) after ∙ old.works;
       termination = c.in_ok-write_block.ensures.termination ∙ old.termination;
       count = omega (arith, old.count, c.in_ok-write_block.ensures.count);
+      steady = still c.in_ok-write_block.ensures.steady ∙ old.steady;
       sound = c.in_ok-write_block.ensures.sound;
     }

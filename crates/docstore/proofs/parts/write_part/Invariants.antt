@@ -13,6 +13,7 @@ invariant-loop-next_id g l = record {
   works : l.output.failure ≡ None;
   termination : l.output.termination ≡ l.fn.output.termination;
   count : l.fn.output.failures ≤ l.output.failures;
+  steady : l.output.failures ≡ l.fn.output.failures;
   sound : IsSound l.output;
 }
 

@@ -1,10 +1,18 @@
-use Rattle.std.proofs.Common.{◌≡◌, ℕ, Bool, Bor, Option, Some, None, Err, List, refl, sym, ◌∙◌, ap, subst, arith, rules}
+use Rattle.std.proofs.Common.{◌≡◌, ℕ, take, Bool, Bor, Option, Some, None, Err, List, refl, sym, ◌∙◌, ap, subst, arith, rules}
 use Rattle.std.specs.Prelude.{IfErr}
 use Rattle.std.proofs.lemmas.Result.{err_from_is_err_and}
 use Rattle.store_reader.specs.Reading.{Reading, IsSameStore}
-use Rattle.store_reader.specs.Walking.{set_of, set_in, GivesNext}
+use Rattle.store_reader.specs.Walking.{set_of, set_in, LooksAlong, GivesNext}
+use Rattle.store_reader.specs.declared.walk.Walk.{Walk}
+use Rattle.layered_index.specs.declared.index.Checkpoint.{Checkpoint}
+use Rattle.store_base.specs.declared.error.StoreError.TheVariants.{Memory}
+use Rattle.store_reader.proofs.AskedLemmas.{asked_within}
+use Rattle.store_reader.proofs.BlocksAlongLemmas.{take_length_one}
+use Rattle.store_reader.proofs.IterationLookUpLemmas.{looks_joined}
+use Rattle.store_merge.specs.Inputs.{IsAskedOnce}
 use Rattle.store_merge.specs.Refusals.{StopsAt}
 use Rattle.store_merge.proofs.CopyLemmas.{IsBegun, begins, copied_next, below_next, failed_next, copied_all, stops, same_on}
+use Rattle.store_base.proofs.Steady.{still}
 use Rattle.store_merge.proofs.copying.copy_documents.Goals as goal
 
 pub loop-document-init : goal.loop-document-init
@@ -19,6 +27,14 @@ loop-document-init g c =
     let begun : IsBegun first (set_of c.args.alive) c.args.writer.now c.into_iter-document-iterator.result.reader.now c.into_iter-document-iterator.result.walk =
     subst (λ (r : Reading). IsBegun first (set_of c.args.alive) c.args.writer.now r c.into_iter-document-iterator.result.walk) (sym reader_is)
     (subst (IsBegun first (set_of c.args.alive) c.args.writer.now items.result.reader.now) (sym walk_is) start) in
+    let taken : take items.result.walk.place first.checkpoints ≡ take 1 first.checkpoints =
+    ap (λ (n : ℕ). take n first.checkpoints) items.ensures.place ∙ take_length_one first.checkpoints in
+    let began : LooksAlong (take items.result.walk.place first.checkpoints) first (Err Memory) items.result.reader.now items.result.walk.block =
+    subst (λ (cs : List Checkpoint). LooksAlong cs first (Err Memory) items.result.reader.now items.result.walk.block) (sym taken) items.ensures.first_block in
+    let looks : LooksAlong (take c.into_iter-document-iterator.result.walk.place first.checkpoints) first (Err Memory) c.into_iter-document-iterator.result.reader.now
+    c.into_iter-document-iterator.result.walk.block =
+    subst (λ (r : Reading). LooksAlong (take c.into_iter-document-iterator.result.walk.place first.checkpoints) first (Err Memory) r c.into_iter-document-iterator.result.walk.block) (sym reader_is)
+    (subst (λ (w : Walk). LooksAlong (take w.place first.checkpoints) first (Err Memory) items.result.reader.now w.block) (sym walk_is) began) in
     record {
       name = refl;
       same = subst (IsSameStore first) (sym reader_is) items.ensures.same_store;
@@ -26,7 +42,9 @@ loop-document-init g c =
       copied = begun.copied;
       below = begun.below;
       failed = begun.failed;
+      looks = looks;
       count = omega arith;
+      steady = refl;
       sound = c.requires.sound;
     }
 
@@ -49,7 +67,9 @@ loop-document-preserved g c =
           c.in_ok-take_document.ensures.taken;
       below = below_next first old.reader.now new.reader.now set old.walk new.walk c.in-Some.document c.requires.docs inv.same gives;
       failed = failed_next first old.reader.now new.reader.now set old.walk new.walk c.in-Some.document c.requires.docs inv.same gives inv.same.failures inv.failed;
+      looks = looks_joined first old.reader.now old.walk set gives.last new.reader.now new.walk inv.same.checkpoints inv.looks gives.walks;
       count = omega (arith, inv.count, c.take_document.ensures.count);
+      steady = still c.in_ok-take_document.ensures.steady ∙ inv.steady;
       sound = c.take_document.ensures.sound;
     }
 
@@ -83,4 +103,33 @@ returns-in_err-take_document-clause-stopped g c =
     let given = err_from_is_err_and c.from_residual.result c.from_residual.ensures.1 in
     let told : IfErr c.from_residual.result (StopsAt set first new.reader.now c.args.writer.now after) =
     subst (λ r. IfErr r (StopsAt set first new.reader.now c.args.writer.now after)) (sym (given.1 ∙ ap Err given.2)) stopped in
+    search rules
+
+pub returns-clause-asked : goal.returns-clause-asked
+returns-clause-asked g c =
+    let first = c.args.reader.now in
+    let set = set_of c.args.alive in
+    let old = c.loop-document.document-iterator in
+    let new = c.next.new.self in
+    let inv = c.loop-document.invariant in
+    let gives : GivesNext set old.reader.now old.walk None new.reader.now new.walk =
+    subst (λ (x : Option (ℕ → Bool)). GivesNext x old.reader.now old.walk None new.reader.now new.walk) inv.set (c.in-None.ensures.steps.0) in
+    let asked : IsAskedOnce first new.reader.now =
+    asked_within new.walk.place first (Err Memory) new.reader.now new.walk.block c.num_docs.ensures.covers
+    (looks_joined first old.reader.now old.walk set gives.last new.reader.now new.walk inv.same.checkpoints inv.looks gives.walks) in
+    search rules
+
+pub returns-in_err-take_document-clause-asked : goal.returns-in_err-take_document-clause-asked
+returns-in_err-take_document-clause-asked g c =
+    let first = c.args.reader.now in
+    let set = set_of c.args.alive in
+    let old = c.loop-document.document-iterator in
+    let new = c.next.new.self in
+    let inv = c.loop-document.invariant in
+    let steps = c.in-Some.ensures.steps in
+    let gives : GivesNext set old.reader.now old.walk (Some c.in-Some.document) new.reader.now new.walk =
+    subst (λ (x : Option (ℕ → Bool)). GivesNext x old.reader.now old.walk (Some c.in-Some.document) new.reader.now new.walk) inv.set steps.0 in
+    let asked : IsAskedOnce first new.reader.now =
+    asked_within new.walk.place first (Err Memory) new.reader.now new.walk.block c.num_docs.ensures.covers
+    (looks_joined first old.reader.now old.walk set gives.last new.reader.now new.walk inv.same.checkpoints inv.looks gives.walks) in
     search rules

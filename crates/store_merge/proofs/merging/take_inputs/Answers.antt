@@ -1,4 +1,5 @@
-use Rattle.std.proofs.Common.{◌<◌, ◌+◌, List, length, get_or, set, refl, sym, subst, arith}
+use Rattle.std.proofs.Common.{◌<◌, ◌+◌, List, length, get_or, set, refl, sym, ◌∙◌, subst, arith}
+use Rattle.store_base.proofs.Steady.{still}
 use Rattle.store_merge.specs.declared.input.MergeInput.{MergeInput}
 use Rattle.store_merge.specs.Inputs.{CanBeTaken, IsInputKept}
 use Rattle.store_merge.specs.Stacking.{IsReadBy, IsStackedBy}
@@ -6,7 +7,7 @@ use Rattle.store_merge.proofs.MergeLemmas.{all_at, next_same, rest_more, named_i
 use Rattle.store_merge.proofs.merging.take_inputs.Goals as goal
 
 pub loop-place-init : goal.loop-place-init
-loop-place-init g c = record { merged = none_merged c.args.writer.now; kept = tt; read = tt; rest = refl; count = omega arith; sound = c.requires.sound }
+loop-place-init g c = record { merged = none_merged c.args.writer.now; kept = tt; read = tt; rest = refl; count = omega arith; steady = refl; sound = c.requires.sound }
 
 pub take_input-requires-clause-input : goal.take_input-requires-clause-input
 take_input-requires-clause-input g c =
@@ -59,6 +60,7 @@ loop-place-preserved g c =
       read = each_more (IsStackedBy (IsReadBy c.args.stacking)) olds news i d y c.loop-place.auto.inputs c.loop-place-test.true inv.rest c.in_default.ensures.read inv.read;
       rest = rest_more olds news i y inv.rest;
       count = omega (arith, inv.count, c.take_input.ensures.count);
+      steady = still c.in_default.ensures.steady ∙ inv.steady;
       sound = c.take_input.ensures.sound;
     }
 

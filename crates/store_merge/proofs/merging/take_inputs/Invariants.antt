@@ -12,5 +12,6 @@ invariant-loop-place g l = record {
   read : AreStackedBy (IsReadBy l.stacking) (take l.place l.fn.inputs) (take l.place l.inputs);
   rest : drop l.place l.inputs ≡ drop l.place l.fn.inputs;
   count : l.fn.writer.output.failures ≤ l.writer.output.failures;
+  steady : l.writer.output.failures ≡ l.fn.writer.output.failures;
   sound : IsStoreWriter l.writer;
 }

@@ -27,4 +27,4 @@ returns-clause-head g c =
     let made = c.in_ok-index.ensures.made in
     let end_is : c.in_ok-index.index.end ≡ length c.read_footer.new.file.content - 28 = omega (arith, made.2, c.len-end.ensures) in
     seeking_made c.args.file.now c.read_footer.new.file c.read.new.file c.in_ok-footer.footer c.in_ok-index.index c.in_ok-footer.ensures (omega (arith, c.if-end-footer.false, c.len-end.ensures))
-    (record { period = made.0; start = made.1; end = end_is; head = c.in_ok-index.ensures.head; once = c.in_ok-index.ensures.once })
+    (record { period = made.0; start = made.1; end = end_is; head = c.in_ok-index.ensures.head; len = _; once = c.in_ok-index.ensures.once })

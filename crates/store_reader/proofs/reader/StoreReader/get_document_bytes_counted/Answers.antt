@@ -6,7 +6,7 @@ use denote.Param.{param}
 use Rattle.store_reader.proofs.SeekLemmas.{IsWithin, within, none_past}
 use Rattle.store_reader.proofs.LookUpLemmas.{stays_honest, reader_after}
 use Rattle.store_reader.proofs.RecentLemmas.{same_store, same_as_it_is}
-use Rattle.store_reader.proofs.GetAnswerLemmas.{not_none_such, read_failed, answers_truly, none_truly}
+use Rattle.store_reader.proofs.GetAnswerLemmas.{not_none_such, read_failed, answer_steady, answers_truly, none_truly}
 use Rattle.store_reader.proofs.reader.StoreReader.get_document_bytes_counted.Goals as goal
 
 -- where the document of a seek that found one lies
@@ -87,3 +87,6 @@ returns-in_default-clause-same_store g c = same_as_it_is _
 
 pub returns-clause-same_store : goal.returns-clause-same_store
 returns-clause-same_store g c = same_store _ _ _ _ _ (answered g c).looked
+
+pub returns-clause-steady : goal.returns-clause-steady
+returns-clause-steady g c = answer_steady _ _ _ _ (answered g c)

@@ -61,3 +61,9 @@ pub returns-clause-no_read : goal.returns-clause-no_read
 returns-clause-no_read g c past =
     let here = place _ _ _ _ c.in-Some.ensures.covers c.in-Some.ensures.checkpoint in
     absurd (omega (arith, here.to, here.last))
+
+pub returns-in_err-bytes-clause-once : goal.returns-in_err-bytes-clause-once
+returns-in_err-bytes-clause-once g c below = record { block = c.in-Some.block; seeks = sym c.in-Some.ensures.checkpoint; once = c.in_err-bytes.ensures.once }
+
+pub returns-clause-once : goal.returns-clause-once
+returns-clause-once g c below = record { block = c.in-Some.block; seeks = sym c.in-Some.ensures.checkpoint; once = c.in_ok-bytes.ensures.once }

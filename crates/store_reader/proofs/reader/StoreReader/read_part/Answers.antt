@@ -1,7 +1,7 @@
-use Rattle.std.proofs.Common.{refl, sym, arith}
+use Rattle.std.proofs.Common.{◌-◌, refl, sym, arith}
 use Rattle.std.proofs.lemmas.Result.{err_from_is_err_and}
 use Rattle.store_reader.proofs.PartLemmas.{found_block}
-use Rattle.store_reader.proofs.DataPartLemmas.{past_all, below_all, part_from}
+use Rattle.store_reader.proofs.DataPartLemmas.{past_all, below_all, few_bytes, part_from}
 use Rattle.store_reader.proofs.reader.StoreReader.read_part.Goals as goal
 
 pub returns-in_default-clause-none : goal.returns-in_default-clause-none
@@ -49,3 +49,34 @@ returns-clause-part g c =
       full = last.full;
       parts = last.parts;
     }) c.in_ok-bytes.ensures.length c.in_ok-bytes.ensures.bytes
+
+pub returns-in_err-bytes-clause-once : goal.returns-in_err-bytes-clause-once
+returns-in_err-bytes-clause-once g c below =
+    let block = found_block _ _ _ _ c.block_of.ensures.covers (sym c.in-Some.ensures.checkpoint) in
+    let given = err_from_is_err_and c.from_residual.result c.from_residual.ensures.1 in
+    let last = c.last_of_part-last.ensures in
+    rw given.1 (record {
+      first = c.in-Some.first;
+      seeks = sym c.in-Some.ensures.checkpoint;
+      len = c.last_of_part-last.result.byte_range.end - c.in-Some.first.byte_range.start;
+      once = c.in_err-bytes.ensures.once;
+      came = tt;
+      some = omega (arith, last.behind);
+      few = few_bytes c.args.part_bytes c.in-Some.first c.last_of_part-last.result last.few_bytes;
+      within = omega (arith, block.some_bytes, last.behind, last.within);
+    })
+
+pub returns-clause-once : goal.returns-clause-once
+returns-clause-once g c below =
+    let block = found_block _ _ _ _ c.block_of.ensures.covers (sym c.in-Some.ensures.checkpoint) in
+    let last = c.last_of_part-last.ensures in
+    record {
+      first = c.in-Some.first;
+      seeks = sym c.in-Some.ensures.checkpoint;
+      len = c.last_of_part-last.result.byte_range.end - c.in-Some.first.byte_range.start;
+      once = c.in_ok-bytes.ensures.once;
+      came = c.in_ok-bytes.ensures.length;
+      some = omega (arith, last.behind);
+      few = few_bytes c.args.part_bytes c.in-Some.first c.last_of_part-last.result last.few_bytes;
+      within = omega (arith, block.some_bytes, last.behind, last.within);
+    }

@@ -3,22 +3,22 @@ use Rattle.std.proofs.lemmas.Result.{err_from_is_err_and}
 use Rattle.layered_index.specs.Checkpoint.{first_past}
 use Rattle.layered_index.specs.IndexHeads.{RefusesRead}
 use Rattle.store_format.specs.StoreFile.{checkpoints_of}
-use Rattle.store_reader.proofs.SeekingLemmas.{seen_file, seeks_still, sought_stored, reads_stored}
+use Rattle.store_reader.proofs.SeekingLemmas.{seen_file, seeks_still, sought_stored, reads_stored, runs_kept}
 use Rattle.store_reader.proofs.StoreSliceLemmas.{block_placed, block_within}
 use Rattle.store_reader.proofs.seeking_reader.SeekingReader.block_of.Goals as goal
 use Rattle.store_reader.proofs.seeking_reader.SeekingReader.block_of.Goals.{then-doc_id-checkpoint-via-then-doc_id-checkpoint, then-doc_id-checkpoint-via-else-doc_id-checkpoint+then-self-checkpoint}
 
 pub invariant_of-self : goal.invariant_of-self
-invariant_of-self g c = seeks_still 64 c.self.inside.file c.seek.new.file _ _ _ c.seek.ensures.kept c.self.invariant
+invariant_of-self g c = seeks_still 64 _ c.self.inside.file c.seek.new.file _ _ _ c.seek.ensures.kept c.self.invariant
 
 pub invariant_of-self-in_default : goal.invariant_of-self-in_default
-invariant_of-self-in_default g c = seeks_still 64 c.self.inside.file c.seek.new.file _ _ _ c.seek.ensures.kept c.self.invariant
+invariant_of-self-in_default g c = seeks_still 64 _ c.self.inside.file c.seek.new.file _ _ _ c.seek.ensures.kept c.self.invariant
 
 pub invariant_of-self-then-doc_id-checkpoint : goal.invariant_of-self-then-doc_id-checkpoint
-invariant_of-self-then-doc_id-checkpoint g c = seeks_still 64 c.self.inside.file c.seek.new.file _ _ _ c.seek.ensures.kept c.self.invariant
+invariant_of-self-then-doc_id-checkpoint g c = seeks_still 64 _ c.self.inside.file c.seek.new.file _ _ _ c.seek.ensures.kept c.self.invariant
 
 pub invariant_of-self-2 : goal.invariant_of-self-2
-invariant_of-self-2 g c = seeks_still 64 c.self.inside.file c.seek.new.file _ _ _ c.seek.ensures.kept c.self.invariant
+invariant_of-self-2 g c = seeks_still 64 _ c.self.inside.file c.seek.new.file _ _ _ c.seek.ensures.kept c.self.invariant
 
 pub returns-in_err-checkpoint-clause-block : goal.returns-in_err-checkpoint-clause-block
 returns-in_err-checkpoint-clause-block g c honest s =
@@ -66,3 +66,15 @@ returns-clause-block g c honest s =
 pub returns-clause-reads : goal.returns-clause-reads
 returns-clause-reads g c honest s =
     reads_stored c.self.inside.file c.args.self.now c.seek.new.file _ _ _ c.self.view_is c.self.invariant honest s c.seek.ensures.reads
+
+pub returns-in_err-checkpoint-clause-kept : goal.returns-in_err-checkpoint-clause-kept
+returns-in_err-checkpoint-clause-kept g c = runs_kept _ c.self.inside.file c.args.self.now c.seek.new.file c.self.view_is c.seek.ensures.few c.seek.ensures.kept
+
+pub returns-in_default-clause-kept : goal.returns-in_default-clause-kept
+returns-in_default-clause-kept g c = runs_kept _ c.self.inside.file c.args.self.now c.seek.new.file c.self.view_is c.seek.ensures.few c.seek.ensures.kept
+
+pub returns-then-doc_id-checkpoint-clause-kept : goal.returns-then-doc_id-checkpoint-clause-kept
+returns-then-doc_id-checkpoint-clause-kept g c = runs_kept _ c.self.inside.file c.args.self.now c.seek.new.file c.self.view_is c.seek.ensures.few c.seek.ensures.kept
+
+pub returns-clause-kept : goal.returns-clause-kept
+returns-clause-kept g c = runs_kept _ c.self.inside.file c.args.self.now c.seek.new.file c.self.view_is c.seek.ensures.few c.seek.ensures.kept

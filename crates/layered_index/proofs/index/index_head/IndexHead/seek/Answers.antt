@@ -2,12 +2,13 @@ use Rattle.std.proofs.Common.{◌≡◌, ◌≤◌, ◌<◌, ◌+◌, ◌-◌, �
 use Rattle.std.proofs.lemmas.List.{take_rest}
 use Rattle.std.proofs.lemmas.Result.{err_from_is_err_and}
 use Rattle.store_base.specs.declared.error.StoreError.TheVariants.{BadIndex}
+use Rattle.store_base.proofs.Steady.{still}
 use Rattle.layered_index.specs.IndexHeads.{HeadBytes}
 use Rattle.layered_index.specs.Sought.{after_numbers}
-use Rattle.layered_index.proofs.IndexHeadLemmas.{pass_more}
+use Rattle.layered_index.proofs.IndexHeadLemmas.{head_few, pass_more}
 use Rattle.layered_index.proofs.FileHeadLemmas.{heads, seen_head}
 use Rattle.layered_index.proofs.FileSeekLemmas.{seek_begins, layer_sought, some_end, bad_layer, layer_answers, layer_has_none, layer_goes_on}
-use Rattle.layered_index.proofs.FileSeekLemmas.{bytes_left, none_is_left, answers_truly, reads_more, none_read, reads_by_digits}
+use Rattle.layered_index.proofs.FileSeekLemmas.{bytes_left, none_is_left, answers_truly, reads_more, no_runs, runs_fewer, reads_by_digits}
 use Rattle.layered_index.proofs.index.index_head.IndexHead.seek.Goals as goal
 use Rattle.layered_index.proofs.index.index_head.IndexHead.seek.Goals.{then-end-place-via-then-end-place, then-end-place-via-else-end-place+then-texts_len-end}
 
@@ -25,7 +26,8 @@ loop-init g c =
       left = (is.rest, ap (λ (n : ℕ). after_numbers n numbers) all ∙ ap (after_numbers s.count) same ∙ is.behind);
       within = omega arith;
       past = tt;
-      kept = none_read c.args.file.now;
+      kept = no_runs head.period c.args.file.now;
+      steady = refl;
     }
 
 pub returns-in_default-clause-exact : goal.returns-in_default-clause-exact
@@ -93,7 +95,7 @@ returns-in_err-next-clause-exact g c honest of =
     let end_is = ap (λ (h : HeadBytes). h.end) c.self.view_is in
     let is = seen_head _ head s.count s.ends s.texts c.self.view_is c.self.invariant in
     let given = err_from_is_err_and c.from_residual.result c.from_residual.ensures.1 in
-    let sought = layer_sought l.counter c.args.file.now l.file _ head c.args.target (s.texts + l.place) (s.texts + c.in-Some.end) l.found (Err c.in_err-next.field-0.0) l.invariant.kept
+    let sought = layer_sought l.counter _ c.args.file.now l.file _ head c.args.target (s.texts + l.place) (s.texts + c.in-Some.end) l.found (Err c.in_err-next.field-0.0) l.invariant.kept
     c.self.view_is honest c.in_err-next.ensures.exact in
     rw (given.1, given.2) (layer_answers content l.ends.now head c.args.target s.count l.counter l.place s.texts c.in-Some.end c.in-Some.more_ends.now l.found c.in_err-next.field-0.0 c.loop-test.true
     c.requires.within (heads content head s.count s.ends s.texts is of).before (sym c.in-Some.ensures.read) c.if-end-place.false (omega (arith, c.if-texts_len-end.false, end_is))
@@ -116,7 +118,7 @@ returns-in_err-next-clause-reads g c honest of cs part =
     let is = seen_head _ head s.count s.ends s.texts c.self.view_is c.self.invariant in
     reads_by_digits content head s.count s.ends s.texts (c.loop.counter + 1) c.args.file.now c.seek_layer_in.new.file cs
     (heads content head s.count s.ends s.texts is of) (omega arith) part
-    (reads_more c.loop.counter c.args.file.now c.loop.file c.seek_layer_in.new.file c.loop.invariant.kept c.seek_layer_in.ensures.once)
+    (reads_more head.period _ c.loop.counter c.args.file.now c.loop.file c.seek_layer_in.new.file (ap (λ (h : HeadBytes). h.period) c.self.view_is) c.loop.invariant.kept c.seek_layer_in.ensures.once)
 
 pub returns-then-is_none-clause-exact : goal.returns-then-is_none-clause-exact
 returns-then-is_none-clause-exact g c honest of =
@@ -126,8 +128,8 @@ returns-then-is_none-clause-exact g c honest of =
     let s = c.self.inside in
     let end_is = ap (λ (h : HeadBytes). h.end) c.self.view_is in
     let is = seen_head _ head s.count s.ends s.texts c.self.view_is c.self.invariant in
-    let sought = layer_sought l.counter c.args.file.now l.file _ head c.args.target (s.texts + l.place) (s.texts + c.in-Some.end) l.found (Ok c.in_ok-next.next) l.invariant.kept c.self.view_is honest
-    c.in_ok-next.ensures.exact in
+    let sought = layer_sought l.counter _ c.args.file.now l.file _ head c.args.target (s.texts + l.place) (s.texts + c.in-Some.end) l.found (Ok c.in_ok-next.next) l.invariant.kept
+    c.self.view_is honest c.in_ok-next.ensures.exact in
     layer_has_none content l.ends.now head c.args.target s.count l.counter l.place s.texts c.in-Some.end c.in-Some.more_ends.now l.found c.in_ok-next.next c.loop-test.true
     c.requires.within (heads content head s.count s.ends s.texts is of).before (sym c.in-Some.ensures.read) c.if-end-place.false (omega (arith, c.if-texts_len-end.false, end_is))
     (c.is_none.ensures ∙ ap not c.if-is_none.true) (l.invariant.exact honest of) sought
@@ -149,7 +151,7 @@ returns-then-is_none-clause-reads g c honest of cs part =
     let is = seen_head _ head s.count s.ends s.texts c.self.view_is c.self.invariant in
     reads_by_digits content head s.count s.ends s.texts (c.loop.counter + 1) c.args.file.now c.seek_layer_in.new.file cs
     (heads content head s.count s.ends s.texts is of) (omega arith) part
-    (reads_more c.loop.counter c.args.file.now c.loop.file c.seek_layer_in.new.file c.loop.invariant.kept c.seek_layer_in.ensures.once)
+    (reads_more head.period _ c.loop.counter c.args.file.now c.loop.file c.seek_layer_in.new.file (ap (λ (h : HeadBytes). h.period) c.self.view_is) c.loop.invariant.kept c.seek_layer_in.ensures.once)
 
 pub loop-preserved : goal.loop-preserved
 loop-preserved g c =
@@ -163,7 +165,7 @@ loop-preserved g c =
       exact = λ honest of. layer_goes_on content l.ends.now head c.args.target s.count l.counter l.place s.texts c.in-Some.end c.in-Some.more_ends.now l.found c.in_ok-next.next
           c.loop-test.true c.requires.within (heads content head s.count s.ends s.texts is of).before (sym c.in-Some.ensures.read) c.if-end-place.false
           (omega (arith, c.if-texts_len-end.false, end_is)) (c.is_none.ensures ∙ ap not c.if-is_none.false) (l.invariant.exact honest of)
-          (layer_sought l.counter c.args.file.now l.file _ head c.args.target (s.texts + l.place) (s.texts + c.in-Some.end) l.found (Ok c.in_ok-next.next) l.invariant.kept c.self.view_is honest
+          (layer_sought l.counter _ c.args.file.now l.file _ head c.args.target (s.texts + l.place) (s.texts + c.in-Some.end) l.found (Ok c.in_ok-next.next) l.invariant.kept c.self.view_is honest
           c.in_ok-next.ensures.exact);
       left = (
         l.invariant.left.0,
@@ -172,7 +174,8 @@ loop-preserved g c =
       );
       within = c.if-texts_len-end.false;
       past = c.in_ok-next.ensures.past;
-      kept = reads_more l.counter c.args.file.now l.file c.seek_layer_in.new.file l.invariant.kept c.seek_layer_in.ensures.once;
+      steady = still c.in_ok-next.ensures.steady ∙ l.invariant.steady;
+      kept = reads_more head.period _ l.counter c.args.file.now l.file c.seek_layer_in.new.file (ap (λ (h : HeadBytes). h.period) c.self.view_is) l.invariant.kept c.seek_layer_in.ensures.once;
     }
 
 pub returns-then-place-texts_len-clause-exact : goal.returns-then-place-texts_len-clause-exact
@@ -233,3 +236,17 @@ returns-clause-reads g c honest of cs part =
     let is = seen_head _ head s.count s.ends s.texts c.self.view_is c.self.invariant in
     reads_by_digits content head s.count s.ends s.texts c.loop.counter c.args.file.now c.loop.file cs (heads content head s.count s.ends s.texts is of)
     (omega arith) part c.loop.invariant.kept
+
+pub returns-in_err-next-clause-kept : goal.returns-in_err-next-clause-kept
+returns-in_err-next-clause-kept g c =
+    let period = c.args.self.now.period in
+    let few = head_few c.self.inside.front c.self.inside.count _ c.self.invariant.counted in
+    runs_fewer period (c.loop.counter + 1) 64 c.args.file.now c.seek_layer_in.new.file (omega (arith, few, c.loop-test.true))
+    (reads_more period _ c.loop.counter c.args.file.now c.loop.file c.seek_layer_in.new.file (ap (λ (h : HeadBytes). h.period) c.self.view_is) c.loop.invariant.kept c.seek_layer_in.ensures.once)
+
+pub returns-then-is_none-clause-kept : goal.returns-then-is_none-clause-kept
+returns-then-is_none-clause-kept g c =
+    let period = c.args.self.now.period in
+    let few = head_few c.self.inside.front c.self.inside.count _ c.self.invariant.counted in
+    runs_fewer period (c.loop.counter + 1) 64 c.args.file.now c.seek_layer_in.new.file (omega (arith, few, c.loop-test.true))
+    (reads_more period _ c.loop.counter c.args.file.now c.loop.file c.seek_layer_in.new.file (ap (λ (h : HeadBytes). h.period) c.self.view_is) c.loop.invariant.kept c.seek_layer_in.ensures.once)

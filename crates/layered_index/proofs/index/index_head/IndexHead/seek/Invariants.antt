@@ -1,6 +1,6 @@
 use Rattle.std.proofs.Common.{◌≡◌, ◌≤◌, ◌-◌, List, ℕ, Some, IfSome}
 use Rattle.std.specs.Prelude.{IsTrue}
-use Rattle.layered_index.specs.IndexHeads.{IsHeadOf, ReadsAtMost}
+use Rattle.layered_index.specs.IndexHeads.{IsHeadOf, ReadsRuns}
 use Rattle.layered_index.specs.Sought.{after_numbers, IsPast}
 use Rattle.layered_index.proofs.FileSeekLemmas.{Seeks}
 use Rattle.layered_index.proofs.index.index_head.IndexHead.seek.Given as goal
@@ -13,5 +13,6 @@ invariant-loop g l = record {
   left : (rest : List ℕ) × (after_numbers (l.end - l.counter) l.ends ≡ Some rest);
   within : l.place ≤ l.texts_len;
   past : IfSome l.found (IsPast l.target);
-  kept : ReadsAtMost l.counter l.initial.file l.file;
+  kept : ReadsRuns l.self.period l.counter l.initial.file l.file;
+  steady : l.file.failures ≡ l.initial.file.failures;
 }
