@@ -36,6 +36,6 @@ breaks_file file mid body footer r honest h e breaks =
     let said = is_said file mid footer honest h in
     let good : IsTrue body.honest = subst IsTrue (sym (ap (λ (p : Part). p.honest) e ∙ said.honest)) honest in
     let same : body.content ≡ slice_range file.content 0 (length file.content - 28) =
-        ap (λ (p : Part). p.content) e ∙ ap (λ (xs : List ℕ). slice_range xs 0 (length xs - 28)) said.content in
+    ap (λ (p : Part). p.content) e ∙ ap (λ (xs : List ℕ). slice_range xs 0 (length xs - 28)) said.content in
     IfOk-weaker r (BreaksBody body.content footer) (BreaksFile file.content)
     (λ part b. record { footer = footer; says = said.says; breaks = subst (λ (xs : List ℕ). BreaksBody xs footer part) same b }) (breaks good)

@@ -33,7 +33,7 @@ pub checked_more : (r now new : Reading) (next : ℕ) (v w : Verdict) (part : Da
 checked_more r now new next v w part h seeks given none once documents takes =
     let same = h.same in
     let n : IsNext r h.front next part = is_next r h.front next part h.covers h.come (seeks ∙ ap (λ cs. first_past cs next) same.checkpoints)
-        (λ honest. given (subst IsTrue (sym same.honest) honest) ∙ ap (λ (xs : List ℕ). slice_range xs part.start (part.start + length part.bytes)) same.content) in
+    (λ honest. given (subst IsTrue (sym same.honest) honest) ∙ ap (λ (xs : List ℕ). slice_range xs part.start (part.start + length part.bytes)) same.content) in
     record {
       front = h.front ++ n.block ∷ [];
       come = has_come_on r h.front next part h.come n;
@@ -44,11 +44,11 @@ checked_more r now new next v w part h seeks given none once documents takes =
           let id : part.ids.start ≡ docs_in h.front = n.first ∙ h.come.next_is in
           let t1 : TakesBlock v w (docs_in h.front) part.start part.bytes (part.ids.end - part.ids.start) = subst (λ (k : ℕ). TakesBlock v w k part.start part.bytes (part.ids.end - part.ids.start)) id takes in
           let t2 : TakesBlock v w (docs_in h.front) (length (data_of h.front)) part.bytes (part.ids.end - part.ids.start) =
-              subst (λ (k : ℕ). TakesBlock v w (docs_in h.front) k part.bytes (part.ids.end - part.ids.start)) n.byte t1 in
+          subst (λ (k : ℕ). TakesBlock v w (docs_in h.front) k part.bytes (part.ids.end - part.ids.start)) n.byte t1 in
           let t3 : TakesBlock v w (docs_in h.front) (length (data_of h.front)) n.block.bytes (part.ids.end - part.ids.start) =
-              subst (λ (xs : List ℕ). TakesBlock v w (docs_in h.front) (length (data_of h.front)) xs (part.ids.end - part.ids.start)) (n.bytes honest) t2 in
+          subst (λ (xs : List ℕ). TakesBlock v w (docs_in h.front) (length (data_of h.front)) xs (part.ids.end - part.ids.start)) (n.bytes honest) t2 in
           let t4 : TakesBlock v w (docs_in h.front) (length (data_of h.front)) n.block.bytes n.block.count =
-              subst (λ (k : ℕ). TakesBlock v w (docs_in h.front) (length (data_of h.front)) n.block.bytes k) n.count t3 in
+          subst (λ (k : ℕ). TakesBlock v w (docs_in h.front) (length (data_of h.front)) n.block.bytes k) n.count t3 in
           judges_more h.front n.block v w (omega (arith, n.few, n.number)) (omega (arith, n.few, h.come.next_is)) (h.judged honest) t4;
     }
 

@@ -169,10 +169,10 @@ pub judges_more : (front : List StoreBlock) (b : StoreBlock) (old new : Verdict)
 judges_more front b old new few docs j t =
     let size = length-append front (b ∷ []) in
     let count : count_by is_damaged (slots (front ++ b ∷ [])) ≡ count_by is_damaged (slots front) + damaged_count b.bytes b.count =
-        ap (count_by is_damaged) (slots_joined front b) ∙ sum_by-append (λ (s : Slot). cond (is_damaged s) 1 0) (slots front) (slots_in b.bytes b.count) in
+    ap (count_by is_damaged) (slots_joined front b) ∙ sum_by-append (λ (s : Slot). cond (is_damaged s) 1 0) (slots front) (slots_in b.bytes b.count) in
     let first_few = count_by-le-length is_damaged (slots front) in let len = slots_len front in let more_few = damaged_few b.bytes b.count in
     let broken : count_by (λ x. not (is_sound_block x)) (front ++ b ∷ []) ≡ count_by (λ x. not (is_sound_block x)) front + count_by (λ x. not (is_sound_block x)) (b ∷ []) =
-        sum_by-append (λ (x : StoreBlock). cond (not (is_sound_block x)) 1 0) front (b ∷ []) in
+    sum_by-append (λ (x : StoreBlock). cond (not (is_sound_block x)) 1 0) front (b ∷ []) in
     let this = turned (is_sound_block b) in
     let broken_few = count_by-le-length (λ (x : StoreBlock). not (is_sound_block x)) front in
     let one = one_few (is_sound b.bytes b.count) in
@@ -188,12 +188,15 @@ judges_more front b old new few docs j t =
     turned : (s : Bool) → cond {A = ℕ} (not s) 1 0 ≡ cond s 0 1
     turned true = refl
     turned false = refl
+
     picks : (s : Bool) (n : ℕ) → n < 2 ^ 33 → cond s n (raised n 1) ≡ n + cond s 0 1
     picks true n lt = omega arith
     picks false n lt = omega arith
+
     one_few : (s : Bool) → cond {A = ℕ} s 0 1 ≤ 1
     one_few true = omega arith
     one_few false = omega arith
+
     sound : (o : Option FaultPlace) → old.first ≡ o → is_none new.first ≡ list_all is_sound_block (front ++ b ∷ [])
     sound None e =
         let all : list_all is_sound_block front ≡ true = sym j.sound ∙ ap is_none e in
@@ -201,6 +204,7 @@ judges_more front b old new few docs j t =
     sound (Some place) e =
         let some : list_all is_sound_block front ≡ false = sym j.sound ∙ ap is_none e in
         ap is_none (t.kept (subst IsSome (sym e) refl) ∙ e) ∙ sym (list_all_push is_sound_block front b ∙ ap (λ (x : Bool). x && is_sound_block b) some)
+
     first : (o : Option FaultPlace) → old.first ≡ o → IfSome new.first (IsFirstFault (front ++ b ∷ []))
     first None e =
         let all : list_all is_sound_block front ≡ true = sym j.sound ∙ ap is_none e in

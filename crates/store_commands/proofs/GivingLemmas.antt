@@ -68,7 +68,7 @@ pub given_more : {T : Type 0} (takes : T → List ℕ → T → Type 0) (set : O
 given_more takes set r now read next old middle new part h seeks given none once block =
     let same = h.same in
     let n : IsNext r h.front next part = is_next r h.front next part h.covers h.come (seeks ∙ ap (λ cs. first_past cs next) same.checkpoints)
-        (λ honest. given (subst IsTrue (sym same.honest) honest) ∙ ap (λ (xs : List ℕ). slice_range xs part.start (part.start + length part.bytes)) same.content) in
+    (λ honest. given (subst IsTrue (sym same.honest) honest) ∙ ap (λ (xs : List ℕ). slice_range xs part.start (part.start + length part.bytes)) same.content) in
     record {
       front = h.front ++ n.block ∷ [];
       come = has_come_on r h.front next part h.come n;
@@ -77,12 +77,12 @@ given_more takes set r now read next old middle new part h seeks given none once
       taken = λ honest.
           let id : part.ids.start ≡ 0 + length (slots h.front) = omega (arith, n.first, h.come.next_is, slots_len h.front) in
           let some : alive_from part.ids.start (slots_in part.bytes (part.ids.end - part.ids.start)) set ≡ alive_from (0 + length (slots h.front)) (slots_in n.block.bytes n.block.count) set =
-              ap (λ (k : ℕ). alive_from k (slots_in part.bytes (part.ids.end - part.ids.start)) set) id
-              ∙ ap (λ (xs : List ℕ). alive_from (0 + length (slots h.front)) (slots_in xs (part.ids.end - part.ids.start)) set) (n.bytes honest)
-              ∙ ap (λ (k : ℕ). alive_from (0 + length (slots h.front)) (slots_in n.block.bytes k) set) n.count in
+          ap (λ (k : ℕ). alive_from k (slots_in part.bytes (part.ids.end - part.ids.start)) set) id
+          ∙ ap (λ (xs : List ℕ). alive_from (0 + length (slots h.front)) (slots_in xs (part.ids.end - part.ids.start)) set) (n.bytes honest)
+          ∙ ap (λ (k : ℕ). alive_from (0 + length (slots h.front)) (slots_in n.block.bytes k) set) n.count in
           let all : alive_from 0 (slots (h.front ++ n.block ∷ [])) set ≡ alive_from 0 (slots h.front) set ++ alive_from part.ids.start (slots_in part.bytes (part.ids.end - part.ids.start)) set =
-              ap (λ (xs : List Slot). alive_from 0 xs set) (slots_joined h.front n.block) ∙ alive_joined 0 (slots h.front) (slots_in n.block.bytes n.block.count) set
-              ∙ ap (λ (ys : List Slot). alive_from 0 (slots h.front) set ++ ys) (sym some) in
+          ap (λ (xs : List Slot). alive_from 0 xs set) (slots_joined h.front n.block) ∙ alive_joined 0 (slots h.front) (slots_in n.block.bytes n.block.count) set
+          ∙ ap (λ (ys : List Slot). alive_from 0 (slots h.front) set ++ ys) (sym some) in
           subst (λ (xs : List Slot). TakesSlots takes xs old new) (sym all)
           (takes_more takes old middle new (alive_from 0 (slots h.front) set) (alive_from part.ids.start (slots_in part.bytes (part.ids.end - part.ids.start)) set) (h.taken honest) block);
     }

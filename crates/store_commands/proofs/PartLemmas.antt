@@ -24,8 +24,10 @@ part_refuses count word items k d e same lt h = by e h
   where
     within : k < length (parts_of word)
     within = omega (arith, ap length same, length-map items (λ (x : Bor (List ℕ)). x.now))
+
     here : get_or (parts_of word) k (get_or items k d).now ≡ (get_or items k d).now
     here = sym (ap (λ (xs : List (List ℕ)). get_or xs k (get_or items k d).now) same) ∙ get_or-map (λ (x : Bor (List ℕ)). x.now) items k d (get_or items k d).now lt
+
     by : (e : RequestError) → RefusesOnePart count (get_or items k d).now e → RefusesParts count word e
     by (NoRange text) h = (k, (get_or items k d).now, within, here, h)
     by (NoDocument id documents) h = (k, (get_or items k d).now, within, here, h)
@@ -40,6 +42,7 @@ word_refuses count words k d e lt h = by e h
   where
     here : get_or words k (get_or words k d) ≡ get_or words k d
     here = get_or_default words k (get_or words k d) d lt
+
     by : (e : RequestError) → RefusesParts count (get_or words k d).now e → RefusesWords words count e
     by (NoRange text) h = (k, get_or words k d, lt, here, h)
     by (NoDocument id documents) h = (k, get_or words k d, lt, here, h)

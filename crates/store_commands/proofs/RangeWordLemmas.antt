@@ -35,9 +35,9 @@ number_parsed text (Ok n) h =
 number_parsed text (Err e) h =
     let digits = without_leading_plus text in
     none_unless (nat_lt 0 (length digits) && all_ascii_digits digits && nat_lt (digits_value 10 digits) 4294967296) (digits_value 10 digits) (λ t.
-        let last = both (nat_lt 0 (length digits) && all_ascii_digits digits) (nat_lt (digits_value 10 digits) 4294967296) t in
-        let first = both (nat_lt 0 (length digits)) (all_ascii_digits digits) last.0 in
-        h ((ltb-true 0 (length digits) first.0, own.to digits first.1), ltb-true (digits_value 10 digits) 4294967296 last.1))
+    let last = both (nat_lt 0 (length digits) && all_ascii_digits digits) (nat_lt (digits_value 10 digits) 4294967296) t in
+    let first = both (nat_lt 0 (length digits)) (all_ascii_digits digits) last.0 in
+    h ((ltb-true 0 (length digits) first.0, own.to digits first.1), ltb-true (digits_value 10 digits) 4294967296 last.1))
 
 -- ---- two dots
 

@@ -90,7 +90,7 @@ is_next r front next part covers come seeks given = by come.rest come.parts
     by [] parts =
         let seen = store_seen r.file.content r.checkpoints covers in
         let none : first_past (checkpoints_of (store_of r)) next ≡ None =
-            ap (λ (bs : List StoreBlock). first_past (checkpoints_of bs) next) (parts ∙ append-nil front) ∙ none_found 0 0 front next (omega (arith, come.next_is)) in
+        ap (λ (bs : List StoreBlock). first_past (checkpoints_of bs) next) (parts ∙ append-nil front) ∙ none_found 0 0 front next (omega (arith, come.next_is)) in
         absurd (let bad : Some (place_of part) ≡ None = seeks ∙ ap (λ (cs : List Checkpoint). first_past cs next) (sym seen.checkpoints_are) ∙ none in cc)
     by (b ∷ rest) parts =
         let seen = store_seen r.file.content r.checkpoints covers in
@@ -98,16 +98,16 @@ is_next r front next part covers come seeks given = by come.rest come.parts
         let some : 0 < b.count = each.0.some_docs in
         let place = length (data_of front) in
         let here : first_past (checkpoints_of (store_of r)) next ≡ Some (checkpoint next (next + b.count) place (place + length b.bytes)) =
-            ap (λ (bs : List StoreBlock). first_past (checkpoints_of bs) next) parts ∙ found 0 0 front b rest next place some (omega (arith, come.next_is)) (omega arith) in
+        ap (λ (bs : List StoreBlock). first_past (checkpoints_of bs) next) parts ∙ found 0 0 front b rest next place some (omega (arith, come.next_is)) (omega arith) in
         let all : Some (place_of part) ≡ Some (checkpoint next (next + b.count) place (place + length b.bytes)) =
-            seeks ∙ ap (λ (cs : List Checkpoint). first_past cs next) (sym seen.checkpoints_are) ∙ here in
+        seeks ∙ ap (λ (cs : List Checkpoint). first_past cs next) (sym seen.checkpoints_are) ∙ here in
         let same : place_of part ≡ checkpoint next (next + b.count) place (place + length b.bytes) = cc in
         let first : part.ids.start ≡ next = ap (λ (c : Checkpoint). c.doc_range.start) same in
         let end : part.ids.end ≡ next + b.count = ap (λ (c : Checkpoint). c.doc_range.end) same in
         let byte : part.start ≡ place = ap (λ (c : Checkpoint). c.byte_range.start) same in
         let last : part.start + length part.bytes ≡ place + length b.bytes = ap (λ (c : Checkpoint). c.byte_range.end) same in
         let content_is : r.file.content ≡ data_of front ++ (b.bytes ++ data_of rest) =
-            sym seen.data_is ∙ ap data_of parts ∙ flat_map-append (λ (x : StoreBlock). x.bytes) front (b ∷ rest) in
+        sym seen.data_is ∙ ap data_of parts ∙ flat_map-append (λ (x : StoreBlock). x.bytes) front (b ∷ rest) in
         record {
           block = b;
           rest = rest;

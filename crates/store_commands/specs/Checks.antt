@@ -38,7 +38,6 @@ has_table block documents = nat_le (4 * (documents + 1)) (length block) && (coun
 abbrev pub is_sound : List ℕ → ℕ → Bool
 is_sound block documents = has_table block documents && not (list_any is_damaged (slots_in block documents))
 
-
 -- A table has this fault, and none that stands before it here.
 abbrev pub HasTableFault : List ℕ → ℕ → TableFault → Type 0
 HasTableFault block documents Short = length block < 4

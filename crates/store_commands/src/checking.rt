@@ -27,6 +27,7 @@ pub enum TableFault {
     /// Bytes stand before the first document.
     Start { start: u32 },
 }
+
 impl fmt::Display for TableFault {
     fn fmt<W: fmt::Write>(&self, f: &mut fmt::Formatter<W>) -> fmt::Result {
         match self {

@@ -108,11 +108,7 @@ fn merged(alloc: Global, spans: &[IdSpan]) -> Result<Vec<IdSpan>, NoMemory>
 
 /// The documents that words leave out of a store of `num_docs` documents: exactly the ids that one of the words names,
 /// as ranges in order that do not touch.
-pub fn left_out(
-    alloc: Global,
-    words: &[&str],
-    num_docs: DocId,
-) -> Result<Vec<IdSpan>, RequestError>
+pub fn left_out(alloc: Global, words: &[&str], num_docs: DocId) -> Result<Vec<IdSpan>, RequestError>
     ensures named { IfOk result (λ spans. (id : ℕ) → is_among spans.items id
         ≡ (words_name words.now id && nat_lt id num_docs)) }
     ensures apart { IfOk result (λ spans. AreApartFrom 0 spans.items) }

@@ -21,7 +21,7 @@ loop-next_id-preserved-in-Some g c =
     let old : min next end - first ≡ m = omega arith in
     let new : min span.end end - first ≡ m + n = omega arith in
     let skip : alive_from first (slots_in bytes (m + n)) (kept_by spans) ≡ alive_from first (slots_in bytes m) (kept_by spans) =
-        alive_skip first bytes m n (kept_by spans) (λ id le lt. ap not (c.in-Some.ensures.among id (is_in_true span id (omega arith) (omega arith)))) in
+    alive_skip first bytes m n (kept_by spans) (λ id le lt. ap not (c.in-Some.ensures.among id (is_in_true span id (omega arith) (omega arith)))) in
     let same = ap (λ (k : ℕ). alive_from first (slots_in bytes k) (kept_by spans)) new ∙ skip ∙ sym (ap (λ (k : ℕ). alive_from first (slots_in bytes k) (kept_by spans)) old) in
     record {
       on = omega arith;
@@ -42,7 +42,7 @@ loop-next_id-preserved g c =
     let one = alive_one first bytes m (kept_by spans) kept in
     let same = ap (λ (k : ℕ). alive_from first (slots_in bytes k) (kept_by spans)) new ∙ one in
     let before : TakesSlots g.T.DocumentTarget.takes (alive_from first (slots_in bytes m) (kept_by spans)) c.args.target.now c.loop-next_id.target =
-        subst (λ (k : ℕ). TakesSlots g.T.DocumentTarget.takes (alive_from first (slots_in bytes k) (kept_by spans)) c.args.target.now c.loop-next_id.target) old c.loop-next_id.invariant.taken in
+    subst (λ (k : ℕ). TakesSlots g.T.DocumentTarget.takes (alive_from first (slots_in bytes k) (kept_by spans)) c.args.target.now c.loop-next_id.target) old c.loop-next_id.invariant.taken in
     record {
       on = omega arith;
       taken = subst (λ (xs : List Slot). TakesSlots g.T.DocumentTarget.takes xs c.args.target.now c.give_document.new.target) (sym same)

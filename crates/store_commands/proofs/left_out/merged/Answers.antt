@@ -16,9 +16,9 @@ loop-span-preserved c =
     let x = get_or c.in-Some.others.now place none in
     let here = place_behind c.args.spans.now c.in-Some.first.now c.in-Some.others.now place none c.in-Some.ensures.cases.0 c.loop-span-test.true in
     elim c.if-span-last.branch [
-      then-span-last w ↦ rw (w.merged-is, w.last-is, w.max.ensures)
+      | then-span-last w ↦ rw (w.merged-is, w.last-is, w.max.ensures)
           (merging_touch c.args.spans.now c.loop-span.merged.items c.loop-span.last x (place + 1) c.loop-span.invariant here.0 here.1 w.if-span-last.true)
-    | else-span-last+in_ok-push w ↦ rw (w.merged-is, w.last-is, w.in_ok-push.ensures.items)
+      | else-span-last+in_ok-push w ↦ rw (w.merged-is, w.last-is, w.in_ok-push.ensures.items)
           (merging_apart c.args.spans.now c.loop-span.merged.items c.loop-span.last x (place + 1) c.loop-span.invariant here.0 here.1 w.if-span-last.false c.requires.filled c.requires.sorted)
     ]
 

@@ -17,7 +17,7 @@ returns-in-Some-clause-cut g c =
       cut = search rules;
       tail = λ honest.
           let is : c.as_slice.result.now ≡ slice_range file (len - 8) (length file) =
-              c.as_slice.ensures ∙ c.in_ok-tail.ensures.bytes honest ∙ ap (slice_range file (len - 8)) c.len-len.ensures in
+          c.as_slice.ensures ∙ c.in_ok-tail.ensures.bytes honest ∙ ap (slice_range file (len - 8)) c.len-len.ensures in
           subst (HasTail file) (sym (c.narrow.ensures.content ∙ ap (λ (xs : List ℕ). slice_range xs 0 (len - 8 - c.in-Some.length)) c.read_range.ensures.once.content))
           (has_tail file c.as_slice.result.now (len - 8) c.in-Some.length (omega (arith, c.len-len.ensures, c.if-len-lt-TANTIVY_TAIL_LEN.false)) (omega (arith, c.len-len.ensures)) is
           c.in-Some.ensures.0 c.in-Some.ensures.1 c.if-length-body.true);
@@ -27,9 +27,9 @@ pub returns-in_default-clause-refused : goal.returns-in_default-clause-refused
 returns-in_default-clause-refused g c honest =
     let file = c.args.file.content in let len = c.len-len.result in
     let is : c.as_slice.result.now ≡ slice_range file (len - 8) (length file) =
-        c.as_slice.ensures ∙ c.in_ok-tail.ensures.bytes honest ∙ ap (slice_range file (len - 8)) c.len-len.ensures in
+    c.as_slice.ensures ∙ c.in_ok-tail.ensures.bytes honest ∙ ap (slice_range file (len - 8)) c.len-len.ensures in
     elim c.in_default.branch [
-      in_default-via-in-Some+else-length-body w ↦
+      | in_default-via-in-Some+else-length-body w ↦
           none_so_long file c.as_slice.result.now (len - 8) w.in-Some.length (omega (arith, c.len-len.ensures)) is w.in-Some.ensures.0 w.in-Some.ensures.1 w.if-length-body.false
-    | in_default-via-in_default w ↦ none_without file c.as_slice.result.now (len - 8) (omega (arith, c.len-len.ensures)) is w.in_default.ensures
+      | in_default-via-in_default w ↦ none_without file c.as_slice.result.now (len - 8) (omega (arith, c.len-len.ensures)) is w.in_default.ensures
     ]
