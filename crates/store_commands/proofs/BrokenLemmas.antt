@@ -1,5 +1,5 @@
 -- What a footer that was read tells of a file.
-use Rattle.std.proofs.Common.{◌≡◌, ℕ, ◌-◌, ◌<◌, ◌≤◌, Bool, true, false, List, length, refl, sym, ap, ◌∙◌, subst}
+use Rattle.std.proofs.Common.{◌≡◌, ℕ, ◌-◌, true, false, List, length, refl, sym, ap, ◌∙◌, subst}
 use Rattle.std.specs.Prelude.{IsTrue, IfOk, Result, Ok, Err, slice_range, nat_lt}
 use Rattle.std.proofs.lemmas.Bool.{ltb-true, ltb-false}
 use Rattle.std.proofs.lemmas.Result.{IfOk-weaker}
@@ -7,7 +7,6 @@ use Rattle.store_base.specs.Files.{Part}
 use Rattle.store_base.specs.declared.error.StoreError.{StoreError}
 use Rattle.store_format.specs.declared.footer.DocStoreFooter.{DocStoreFooter}
 use Rattle.store_format.specs.Extraction.{ExtractsFooter, Says, SaysFrom, narrowed}
-use Rattle.store_format.specs.FileReading.{Comes}
 use Rattle.store_commands.specs.declared.broken_part.BrokenPart.{BrokenPart}
 use Rattle.store_commands.specs.BrokenParts.{BreaksBody, BreaksFile}
 

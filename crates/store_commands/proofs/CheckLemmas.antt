@@ -1,6 +1,6 @@
 -- How far a check has come.
-use Rattle.std.proofs.Common.{◌≡◌, ℕ, ◌+◌, ◌-◌, ◌<◌, ◌≤◌, ◌^◌, List, [], ◌∷◌, ◌++◌, length, Some, refl, sym, ap, ◌∙◌, subst, arith, length-append}
-use Rattle.std.specs.Prelude.{IsTrue, IfOk, slice_range}
+use Rattle.std.proofs.Common.{◌≡◌, ℕ, ◌+◌, ◌-◌, ◌<◌, ◌≤◌, List, [], ◌∷◌, ◌++◌, length, Some, sym, ap, ◌∙◌, subst, arith}
+use Rattle.std.specs.Prelude.{IsTrue, slice_range}
 use Rattle.layered_index.specs.Checkpoint.{Covers, docs_end, first_past}
 use Rattle.store_format.specs.StoreFile.{StoreBlock, docs_in, data_of}
 use Rattle.store_reader.specs.declared.data_part.DataPart.{DataPart}

@@ -1,5 +1,5 @@
 -- How far the documents of a store were given.
-use Rattle.std.proofs.Common.{◌≡◌, ℕ, ◌+◌, ◌-◌, ◌<◌, ◌≤◌, Bool, true, false, List, [], ◌∷◌, ◌++◌, length, map, Option, Some, refl, sym, ap, ◌∙◌, subst, arith}
+use Rattle.std.proofs.Common.{◌≡◌, ℕ, ◌+◌, ◌-◌, ◌<◌, ◌≤◌, Bool, true, false, List, [], ◌∷◌, ◌++◌, length, map, Option, Some, sym, ap, ◌∙◌, subst, arith}
 use Rattle.std.specs.Prelude.{IsTrue, slice_range}
 use Rattle.layered_index.specs.Checkpoint.{Covers, docs_end, first_past}
 use Rattle.std.specs.List.{range_with_len}
@@ -7,7 +7,7 @@ use Rattle.std.proofs.lemmas.List.{append-nil, map-append}
 use Rattle.std.proofs.lemmas.List.FromFn.{length-map-range_with_len}
 use Rattle.store_format.specs.Block.{Slot, slot}
 use Rattle.store_format.specs.Slots.{slots}
-use Rattle.store_format.specs.StoreFile.{StoreBlock, docs_in, data_of}
+use Rattle.store_format.specs.StoreFile.{StoreBlock}
 use Rattle.store_reader.specs.declared.data_part.DataPart.{DataPart}
 use Rattle.store_reader.specs.Iteration.{is_in, alive}
 use Rattle.store_reader.specs.Parts.{place_of}

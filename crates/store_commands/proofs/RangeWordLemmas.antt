@@ -1,5 +1,5 @@
 -- What the words of ranges name.
-use Rattle.std.proofs.Common.{◌≡◌, ◌≢◌, ℕ, zero, suc, ◌+◌, ◌<◌, ◌≤◌, Bool, true, false, cond, List, [], ◌∷◌, ◌++◌, length, take, drop, Option, Some, None, refl, sym, ap, ◌∙◌, arith, Bor}
+use Rattle.std.proofs.Common.{◌≡◌, ℕ, zero, suc, ◌+◌, ◌<◌, ◌≤◌, Bool, true, false, cond, List, [], ◌∷◌, ◌++◌, length, take, drop, Option, Some, None, refl, sym, ap, arith, Bor}
 use Rattle.std.specs.Prelude.{Result, Ok, Err, ◌&&◌, nat_lt, nat_eq, MatchOption}
 use Rattle.std.specs.List.{starts_with}
 use Rattle.std.specs.Option.{option_map}

@@ -1,6 +1,6 @@
 -- What breaks a promise of the format in the blocks of a store.
-use Rattle.std.specs.Prelude.{◌≡◌, ◌≢◌, ℕ, ◌+◌, ◌-◌, ◌*◌, ◌<◌, ◌≤◌, Bool, true, false, ◌&&◌, ◌||◌, not, ◌==◌, nat_le}
-use Rattle.std.specs.Prelude.{List, [], ◌∷◌, ◌++◌, length, map, IsNone, IfSome, is_none}
+use Rattle.std.specs.Prelude.{◌≡◌, ◌≢◌, ℕ, ◌+◌, ◌*◌, ◌<◌, ◌≤◌, Bool, true, false, ◌&&◌, ◌||◌, not, ◌==◌, nat_le}
+use Rattle.std.specs.Prelude.{List, ◌∷◌, ◌++◌, length, map, IfSome, is_none}
 use Rattle.std.specs.List.{count_by, list_all, list_any, range_with_len}
 use Rattle.store_format.specs.Block.{Slot, doc, damaged, slot, count_of, start_of}
 use Rattle.store_format.specs.Slots.{slots}

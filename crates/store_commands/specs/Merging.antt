@@ -1,5 +1,5 @@
 -- Which documents of a store are merged.
-use Rattle.std.specs.Prelude.{◌≡◌, ℕ, ◌*◌, ◌<◌, ◌≤◌, Bool, not, List, [], ◌∷◌, ◌++◌, length, Option, Some, None, IsNone, IsSome}
+use Rattle.std.specs.Prelude.{◌≡◌, ℕ, ◌*◌, ◌<◌, ◌≤◌, Bool, not, List, [], length, Option, Some, None}
 use Rattle.std.specs.Borrow.{Bor}
 use Rattle.store_base.specs.AliveBitSet.{is_alive_at}
 use Rattle.store_base.specs.Counts.{raised}
@@ -9,7 +9,7 @@ use Rattle.layered_index.specs.Layers.{index_part}
 use Rattle.store_format.specs.Block.{Slot}
 use Rattle.store_format.specs.Slots.{slots}
 use Rattle.store_reader.specs.Iteration.{alive}
-use Rattle.store_reader.specs.Reading.{Reading, num_docs, store_of}
+use Rattle.store_reader.specs.Reading.{Reading, store_of}
 use Rattle.store_commands.specs.LeftOut.{words_name, RefusesWords}
 
 -- whether none of the words names an id

@@ -1,9 +1,7 @@
 -- Parts of a file, and what tantivy's directory leaves behind a store.
-use Rattle.std.specs.Prelude.{◌≡◌, ℕ, ◌-◌, ◌<◌, ◌≤◌, ◌^◌, ◌⊎◌, IsTrue, List, ◌++◌, length, Result, Err}
+use Rattle.std.specs.Prelude.{◌≡◌, ℕ, ◌-◌, ◌<◌, ◌^◌, ◌⊎◌, IsTrue, List, ◌++◌, length, Err}
 use Rattle.store_base.specs.Files.{Part, ReadsOnce}
 use Rattle.store_base.specs.Serialize.{fixed}
-use Rattle.store_base.specs.declared.error.StoreError.{StoreError}
-use Rattle.store_base.specs.declared.error.StoreError.TheVariants.{Read, Memory}
 use Rattle.store_format.specs.Extraction.{narrowed}
 use Rattle.store_format.specs.FileReading.{Comes}
 use Rattle.store_commands.specs.declared.request_error.RequestError.{RequestError}

@@ -1,9 +1,9 @@
-use Rattle.std.proofs.Common.{◌≡◌, ℕ, ◌+◌, ◌-◌, ◌<◌, ◌≤◌, Bool, true, false, min, List, refl, sym, ap, ◌∙◌, subst, arith}
+use Rattle.std.proofs.Common.{◌≡◌, ℕ, ◌+◌, ◌-◌, true, min, List, sym, ap, ◌∙◌, subst, arith}
 use Rattle.std.specs.Prelude.{not}
-use Rattle.store_format.specs.Block.{Slot, slot}
+use Rattle.store_format.specs.Block.{Slot}
 use Rattle.store_commands.specs.Checks.{slots_in}
 use Rattle.store_commands.specs.Documents.{kept_by, alive_from, TakesSlots}
-use Rattle.store_commands.specs.LeftOut.{is_in, is_among}
+use Rattle.store_commands.specs.LeftOut.{is_among}
 use Rattle.store_commands.proofs.GivingLemmas.{alive_skip, alive_one}
 use Rattle.store_commands.proofs.SpanLemmas.{is_in_true, is_in_parts}
 use Rattle.store_commands.proofs.TakingLemmas.{takes_more}

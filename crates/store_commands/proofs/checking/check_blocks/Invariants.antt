@@ -1,4 +1,4 @@
-use Rattle.std.proofs.Common.{ℕ, ◌-◌}
+use Rattle.std.proofs.Common.{◌-◌}
 use Rattle.store_reader.specs.Reading.{num_docs}
 use Rattle.store_commands.proofs.CheckLemmas.{HasChecked}
 use Rattle.store_commands.proofs.checking.check_blocks.Given as goal

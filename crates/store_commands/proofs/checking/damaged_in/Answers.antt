@@ -1,4 +1,4 @@
-use Rattle.std.proofs.Common.{◌≡◌, ℕ, ◌+◌, ◌-◌, ◌<◌, ◌≤◌, cond, arith, ap, ◌∙◌}
+use Rattle.std.proofs.Common.{◌≡◌, ◌+◌, ◌-◌, arith, ap, ◌∙◌}
 use Rattle.store_commands.specs.Checks.{damaged_count}
 use Rattle.store_commands.proofs.CountLemmas.{damaged_more, damaged_few, damaged_rest, told_byte}
 use Rattle.store_commands.proofs.checking.damaged_in.Goals as goal

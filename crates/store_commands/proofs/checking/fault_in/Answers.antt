@@ -1,4 +1,4 @@
-use Rattle.std.proofs.Common.{◌≡◌, ◌∙◌, ap, refl}
+use Rattle.std.proofs.Common.{◌∙◌, ap, refl}
 use Rattle.std.specs.Prelude.{is_none}
 use Rattle.store_commands.proofs.CountLemmas.{sound_if, broken_if}
 use Rattle.store_commands.proofs.checking.fault_in.Goals as goal

@@ -1,4 +1,4 @@
-use Rattle.std.proofs.Common.{◌≡◌, ◌∙◌}
+use Rattle.std.proofs.Common.{◌∙◌}
 use Rattle.store_commands.proofs.RangeWordLemmas.{number_parsed}
 use Rattle.store_commands.proofs.id_range.number_in.Goals as goal
 

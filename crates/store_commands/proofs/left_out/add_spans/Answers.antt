@@ -1,4 +1,4 @@
-use Rattle.std.proofs.Common.{◌≡◌, ℕ, ◌<◌, ◌≤◌, Bool, List, length, map, take, ap, ◌∙◌, sym, Bor, arith}
+use Rattle.std.proofs.Common.{◌≡◌, ℕ, Bool, List, map, take, ap, ◌∙◌, Bor, arith}
 use Rattle.std.specs.Prelude.{◌&&◌, ◌||◌, nat_lt}
 use Rattle.std.specs.List.{list_any}
 use Rattle.std.proofs.lemmas.List.{take_all}

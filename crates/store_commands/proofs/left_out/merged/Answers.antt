@@ -1,4 +1,4 @@
-use Rattle.std.proofs.Common.{◌≡◌, ℕ, ◌+◌, ◌<◌, ◌≤◌, List, length, arith, ap, ◌∙◌, get_or}
+use Rattle.std.proofs.Common.{◌+◌, List, arith, ap, ◌∙◌, get_or}
 use Rattle.store_commands.specs.declared.left_out.IdSpan.{IdSpan}
 use Rattle.store_commands.specs.LeftOut.{is_among}
 use Rattle.store_commands.proofs.SpanLemmas.{merging_first, merging_touch, merging_apart, merging_apart_all, merging_all, place_behind}

@@ -1,11 +1,10 @@
-use Rattle.std.proofs.Common.{◌≡◌, ℕ, ◌<◌, ◌≤◌, Bool, true, false, List, length, get_or, arith, rules, ap, sym, ◌∙◌}
+use Rattle.std.proofs.Common.{◌≡◌, ◌<◌, true, false, length, get_or, arith, rules, ap, sym, ◌∙◌}
 use Rattle.std.specs.Prelude.{nat_le}
 use Rattle.std.specs.List.Sorted.{IsPartitionPoint}
 use Rattle.std.proofs.lemmas.Bool.{leb-false, ltb-true}
 use Rattle.std.proofs.lemmas.List.{get_or_default}
 use Rattle.std.proofs.lemmas.List.Sorted.{IsPartitionPoint-from_clause, IsPartitionedBy-leb}
 use Rattle.store_commands.specs.declared.left_out.IdSpan.{IdSpan}
-use Rattle.store_commands.specs.LeftOut.{is_in, is_among}
 use Rattle.store_commands.proofs.SpanLemmas.{ends_rise, starts_rise, among_none, is_in_true}
 use Rattle.store_commands.proofs.left_out.span_with.Goals as goal
 

@@ -1,4 +1,3 @@
-use Rattle.std.proofs.Common.{◌≡◌, ℕ, ◌<◌, List, length, Bor, refl}
 use Rattle.std.proofs.lemmas.Result.{err_from_is_err_and}
 use Rattle.store_commands.proofs.PartLemmas.{word_refuses}
 use Rattle.store_commands.proofs.left_out.spans_of.Goals as goal

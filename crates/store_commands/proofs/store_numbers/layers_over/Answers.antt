@@ -1,4 +1,4 @@
-use Rattle.std.proofs.Common.{◌≡◌, ℕ, ◌+◌, ◌^◌, ◌<◌, ◌≤◌, arith, sym, ap, ◌∙◌}
+use Rattle.std.proofs.Common.{◌≡◌, ◌^◌, ◌≤◌, arith, ap}
 use Rattle.std.proofs.Math.Nat.{pow-le-pow_left}
 use Rattle.layered_index.specs.Layers.{digit_count}
 use Rattle.layered_index.proofs.IndexLemmas.{digit_count_zero, digit_count_more, digit_count-le}

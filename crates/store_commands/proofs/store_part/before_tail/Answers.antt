@@ -1,6 +1,6 @@
-use Rattle.std.proofs.Common.{◌≡◌, ℕ, ◌-◌, ◌<◌, ◌≤◌, List, length, refl, sym, ap, ◌∙◌, subst, arith, rules}
-use Rattle.std.specs.Prelude.{IsTrue, slice_range}
-use Rattle.store_commands.specs.Tails.{HasTail, HasNoTail}
+use Rattle.std.proofs.Common.{◌≡◌, ℕ, ◌-◌, List, length, sym, ap, ◌∙◌, subst, arith, rules}
+use Rattle.std.specs.Prelude.{slice_range}
+use Rattle.store_commands.specs.Tails.{HasTail}
 use Rattle.store_commands.proofs.TailLemmas.{none_in_short, none_without, none_so_long, has_tail}
 use Rattle.store_commands.proofs.store_part.before_tail.Goals as goal
 use Rattle.store_commands.proofs.store_part.before_tail.Goals.{in_default-via-in-Some+else-length-body, in_default-via-in_default}

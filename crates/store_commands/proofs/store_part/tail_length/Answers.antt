@@ -1,4 +1,3 @@
-use Rattle.std.proofs.Common.{◌≡◌}
 use Rattle.store_commands.proofs.TailLemmas.{numbers_of_tail}
 use Rattle.store_commands.proofs.store_part.tail_length.Goals as goal
 

@@ -1,4 +1,4 @@
-use Rattle.std.proofs.Common.{◌≡◌, ℕ, ◌-◌, Bool, true, false, List, ap, ◌∙◌, refl}
+use Rattle.std.proofs.Common.{◌≡◌, ℕ, ◌-◌, true, false, List, ap, ◌∙◌, refl}
 use Rattle.store_commands.specs.Checks.{is_sound}
 use Rattle.store_commands.proofs.checking.Verdict.take.Goals as goal
 use Rattle.store_commands.proofs.checking.Verdict.take.Goals.{in-Some, in_default}

@@ -1,4 +1,4 @@
-use Rattle.std.proofs.Common.{◌≡◌, ◌∙◌}
+use Rattle.std.proofs.Common.{◌∙◌}
 use Rattle.store_commands.proofs.RangeWordLemmas.{alone_none, alone_last, alone_some, no_start, no_end, both_named}
 use Rattle.store_commands.proofs.id_range.IdRange.from_word.Goals as goal
 
