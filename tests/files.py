@@ -123,12 +123,27 @@ class NoRoom(InFolder):
 
     NEW = lines(200_000)
 
-    def limited(self, action):
+    def limited(self, action, most=MIB, text=NEW):
         def limit():
-            resource.setrlimit(resource.RLIMIT_FSIZE, (MIB, MIB))
+            resource.setrlimit(resource.RLIMIT_FSIZE, (most, most))
             signal.signal(signal.SIGXFSZ, action)
 
-        return ran("pack", self.path, stdin=self.NEW, preexec_fn=limit, restore_signals=False)
+        return ran("pack", self.path, stdin=text, preexec_fn=limit, restore_signals=False)
+
+    def on_device(self, fill, text):
+        """Packs a text over the old store on a device of 1 MiB, after other files were written to it."""
+        script = (
+            'mount -t tmpfs -o size=1m none "$1" || exit 77; cp "$3" "$1/a.store"; ' + fill + "; "
+            '"$2" pack "$1/a.store"; echo $?; "$2" cat "$1/a.store"; test ! -e "$1/a.store.part"'
+        )
+        device = self.path_of("device")
+        os.mkdir(device)
+        space = ["unshare", "-m" if os.geteuid() == 0 else "-rm", "sh", "-c", script]
+        done = subprocess.run([*space, "", device, PROGRAM, self.path], input=text, capture_output=True, timeout=60)
+        if done.returncode == 77 or b"unshare:" in done.stderr:
+            self.skipTest("no device can be mounted here")
+        self.assertIn(b"No space left on device", done.stderr)
+        self.assertEqual((done.returncode, done.stdout), (0, b"1\n" + self.OLD))
 
     def test_limit_on_size(self):
         self.assert_refused(self.limited(signal.SIG_IGN), "a.store", "File too large")
@@ -138,18 +153,14 @@ class NoRoom(InFolder):
         self.assertEqual(self.text(), self.OLD)
 
     def test_full_device(self):
-        script = (
-            'mount -t tmpfs -o size=1m none "$1" || exit 77; cp "$3" "$1/a.store"; '
-            '"$2" pack "$1/a.store"; echo $?; ls "$1"; "$2" cat "$1/a.store"'
-        )
-        device = self.path_of("device")
-        os.mkdir(device)
-        space = ["unshare", "-m" if os.geteuid() == 0 else "-rm", "sh", "-c", script]
-        done = subprocess.run([*space, "", device, PROGRAM, self.path], input=self.NEW, capture_output=True, timeout=60)
-        if done.returncode == 77 or b"unshare:" in done.stderr:
-            self.skipTest("no device can be mounted here")
-        self.assertIn(b"No space left on device", done.stderr)
-        self.assertEqual(done.stdout, b"1\na.store\n" + self.OLD)
+        self.on_device("true", self.NEW)
+
+    # The bytes of a small store go to the system when it is closed, so these refuse the close.
+    def test_close_on_full_device(self):
+        self.on_device('cat /dev/zero >"$1/full" 2>/dev/null', lines(3))
+
+    def test_close_at_limit_on_size(self):
+        self.assert_refused(self.limited(signal.SIG_IGN, 0, lines(3)), "a.store", "File too large")
 
 
 class Refused(InFolder):

@@ -135,6 +135,8 @@ same "documents are left out" wanted.txt back.txt
 same "documents are left out by two options" wanted.txt back.txt
 "$program" cat numbers.store --without 9..19998,0 --without 1..3,2..9 --without 5 >back.txt; seq 19999 20000 >wanted.txt
 same "documents are left out in any order, some twice" wanted.txt back.txt
+"$program" cat numbers.store --without 3..19998,19999..3 >back.txt; { seq 3; seq 19999 20000; } >wanted.txt
+same "a range without documents leaves the others out" wanted.txt back.txt
 refuses "documents that aren't there can't be left out" 1 "no document 20000" cat numbers.store --without 20000
 refuses "no number to leave out" 2 "'x' is not a document number" cat numbers.store --without 1,x
 

@@ -1,2 +1,9 @@
 pub mod Blocks
+pub mod BrokenParts
+pub mod Checks
+pub mod Documents
+pub mod IdRanges
 pub mod LeftOut
+pub mod Merging
+pub mod Numbers
+pub mod Tails

@@ -1,5 +1,8 @@
 //! Which part of a file keeps it from being opened.
 
+ghost use Rattle.std.specs.Prelude.{◌≡◌, ◌⊎◌, Ok, Err, IsTrue, IfOk, IfErr};
+ghost use Rattle.store_commands.specs.BrokenParts.{BreaksBody, BreaksFile, IsOfFooter};
+
 use crate::store_part::part_of;
 use docstore::{DocStoreFooter, SkipIndex, StoreError};
 use layered_index::IndexFault;
@@ -45,12 +48,15 @@ impl fmt::Display for BrokenPart {
     }
 }
 
-/// Which part it is, where this is the footer and the file is what stands before it.
-pub fn broken_before_footer<H: FileHandle>(
+// Which part it is, where the file is what stands before this footer.
+fn part_before<H: FileHandle>(
     alloc: Global,
     footer: &DocStoreFooter,
     file: &mut FileSlice<H>,
-) -> Result<BrokenPart, StoreError> {
+) -> Result<BrokenPart, StoreError>
+    ensures breaks { IsTrue file.old.honest → IfOk result (BreaksBody file.old.content footer.now) }
+    ensures causes { IfErr result (λ e. (e ≡ StoreError.Read) ⊎ (e ≡ StoreError.Memory)) }
+{
     let part = part_of(alloc, file, footer.offset, file.len())?;
     if let Some(fault) = SkipIndex::find_fault(alloc, &part, footer.period)? {
         return Ok(BrokenPart::Index {
@@ -63,4 +69,36 @@ pub fn broken_before_footer<H: FileHandle>(
         data: footer.offset,
         covered: index.covered_to().map(|(_, bytes)| bytes),
     })
+}
+
+// Which part before the footer it is.
+fn part_before_footer<H: FileHandle>(
+    alloc: Global,
+    file: FileSlice<H>,
+) -> Result<BrokenPart, StoreError>
+    ensures breaks { IsTrue file.honest → IfOk result (BreaksFile file.content) }
+{
+    match DocStoreFooter::extract_footer(alloc, file) {
+        Ok((footer, mut body)) => part_before(alloc, &footer, &mut body),
+        Err(refusal) => Err(refusal.error),
+    }
+}
+
+/// Which part of this file keeps it from being opened, by the error; or an error, if it is not the file's fault. An
+/// index that is reported is broken, and its fault is the first one.
+pub fn broken_part<H: FileHandle>(
+    alloc: Global,
+    file: FileSlice<H>,
+    error: StoreError,
+) -> Result<BrokenPart, StoreError>
+    ensures footer { IsOfFooter error → result ≡ Ok BrokenPart.Footer }
+    ensures breaks { IsTrue file.honest → error ≡ StoreError.BadIndex → IfOk result (BreaksFile file.content) }
+    ensures read { error ≡ StoreError.Read → result ≡ Err StoreError.Read }
+    ensures memory { error ≡ StoreError.Memory → result ≡ Err StoreError.Memory }
+{
+    match error {
+        StoreError::Read | StoreError::Memory => Err(error),
+        StoreError::BadIndex => part_before_footer(alloc, file),
+        _ => Ok(BrokenPart::Footer),
+    }
 }

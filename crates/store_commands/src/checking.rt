@@ -1,14 +1,19 @@
 //! Looks over a store block by block and slot by slot for what breaks a promise of the format.
 
-ghost use Rattle.std.specs.Prelude.{◌≡◌, ◌≤◌, ◌+◌, ◌*◌, length, IfSome, IsNone};
+ghost use Rattle.std.specs.Prelude.{◌≡◌, ◌<◌, ◌≤◌, ◌+◌, ◌*◌, ◌^◌, ℕ, length, IfOk, IfSome, IfErr, MatchOption};
+ghost use Rattle.std.specs.Prelude.{IsNone, IsSome, is_none, None, [], true, if◌then◌else◌, IsTrue, IsErrOf, ◌⊎◌, not};
+ghost use Rattle.store_base.specs.Counts.{raised, HasRisen};
 ghost use Rattle.store_format.specs.Block.{slot, damaged, count_of, u32_at};
 ghost use Rattle.store_reader.specs.Parts.{place_of};
+ghost use Rattle.store_reader.specs.Reading.{IsSameStore, num_docs, store_of};
 ghost use Rattle.store_commands.specs.Blocks.{AreWhole, documents_of};
+ghost use Rattle.store_commands.specs.Checks.{damaged_count, has_table, is_sound, HasTableFault, HasFault, Judges};
 
 use crate::block_documents::documents_with_room;
-use docstore::{DataPart, block_read_index};
+use docstore::{DataPart, StoreError, StoreReader, block_read_index};
+use std::alloc::Global;
 use std::fmt;
-use store_base::DocId;
+use store_base::{DocId, FileHandle};
 
 /// Why the table of a block isn't the one that its index promises.
 #[derive(Clone, Copy)]
@@ -86,10 +91,17 @@ pub struct Verdict {
     pub first: Option<FaultPlace>,
 }
 
-// The number of four bytes at a place.
+/// Is told of each block that is checked.
+pub trait BlockWatch {
+    /// One block more, of so many documents and bytes.
+    fn add(&mut self, documents: DocId, bytes: u64);
+}
+
+// The number of four bytes at a place, if there are four.
 #[tactic(auto, unfolding(store_format::specs::Block::u32_at))]
 fn number_at(bytes: &[u8], place: usize) -> Option<u32>
-    ensures { IfSome result (λ number. number ≡ u32_at bytes.now place) }
+    ensures { MatchOption result (length bytes.now < place + 4) (λ number. (number ≡ u32_at bytes.now place)
+        × (place + 4 ≤ length bytes.now)) }
 {
     let (number, _) = bytes.get(place..)?.split_first_chunk::<4>()?;
     Some(u32::from_le_bytes(*number))
@@ -97,8 +109,8 @@ fn number_at(bytes: &[u8], place: usize) -> Option<u32>
 
 // Where the table of a block breaks what the index promises, by how many documents.
 fn table_fault(block: &[u8], promised: u32) -> Option<TableFault>
-    ensures counted { IsNone result → count_of block.now ≡ promised }
-    ensures fits { IsNone result → 4 * (promised + 1) ≤ length block.now }
+    ensures sound { is_none result ≡ has_table block.now promised }
+    ensures fault { IfSome result (HasTableFault block.now promised) }
 {
     let Some(counted) = number_at(block, block.len().saturating_sub(4)) else {
         return Some(TableFault::Short);
@@ -119,6 +131,7 @@ fn table_fault(block: &[u8], promised: u32) -> Option<TableFault>
 // The first document of a block that is damaged.
 fn first_damaged(block: &[u8], documents: u32) -> Option<u32>
     ensures damaged { IfSome result (λ position. slot block.now position ≡ damaged) }
+    ensures within { IfSome result (λ position. position < documents) }
     ensures before { IfSome result (λ position. AreWhole block.now position) }
     ensures whole { IsNone result → AreWhole block.now documents }
 {
@@ -131,7 +144,9 @@ fn first_damaged(block: &[u8], documents: u32) -> Option<u32>
 }
 
 // How many documents of a block are damaged. Those that its table has no room for are counted without a look.
-fn damaged_in(block: &[u8], documents: u32) -> u64 {
+fn damaged_in(block: &[u8], documents: u32) -> u64
+    ensures { result ≡ damaged_count block.now documents }
+{
     let with_room = documents_with_room(block, documents);
     let mut damaged = u64::from(documents - with_room);
     for position in 0..with_room {
@@ -143,21 +158,25 @@ fn damaged_in(block: &[u8], documents: u32) -> u64 {
 
 // What breaks a promise in a block, whose first document has this id.
 fn fault_in(block: &[u8], first: DocId, documents: u32) -> Option<Fault>
-    ensures whole { IsNone result → AreWhole block.now documents }
-    ensures counted { IsNone result → count_of block.now ≡ documents }
+    requires { first + documents < 2 ^ 32 }
+    ensures sound { is_none result ≡ is_sound block.now documents }
+    ensures fault { IfSome result (HasFault first block.now documents) }
 {
     if let Some(fault) = table_fault(block, documents) {
         return Some(Fault::Table { fault });
     }
     let position = first_damaged(block, documents)?;
     Some(Fault::Slot {
-        doc_id: first.saturating_add(position),
+        doc_id: first + position,
     })
 }
 
 impl Verdict {
     /// Of a store of so many documents, of which nothing was read yet.
-    pub fn of_documents(documents: DocId) -> Verdict {
+    pub fn of_documents(documents: DocId) -> Verdict
+        ensures documents { result.documents ≡ documents }
+        ensures nothing { Judges [] result }
+    {
         Verdict {
             documents,
             blocks: 0,
@@ -167,11 +186,23 @@ impl Verdict {
         }
     }
 
-    /// Takes one block more.
+    /// Takes one block more. The counts stop at the greatest u64.
     pub fn take(&mut self, block: &DataPart)
-        ensures kept { IsNone self.new.first → IsNone self.old.first }
-        ensures whole { IsNone self.new.first → AreWhole block.now.bytes (documents_of (place_of block.now)) }
-        ensures counted { IsNone self.new.first → count_of block.now.bytes ≡ documents_of (place_of block.now) }
+        ensures documents { self.new.documents ≡ self.old.documents }
+        ensures blocks { self.new.blocks ≡ raised self.old.blocks 1 }
+        ensures damaged { self.new.damaged
+            ≡ raised self.old.damaged (damaged_count block.now.bytes (documents_of (place_of block.now))) }
+        ensures broken { self.new.broken_blocks
+            ≡ (if is_sound block.now.bytes (documents_of (place_of block.now)) then self.old.broken_blocks
+            else raised self.old.broken_blocks 1) }
+
+        // The first fault stays.
+        ensures kept { IsSome self.old.first → self.new.first ≡ self.old.first }
+        ensures sound { self.old.first ≡ None
+            → is_none self.new.first ≡ is_sound block.now.bytes (documents_of (place_of block.now)) }
+        ensures found { self.old.first ≡ None → IfSome self.new.first (λ place. (place.block ≡ self.old.blocks)
+            × (place.byte ≡ block.now.start)
+            × HasFault block.now.ids.start block.now.bytes (documents_of (place_of block.now)) place.fault) }
     {
         let documents = block.ids.end.saturating_sub(block.ids.start);
         let bytes = block.bytes.as_slice();
@@ -186,4 +217,28 @@ impl Verdict {
         self.damaged = self.damaged.saturating_add(damaged_in(bytes, documents));
         self.blocks = self.blocks.saturating_add(1);
     }
+}
+
+/// Reads the blocks of a store in order, each by one read of the file, and judges them all. Where the file is honest,
+/// the verdict is that of the store: each count is exact, the store is sound exactly if no fault is reported, and the
+/// fault that is reported is the first one.
+pub fn check_blocks<H: FileHandle, P: BlockWatch>(
+    alloc: Global,
+    reader: &mut StoreReader<H>,
+    watch: &mut P,
+) -> Result<Verdict, StoreError>
+    ensures documents { IfOk result (λ verdict. verdict.documents ≡ num_docs reader.old) }
+    ensures judged { IsTrue reader.old.file.honest → IfOk result (Judges (store_of reader.old)) }
+    ensures causes { IfErr result (λ e. (e ≡ StoreError.Read) ⊎ (e ≡ StoreError.Memory)) }
+    ensures failed { IsErrOf result StoreError.Read → HasRisen reader.old.file.failures reader.new.file.failures }
+    ensures same_store { IsSameStore reader.old reader.new }
+{
+    let mut verdict = Verdict::of_documents(reader.num_docs());
+    let mut next_id = 0;
+    while let Some(block) = reader.read_block(alloc, next_id)? {
+        verdict.take(&block);
+        watch.add(block.ids.end - block.ids.start, block.bytes.len() as u64);
+        next_id = block.ids.end;
+    }
+    Ok(verdict)
 }

@@ -1,7 +1,10 @@
 //! Which documents of a store are merged, where `--without` leaves some out.
 
-ghost use Rattle.std.specs.Prelude.{◌≡◌, ◌≤◌, ◌*◌, IfOk, IfSome, length};
+ghost use Rattle.std.specs.Prelude.{◌≡◌, ◌<◌, ◌*◌, IfOk, IfErr, IfSome, length};
 ghost use Rattle.store_merge.specs.Inputs.{HasWholeSet};
+ghost use Rattle.store_reader.specs.Reading.{num_docs, store_of};
+ghost use Rattle.store_format.specs.Slots.{slots};
+ghost use Rattle.store_commands.specs.Merging.{KeepsDocuments, RefusesSet, bytes_of};
 
 use crate::left_out::{alive_without, left_out};
 use crate::request_error::RequestError;
@@ -19,8 +22,9 @@ pub fn kept_of(
     bytes: u64,
     words: &[&str],
 ) -> Result<Option<AliveBitSet>, RequestError>
-    ensures length { IfOk result (λ kept. IfSome kept (λ set. length set ≡ num_docs)) }
-    ensures few { IfOk result (λ kept. IfSome kept (λ _. num_docs ≤ 8 * bytes)) }
+    ensures kept { IfOk result (KeepsDocuments words.now num_docs) }
+    ensures few { IfOk result (λ kept. IfSome kept (λ _. 0 < num_docs → num_docs < 8 * bytes)) }
+    ensures refused { IfErr result (RefusesSet words.now num_docs bytes) }
 {
     if words.is_empty() {
         return Ok(None);
@@ -38,7 +42,11 @@ pub fn input_without<H: FileHandle>(
     reader: StoreReader<H>,
     words: &[&str],
 ) -> Result<MergeInput<H>, RequestError>
-    ensures { IfOk result HasWholeSet }
+    ensures whole { IfOk result HasWholeSet }
+    ensures reader { IfOk result (λ input. input.reader ≡ reader) }
+    ensures kept { IfOk result (λ input. KeepsDocuments words.now (num_docs reader) input.alive) }
+    ensures slots { num_docs reader ≡ length (slots (store_of reader)) }
+    ensures refused { IfErr result (RefusesSet words.now (num_docs reader) (bytes_of reader)) }
 {
     let bytes = reader.space_usage().total();
     let alive = kept_of(alloc, reader.num_docs(), bytes, words)?;

@@ -1,13 +1,16 @@
 //! The documents that `--without` leaves out, as ranges of ids.
 
-ghost use Rattle.std.specs.Prelude.{◌≡◌, ◌<◌, ◌≤◌, ℕ, IfOk, length, not};
-ghost use Rattle.std.specs.Prelude.{if◌then◌else◌, false};
+ghost use Rattle.std.specs.Prelude.{◌≡◌, ◌<◌, ◌≤◌, ◌&&◌, ℕ, IfOk, IfErr, OnOk, IfSome, MatchOption, length, not, nat_lt};
+ghost use Rattle.std.specs.Prelude.{if◌then◌else◌, ◌||◌, true, false, map};
+ghost use Rattle.std.specs.List.{AllByRecursion};
+ghost use Rattle.std.specs.List.Sorted.{IsNonDecreasingBy};
 ghost use Rattle.store_base.specs.AliveBitSet.{is_alive_at};
-ghost use Rattle.store_commands.specs.LeftOut.{is_in, is_among};
+ghost use Rattle.store_commands.specs.LeftOut.{is_in, is_among, AreApartFrom, parts_of, word_names, words_name};
+ghost use Rattle.store_commands.specs.LeftOut.{HasId, part_names, RefusesOnePart, RefusesParts, RefusesWords};
 
 use crate::id_range::range_of;
 use crate::request_error::RequestError;
-use std::alloc::Global;
+use std::alloc::{AllocError, Global};
 use std::ops::Range;
 use store_base::{AliveBitSet, DocId, NoMemory};
 
@@ -18,22 +21,60 @@ pub struct IdSpan {
     pub end: DocId,
 }
 
-// Adds the ranges that a word names between commas, in a store of `num_docs` documents.
-fn add_spans(
+// Adds the ids that a part of a word names, in a store of `num_docs` documents.
+fn add_part(
     alloc: Global,
     spans: &mut Vec<IdSpan>,
-    word: &str,
+    part: &str,
     num_docs: DocId,
-) -> Result<(), RequestError> {
-    for part in word.split(',') {
-        let Range { start, end } = range_of(alloc, part)?.among(num_docs)?;
+) -> Result<(), RequestError>
+    requires { AllByRecursion HasId spans.old.items }
+    ensures added { OnOk result ((id : ℕ) → is_among spans.new.items id
+        ≡ (is_among spans.old.items id || (part_names part.now id && nat_lt id num_docs))) }
+    ensures filled { AllByRecursion HasId spans.new.items }
+    ensures refused { IfErr result (RefusesOnePart num_docs part.now) }
+{
+    let Range { start, end } = range_of(alloc, part)?.among(num_docs)?;
+    if start < end {
         spans.push(IdSpan { start, end })?;
     }
     Ok(())
 }
 
-// The ranges that words name between commas, in a store of `num_docs` documents.
-fn spans_of(alloc: Global, words: &[&str], num_docs: DocId) -> Result<Vec<IdSpan>, RequestError> {
+// The parts of a word between commas.
+fn parts_in<'a>(alloc: Global, word: &'a str) -> Result<Vec<&'a str>, AllocError>
+    ensures { IfOk result (λ parts. map (λ part. part.now) parts.items ≡ parts_of word.entry.now) }
+{
+    word.split(',').collect(alloc)
+}
+
+// Adds the ids that a word names, in a store of `num_docs` documents.
+fn add_spans(
+    alloc: Global,
+    spans: &mut Vec<IdSpan>,
+    word: &str,
+    num_docs: DocId,
+) -> Result<(), RequestError>
+    requires { AllByRecursion HasId spans.old.items }
+    ensures added { OnOk result ((id : ℕ) → is_among spans.new.items id
+        ≡ (is_among spans.old.items id || (word_names word.now id && nat_lt id num_docs))) }
+    ensures filled { AllByRecursion HasId spans.new.items }
+    ensures refused { IfErr result (RefusesParts num_docs word.now) }
+{
+    let parts = parts_in(alloc, word)?;
+    for part in &parts {
+        add_part(alloc, spans, part, num_docs)?;
+    }
+    Ok(())
+}
+
+// The ids that words name, in a store of `num_docs` documents, as ranges in any order.
+fn spans_of(alloc: Global, words: &[&str], num_docs: DocId) -> Result<Vec<IdSpan>, RequestError>
+    ensures named { IfOk result (λ spans. (id : ℕ) → is_among spans.items id
+        ≡ (words_name words.now id && nat_lt id num_docs)) }
+    ensures filled { IfOk result (λ spans. AllByRecursion HasId spans.items) }
+    ensures refused { IfErr result (RefusesWords words.now num_docs) }
+{
     let mut spans = Vec::new(alloc);
     for word in words {
         add_spans(alloc, &mut spans, word, num_docs)?;
@@ -41,46 +82,55 @@ fn spans_of(alloc: Global, words: &[&str], num_docs: DocId) -> Result<Vec<IdSpan
     Ok(spans)
 }
 
-// The same ids by ranges that do not touch, of ranges by their starts.
-fn merged(alloc: Global, spans: &[IdSpan]) -> Result<Vec<IdSpan>, NoMemory> {
-    let mut merged: Vec<IdSpan> = Vec::new(alloc);
-    for span in spans {
-        match merged.last_mut() {
-            Some(last) if span.start <= last.end => last.end = last.end.max(span.end),
-            _ => merged.push(*span)?,
+// The same ids as those of ranges by their starts, by ranges that do not touch.
+fn merged(alloc: Global, spans: &[IdSpan]) -> Result<Vec<IdSpan>, NoMemory>
+    requires filled { AllByRecursion HasId spans.now }
+    requires sorted { IsNonDecreasingBy (λ span. span.start) spans.now }
+    ensures same { IfOk result (λ merged. (id : ℕ) → is_among merged.items id ≡ is_among spans.now id) }
+    ensures apart { IfOk result (λ merged. AreApartFrom 0 merged.items) }
+{
+    let mut merged = Vec::new(alloc);
+    let Some((first, others)) = spans.split_first() else {
+        return Ok(merged);
+    };
+    let mut last = *first;
+    for span in others {
+        if span.start <= last.end {
+            last.end = last.end.max(span.end);
+        } else {
+            merged.push(last)?;
+            last = *span;
         }
     }
+    merged.push(last)?;
     Ok(merged)
 }
 
-/// The documents that words leave out of a store of `num_docs` documents: ranges in order that do not touch.
-pub fn left_out(
-    alloc: Global,
-    words: &[&str],
-    num_docs: DocId,
-) -> Result<Vec<IdSpan>, RequestError> {
+/// The documents that words leave out of a store of `num_docs` documents: exactly the ids that one of the words names,
+/// as ranges in order that do not touch.
+pub fn left_out(alloc: Global, words: &[&str], num_docs: DocId) -> Result<Vec<IdSpan>, RequestError>
+    ensures named { IfOk result (λ spans. (id : ℕ) → is_among spans.items id
+        ≡ (words_name words.now id && nat_lt id num_docs)) }
+    ensures apart { IfOk result (λ spans. AreApartFrom 0 spans.items) }
+    ensures refused { IfErr result (RefusesWords words.now num_docs) }
+{
     let mut spans = spans_of(alloc, words, num_docs)?;
     spans.sort_unstable_by_key(|span| span.start);
     Ok(merged(alloc, &spans)?)
 }
 
-/// Those of the ranges in order that have ids from `start` on and below `end`.
-pub fn spans_within(spans: &[IdSpan], start: DocId, end: DocId) -> &[IdSpan] {
-    let first = spans.partition_point(|span| span.end <= start);
-    let last = spans.partition_point(|span| span.start < end);
-    spans.get(first..last).unwrap_or(&[])
-}
-
-/// Whether none of the ranges has this id.
-pub fn is_kept(spans: &[IdSpan], doc_id: DocId) -> bool
-    ensures { result ≡ not (is_among spans.now doc_id) }
+/// The range that has this id, if there is one.
+pub fn span_with(spans: &[IdSpan], doc_id: DocId) -> Option<IdSpan>
+    requires { AreApartFrom 0 spans.now }
+    ensures has { MatchOption result (is_among spans.now doc_id ≡ false) (λ span. is_in span doc_id ≡ true) }
+    ensures among { IfSome result (λ span. (k : ℕ) → is_in span k ≡ true → is_among spans.now k ≡ true) }
 {
-    for span in spans {
-        if span.start <= doc_id && doc_id < span.end {
-            return false;
-        }
+    let place = spans.partition_point(|span| span.end <= doc_id);
+    let span = *spans.get(place)?;
+    if doc_id < span.start {
+        return None;
     }
-    true
+    Some(span)
 }
 
 // Deletes the documents of a range.

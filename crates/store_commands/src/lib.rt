@@ -2,11 +2,13 @@
 #![tactic(auto)]
 
 pub mod block_documents;
+pub mod block_walk;
 pub mod broken_part;
 pub mod checking;
 pub mod id_range;
 pub mod kept_documents;
 pub mod left_out;
+pub mod merging;
 pub mod request_error;
 pub mod store_numbers;
 pub mod store_part;

@@ -26,30 +26,59 @@ pub enum RequestError {
 }
 
 impl From<StoreError> for RequestError {
+    ghost use Rattle.std.specs.Prelude.{◌≡◌};
+    ghost use Rattle.store_commands.specs.declared.request_error.RequestError.TheVariants.{Store};
+
+    ghost from_gives = { λ error e. e ≡ Store error };
+
     fn from(error: StoreError) -> RequestError {
         RequestError::Store(error)
     }
 }
 
 impl From<ReadFault> for RequestError {
+    ghost use Rattle.std.specs.Prelude.{◌≡◌};
+    ghost use Rattle.store_base.specs.Outcome.{read_refusal};
+    ghost use Rattle.store_commands.specs.declared.request_error.RequestError.TheVariants.{Store};
+
+    ghost from_gives = { λ fault e. e ≡ Store (read_refusal fault) };
+
     fn from(fault: ReadFault) -> RequestError {
         RequestError::Store(StoreError::from(fault))
     }
 }
 
 impl From<NoMemory> for RequestError {
+    ghost use Rattle.std.specs.Prelude.{◌≡◌};
+    ghost use Rattle.store_base.specs.declared.error.StoreError.TheVariants.{Memory};
+    ghost use Rattle.store_commands.specs.declared.request_error.RequestError.TheVariants.{Store};
+
+    ghost from_gives = { λ _ e. e ≡ Store Memory };
+
     fn from(_: NoMemory) -> RequestError {
         RequestError::Store(StoreError::Memory)
     }
 }
 
 impl From<AllocError> for RequestError {
+    ghost use Rattle.std.specs.Prelude.{◌≡◌};
+    ghost use Rattle.store_base.specs.declared.error.StoreError.TheVariants.{Memory};
+    ghost use Rattle.store_commands.specs.declared.request_error.RequestError.TheVariants.{Store};
+
+    ghost from_gives = { λ _ e. e ≡ Store Memory };
+
     fn from(_: AllocError) -> RequestError {
         RequestError::Store(StoreError::Memory)
     }
 }
 
 impl<T: Drop> From<AllocFailed<T>> for RequestError {
+    ghost use Rattle.std.specs.Prelude.{◌≡◌};
+    ghost use Rattle.store_base.specs.declared.error.StoreError.TheVariants.{Memory};
+    ghost use Rattle.store_commands.specs.declared.request_error.RequestError.TheVariants.{Store};
+
+    ghost from_gives = { λ _ e. e ≡ Store Memory };
+
     fn from(_: AllocFailed<T>) -> RequestError {
         RequestError::Store(StoreError::Memory)
     }

@@ -1,6 +1,9 @@
 //! What a store has, as numbers.
 
-ghost use Rattle.std.specs.Prelude.{◌≤◌};
+ghost use Rattle.std.specs.Prelude.{◌≡◌, ◌≤◌, IfOk, IfErr};
+ghost use Rattle.layered_index.specs.Layers.{digit_count};
+ghost use Rattle.store_format.specs.Footer.{version_number};
+ghost use Rattle.store_commands.specs.Numbers.{sizes_of, AreNumbersOf};
 
 use docstore::{DocStoreVersion, StoreReader};
 use std::alloc::Global;
@@ -23,7 +26,9 @@ pub struct StoreNumbers {
 }
 
 // The version's number in a file.
-fn version_number(version: DocStoreVersion) -> u32 {
+fn number_of(version: DocStoreVersion) -> u32
+    ensures { result ≡ version_number version }
+{
     match version {
         DocStoreVersion::V1 => 1,
         DocStoreVersion::V2 => 2,
@@ -31,18 +36,16 @@ fn version_number(version: DocStoreVersion) -> u32 {
     }
 }
 
-/// How many layers the index of so many blocks has.
+/// How many layers the index of so many blocks has: as many as their number has digits in the base of the period.
 pub fn layers_over(blocks: usize, period: u8) -> u32
     requires { 2 ≤ period }
+    ensures { result ≡ digit_count period blocks }
 {
     let mut entries = blocks;
-    let mut layers = 0u32;
-    for _ in 0..usize::BITS {
-        if entries == 0 {
-            break;
-        }
+    let mut layers = 0;
+    while entries > 0 {
         entries /= period as usize;
-        layers = layers.saturating_add(1);
+        layers += 1;
     }
     layers
 }
@@ -51,7 +54,10 @@ pub fn layers_over(blocks: usize, period: u8) -> u32
 pub fn block_sizes<H: FileHandle>(
     alloc: Global,
     reader: &StoreReader<H>,
-) -> Result<Vec<usize>, StoreError> {
+) -> Result<Vec<usize>, StoreError>
+    ensures sizes { IfOk result (λ sizes. sizes.items ≡ sizes_of reader.now) }
+    ensures memory { IfErr result (λ e. e ≡ StoreError.Memory) }
+{
     let mut sizes = Vec::new(alloc);
     for checkpoint in reader.block_checkpoints() {
         let bytes = checkpoint.byte_range;
@@ -61,12 +67,14 @@ pub fn block_sizes<H: FileHandle>(
 }
 
 /// The numbers of a store, whose blocks have these sizes.
-pub fn numbers_of<H: FileHandle>(reader: &StoreReader<H>, mut sizes: Vec<usize>) -> StoreNumbers {
+pub fn numbers_of<H: FileHandle>(reader: &StoreReader<H>, mut sizes: Vec<usize>) -> StoreNumbers
+    ensures { AreNumbersOf reader.now sizes.items result }
+{
     sizes.sort_unstable();
     let usage = reader.space_usage();
     let middle = sizes.len() / 2;
     StoreNumbers {
-        version: version_number(reader.version()),
+        version: number_of(reader.version()),
         period: reader.period(),
         documents: reader.num_docs(),
         blocks: sizes.len(),
@@ -77,4 +85,16 @@ pub fn numbers_of<H: FileHandle>(reader: &StoreReader<H>, mut sizes: Vec<usize>)
         median_block: sizes.get(middle).copied().unwrap_or(0),
         largest_block: sizes.last().copied().unwrap_or(0),
     }
+}
+
+/// The numbers of a store.
+pub fn numbers_in<H: FileHandle>(
+    alloc: Global,
+    reader: &StoreReader<H>,
+) -> Result<StoreNumbers, StoreError>
+    ensures numbers { IfOk result (AreNumbersOf reader.now (sizes_of reader.now)) }
+    ensures memory { IfErr result (λ e. e ≡ StoreError.Memory) }
+{
+    let sizes = block_sizes(alloc, reader)?;
+    Ok(numbers_of(reader, sizes))
 }

@@ -1,22 +1,30 @@
 //! Parts of a file: a range of its bytes, and the store in a file of tantivy's directory.
 
+ghost use Rattle.std.specs.Prelude.{◌≡◌, ◌≢◌, ◌<◌, ◌≤◌, ◌^◌, ℕ, Err, IfOk, IfErr, MatchOption, length};
+ghost use Rattle.store_format.specs.FileReading.{Comes};
+ghost use Rattle.store_commands.specs.Tails.{IsNoRange, tail_of, IsCutOff, RefusesTail};
+
 use crate::request_error::RequestError;
 use docstore::OwnedBytes;
 use std::alloc::Global;
-use store_base::{FileHandle, FileSlice, StoreError};
+use store_base::{BinarySerializable, FileHandle, FileSlice, StoreError};
 
 // How many bytes stand behind the JSON text of tantivy's directory, and what the last four of them say.
 const TANTIVY_TAIL_LEN: u64 = 8;
 
 const TANTIVY_MAGIC: u32 = 1337;
 
-/// The bytes of a range of a file. A range past its end is a failed read.
+/// The bytes of a range of a file, by one read. A range that is none of the file's is a failed read, without one.
 pub fn part_of<H: FileHandle>(
     alloc: Global,
     file: &mut FileSlice<H>,
     start: u64,
     end: u64,
-) -> Result<OwnedBytes, StoreError> {
+) -> Result<OwnedBytes, StoreError>
+    ensures comes { start ≤ end → end ≤ length file.old.content → Comes file.old start end result file.new }
+    ensures none { IsNoRange start end (length file.old.content)
+        → (result ≡ Err StoreError.Read) × (file.new ≡ file.old) }
+{
     if start > end || end > file.len() {
         return Err(StoreError::Read);
     }
@@ -24,27 +32,39 @@ pub fn part_of<H: FileHandle>(
 }
 
 // The length of the JSON text that stands before these bytes, if they are the last eight of tantivy's directory.
-fn tail_length(tail: &[u8]) -> Option<u64> {
-    let (length, rest) = tail.split_first_chunk::<4>()?;
-    let (magic, _) = rest.split_first_chunk::<4>()?;
-    if u32::from_le_bytes(*magic) != TANTIVY_MAGIC {
+fn tail_length(alloc: Global, tail: &[u8]) -> Option<u64>
+    requires { length tail.now ≡ 8 }
+    ensures { MatchOption result ((len : ℕ) → len < 2 ^ 32 → tail.now ≢ tail_of len)
+        (λ len. (len < 2 ^ 32) × (tail.now ≡ tail_of len)) }
+{
+    let mut rest = tail;
+    let Ok(length) = u32::deserialize(alloc, &mut rest) else {
+        return None;
+    };
+    let Ok(magic) = u32::deserialize(alloc, &mut rest) else {
+        return None;
+    };
+    if magic != TANTIVY_MAGIC {
         return None;
     }
-    Some(u64::from(u32::from_le_bytes(*length)))
+    Some(u64::from(length))
 }
 
-/// The store that stands before what tantivy's directory leaves behind it.
+/// The store that stands before what tantivy's directory leaves behind it, by one read of the file.
 pub fn before_tail<H: FileHandle>(
     alloc: Global,
     mut file: FileSlice<H>,
-) -> Result<FileSlice<H>, RequestError> {
+) -> Result<FileSlice<H>, RequestError>
+    ensures cut { IfOk result (IsCutOff file) }
+    ensures refused { IfErr result (RefusesTail file) }
+{
     let len = file.len();
     if len < TANTIVY_TAIL_LEN {
         return Err(RequestError::NoTantivyTail);
     }
     let body = len - TANTIVY_TAIL_LEN;
     let tail = file.read_range(alloc, body..len)?;
-    match tail_length(tail.as_slice()) {
+    match tail_length(alloc, tail.as_slice()) {
         Some(length) if length <= body => Ok(file.narrow(0..body - length)),
         _ => Err(RequestError::NoTantivyTail),
     }

@@ -1,48 +1,41 @@
-//! Goes over the documents of a store block by block. Each block is read once, and no document is copied.
+//! Prints the documents of a store.
+
+ghost use Rattle.store_commands.specs.LeftOut.{AreApartFrom};
 
 use crate::failure::{Cause, printed};
 use crate::store_file::DiskReader;
-use docstore::DataPart;
 use document_framing::Framing;
 use std::alloc::Global;
 use std::io::Write;
-use std::ops::Range;
-use store_base::DocId;
-use store_commands::block_documents::document_at;
-use store_commands::left_out::{IdSpan, is_kept, spans_within};
+use store_commands::block_walk::{DocumentTarget, GivingError, give_documents};
+use store_commands::left_out::IdSpan;
 
-// Writes the documents of a block that have these ids, except those of the ranges.
-fn write_run<W: Write>(
-    output: &mut W,
+// An output in which each document stands in a framing.
+#[derive(Drop)]
+struct FramedOutput<'a, W: Write> {
+    output: &'a mut W,
     framing: Framing,
-    block: &DataPart,
-    ids: Range<DocId>,
-    left_out: &[IdSpan],
-) -> Result<(), Cause> {
-    let (first, bytes) = (block.ids.start, block.bytes.as_slice());
-    for doc_id in ids {
-        if is_kept(left_out, doc_id) {
-            let document = document_at(bytes, doc_id, doc_id.saturating_sub(first))?;
-            printed(framing.write(output, document))?;
-        }
-    }
-    Ok(())
 }
 
-// Writes the documents of a block, except those of the ranges.
-fn write_block<W: Write>(
-    output: &mut W,
-    framing: Framing,
-    block: &DataPart,
-    left_out: &[IdSpan],
-) -> Result<(), Cause> {
-    let spans = spans_within(left_out, block.ids.start, block.ids.end);
-    let mut next_id = block.ids.start;
-    for span in spans {
-        write_run(output, framing, block, next_id..span.start, spans)?;
-        next_id = span.end;
+impl<'a, W: Write> DocumentTarget for FramedOutput<'a, W> {
+    ghost use Rattle.std.specs.Prelude.{⊤};
+
+    ghost takes = { λ _ _ _. ⊤ };
+
+    type Error = Cause;
+
+    fn take(&mut self, document: &[u8]) -> Result<(), Cause> {
+        printed(self.framing.write(self.output, document))
     }
-    write_run(output, framing, block, next_id..block.ids.end, spans)
+}
+
+impl From<GivingError<Cause>> for Cause {
+    fn from(error: GivingError<Cause>) -> Cause {
+        match error {
+            GivingError::Store(error) => Cause::Store(error),
+            GivingError::Target(cause) => cause,
+        }
+    }
 }
 
 /// Writes the documents of an opened store in order, except those of the ranges, which are in order and do not touch.
@@ -52,15 +45,10 @@ pub fn write_documents<W: Write>(
     output: &mut W,
     framing: Framing,
     left_out: &[IdSpan],
-) -> Result<(), Cause> {
-    let mut next_id = 0;
-    // Each block has a document.
-    for _ in 0..reader.num_docs() {
-        let Some(block) = reader.read_block(alloc, next_id)? else {
-            break;
-        };
-        write_block(output, framing, &block, left_out)?;
-        next_id = block.ids.end;
-    }
+) -> Result<(), Cause>
+    requires { AreApartFrom 0 left_out.now }
+{
+    let mut target = FramedOutput { output, framing };
+    give_documents(alloc, reader, &mut target, left_out)?;
     Ok(())
 }

@@ -7,7 +7,6 @@ mod arguments;
 mod block_walk;
 mod byte_size;
 mod cat;
-mod checking;
 mod document_output;
 mod failure;
 mod get;

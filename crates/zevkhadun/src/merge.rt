@@ -1,14 +1,9 @@
 //! `merge`: writes a store of the documents of others, in order.
 
-ghost use Rattle.std.specs.Prelude.{IfOk, OnOk};
-ghost use Rattle.std.specs.List.{AllByRecursion};
-ghost use Rattle.store_merge.specs.Inputs.{HasWholeSet};
-ghost use Rattle.store_merge.specs.Merge.{IsMerged};
-
 use crate::arguments::{self, option, shape_of};
 use crate::failure::{Cause, Failure, at};
 use crate::progress::Progress;
-use crate::store_file::StorePath;
+use crate::store_file::{DiskReader, StorePath};
 use crate::store_output::{DiskWriter, create, finish, summarize};
 use clap::{Arg, ArgAction, ArgMatches, Command};
 use docstore::DocStoreVersion;
@@ -16,11 +11,7 @@ use std::alloc::{AllocError, Global};
 use store_base::StoreError;
 use store_commands::StoreShape;
 use store_commands::kept_documents::input_without;
-use store_files::{DiskFile, OsFile};
-use store_merge::{MergeInput, merge_in_parts};
-
-// A store that is merged.
-type DiskInput = MergeInput<DiskFile<OsFile>>;
+use store_commands::merging::merge_store;
 
 // How many bytes of a store that is stacked are in memory at a time.
 const PART_BYTES: usize = 1 << 22;
@@ -72,21 +63,6 @@ fn ids_for<'a>(word: &'a str, path: &str) -> Option<&'a str> {
     }
 }
 
-// Puts the documents of opened stores behind those of the writer, in order.
-fn merge_opened(
-    alloc: Global,
-    writer: &mut DiskWriter,
-    inputs: &mut [DiskInput],
-) -> Result<(), StoreError>
-    requires { AllByRecursion HasWholeSet inputs.old }
-    ensures { OnOk result (IsMerged inputs.old writer.old writer.new) }
-{
-    match merge_in_parts(alloc, writer, inputs, PART_BYTES) {
-        Ok(()) => Ok(()),
-        Err(refusal) => Err(refusal.error),
-    }
-}
-
 impl<'m, 'w> Merging<'m, 'w> {
     // The words that leave documents out of an input.
     fn words_for(&self, alloc: Global, path: &str) -> Result<Vec<&'w str>, Cause> {
@@ -99,28 +75,29 @@ impl<'m, 'w> Merging<'m, 'w> {
         Ok(words)
     }
 
-    // The input of this name.
-    fn input(&self, rt: &HostRuntime, path: &str) -> Result<DiskInput, Cause>
-        ensures { IfOk result HasWholeSet }
-    {
-        let store = StorePath {
+    // A reader of the input of this name.
+    fn reader(&self, rt: &HostRuntime, path: &str) -> Result<DiskReader, Cause> {
+        StorePath {
             path,
             is_tantivy: self.is_tantivy,
-        };
-        let words = self.words_for(rt.alloc(), path)?;
-        let reader = store.reader(rt)?;
-        Ok(input_without(rt.alloc(), reader, &words)?)
+        }
+        .reader(rt)
     }
 
-    // Opens each input once, so that nothing is written where one of them can't be merged. None stays open: there may
-    // be more of them than files may be.
+    // Opens an input, so that what keeps it from being merged is told before anything is written.
+    fn check_input(&self, rt: &HostRuntime, path: &str) -> Result<(), Cause> {
+        let words = self.words_for(rt.alloc(), path)?;
+        let input = input_without(rt.alloc(), self.reader(rt, path)?, &words)?;
+        if input.reader.version() == DocStoreVersion::V1 {
+            return Err(Cause::Store(StoreError::OldVersion));
+        }
+        Ok(())
+    }
+
+    // Opens each input once. None stays open: there may be more of them than files may be.
     fn check_inputs(&self, rt: &HostRuntime) -> Result<(), Failure> {
-        let alloc = rt.alloc();
         for path in self.paths {
-            let input = at(alloc, path, self.input(rt, path))?;
-            if input.reader.version() == DocStoreVersion::V1 {
-                return Err(Failure::at_file(alloc, path, Cause::Store(StoreError::OldVersion)));
-            }
+            at(rt.alloc(), path, self.check_input(rt, path))?;
         }
         Ok(())
     }
@@ -133,10 +110,11 @@ impl<'m, 'w> Merging<'m, 'w> {
         progress: &mut Progress<'_>,
         path: &str,
     ) -> Result<(), Cause> {
-        let mut inputs = [self.input(rt, path)?];
-        let bytes = inputs[0].reader.space_usage().total();
+        let words = self.words_for(rt.alloc(), path)?;
+        let reader = self.reader(rt, path)?;
+        let bytes = reader.space_usage().total();
         let documents_before = writer.num_docs();
-        merge_opened(rt.alloc(), writer, &mut inputs)?;
+        merge_store(rt.alloc(), writer, reader, &words, PART_BYTES)?;
         progress.add(writer.num_docs().saturating_sub(documents_before), bytes);
         Ok(())
     }

@@ -2,6 +2,8 @@
 
 use std::io::IsTerminal;
 use std::time::{Duration, Instant};
+use store_base::DocId;
+use store_commands::checking::BlockWatch;
 
 // After how many documents or bytes the line is written anew.
 const DOCUMENTS_A_LINE: u64 = 1 << 16;
@@ -73,5 +75,11 @@ impl<'a> Progress<'a> {
         if self.is_shown {
             let _ = eprint!(self.rt; "\r\x1b[K");
         }
+    }
+}
+
+impl<'a> BlockWatch for Progress<'a> {
+    fn add(&mut self, documents: DocId, bytes: u64) {
+        Progress::add(self, documents, bytes);
     }
 }

@@ -2,11 +2,11 @@
 
 use crate::arguments;
 use crate::failure::{Cause, Failure, at, printed};
-use crate::store_file::{DiskReader, StorePath};
+use crate::store_file::StorePath;
 use clap::{ArgMatches, Command};
 use serde_json::json;
 use std::alloc::{AllocError, Global};
-use store_commands::store_numbers::{StoreNumbers, block_sizes, numbers_of};
+use store_commands::store_numbers::{StoreNumbers, numbers_in};
 
 const EXAMPLE: &str = "\
 Example:
@@ -26,16 +26,10 @@ pub fn command<'a>(alloc: Global) -> Result<Command<'a>, AllocError> {
         .arg(arguments::tantivy(alloc))
 }
 
-// The numbers of an opened store.
-fn numbers_in(alloc: Global, reader: &DiskReader) -> Result<StoreNumbers, Cause> {
-    let sizes = block_sizes(alloc, reader)?;
-    Ok(numbers_of(reader, sizes))
-}
-
 // The numbers of a store.
 fn read_numbers(rt: &HostRuntime, store: StorePath<'_>) -> Result<StoreNumbers, Cause> {
     let reader = store.reader(rt)?;
-    numbers_in(rt.alloc(), &reader)
+    Ok(numbers_in(rt.alloc(), &reader)?)
 }
 
 // Prints the numbers as an object of JSON.

@@ -1,15 +1,14 @@
 //! `verify`: reads stores whole, and tells what breaks a promise of the format.
 
 use crate::arguments;
-use crate::checking::{broken_part, check_blocks};
 use crate::failure::{Cause, Failure, printed};
 use crate::progress::Progress;
 use crate::store_file::{DiskReader, StoreFile, StorePath, reader_of};
 use clap::{ArgMatches, Command};
 use std::alloc::{AllocError, Global};
 use store_base::StoreError;
-use store_commands::broken_part::BrokenPart;
-use store_commands::checking::Verdict;
+use store_commands::broken_part::{BrokenPart, broken_part};
+use store_commands::checking::{Verdict, check_blocks};
 
 // What a sound file may still hide.
 const BLIND_SPOT: &str =
@@ -35,9 +34,9 @@ pub fn command<'a>(alloc: Global) -> Result<Command<'a>, AllocError> {
 // Reads the blocks of an opened store.
 fn verdict_of(rt: &HostRuntime, reader: &mut DiskReader, is_quiet: bool) -> Result<Verdict, Cause> {
     let mut progress = Progress::begin(rt, is_quiet);
-    let verdict = check_blocks(rt, reader, &mut progress);
+    let verdict = check_blocks(rt.alloc(), reader, &mut progress);
     progress.end();
-    verdict
+    Ok(verdict?)
 }
 
 // Tells what was found in a store that was opened, and whether it is sound.
@@ -73,7 +72,7 @@ fn print_error(
     file: StoreFile,
     error: StoreError,
 ) -> Result<bool, Cause> {
-    match broken_part(rt, file, error)? {
+    match broken_part(rt.alloc(), file, error)? {
         BrokenPart::Footer => {
             let cause = Cause::Store(error);
             printed(println!(rt; "{path}: broken: footer: {cause}"))?;

@@ -1,0 +1,94 @@
+-- How far the documents of a store were given.
+use Rattle.std.proofs.Common.{◌≡◌, ℕ, ◌+◌, ◌-◌, ◌<◌, ◌≤◌, Bool, true, false, List, [], ◌∷◌, ◌++◌, length, map, Option, Some, sym, ap, ◌∙◌, subst, arith}
+use Rattle.std.specs.Prelude.{IsTrue, slice_range}
+use Rattle.layered_index.specs.Checkpoint.{Covers, docs_end, first_past}
+use Rattle.std.specs.List.{range_with_len}
+use Rattle.std.proofs.lemmas.List.{append-nil, map-append}
+use Rattle.std.proofs.lemmas.List.FromFn.{length-map-range_with_len}
+use Rattle.store_format.specs.Block.{Slot, slot}
+use Rattle.store_format.specs.Slots.{slots}
+use Rattle.store_format.specs.StoreFile.{StoreBlock}
+use Rattle.store_reader.specs.declared.data_part.DataPart.{DataPart}
+use Rattle.store_reader.specs.Iteration.{is_in, alive}
+use Rattle.store_reader.specs.Parts.{place_of}
+use Rattle.store_reader.specs.Reading.{Reading, IsReadOnce, IsSameStore, num_docs, store_of}
+use Rattle.store_commands.specs.Checks.{slots_in}
+use Rattle.store_commands.specs.Documents.{alive_from, TakesSlots}
+use Rattle.store_commands.proofs.AliveLemmas.{alive_joined, none_alive, one_alive}
+use Rattle.store_commands.proofs.CountLemmas.{range_joined, slots_joined, slots_len}
+use Rattle.store_commands.proofs.TakingLemmas.{takes_none, takes_more}
+use Rattle.store_commands.proofs.WalkLemmas.{HasCome, has_begun, IsNext, is_next, has_come_on, has_ended, same_itself, same_read}
+
+-- ---- the documents of a block
+
+slots_split : (block : List ℕ) (m n : ℕ) → slots_in block (m + n) ≡ slots_in block m ++ map (slot block) (range_with_len m n)
+slots_split block m n =
+    let here : 0 + m ≡ m = omega arith in
+    ap (map (slot block)) (range_joined 0 m n) ∙ map-append (slot block) (range_with_len 0 m) (range_with_len (0 + m) n)
+    ∙ ap (λ (k : ℕ). slots_in block m ++ map (slot block) (range_with_len k n)) here
+
+-- documents that are not in the set add nothing
+pub alive_skip : (first : ℕ) (block : List ℕ) (m n : ℕ) (set : Option (ℕ → Bool)) → ((id : ℕ) → first + m ≤ id → id < first + m + n → is_in set id ≡ false)
+    → alive_from first (slots_in block (m + n)) set ≡ alive_from first (slots_in block m) set
+alive_skip first block m n set h =
+    let size = length-map-range_with_len (slot block) 0 m in let more = length-map-range_with_len (slot block) m n in
+    ap (λ (xs : List Slot). alive_from first xs set) (slots_split block m n) ∙ alive_joined first (slots_in block m) (map (slot block) (range_with_len m n)) set
+    ∙ ap (λ (ys : List Slot). alive_from first (slots_in block m) set ++ ys)
+    (none_alive (first + length (slots_in block m)) (map (slot block) (range_with_len m n)) set (λ id le lt. h id (omega arith) (omega arith)))
+    ∙ append-nil (alive_from first (slots_in block m) set)
+
+-- the next one adds its slot, if it is in the set
+pub alive_one : (first : ℕ) (block : List ℕ) (m : ℕ) (set : Option (ℕ → Bool)) → is_in set (first + m) ≡ true
+    → alive_from first (slots_in block (m + 1)) set ≡ alive_from first (slots_in block m) set ++ slot block m ∷ []
+alive_one first block m set h =
+    let size : length (slots_in block m) ≡ m = length-map-range_with_len (slot block) 0 m in
+    ap (λ (xs : List Slot). alive_from first xs set) (slots_split block m 1) ∙ alive_joined first (slots_in block m) (slot block m ∷ []) set
+    ∙ ap (λ (ys : List Slot). alive_from first (slots_in block m) set ++ ys) (one_alive (first + length (slots_in block m)) (slot block m) set (ap (λ (k : ℕ). is_in set (first + k)) size ∙ h))
+
+-- ---- the documents of a store
+
+-- the documents of some blocks were given
+pub record HasGiven {T : Type 0} (takes : T → List ℕ → T → Type 0) (set : Option (ℕ → Bool)) (r now : Reading) (next : ℕ) (old new : T) : Type 0 where
+  pub front : List StoreBlock
+  pub come : HasCome r front next
+  pub covers : Covers r.checkpoints (length r.file.content)
+  pub same : IsSameStore r now
+  pub taken : IsTrue r.file.honest → TakesSlots takes (alive_from 0 (slots front) set) old new
+
+pub given_first : {T : Type 0} (takes : T → List ℕ → T → Type 0) (set : Option (ℕ → Bool)) (r : Reading) (old : T) → Covers r.checkpoints (length r.file.content) → HasGiven takes set r r 0 old old
+given_first takes set r old covers = record { front = []; come = has_begun r; covers = covers; same = same_itself r; taken = λ _. takes_none takes old }
+
+pub given_more : {T : Type 0} (takes : T → List ℕ → T → Type 0) (set : Option (ℕ → Bool)) (r now read : Reading) (next : ℕ) (old middle new : T) (part : DataPart)
+    → HasGiven takes set r now next old middle
+    → Some (place_of part) ≡ first_past now.checkpoints next
+    → (IsTrue now.file.honest → part.bytes ≡ slice_range now.file.content part.start (part.start + length part.bytes))
+    → (num_docs now ≤ next → read ≡ now) → (next < num_docs now → IsReadOnce now read)
+    → TakesSlots takes (alive_from part.ids.start (slots_in part.bytes (part.ids.end - part.ids.start)) set) middle new
+    → HasGiven takes set r read part.ids.end old new
+given_more takes set r now read next old middle new part h seeks given none once block =
+    let same = h.same in
+    let n : IsNext r h.front next part = is_next r h.front next part h.covers h.come (seeks ∙ ap (λ cs. first_past cs next) same.checkpoints)
+    (λ honest. given (subst IsTrue (sym same.honest) honest) ∙ ap (λ (xs : List ℕ). slice_range xs part.start (part.start + length part.bytes)) same.content) in
+    record {
+      front = h.front ++ n.block ∷ [];
+      come = has_come_on r h.front next part h.come n;
+      covers = h.covers;
+      same = same_read r now read next same none once;
+      taken = λ honest.
+          let id : part.ids.start ≡ 0 + length (slots h.front) = omega (arith, n.first, h.come.next_is, slots_len h.front) in
+          let some : alive_from part.ids.start (slots_in part.bytes (part.ids.end - part.ids.start)) set ≡ alive_from (0 + length (slots h.front)) (slots_in n.block.bytes n.block.count) set =
+          ap (λ (k : ℕ). alive_from k (slots_in part.bytes (part.ids.end - part.ids.start)) set) id
+          ∙ ap (λ (xs : List ℕ). alive_from (0 + length (slots h.front)) (slots_in xs (part.ids.end - part.ids.start)) set) (n.bytes honest)
+          ∙ ap (λ (k : ℕ). alive_from (0 + length (slots h.front)) (slots_in n.block.bytes k) set) n.count in
+          let all : alive_from 0 (slots (h.front ++ n.block ∷ [])) set ≡ alive_from 0 (slots h.front) set ++ alive_from part.ids.start (slots_in part.bytes (part.ids.end - part.ids.start)) set =
+          ap (λ (xs : List Slot). alive_from 0 xs set) (slots_joined h.front n.block) ∙ alive_joined 0 (slots h.front) (slots_in n.block.bytes n.block.count) set
+          ∙ ap (λ (ys : List Slot). alive_from 0 (slots h.front) set ++ ys) (sym some) in
+          subst (λ (xs : List Slot). TakesSlots takes xs old new) (sym all)
+          (takes_more takes old middle new (alive_from 0 (slots h.front) set) (alive_from part.ids.start (slots_in part.bytes (part.ids.end - part.ids.start)) set) (h.taken honest) block);
+    }
+
+pub given_all : {T : Type 0} (takes : T → List ℕ → T → Type 0) (set : Option (ℕ → Bool)) (r now : Reading) (next : ℕ) (old new : T) → HasGiven takes set r now next old new → num_docs now ≤ next
+    → IsTrue r.file.honest → TakesSlots takes (alive (slots (store_of r)) set) old new
+given_all takes set r now next old new h le honest =
+    let docs : num_docs now ≡ num_docs r = ap (λ cs. docs_end 0 cs) h.same.checkpoints in
+    subst (λ (bs : List StoreBlock). TakesSlots takes (alive (slots bs) set) old new) (sym (has_ended r h.front next h.covers h.come (omega arith))) (h.taken honest)

@@ -1,0 +1,194 @@
+-- How a reading of a store goes on from block to block.
+use Rattle.std.proofs.Common.{◌≡◌, ℕ, ◌+◌, ◌-◌, ◌<◌, ◌≤◌, ◌^◌, true, false, List, [], ◌∷◌, ◌++◌, length, take, Option, Some, None, refl, sym, ap, ◌∙◌, subst, arith, length-append, append_assoc}
+use Rattle.std.specs.Prelude.{IsTrue, IsNone, IfSome, slice_range, nat_lt}
+use Rattle.std.specs.Option.{option_map}
+use Rattle.std.specs.List.{AllByRecursion}
+use Rattle.std.proofs.lemmas.Bool.{lt-ltb, le-ltb, ltb-true, ltb-false}
+use Rattle.std.proofs.lemmas.List.{append-nil, take_at, drop_at}
+use Rattle.std.proofs.lemmas.List.Concat.{flat_map-append}
+use Rattle.std.proofs.lemmas.List.Sums.{sum_by-cons, sum_by-append}
+use Rattle.store_base.specs.Counts.{HasRisen}
+use Rattle.layered_index.specs.declared.index.Checkpoint.{Checkpoint}
+use Rattle.layered_index.specs.Checkpoint.{Covers, checkpoint, docs_end, first_past}
+use Rattle.store_format.specs.StoreFile.{StoreBlock, IsStoreBlock, docs_in, data_of, checkpoints_from, checkpoints_of}
+use Rattle.store_reader.specs.declared.data_part.DataPart.{DataPart}
+use Rattle.store_reader.specs.Parts.{place_of}
+use Rattle.store_reader.specs.Reading.{Reading, IsReadOnce, IsSameStore, num_docs, store_of}
+use Rattle.store_reader.proofs.ReaderStoreLemmas.{store_seen}
+
+-- ---- blocks by their first document
+
+docs_first : (x : StoreBlock) (xs : List StoreBlock) → docs_in (x ∷ xs) ≡ x.count + docs_in xs
+docs_first x xs = sum_by-cons (λ (b : StoreBlock). b.count) x xs
+
+pub docs_joined : (xs ys : List StoreBlock) → docs_in (xs ++ ys) ≡ docs_in xs + docs_in ys
+docs_joined xs ys = sum_by-append (λ (b : StoreBlock). b.count) xs ys
+
+-- a seek for the first document behind some blocks finds the next block
+found : (id byte : ℕ) (front : List StoreBlock) (b : StoreBlock) (rest : List StoreBlock) (target place : ℕ) → 0 < b.count → target ≡ id + docs_in front → place ≡ byte + length (data_of front)
+    → first_past (checkpoints_from id byte (front ++ b ∷ rest)) target ≡ Some (checkpoint target (target + b.count) place (place + length b.bytes))
+found id byte [] b rest target place some t p =
+    let here : target ≡ id = omega (arith, t) in let there : place ≡ byte = omega (arith, p) in
+    rw (here, there, lt-ltb id (id + b.count) (omega arith)) refl
+found id byte (x ∷ xs) b rest target place some t p =
+    let docs : target ≡ (id + x.count) + docs_in xs = omega (arith, t, docs_first x xs) in
+    let bytes : place ≡ (byte + length x.bytes) + length (data_of xs) = omega (arith, p, length-append x.bytes (data_of xs)) in
+    rw (le-ltb target (id + x.count) (omega (arith, docs))) (found (id + x.count) (byte + length x.bytes) xs b rest target place some docs bytes)
+
+-- behind all blocks it finds none
+none_found : (id byte : ℕ) (bs : List StoreBlock) (target : ℕ) → id + docs_in bs ≤ target → first_past (checkpoints_from id byte bs) target ≡ None
+none_found id byte [] target le = refl
+none_found id byte (x ∷ xs) target le =
+    let cons = docs_first x xs in
+    rw (le-ltb target (id + x.count) (omega arith)) (none_found (id + x.count) (byte + length x.bytes) xs target (omega arith))
+
+all_behind : {A : Type 0} (P : A → Type 0) (xs ys : List A) → AllByRecursion P (xs ++ ys) → AllByRecursion P ys
+all_behind P [] ys h = h
+all_behind P (x ∷ xs) ys h = all_behind P xs ys h.1
+
+-- each block has a document
+some_each : (xs ys : List StoreBlock) → AllByRecursion IsStoreBlock (xs ++ ys) → length xs ≤ docs_in xs
+some_each [] ys h = omega arith
+some_each (x ∷ xs) ys h = omega (arith, h.0.some_docs, some_each xs ys h.1, docs_first x xs)
+
+-- ---- a reading
+
+-- These blocks were read, and this is the first document of the others.
+pub record HasCome (r : Reading) (front : List StoreBlock) (next : ℕ) : Type 0 where
+  pub rest : List StoreBlock
+  pub parts : store_of r ≡ front ++ rest
+  pub next_is : next ≡ docs_in front
+
+pub has_begun : (r : Reading) → HasCome r [] 0
+has_begun r = record { rest = store_of r; parts = refl; next_is = refl }
+
+-- What a read brought is the next block.
+pub record IsNext (r : Reading) (front : List StoreBlock) (next : ℕ) (part : DataPart) : Type 0 where
+  pub block : StoreBlock
+  pub rest : List StoreBlock
+  pub parts : store_of r ≡ front ++ block ∷ rest
+  pub some : 0 < block.count
+  pub first : part.ids.start ≡ next
+  pub end : part.ids.end ≡ next + block.count
+  pub count : part.ids.end - part.ids.start ≡ block.count
+  pub byte : part.start ≡ length (data_of front)
+  pub bytes : IsTrue r.file.honest → part.bytes ≡ block.bytes
+  pub few : next + block.count < 2 ^ 32
+  pub number : length front ≤ next
+
+range_at : (xs ys zs : List ℕ) (from to : ℕ) → from ≡ length xs → to ≡ from + length ys → slice_range (xs ++ (ys ++ zs)) from to ≡ ys
+range_at xs ys zs from to f t =
+    let size : length ys ≡ to - from = omega arith in
+    ap (take (to - from)) (drop_at xs (ys ++ zs) from (sym f)) ∙ take_at ys zs (to - from) size
+
+pub is_next : (r : Reading) (front : List StoreBlock) (next : ℕ) (part : DataPart) → Covers r.checkpoints (length r.file.content) → HasCome r front next
+    → Some (place_of part) ≡ first_past r.checkpoints next
+    → (IsTrue r.file.honest → part.bytes ≡ slice_range r.file.content part.start (part.start + length part.bytes)) → IsNext r front next part
+is_next r front next part covers come seeks given = by come.rest come.parts
+  where
+    by : (rest : List StoreBlock) → store_of r ≡ front ++ rest → IsNext r front next part
+    by [] parts =
+        let seen = store_seen r.file.content r.checkpoints covers in
+        let none : first_past (checkpoints_of (store_of r)) next ≡ None =
+        ap (λ (bs : List StoreBlock). first_past (checkpoints_of bs) next) (parts ∙ append-nil front) ∙ none_found 0 0 front next (omega (arith, come.next_is)) in
+        absurd (let bad : Some (place_of part) ≡ None = seeks ∙ ap (λ (cs : List Checkpoint). first_past cs next) (sym seen.checkpoints_are) ∙ none in cc)
+    by (b ∷ rest) parts =
+        let seen = store_seen r.file.content r.checkpoints covers in
+        let each : AllByRecursion IsStoreBlock (b ∷ rest) = all_behind IsStoreBlock front (b ∷ rest) (subst (AllByRecursion IsStoreBlock) parts seen.blocks.each) in
+        let some : 0 < b.count = each.0.some_docs in
+        let place = length (data_of front) in
+        let here : first_past (checkpoints_of (store_of r)) next ≡ Some (checkpoint next (next + b.count) place (place + length b.bytes)) =
+        ap (λ (bs : List StoreBlock). first_past (checkpoints_of bs) next) parts ∙ found 0 0 front b rest next place some (omega (arith, come.next_is)) (omega arith) in
+        let all : Some (place_of part) ≡ Some (checkpoint next (next + b.count) place (place + length b.bytes)) =
+        seeks ∙ ap (λ (cs : List Checkpoint). first_past cs next) (sym seen.checkpoints_are) ∙ here in
+        let same : place_of part ≡ checkpoint next (next + b.count) place (place + length b.bytes) = cc in
+        let first : part.ids.start ≡ next = ap (λ (c : Checkpoint). c.doc_range.start) same in
+        let end : part.ids.end ≡ next + b.count = ap (λ (c : Checkpoint). c.doc_range.end) same in
+        let byte : part.start ≡ place = ap (λ (c : Checkpoint). c.byte_range.start) same in
+        let last : part.start + length part.bytes ≡ place + length b.bytes = ap (λ (c : Checkpoint). c.byte_range.end) same in
+        let content_is : r.file.content ≡ data_of front ++ (b.bytes ++ data_of rest) =
+        sym seen.data_is ∙ ap data_of parts ∙ flat_map-append (λ (x : StoreBlock). x.bytes) front (b ∷ rest) in
+        record {
+          block = b;
+          rest = rest;
+          parts = parts;
+          some = some;
+          first = first;
+          end = end;
+          count = omega (arith, first, end);
+          byte = byte;
+          bytes = λ honest. given honest ∙ ap (λ (xs : List ℕ). slice_range xs part.start (part.start + length part.bytes)) content_is
+              ∙ range_at (data_of front) b.bytes (data_of rest) part.start (part.start + length part.bytes) byte (omega (arith, byte, last));
+          few = let joined = docs_joined front (b ∷ rest) in let cons = docs_first b rest in omega (arith, ap docs_in parts, joined, cons, come.next_is, seen.blocks.few_docs);
+          number = omega (arith, come.next_is, some_each front (b ∷ rest) (subst (AllByRecursion IsStoreBlock) parts seen.blocks.each));
+        }
+
+docs_ended : (id byte : ℕ) (bs : List StoreBlock) → docs_end id (checkpoints_from id byte bs) ≡ id + docs_in bs
+docs_ended id byte [] = omega arith
+docs_ended id byte (x ∷ xs) = let on = docs_ended (id + x.count) (byte + length x.bytes) xs in let cons = docs_first x xs in omega arith
+
+pub docs_of_all : (r : Reading) → Covers r.checkpoints (length r.file.content) → num_docs r ≡ docs_in (store_of r)
+docs_of_all r covers =
+    let seen = store_seen r.file.content r.checkpoints covers in
+    let zero : 0 + docs_in (store_of r) ≡ docs_in (store_of r) = omega arith in
+    ap (docs_end 0) (sym seen.checkpoints_are) ∙ docs_ended 0 0 (store_of r) ∙ zero
+
+-- what is known of a block that was found
+pub seeks_some : (found : Option DataPart) (part : DataPart) (sought : Option Checkpoint) → found ≡ Some part → option_map place_of found ≡ sought → Some (place_of part) ≡ sought
+seeks_some found part sought e h = sym (ap (option_map place_of) e) ∙ h
+
+pub bytes_some : (content : List ℕ) (found : Option DataPart) (part : DataPart) → found ≡ Some part
+    → IfSome found (λ p. p.bytes ≡ slice_range content p.start (p.start + length p.bytes)) → part.bytes ≡ slice_range content part.start (part.start + length part.bytes)
+bytes_some content found part e h =
+    let P : Option DataPart → Type 0 = λ o. IfSome o (λ p. p.bytes ≡ slice_range content p.start (p.start + length p.bytes)) in subst P e h
+
+pub none_left : (found : Option DataPart) → found ≡ None → IsNone found
+none_left found e = subst IsNone (sym e) refl
+
+-- it is one block further
+pub has_come_on : (r : Reading) (front : List StoreBlock) (next : ℕ) (part : DataPart) → HasCome r front next → (n : IsNext r front next part) → HasCome r (front ++ n.block ∷ []) part.ids.end
+has_come_on r front next part come n = record {
+  rest = n.rest;
+  parts = n.parts ∙ sym (append_assoc front (n.block ∷ []) n.rest);
+  next_is = let joined = docs_joined front (n.block ∷ []) in let cons = docs_first n.block [] in omega (arith, n.end, come.next_is, joined, cons);
+}
+
+-- behind the last document it has come to the end
+pub has_ended : (r : Reading) (front : List StoreBlock) (next : ℕ) → Covers r.checkpoints (length r.file.content) → HasCome r front next → num_docs r ≤ next → store_of r ≡ front
+has_ended r front next covers come le = by come.rest come.parts
+  where
+    by : (rest : List StoreBlock) → store_of r ≡ front ++ rest → store_of r ≡ front
+    by [] parts = parts ∙ append-nil front
+    by (b ∷ rest) parts =
+        let seen = store_seen r.file.content r.checkpoints covers in
+        let each : AllByRecursion IsStoreBlock (b ∷ rest) = all_behind IsStoreBlock front (b ∷ rest) (subst (AllByRecursion IsStoreBlock) parts seen.blocks.each) in
+        let joined = docs_joined front (b ∷ rest) in let cons = docs_first b rest in
+        absurd (omega (arith, each.0.some_docs, ap docs_in parts, joined, cons, come.next_is, le, docs_of_all r covers))
+
+-- ---- reads leave the store
+
+pub same_itself : (r : Reading) → IsSameStore r r
+same_itself r = record { content = refl; honest = refl; failures = omega arith; checkpoints = refl; period = refl; version = refl; decompressor = refl; capacity = refl }
+
+same_once : (first old new : Reading) → IsSameStore first old → IsReadOnce old new → IsSameStore first new
+same_once first old new same read = record {
+  content = read.once.content ∙ same.content;
+  honest = read.once.honest ∙ same.honest;
+  failures = omega (arith, same.failures, read.once.failures);
+  checkpoints = ap (λ (r : Reading). r.checkpoints) read.others ∙ same.checkpoints;
+  period = ap (λ (r : Reading). r.period) read.others ∙ same.period;
+  version = ap (λ (r : Reading). r.version) read.others ∙ same.version;
+  decompressor = ap (λ (r : Reading). r.decompressor) read.others ∙ same.decompressor;
+  capacity = ap (λ (r : Reading). r.cache.capacity) read.others ∙ same.capacity;
+}
+
+-- a read of a block, or none past the last document
+pub same_read : (first old new : Reading) (id : ℕ) → IsSameStore first old → (num_docs old ≤ id → new ≡ old) → (id < num_docs old → IsReadOnce old new) → IsSameStore first new
+same_read first old new id same none once = (elim (nat_lt id (num_docs old)) as (λ b. nat_lt id (num_docs old) ≡ b → IsSameStore first new) [
+  | true ↦ λ t. same_once first old new same (once (ltb-true id (num_docs old) t))
+  | false ↦ λ t. subst (IsSameStore first) (sym (none (ltb-false id (num_docs old) t))) same
+]) refl
+
+-- failures before don't matter
+pub risen_since : (first old new : ℕ) → first ≤ old → HasRisen old new → HasRisen first new
+risen_since first old new le h = record { no_lower = omega (arith, h.no_lower); risen = λ lt. omega (arith, h.risen lt) }

@@ -1,0 +1,39 @@
+-- Parts of a file, and what tantivy's directory leaves behind a store.
+use Rattle.std.specs.Prelude.{◌≡◌, ℕ, ◌-◌, ◌<◌, ◌^◌, ◌⊎◌, IsTrue, List, ◌++◌, length, Err}
+use Rattle.store_base.specs.Files.{Part, ReadsOnce}
+use Rattle.store_base.specs.Serialize.{fixed}
+use Rattle.store_format.specs.Extraction.{narrowed}
+use Rattle.store_format.specs.FileReading.{Comes}
+use Rattle.store_commands.specs.declared.request_error.RequestError.{RequestError}
+use Rattle.store_commands.specs.declared.request_error.RequestError.TheVariants.{NoTantivyTail, Store}
+
+-- Bytes from one place to another are no range of so many bytes.
+abbrev pub IsNoRange : ℕ → ℕ → ℕ → Type 0
+IsNoRange from to len = (to < from) ⊎ (len < to)
+
+-- the last eight bytes of a file of tantivy's directory: the length of the text before them, and 1337
+abbrev pub tail_of : ℕ → List ℕ
+tail_of len = fixed 4 len ++ fixed 4 1337
+
+-- A file of tantivy's directory: a store, a text, and the eight bytes.
+pub record HasTail (file store : List ℕ) : Type 0 where
+  pub text : List ℕ
+  pub few : length text < 2 ^ 32
+  pub parts : file ≡ store ++ (text ++ tail_of (length text))
+
+-- A file has no such tail behind any store.
+abbrev pub HasNoTail : List ℕ → Type 0
+HasNoTail file = (store : List ℕ) → HasTail file store → ⊥
+
+-- The store of a file, after one read of it.
+pub record IsCutOff (file part : Part) : Type 0 where
+  pub read : Part
+  pub once : ReadsOnce file read
+  pub cut : part ≡ narrowed read part.content
+  pub tail : IsTrue file.honest → HasTail file.content part.content
+
+-- Why a file's tail is refused: an honest file has none, a read failed, or memory ran out.
+abbrev pub RefusesTail : Part → RequestError → Type 0
+RefusesTail file NoTantivyTail = IsTrue file.honest → HasNoTail file.content
+RefusesTail file (Store e) = (read : Part) × Comes file (length file.content - 8) (length file.content) (Err e) read
+RefusesTail file _ = ⊥
