@@ -4,8 +4,8 @@ use Rattle.std.specs.Prelude.{IsTrue, slice_range}
 use Rattle.layered_index.specs.Checkpoint.{Covers, docs_end, first_past}
 use Rattle.store_format.specs.StoreFile.{StoreBlock, docs_in, data_of}
 use Rattle.store_reader.specs.declared.data_part.DataPart.{DataPart}
-use Rattle.store_reader.specs.Parts.{place_of}
-use Rattle.store_reader.specs.Reading.{Reading, IsReadOnce, IsSameStore, num_docs, store_of}
+use Rattle.store_reader.specs.Parts.{place_of, IsBlockRead}
+use Rattle.store_reader.specs.Reading.{Reading, IsSameStore, num_docs, store_of}
 use Rattle.store_commands.specs.declared.checking.Verdict.{Verdict}
 use Rattle.store_commands.specs.Checks.{Judges}
 use Rattle.store_commands.proofs.CountLemmas.{TakesBlock, judges_more}
@@ -27,7 +27,7 @@ checked_first r v covers documents judged = record { front = []; come = has_begu
 pub checked_more : (r now new : Reading) (next : ℕ) (v w : Verdict) (part : DataPart) → HasChecked r now next v
     → Some (place_of part) ≡ first_past now.checkpoints next
     → (IsTrue now.file.honest → part.bytes ≡ slice_range now.file.content part.start (part.start + length part.bytes))
-    → (num_docs now ≤ next → new ≡ now) → (next < num_docs now → IsReadOnce now new)
+    → (num_docs now ≤ next → new ≡ now) → (next < num_docs now → IsBlockRead now next new)
     → w.documents ≡ v.documents → TakesBlock v w part.ids.start part.start part.bytes (part.ids.end - part.ids.start)
     → HasChecked r new part.ids.end w
 checked_more r now new next v w part h seeks given none once documents takes =

@@ -10,8 +10,8 @@ use Rattle.store_format.specs.Slots.{slots}
 use Rattle.store_format.specs.StoreFile.{StoreBlock}
 use Rattle.store_reader.specs.declared.data_part.DataPart.{DataPart}
 use Rattle.store_reader.specs.Iteration.{is_in, alive}
-use Rattle.store_reader.specs.Parts.{place_of}
-use Rattle.store_reader.specs.Reading.{Reading, IsReadOnce, IsSameStore, num_docs, store_of}
+use Rattle.store_reader.specs.Parts.{place_of, IsBlockRead}
+use Rattle.store_reader.specs.Reading.{Reading, IsSameStore, num_docs, store_of}
 use Rattle.store_commands.specs.Checks.{slots_in}
 use Rattle.store_commands.specs.Documents.{alive_from, TakesSlots}
 use Rattle.store_commands.proofs.AliveLemmas.{alive_joined, none_alive, one_alive}
@@ -62,7 +62,7 @@ pub given_more : {T : Type 0} (takes : T → List ℕ → T → Type 0) (set : O
     → HasGiven takes set r now next old middle
     → Some (place_of part) ≡ first_past now.checkpoints next
     → (IsTrue now.file.honest → part.bytes ≡ slice_range now.file.content part.start (part.start + length part.bytes))
-    → (num_docs now ≤ next → read ≡ now) → (next < num_docs now → IsReadOnce now read)
+    → (num_docs now ≤ next → read ≡ now) → (next < num_docs now → IsBlockRead now next read)
     → TakesSlots takes (alive_from part.ids.start (slots_in part.bytes (part.ids.end - part.ids.start)) set) middle new
     → HasGiven takes set r read part.ids.end old new
 given_more takes set r now read next old middle new part h seeks given none once block =

@@ -9,10 +9,10 @@ use Rattle.std.proofs.lemmas.List.Concat.{flat_map-append}
 use Rattle.std.proofs.lemmas.List.Sums.{sum_by-cons, sum_by-append}
 use Rattle.store_base.specs.Counts.{HasRisen}
 use Rattle.layered_index.specs.declared.index.Checkpoint.{Checkpoint}
-use Rattle.layered_index.specs.Checkpoint.{Covers, checkpoint, docs_end, first_past}
+use Rattle.layered_index.specs.Checkpoint.{byte_len, Covers, checkpoint, docs_end, first_past}
 use Rattle.store_format.specs.StoreFile.{StoreBlock, IsStoreBlock, docs_in, data_of, checkpoints_from, checkpoints_of}
 use Rattle.store_reader.specs.declared.data_part.DataPart.{DataPart}
-use Rattle.store_reader.specs.Parts.{place_of}
+use Rattle.store_reader.specs.Parts.{place_of, IsBlockRead}
 use Rattle.store_reader.specs.Reading.{Reading, IsReadOnce, IsSameStore, num_docs, store_of}
 use Rattle.store_reader.proofs.ReaderStoreLemmas.{store_seen}
 
@@ -170,8 +170,8 @@ has_ended r front next covers come le = by come.rest come.parts
 pub same_itself : (r : Reading) → IsSameStore r r
 same_itself r = record { content = refl; honest = refl; failures = omega arith; checkpoints = refl; period = refl; version = refl; decompressor = refl; capacity = refl }
 
-same_once : (first old new : Reading) → IsSameStore first old → IsReadOnce old new → IsSameStore first new
-same_once first old new same read = record {
+same_once : (len : ℕ) (first old new : Reading) → IsSameStore first old → IsReadOnce len old new → IsSameStore first new
+same_once len first old new same read = record {
   content = read.once.content ∙ same.content;
   honest = read.once.honest ∙ same.honest;
   failures = omega (arith, same.failures, read.once.failures);
@@ -183,9 +183,9 @@ same_once first old new same read = record {
 }
 
 -- a read of a block, or none past the last document
-pub same_read : (first old new : Reading) (id : ℕ) → IsSameStore first old → (num_docs old ≤ id → new ≡ old) → (id < num_docs old → IsReadOnce old new) → IsSameStore first new
+pub same_read : (first old new : Reading) (id : ℕ) → IsSameStore first old → (num_docs old ≤ id → new ≡ old) → (id < num_docs old → IsBlockRead old id new) → IsSameStore first new
 same_read first old new id same none once = (elim (nat_lt id (num_docs old)) as (λ b. nat_lt id (num_docs old) ≡ b → IsSameStore first new) [
-  | true ↦ λ t. same_once first old new same (once (ltb-true id (num_docs old) t))
+  | true ↦ λ t. let read = once (ltb-true id (num_docs old) t) in same_once (byte_len read.block) first old new same read.once
   | false ↦ λ t. subst (IsSameStore first) (sym (none (ltb-false id (num_docs old) t))) same
 ]) refl
 

@@ -25,10 +25,10 @@ pub record HasTail (file store : List ℕ) : Type 0 where
 abbrev pub HasNoTail : List ℕ → Type 0
 HasNoTail file = (store : List ℕ) → HasTail file store → ⊥
 
--- The store of a file, after one read of it.
+-- The store of a file, after one read of its last eight bytes.
 pub record IsCutOff (file part : Part) : Type 0 where
   pub read : Part
-  pub once : ReadsOnce file read
+  pub once : ReadsOnce 8 file read
   pub cut : part ≡ narrowed read part.content
   pub tail : IsTrue file.honest → HasTail file.content part.content
 

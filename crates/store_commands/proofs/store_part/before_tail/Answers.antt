@@ -1,5 +1,6 @@
 use Rattle.std.proofs.Common.{◌≡◌, ℕ, ◌-◌, List, length, sym, ap, ◌∙◌, subst, arith, rules}
 use Rattle.std.specs.Prelude.{slice_range}
+use Rattle.store_base.specs.Files.{ReadsOnce}
 use Rattle.store_commands.specs.Tails.{HasTail}
 use Rattle.store_commands.proofs.TailLemmas.{none_in_short, none_without, none_so_long, has_tail}
 use Rattle.store_commands.proofs.store_part.before_tail.Goals as goal
@@ -13,7 +14,7 @@ returns-in-Some-clause-cut g c =
     let file = c.args.file.content in let len = c.len-len.result in
     record {
       read = c.read_range.new.self;
-      once = c.read_range.ensures.once;
+      once = subst (λ (n : ℕ). ReadsOnce n c.args.file c.read_range.new.self) (omega (arith, c.if-len-lt-TANTIVY_TAIL_LEN.false)) c.read_range.ensures.once;
       cut = search rules;
       tail = λ honest.
           let is : c.as_slice.result.now ≡ slice_range file (len - 8) (length file) =
