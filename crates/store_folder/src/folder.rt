@@ -11,8 +11,8 @@ use std::io;
 
 /// A folder of files, each of which has one name.
 ///
-/// A crash may replace bytes that were not synced by any bytes of any length, or leave no file. It may leave an entry
-/// that changed since the last sync of the folder as it was before the change or after it. A file that was synced keeps
+/// A crash may replace bytes that were not synced by any bytes of any length, or leave no file. Until the folder's next
+/// sync it may undo a rename, and leave anything under the old name. A file that was synced and not written since keeps
 /// its bytes, whatever name it has later.
 ///
 /// Not in the model: hard links, other processes that change the folder, modes and owners.

@@ -24,7 +24,7 @@ pub enum Event {
     FolderSynced,
 }
 
-/// A folder in memory of which a crash leaves the worst that the trait `Folder` allows. It keeps the calls that were
+/// A folder in memory of which a crash may leave torn files and undone changes. It keeps the calls that were
 /// made. It fails only for lack of memory, and a call that fails changes nothing.
 #[derive(Drop)]
 pub struct TornFolder {

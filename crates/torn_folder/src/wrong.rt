@@ -1,5 +1,5 @@
-//! Publishing in wrong orders, and what a crash then leaves in a folder that tears. So no proof for every folder could
-//! accept one of them.
+//! Publishing in wrong orders, and what a crash then leaves in a folder that tears. They are about lists of
+//! calls, and not about runs of a body.
 
 ghost use Rattle.torn_folder.specs.Wrong.{UnsyncedIsTorn, OldComesBack, RemovedIsGone, WrittenInPlaceIsTorn};
 ghost use Rattle.torn_folder.specs.Wrong.{FolderSyncAloneTears};
