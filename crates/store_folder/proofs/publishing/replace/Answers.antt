@@ -1,0 +1,51 @@
+use Rattle.std.proofs.Common.{[], Some}
+use Rattle.std.proofs.lemmas.Result.{on_ok_weaker}
+use Rattle.store_folder.proofs.Steps.{weaker}
+use Rattle.store_folder.proofs.Runs.{begun, not_begun, untouched_old, appended, append_failed, named, named_kept}
+use Rattle.store_folder.proofs.publishing.replace.Goals as goal
+
+pub returns-in_err-create-clause-any_moment : goal.returns-in_err-create-clause-any_moment
+returns-in_err-create-clause-any_moment g c = λ h.
+    let F = g.F.Folder in
+    let old = c.args.folder.now in
+    let beside = c.args.beside.now in
+    weaker F.moment F.left_since old c.create.new.self _ _ (untouched_old beside c.args.name.now c.requires (F.may_leave old) (Some c.args.bytes.now))
+    (not_begun F.seen F.may_leave F.moment F.left_since beside old c.create.new.self (g.met.F.Folder.only_now old)
+    (c.create.ensures.crash h) (c.create.ensures.time h))
+
+pub returns-in_err-append-clause-any_moment : goal.returns-in_err-append-clause-any_moment
+returns-in_err-append-clause-any_moment g c = λ h.
+    let F = g.F.Folder in
+    let old = c.args.folder.now in
+    let beside = c.args.beside.now in
+    let start = begun F.seen F.may_leave F.moment F.left_since beside old c.create.new.self (g.met.F.Folder.only_now old)
+    (c.create.ensures.crash h) (c.create.ensures.time h) (c.in_ok-create.ensures.created h) in
+    append_failed F.seen F.may_leave F.moment F.left_since beside c.args.name.now c.requires old c.create.new.self [] start c.append.new.self (Some c.args.bytes.now)
+    (c.append.ensures.crash h) (c.append.ensures.time h)
+
+pub returns-clause-any_moment : goal.returns-clause-any_moment
+returns-clause-any_moment g c = λ h.
+    let F = g.F.Folder in
+    let old = c.args.folder.now in
+    let beside = c.args.beside.now in
+    let start = begun F.seen F.may_leave F.moment F.left_since beside old c.create.new.self (g.met.F.Folder.only_now old)
+    (c.create.ensures.crash h) (c.create.ensures.time h) (c.in_ok-create.ensures.created h) in
+    let whole = appended F.seen F.may_leave F.moment F.left_since beside old c.create.new.self [] start c.append.new.self c.args.bytes.now
+    (c.append.ensures.crash h) (c.append.ensures.time h)
+    (c.in_ok-append.ensures.appended h)
+    in
+    named F.seen F.may_leave F.moment F.left_since beside c.args.name.now c.requires old c.append.new.self c.args.bytes.now whole c.publish.new.folder (c.publish.ensures.any_moment h)
+
+pub returns-clause-published : goal.returns-clause-published
+returns-clause-published g c = λ h.
+    let F = g.F.Folder in
+    let old = c.args.folder.now in
+    let beside = c.args.beside.now in
+    let start = begun F.seen F.may_leave F.moment F.left_since beside old c.create.new.self (g.met.F.Folder.only_now old)
+    (c.create.ensures.crash h) (c.create.ensures.time h) (c.in_ok-create.ensures.created h) in
+    let whole = appended F.seen F.may_leave F.moment F.left_since beside old c.create.new.self [] start c.append.new.self c.args.bytes.now
+    (c.append.ensures.crash h) (c.append.ensures.time h)
+    (c.in_ok-append.ensures.appended h)
+    in
+    on_ok_weaker c.publish.result (named_kept F.seen F.may_leave F.moment F.left_since beside c.args.name.now c.requires old c.append.new.self c.args.bytes.now whole c.publish.new.folder)
+    (c.publish.ensures.published h)

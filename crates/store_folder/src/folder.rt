@@ -1,0 +1,129 @@
+//! A folder as a model: what a look sees, and what a crash may leave.
+
+ghost use Rattle.std.specs.Prelude.{◌≡◌, ◌≢◌, ◌++◌, ◌≤◌, ℕ, List, [], Bool, Option, IsTrue, IsSome};
+ghost use Rattle.std.specs.Prelude.{OnOk, OnErr, unwrap_or};
+ghost use Rattle.store_base.specs.Counts.{HasRisen};
+ghost use Rattle.store_folder.specs.Moments.{Follows, NoMore, Elapses};
+ghost use Rattle.store_folder.specs.Folder.{Elsewhere, ElsewhereOfBoth, FilesElsewhere, FilesElsewhereOfBoth};
+ghost use Rattle.store_folder.specs.Folder.{Renamed, EntriesAreKept};
+
+use std::io;
+
+/// A folder of files, each of which has one name.
+///
+/// A crash may replace bytes that were not synced by any bytes of any length, or leave no file. Until the folder's next
+/// sync it may undo a rename, and leave anything under the old name. A file that was synced and not written since keeps
+/// its bytes, whatever name it has later.
+///
+/// Not in the model: hard links, other processes that change the folder, modes and owners.
+pub trait Folder: Drop {
+    /// Whether folders of this type keep these promises. A folder of the system has false here, since no program can
+    /// check it.
+    ghost honest: { Bool };
+
+    /// What a look sees: the bytes of the file of each name.
+    ghost seen: { Self → List ℕ → Option (List ℕ) };
+
+    /// Which bytes a crash at this moment may leave in the file that has the name now, even if it is renamed later.
+    ghost may_hold: { Self → List ℕ → List ℕ → Type 0 };
+
+    /// Which folders a crash at this moment may leave.
+    ghost may_leave: { Self → (List ℕ → Option (List ℕ)) → Type 0 };
+
+    /// The moment, as a number that never falls.
+    ghost moment: { Self → ℕ };
+
+    /// Which folders a crash at that moment or a later one could have left, during a call or between two.
+    ghost left_since: { Self → ℕ → (List ℕ → Option (List ℕ)) → Type 0 };
+
+    /// How often a call failed. A count that stands at its greatest value is taken to have risen.
+    ghost failures: { Self → ℕ };
+
+    /// Makes an empty file of this name, and replaces one that is there.
+    fn create(&mut self, name: &str) -> io::Result<()>
+        ensures created { IsTrue honest → OnOk result (seen self.new name.now ≡ Some []) }
+        ensures elsewhere { IsTrue honest → Elsewhere name.now (seen self.old) (seen self.new) }
+        ensures files { IsTrue honest → FilesElsewhere name.now (may_hold self.old) (may_hold self.new) }
+        ensures crash { IsTrue honest → Follows (Elsewhere name.now) (may_leave self.old) (may_leave self.new) }
+        ensures time { IsTrue honest → Elapses (moment self.old) (moment self.new)
+            (left_since self.old) (left_since self.new) (may_leave self.new) }
+        ensures count { failures self.old ≤ failures self.new }
+        ensures fault { OnErr result (HasRisen (failures self.old) (failures self.new)) };
+
+    /// Writes the bytes at the end of a file.
+    fn append(&mut self, name: &str, bytes: &[u8]) -> io::Result<()>
+        requires { IsTrue honest → IsSome (seen self.old name.now) }
+        ensures appended { IsTrue honest → OnOk result
+            (seen self.new name.now ≡ Some (unwrap_or (seen self.old name.now) [] ++ bytes.now)) }
+        ensures elsewhere { IsTrue honest → Elsewhere name.now (seen self.old) (seen self.new) }
+        ensures files { IsTrue honest → FilesElsewhere name.now (may_hold self.old) (may_hold self.new) }
+        ensures crash { IsTrue honest → Follows (Elsewhere name.now) (may_leave self.old) (may_leave self.new) }
+        ensures time { IsTrue honest → Elapses (moment self.old) (moment self.new)
+            (left_since self.old) (left_since self.new) (may_leave self.new) }
+        ensures count { failures self.old ≤ failures self.new }
+        ensures fault { OnErr result (HasRisen (failures self.old) (failures self.new)) };
+
+    /// Syncs a file. After an Ok, a crash leaves the file's bytes as they are, even if it is renamed later.
+    fn sync_file(&mut self, name: &str) -> io::Result<()>
+        requires { IsTrue honest → IsSome (seen self.old name.now) }
+        ensures durable { IsTrue honest → OnOk result
+            ((bytes : List ℕ) → may_hold self.new name.now bytes → seen self.old name.now ≡ Some bytes) }
+        ensures seen { IsTrue honest → OnOk result (seen self.new name.now ≡ seen self.old name.now) }
+        ensures elsewhere { IsTrue honest → Elsewhere name.now (seen self.old) (seen self.new) }
+        ensures files { IsTrue honest → (n bytes : List ℕ) → may_hold self.new n bytes → may_hold self.old n bytes }
+        ensures crash { IsTrue honest → NoMore (may_leave self.old) (may_leave self.new) }
+        ensures time { IsTrue honest → Elapses (moment self.old) (moment self.new)
+            (left_since self.old) (left_since self.new) (may_leave self.new) }
+        ensures count { failures self.old ≤ failures self.new }
+        ensures fault { OnErr result (HasRisen (failures self.old) (failures self.new)) };
+
+    /// Renames a file, and replaces the one that has the new name. A crash leaves either of them under the new name.
+    fn rename(&mut self, from: &str, to: &str) -> io::Result<()>
+        requires apart { from.now ≢ to.now }
+        requires there { IsTrue honest → IsSome (seen self.old from.now) }
+        ensures renamed { IsTrue honest → OnOk result (seen self.new to.now ≡ seen self.old from.now) }
+        ensures gone { IsTrue honest → OnOk result (seen self.new from.now ≡ None) }
+        ensures elsewhere { IsTrue honest → ElsewhereOfBoth from.now to.now (seen self.old) (seen self.new) }
+        ensures file { IsTrue honest → OnOk result
+            ((bytes : List ℕ) → may_hold self.new to.now bytes → may_hold self.old from.now bytes) }
+        ensures files { IsTrue honest → FilesElsewhereOfBoth from.now to.now (may_hold self.old) (may_hold self.new) }
+        ensures crash { IsTrue honest → Follows (Renamed from.now to.now (may_hold self.old from.now))
+            (may_leave self.old) (may_leave self.new) }
+        ensures time { IsTrue honest → Elapses (moment self.old) (moment self.new)
+            (left_since self.old) (left_since self.new) (may_leave self.new) }
+        ensures count { failures self.old ≤ failures self.new }
+        ensures fault { OnErr result (HasRisen (failures self.old) (failures self.new)) };
+
+    /// Removes a file.
+    fn remove(&mut self, name: &str) -> io::Result<()>
+        ensures removed { IsTrue honest → OnOk result (seen self.new name.now ≡ None) }
+        ensures elsewhere { IsTrue honest → Elsewhere name.now (seen self.old) (seen self.new) }
+        ensures files { IsTrue honest → FilesElsewhere name.now (may_hold self.old) (may_hold self.new) }
+        ensures crash { IsTrue honest → Follows (Elsewhere name.now) (may_leave self.old) (may_leave self.new) }
+        ensures time { IsTrue honest → Elapses (moment self.old) (moment self.new)
+            (left_since self.old) (left_since self.new) (may_leave self.new) }
+        ensures count { failures self.old ≤ failures self.new }
+        ensures fault { OnErr result (HasRisen (failures self.old) (failures self.new)) };
+
+    /// Syncs the folder. After an Ok, a crash leaves the entry of each name as it is.
+    fn sync(&mut self) -> io::Result<()>
+        ensures durable { IsTrue honest → OnOk result
+            (EntriesAreKept (seen self.old) (may_hold self.old) (may_leave self.new)) }
+        ensures seen { IsTrue honest → (n : List ℕ) → seen self.new n ≡ seen self.old n }
+        ensures files { IsTrue honest → (n bytes : List ℕ) → may_hold self.new n bytes → may_hold self.old n bytes }
+        ensures crash { IsTrue honest → NoMore (may_leave self.old) (may_leave self.new) }
+        ensures time { IsTrue honest → Elapses (moment self.old) (moment self.new)
+            (left_since self.old) (left_since self.new) (may_leave self.new) }
+        ensures count { failures self.old ≤ failures self.new }
+        ensures fault { OnErr result (HasRisen (failures self.old) (failures self.new)) };
+
+    /// This moment is one of those since an earlier one.
+    ghost counts_now: { (f : Self) (t : ℕ) (c : List ℕ → Option (List ℕ))
+        → t ≤ moment f → may_leave f c → left_since f t c };
+
+    /// Since this moment there is no other.
+    ghost only_now: { (f : Self) (c : List ℕ → Option (List ℕ)) → left_since f (moment f) c → may_leave f c };
+
+    /// A crash may leave what a look sees. So a promise about every outcome is one about an outcome that there is.
+    ghost seen_may_be_left: { (f : Self) → IsTrue honest → may_leave f (seen f) };
+}

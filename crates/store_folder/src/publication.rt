@@ -1,0 +1,284 @@
+//! An output that takes its name only once it is whole.
+
+ghost use Rattle.std.specs.Prelude.{◌≡◌, ◌≢◌, ◌++◌, ◌≤◌, ℕ, List, [], IsTrue, IsSome, IfOk, IfErr, OnOk, OnErr};
+ghost use Rattle.std.specs.Prelude.{IsErr, is_ok, Some, string_bytes, unwrap_or};
+ghost use Rattle.std.specs.List.{flat_map};
+ghost use Rattle.store_base.specs.Counts.{HasRisen};
+ghost use Rattle.store_base.specs.Outputs.{never_terminated, terminated_once};
+ghost use Rattle.store_folder.specs.Moments.{Follows, Elapses, LeavesOnly};
+ghost use Rattle.store_folder.specs.Folder.{Elsewhere};
+ghost use Rattle.store_folder.specs.Publishing.{part, IsUntouched, IsSafe, IsSameOutput};
+
+use crate::folder::Folder;
+use crate::publishing::publish;
+use std::alloc::Global;
+use std::io;
+use std::marker::Model;
+use std::snapshot::Snapshot;
+use store_base::{TerminatingWrite, WriteFault};
+
+// How many bytes are held before they are passed to the folder.
+const BUFFER_SIZE: usize = 1 << 16;
+
+/// How far an output has come.
+#[derive(Clone, Copy, PartialEq, Eq)]
+pub(crate) enum Stage {
+    /// It takes bytes.
+    Open,
+    /// It has its name.
+    Ended,
+    /// A call failed: what the file beside holds is not known.
+    Failed,
+}
+
+/// An output that becomes the file of a name in a folder. Its bytes go to a file beside that name. A `terminate` that
+/// returns Ok has published that file. After its end, and after a failed call of the folder, it refuses every call.
+#[derive(Drop)]
+pub struct Publication<F: Folder> {
+    folder: F,
+    name: String,
+    beside: String,
+    buffer: Vec<u8>,
+    // What was passed to the folder, and the folder as `create` got it. They take no memory: only clauses read them.
+    handed_over: Vec<Snapshot<Vec<u8>>>,
+    first: Snapshot<F>,
+    stage: Stage,
+    ends: u64,
+    failures: u64,
+    last_error: Option<io::Error>,
+}
+
+/// Clauses see what was written, its ends, how often a call failed, the two names, and the folder at first and now.
+impl<F: Folder> Model for Publication<F> {
+    ghost use Rattle.store_folder.specs.Publishing.{Published};
+    ghost use Rattle.std.specs.Prelude.{◌≡◌, ◌≢◌, ◌++◌, IsTrue, string_bytes};
+    ghost use Rattle.std.specs.List.{flat_map};
+    ghost use Rattle.store_folder.specs.Moments.{LeavesOnly};
+    ghost use Rattle.store_folder.specs.Publishing.{IsUntouched};
+    ghost use Rattle.store_folder.specs.Stages.{end_of, IsSound};
+
+    ghost Value = { Published F };
+
+    ghost view = { λ s. record {
+      content = flat_map (λ part. part.value.items) s.handed_over.items ++ s.buffer.items;
+      termination = record {
+        calls = s.ends;
+        at = end_of s.stage (flat_map (λ part. part.value.items) s.handed_over.items ++ s.buffer.items);
+      };
+      failures = s.failures;
+      beside = string_bytes s.beside;
+      name = string_bytes s.name;
+      first = s.first.value;
+      folder = s.folder;
+    } };
+
+    ghost invariant = { λ s. (string_bytes s.beside ≢ string_bytes s.name) × (IsTrue F.honest
+        → IsSound F.seen F.may_leave F.moment F.left_since s.stage s.first.value s.folder
+        (string_bytes s.beside) (string_bytes s.name) (flat_map (λ part. part.value.items) s.handed_over.items)
+        (flat_map (λ part. part.value.items) s.handed_over.items ++ s.buffer.items)) × (IsTrue F.honest → s.ends ≡ 0
+        → LeavesOnly F.moment F.left_since s.first.value s.folder
+        (IsUntouched (F.may_leave s.first.value) (string_bytes s.beside))) };
+}
+
+// The name, and the name of the file beside.
+fn names(alloc: Global, name: &str) -> io::Result<(String, String)>
+    ensures name { IfOk result (λ both. string_bytes both.0 ≡ name.now) }
+    ensures beside { IfOk result (λ both. string_bytes both.1 ≡ name.now ++ part) }
+{
+    let beside = format!(in alloc; "{name}.part")?;
+    Ok((String::from_str(alloc, name)?, beside))
+}
+
+// Passes what is held to the folder.
+fn hand_over<F: Folder>(
+    folder: &mut F,
+    beside: &str,
+    buffer: &mut Vec<u8>,
+    handed_over: &mut Vec<Snapshot<Vec<u8>>>,
+) -> io::Result<()>
+    requires { IsTrue F.honest → IsSome (F.seen folder.old beside.now) }
+    ensures sent { OnOk result (flat_map (λ part. part.value.items) handed_over.new.items
+        ≡ flat_map (λ part. part.value.items) handed_over.old.items ++ buffer.old.items) }
+    ensures empty { OnOk result (buffer.new.items ≡ []) }
+    ensures kept { OnErr result (flat_map (λ part. part.value.items) handed_over.new.items ++ buffer.new.items
+        ≡ flat_map (λ part. part.value.items) handed_over.old.items ++ buffer.old.items) }
+    ensures file { IsTrue F.honest → OnOk result
+        (F.seen folder.new beside.now ≡ Some (unwrap_or (F.seen folder.old beside.now) [] ++ buffer.old.items)) }
+    ensures crash { IsTrue F.honest
+        → Follows (Elsewhere beside.now) (F.may_leave folder.old) (F.may_leave folder.new) }
+    ensures time { IsTrue F.honest → Elapses (F.moment folder.old) (F.moment folder.new)
+        (F.left_since folder.old) (F.left_since folder.new) (F.may_leave folder.new) }
+{
+    folder.append(beside, buffer)?;
+    handed_over
+        .push(Snapshot::of(buffer))
+        .map_err(|_| io::Error::from(io::ErrorKind::OutOfMemory))?;
+    buffer.clear();
+    Ok(())
+}
+
+impl<F: Folder> Publication<F> {
+    /// An output of nothing yet, for a file of this name in the folder. The file beside has `.part` after the name: one
+    /// that a crash left there is taken over. An error returns the folder.
+    pub fn create(alloc: Global, folder: F, name: &str) -> Result<Publication<F>, (io::Error, F)>
+        ensures content { IfOk result (λ p. p.content ≡ []) }
+        ensures termination { IfOk result (λ p. p.termination ≡ never_terminated) }
+        ensures failures { IfOk result (λ p. p.failures ≡ 0) }
+        ensures name { IfOk result (λ p. p.name ≡ name.now) }
+        ensures beside { IfOk result (λ p. p.beside ≡ name.now ++ part) }
+        ensures first { IfOk result (λ p. p.first ≡ folder) }
+
+        // A crash leaves what it could leave before, the file beside aside.
+        ensures untouched { IsTrue F.honest → IfErr result (λ e. LeavesOnly F.moment F.left_since folder e.1
+            (IsUntouched (F.may_leave folder) (name.now ++ part))) }
+    {
+        let first = Snapshot::of(&folder);
+        let mut folder = folder;
+        let (name, beside) = match names(alloc, name) {
+            Ok(names) => names,
+            Err(error) => return Err((error, folder)),
+        };
+        if let Err(error) = folder.create(beside.as_str()) {
+            return Err((error, folder));
+        }
+        Ok(Publication {
+            folder,
+            name,
+            beside,
+            buffer: Vec::new(alloc),
+            handed_over: Vec::new(alloc),
+            first,
+            stage: Stage::Open,
+            ends: 0,
+            failures: 0,
+            last_error: None,
+        })
+    }
+
+    /// The error of the folder's call that failed.
+    pub fn last_error(&self) -> Option<io::Error> {
+        self.last_error
+    }
+
+    /// The folder.
+    pub fn folder(&self) -> &F
+        ensures folder { result.now ≡ self.now.folder }
+
+        // What holds of each output at each moment.
+        ensures safe { IsTrue F.honest → IsSafe F.may_leave F.moment F.left_since self.now }
+    {
+        &self.folder
+    }
+
+    /// The folder, without the output.
+    pub fn into_folder(self) -> F
+        ensures folder { result ≡ self.folder }
+        ensures safe { IsTrue F.honest → IsSafe F.may_leave F.moment F.left_since self }
+    {
+        let Publication { folder, .. } = self;
+        folder
+    }
+
+    // Counts a failed call.
+    fn refuse(&mut self) -> Result<(), WriteFault>
+        ensures fault { IsErr result }
+        ensures content { self.new.content ≡ self.old.content }
+        ensures termination { self.new.termination ≡ self.old.termination }
+        ensures count { HasRisen self.old.failures self.new.failures }
+        ensures folder { self.new.folder ≡ self.old.folder }
+        ensures same { IsSameOutput self.old self.new }
+    {
+        self.failures = self.failures.saturating_add(1);
+        Err(WriteFault)
+    }
+
+    // Keeps the error of a call of the folder. After it the output refuses every call.
+    fn fail(&mut self, error: io::Error) -> Result<(), WriteFault>
+        ensures fault { IsErr result }
+        ensures content { self.new.content ≡ self.old.content }
+        ensures termination { self.new.termination ≡ self.old.termination }
+        ensures count { HasRisen self.old.failures self.new.failures }
+        ensures folder { self.new.folder ≡ self.old.folder }
+        ensures same { IsSameOutput self.old self.new }
+    {
+        self.last_error = Some(error);
+        if self.stage == Stage::Open {
+            self.stage = Stage::Failed;
+        }
+        self.refuse()
+    }
+}
+
+impl<F: Folder> TerminatingWrite for Publication<F> {
+    ghost content = { λ p. p.content };
+
+    ghost termination = { λ p. p.termination };
+
+    ghost failures = { λ p. p.failures };
+
+    fn write_all(&mut self, bytes: &[u8]) -> Result<(), WriteFault>
+        ensures ok { OnOk result (self.new.content ≡ self.old.content ++ bytes.now) }
+        ensures termination { self.new.termination ≡ self.old.termination }
+        ensures count { self.old.failures ≤ self.new.failures }
+        ensures fault { OnErr result (HasRisen self.old.failures self.new.failures) }
+
+        // Beside what every output promises: an Ok call leaves the count of failures, and it is the output of one file.
+        ensures steady { OnOk result (self.new.failures ≡ self.old.failures) }
+        ensures same { IsSameOutput self.old self.new }
+    {
+        if self.stage != Stage::Open {
+            return self.refuse();
+        }
+        if self.buffer.extend_from_slice(bytes).is_err() {
+            return self.fail(io::ErrorKind::OutOfMemory.into());
+        }
+        if self.buffer.len() < BUFFER_SIZE {
+            return Ok(());
+        }
+        let sent = hand_over(
+            &mut self.folder,
+            self.beside.as_str(),
+            &mut self.buffer,
+            &mut self.handed_over,
+        );
+        if let Err(error) = sent {
+            self.stage = Stage::Failed;
+            return self.fail(error);
+        }
+        Ok(())
+    }
+
+    fn terminate(&mut self) -> Result<(), WriteFault>
+        ensures termination { self.new.termination
+            ≡ terminated_once (is_ok result) self.old.content self.old.termination }
+        ensures content { OnOk result (self.new.content ≡ self.old.content) }
+        ensures count { self.old.failures ≤ self.new.failures }
+        ensures fault { OnErr result (HasRisen self.old.failures self.new.failures) }
+
+        // Beside what every output promises: an Ok call leaves the count of failures, and it is the output of one file.
+        ensures steady { OnOk result (self.new.failures ≡ self.old.failures) }
+        ensures same { IsSameOutput self.old self.new }
+    {
+        self.ends = self.ends.saturating_add(1);
+        if self.stage != Stage::Open {
+            return self.refuse();
+        }
+        let sent = hand_over(
+            &mut self.folder,
+            self.beside.as_str(),
+            &mut self.buffer,
+            &mut self.handed_over,
+        );
+        if let Err(error) = sent {
+            self.stage = Stage::Failed;
+            return self.fail(error);
+        }
+        let named = publish(&mut self.folder, self.beside.as_str(), self.name.as_str());
+        if let Err(error) = named {
+            self.stage = Stage::Failed;
+            return self.fail(error);
+        }
+        self.stage = Stage::Ended;
+        Ok(())
+    }
+}

@@ -1,0 +1,63 @@
+//! Publishing a file: it is written beside its name, synced, renamed, and then the folder is synced.
+
+ghost use Rattle.std.specs.Prelude.{◌≡◌, ◌≢◌, ◌≤◌, IsTrue, IsSome, OnOk, OnErr, Some};
+ghost use Rattle.store_base.specs.Counts.{HasRisen};
+ghost use Rattle.store_folder.specs.Moments.{Follows, LeavesOnly};
+ghost use Rattle.store_folder.specs.Folder.{ElsewhereOfBoth, Keeps};
+ghost use Rattle.store_folder.specs.Publishing.{IsOldOrWhole};
+
+use crate::folder::Folder;
+use std::io;
+
+/// Gives the name to the file beside it: syncs that file, renames it, and syncs the folder.
+///
+/// A crash at any moment leaves under the name what was there before, or the whole file. After an Ok each crash leaves
+/// the whole file. No name but these two changes.
+pub fn publish<F: Folder>(folder: &mut F, beside: &str, name: &str) -> io::Result<()>
+    requires apart { beside.now ≢ name.now }
+    requires there { IsTrue F.honest → IsSome (F.seen folder.old beside.now) }
+
+    // After an Ok, each crash leaves the whole file.
+    ensures published { IsTrue F.honest → OnOk result
+        (Keeps name.now (F.seen folder.old beside.now) (F.may_leave folder.new)) }
+    ensures seen { IsTrue F.honest → OnOk result (F.seen folder.new name.now ≡ F.seen folder.old beside.now) }
+
+    // A crash at any moment of the call, also of one that fails, leaves the old file or the whole new one.
+    ensures any_moment { IsTrue F.honest → LeavesOnly F.moment F.left_since folder.old folder.new
+        (IsOldOrWhole (F.may_leave folder.old) beside.now name.now (F.seen folder.old beside.now)) }
+    ensures elsewhere { IsTrue F.honest
+        → ElsewhereOfBoth beside.now name.now (F.seen folder.old) (F.seen folder.new) }
+    ensures crash { IsTrue F.honest
+        → Follows (ElsewhereOfBoth beside.now name.now) (F.may_leave folder.old) (F.may_leave folder.new) }
+
+    // It fails only where a call of the folder failed.
+    ensures count { F.failures folder.old ≤ F.failures folder.new }
+    ensures fault { OnErr result (HasRisen (F.failures folder.old) (F.failures folder.new)) }
+{
+    folder.sync_file(beside)?;
+    folder.rename(beside, name)?;
+    folder.sync()
+}
+
+/// Replaces the file of this name, or makes it, with these bytes. They are written to the file beside, which is made or
+/// taken over, and then published.
+///
+/// A crash at any moment leaves under the name what was there before, or the whole file. After an Ok each crash leaves
+/// the whole file. No name but these two changes.
+pub fn replace<F: Folder>(folder: &mut F, beside: &str, name: &str, bytes: &[u8]) -> io::Result<()>
+    requires { beside.now ≢ name.now }
+    ensures published { IsTrue F.honest → OnOk result (Keeps name.now (Some bytes.now) (F.may_leave folder.new)) }
+    ensures seen { IsTrue F.honest → OnOk result (F.seen folder.new name.now ≡ Some bytes.now) }
+    ensures any_moment { IsTrue F.honest → LeavesOnly F.moment F.left_since folder.old folder.new
+        (IsOldOrWhole (F.may_leave folder.old) beside.now name.now (Some bytes.now)) }
+    ensures elsewhere { IsTrue F.honest
+        → ElsewhereOfBoth beside.now name.now (F.seen folder.old) (F.seen folder.new) }
+    ensures crash { IsTrue F.honest
+        → Follows (ElsewhereOfBoth beside.now name.now) (F.may_leave folder.old) (F.may_leave folder.new) }
+    ensures count { F.failures folder.old ≤ F.failures folder.new }
+    ensures fault { OnErr result (HasRisen (F.failures folder.old) (F.failures folder.new)) }
+{
+    folder.create(beside)?;
+    folder.append(beside, bytes)?;
+    publish(folder, beside, name)
+}

@@ -1,0 +1,94 @@
+//! Files that are published in folders in memory.
+#![tactic(auto)]
+
+#[cfg(test)]
+mod tests {
+    use std::alloc::Global;
+    use std::test::Fail;
+    use store_base::TerminatingWrite;
+    use store_folder::{Folder, MemFolder, Publication, publish, replace};
+    use torn_folder::TornFolder;
+
+    // A folder with one file.
+    fn with_file(alloc: Global, name: &str, bytes: &[u8]) -> Result<MemFolder, Fail> {
+        let mut folder = MemFolder::new(alloc);
+        folder.create(name)?;
+        folder.append(name, bytes)?;
+        Ok(folder)
+    }
+
+    // Whether the file of this name has these bytes.
+    fn holds(folder: &MemFolder, name: &str, bytes: &[u8]) -> Result<bool, Fail> {
+        Ok(match folder.read(name)? {
+            Some(found) => found.as_slice() == bytes,
+            None => false,
+        })
+    }
+
+    #[test]
+    fn a_file_is_replaced(rt: HostRuntime) -> Result<(), Fail> {
+        let alloc = rt.alloc();
+        let mut folder = with_file(alloc, "a", b"old")?;
+        replace(&mut folder, "a.part", "a", b"new")?;
+        assert!(rt; holds(&folder, "a", b"new")?);
+        assert!(rt; folder.read("a.part")?.is_none());
+        Ok(())
+    }
+
+    #[test]
+    fn a_file_that_a_crash_left_beside_is_taken_over(rt: HostRuntime) -> Result<(), Fail> {
+        let alloc = rt.alloc();
+        let folder = with_file(alloc, "a.part", b"torn")?;
+        let Ok(mut output) = Publication::create(alloc, folder, "a") else {
+            panic!(rt; "not begun");
+        };
+        output.write_all(b"whole")?;
+        output.terminate()?;
+        let folder = output.into_folder();
+        assert!(rt; holds(&folder, "a", b"whole")?);
+        assert!(rt; folder.read("a.part")?.is_none());
+        Ok(())
+    }
+
+    #[test]
+    fn an_output_takes_its_name_at_the_end(rt: HostRuntime) -> Result<(), Fail> {
+        let alloc = rt.alloc();
+        let folder = with_file(alloc, "a", b"old")?;
+        let Ok(mut output) = Publication::create(alloc, folder, "a") else {
+            panic!(rt; "not begun");
+        };
+        output.write_all(b"ne")?;
+        output.write_all(b"w")?;
+        assert!(rt; holds(output.folder(), "a", b"old")?);
+        output.terminate()?;
+        assert!(rt; output.write_all(b"more").is_err());
+        assert!(rt; output.terminate().is_err());
+        let folder = output.into_folder();
+        assert!(rt; holds(&folder, "a", b"new")?);
+        assert!(rt; folder.read("a.part")?.is_none());
+        Ok(())
+    }
+
+    #[test]
+    fn a_folder_that_tears_takes_each_call(rt: HostRuntime) -> Result<(), Fail> {
+        let alloc = rt.alloc();
+        let mut folder = TornFolder::new(alloc);
+        folder.create("a.part")?;
+        folder.append("a.part", b"new")?;
+        publish(&mut folder, "a.part", "a")?;
+        folder.remove("a")?;
+        Ok(())
+    }
+
+    #[test]
+    fn an_output_ends_in_a_folder_that_tears(rt: HostRuntime) -> Result<(), Fail> {
+        let alloc = rt.alloc();
+        let Ok(mut output) = Publication::create(alloc, TornFolder::new(alloc), "a") else {
+            panic!(rt; "not begun");
+        };
+        output.write_all(b"new")?;
+        output.terminate()?;
+        assert!(rt; output.write_all(b"more").is_err());
+        Ok(())
+    }
+}

@@ -1,0 +1,148 @@
+//! A folder in memory that tears as badly as the model allows, and what wrong orders of calls leave in it.
+#![tactic(auto)]
+
+ghost use Rattle.std.specs.Prelude.{◌≡◌, ◌⊎◌, ◌++◌, ◌≤◌, [], ◌∷◌, length, reverse, true, OnOk, OnErr, IsErr};
+ghost use Rattle.store_base.specs.Counts.{HasRisen};
+ghost use Rattle.store_folder.specs.Moments.{Elapses};
+ghost use Rattle.torn_folder.specs.Torn.{seen_by, held_by, left_by, LeftSince, was_now, is_now, possible_look};
+
+pub mod wrong;
+
+use std::alloc::{AllocError, Global};
+use std::io;
+use store_folder::Folder;
+
+/// A call that was made.
+#[derive(Drop)]
+pub enum Event {
+    Created(String),
+    Appended(String, Vec<u8>),
+    /// From the first name to the second.
+    Moved(String, String),
+    Removed(String),
+    FileSynced(String),
+    FolderSynced,
+}
+
+/// A folder in memory of which a crash may leave torn files and undone changes. It keeps the calls that were
+/// made. It fails only for lack of memory, and a call that fails changes nothing.
+#[derive(Drop)]
+pub struct TornFolder {
+    alloc: Global,
+    events: Vec<Event>,
+    failures: u64,
+}
+
+// Adds an event.
+fn push(events: &mut Vec<Event>, event: Event) -> Result<(), AllocError>
+    ensures ok { OnOk result (events.new.items ≡ events.old.items ++ event ∷ []) }
+    ensures err { OnErr result (events.new.items ≡ events.old.items) }
+{
+    events.push(event)?;
+    Ok(())
+}
+
+impl TornFolder {
+    /// An empty folder.
+    pub fn new(alloc: Global) -> TornFolder
+        ensures events { result.events.items ≡ [] }
+        ensures failures { result.failures ≡ 0 }
+    {
+        TornFolder {
+            alloc,
+            events: Vec::new(alloc),
+            failures: 0,
+        }
+    }
+
+    // Counts a failed call.
+    fn refuse(&mut self) -> io::Result<()>
+        ensures fault { IsErr result }
+        ensures events { self.new.events ≡ self.old.events }
+        ensures count { HasRisen self.old.failures self.new.failures }
+    {
+        self.failures = self.failures.saturating_add(1);
+        Err(io::ErrorKind::OutOfMemory.into())
+    }
+
+    // Notes a call, unless there is no memory for it.
+    fn note(&mut self, event: Event) -> io::Result<()>
+        ensures noted { OnOk result (reverse self.new.events.items ≡ event ∷ reverse self.old.events.items) }
+        ensures either { (reverse self.new.events.items ≡ event ∷ reverse self.old.events.items)
+            ⊎ (reverse self.new.events.items ≡ reverse self.old.events.items) }
+        ensures time { Elapses (length self.old.events.items) (length self.new.events.items)
+            (LeftSince self.old.events.items) (LeftSince self.new.events.items)
+            (left_by (reverse self.new.events.items)) }
+        ensures count { self.old.failures ≤ self.new.failures }
+        ensures fault { OnErr result (HasRisen self.old.failures self.new.failures) }
+    {
+        match push(&mut self.events, event) {
+            Ok(()) => Ok(()),
+            Err(_) => self.refuse(),
+        }
+    }
+}
+
+impl Folder for TornFolder {
+    ghost honest = { true };
+
+    ghost seen = { λ f. seen_by (reverse f.events.items) };
+
+    ghost may_hold = { λ f. held_by (reverse f.events.items) };
+
+    ghost may_leave = { λ f. left_by (reverse f.events.items) };
+
+    ghost moment = { λ f. length f.events.items };
+
+    ghost left_since = { λ f. LeftSince f.events.items };
+
+    ghost failures = { λ f. f.failures };
+
+    ghost counts_now = { λ f t c le now. was_now f.events.items t c le now };
+
+    ghost only_now = { λ f c left. is_now f.events.items c left };
+
+    ghost seen_may_be_left = { λ f h. possible_look (reverse f.events.items) };
+
+    fn create(&mut self, name: &str) -> io::Result<()> {
+        match String::from_str(self.alloc, name) {
+            Ok(name) => self.note(Event::Created(name)),
+            Err(_) => self.refuse(),
+        }
+    }
+
+    fn append(&mut self, name: &str, bytes: &[u8]) -> io::Result<()> {
+        match (String::from_str(self.alloc, name), bytes.to_vec(self.alloc)) {
+            (Ok(name), Ok(bytes)) => self.note(Event::Appended(name, bytes)),
+            _ => self.refuse(),
+        }
+    }
+
+    fn sync_file(&mut self, name: &str) -> io::Result<()> {
+        match String::from_str(self.alloc, name) {
+            Ok(name) => self.note(Event::FileSynced(name)),
+            Err(_) => self.refuse(),
+        }
+    }
+
+    fn rename(&mut self, from: &str, to: &str) -> io::Result<()> {
+        match (
+            String::from_str(self.alloc, from),
+            String::from_str(self.alloc, to),
+        ) {
+            (Ok(from), Ok(to)) => self.note(Event::Moved(from, to)),
+            _ => self.refuse(),
+        }
+    }
+
+    fn remove(&mut self, name: &str) -> io::Result<()> {
+        match String::from_str(self.alloc, name) {
+            Ok(name) => self.note(Event::Removed(name)),
+            Err(_) => self.refuse(),
+        }
+    }
+
+    fn sync(&mut self) -> io::Result<()> {
+        self.note(Event::FolderSynced)
+    }
+}
