@@ -4,9 +4,9 @@
 # usage: run.sh [SECONDS]
 #
 # It fuzzes for an hour, or as many seconds as it is told, on two processors; begins with corpus.hex, which `tests/c.sh`
-# replays; and writes the smallest corpus that reaches the same edges back. It prints how many edges were reached by
-# then. Needs clang and libclang-rt-14-dev. The code is that of `rt lib`, compiled with counters by a `clang` that passes
-# the kit's what it was told, and three flags more.
+# replays; and writes the smallest corpus that reaches the same edges back. It prints how many edges the inputs reached
+# before and reach now. Needs clang and libclang-rt-14-dev. The code is that of `rt lib`, compiled with counters by a
+# `clang` that passes the kit's what it was told, and three flags more.
 set -euo pipefail
 seconds=${1:-3600}
 here=$(cd "$(dirname "$0")" && pwd)
@@ -50,7 +50,13 @@ bash "$top/examples/c/build.sh" --static "$out/prefix" "$out/libstore_c.a"
 clang -std=c11 -g -O1 -I"$out/prefix/include" -I"$top/examples/c" -c -o "$out/calls.o" "$here/calls.c"
 clang -g -fsanitize=fuzzer -o "$out/calls" "$out/calls.o" "$out/prefix/lib/libzevkhadun.a"
 
+# How many edges the inputs of a folder reach, each run once: in its fork mode libFuzzer counts other things besides.
+reached() {
+    "$out/calls" -runs=0 "$1" 2>&1 | sed -nE 's/.*DONE +cov: ([0-9]+) .*/\1/p'
+}
+
 python3 "$here/corpus.py" unpack "$here/corpus.hex" "$out/corpus"
+before=$(reached "$out/corpus")
 (cd "$out" && ./calls -max_total_time="$seconds" -fork=2 -max_len=4096 corpus >fuzz.log 2>&1) ||
     { tail -n 40 "$out/fuzz.log" >&2; exit 1; }
 mkdir "$out/least"
@@ -58,7 +64,5 @@ mkdir "$out/least"
 python3 "$here/corpus.py" pack "$out/least" "$here/corpus.hex"
 
 edges=$(sed -nE 's/.*Loaded 1 modules +\(([0-9]+) .*/\1/p' "$out/fuzz.log")
-echo "edges inside the library: $edges; reached after so many seconds:"
-sed -nE 's/^#[0-9]+: cov: ([0-9]+) .* time: ([0-9]+)s .*/\2 \1/p' "$out/fuzz.log" |
-    awk '$2 > most { most = $2; seen = seen $1 ": " $2 "\n" } END { printf "%s", seen }' | tail -n 12
+echo "edges inside the library: $edges; reached before: $before; after $seconds seconds: $(reached "$out/least")"
 echo "inputs in the corpus: $(wc -l <"$here/corpus.hex")"
