@@ -183,6 +183,8 @@ pub extern "C" fn zevk_writer_close(
     ensures bad_period { result ≡ 16 ↔ (period < 2) ⊎ (64 < period) }
     ensures open_block { result ≡ 34 ↔ (2 ≤ period) × (period ≤ 64) × (0 < writer.now.docs) }
     ensures other { result ≡ 35 → IsOther writer.now table.now }
+    ensures few_rows { 2 ≤ period → period ≤ 64 → writer.now.docs ≡ 0 → length table.now < writer.now.blocks
+        → result ≡ 35 }
     ensures no_room { result ≡ 32 → length end.old < len.new }
     ensures exact { (result ≡ 0) ⊎ (result ≡ 32) → HasEnd period len.new writer.now table.now }
     ensures room { (n : ℕ) → HasEnd period n writer.now table.now → result ≢ 10
