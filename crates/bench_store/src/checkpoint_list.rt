@@ -17,7 +17,7 @@ pub struct CheckpointList {
 
 impl Model for CheckpointList {
     ghost use Rattle.std.specs.Prelude.{List};
-    ghost use Rattle.layered_index.specs.declared.index.Checkpoint.{Checkpoint};
+    ghost use Rattle.layered_index.specs.declared.checkpoint.Checkpoint.{Checkpoint};
     ghost use Rattle.layered_index.specs.Checkpoint.{EndsAt};
 
     ghost Value = { List Checkpoint };

@@ -4,7 +4,7 @@ use Rattle.std.proofs.lemmas.List.{take_all, append-nil, drop-append-le, take-ap
 use Rattle.std.proofs.Math.ListN.{drop_of_length-le}
 use Rattle.std.specs.List.{AllByRecursion}
 use Rattle.store_base.specs.Outputs.{Termination}
-use Rattle.layered_index.specs.declared.index.Checkpoint.{Checkpoint}
+use Rattle.layered_index.specs.declared.checkpoint.Checkpoint.{Checkpoint}
 use Rattle.store_base.specs.declared.error.Cause.{Cause}
 use Rattle.layered_index.specs.Checkpoint.{byte_len, IsInLineFrom, IsInLine}
 use Rattle.store_format.specs.StoreFile.{StoreBlock, IsStoreBlock, docs_in, AreBlocks, blocks_at, data_of, checkpoints_from, checkpoints_of, file, reserved_of}

@@ -1,7 +1,7 @@
 -- The blocks of a part of a store's data.
 use Rattle.std.proofs.Common.{◌≡◌, ℕ, ◌+◌, ◌^◌, ◌<◌, ◌≤◌, true, false, List, [], ◌∷◌, Some, IsSome, nat_lt, refl, sym, ap, subst, arith}
 use Rattle.std.proofs.lemmas.Bool.{ltb-false}
-use Rattle.layered_index.specs.declared.index.Checkpoint.{Checkpoint}
+use Rattle.layered_index.specs.declared.checkpoint.Checkpoint.{Checkpoint}
 use Rattle.layered_index.specs.Checkpoint.{byte_len, IsInLineFrom, docs_end, bytes_end, first_past, Covers}
 use Rattle.layered_index.specs.LineLemmas.{in_line-split}
 use Rattle.store_reader.proofs.SeekLemmas.{bytes_go_on, some_below}

@@ -5,7 +5,7 @@ use Rattle.std.specs.Prelude.{slice_range}
 use Rattle.store_base.proofs.Ranges.{part_of_part}
 use Rattle.store_base.specs.declared.error.Cause.{Cause}
 use Rattle.store_base.specs.declared.error.Cause.TheVariants.{Write, Memory as OutOfMemory}
-use Rattle.layered_index.specs.declared.index.Checkpoint.{Checkpoint}
+use Rattle.layered_index.specs.declared.checkpoint.Checkpoint.{Checkpoint}
 use Rattle.layered_index.specs.Checkpoint.{doc_count, byte_len, IsInLineFrom}
 use Rattle.store_format.specs.StoreFile.{StoreBlock, data_of, checkpoints_from}
 use Rattle.store_format.proofs.StoreLemmas.{docs_in-cons, docs_in-append, data_of-append}

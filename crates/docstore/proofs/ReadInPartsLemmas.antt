@@ -9,7 +9,7 @@ use Rattle.store_base.specs.declared.error.Cause.{Cause}
 use Rattle.store_base.specs.declared.error.StoreError.{StoreError}
 use Rattle.store_base.specs.declared.error.StoreError.TheVariants.{ShortFile, BadVersion, BadBlockKind, BadOffset, BadIndex, InvalidArgument, DamagedDocument, BadDocument, Read, Memory, OldVersion}
 use Rattle.store_base.specs.declared.error.StoreError.TheVariants.{Unserializable, BlockTooLarge, TooManyDocs, Failed, BadPeriod}
-use Rattle.layered_index.specs.declared.index.Checkpoint.{Checkpoint}
+use Rattle.layered_index.specs.declared.checkpoint.Checkpoint.{Checkpoint}
 use Rattle.layered_index.specs.Checkpoint.{byte_len, doc_count, docs_end, bytes_end, first_past, Covers}
 use Rattle.layered_index.specs.LineLemmas.{in_line-split}
 use Rattle.store_format.specs.StoreFile.{StoreBlock, checkpoints_of}

@@ -5,7 +5,7 @@ use Rattle.store_base.specs.declared.error.StoreError.{StoreError}
 use Rattle.store_base.specs.declared.error.StoreError.TheVariants.{Read, Memory, OldVersion, TooManyDocs, Failed}
 use Rattle.store_format.specs.declared.version.DocStoreVersion.{DocStoreVersion}
 use Rattle.store_format.specs.declared.version.DocStoreVersion.TheVariants.{V1}
-use Rattle.layered_index.specs.declared.index.Checkpoint.{Checkpoint}
+use Rattle.layered_index.specs.declared.checkpoint.Checkpoint.{Checkpoint}
 use Rattle.layered_index.specs.Checkpoint.{checkpoint}
 use Rattle.store_format.specs.StoreFile.{StoreBlock, checkpoints_of}
 use Rattle.store_reader.specs.Reading.{Reading, num_docs as docs_of, store_of, IsReadWhole}

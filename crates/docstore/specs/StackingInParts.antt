@@ -5,7 +5,7 @@ use Rattle.std.specs.Prelude.{List, [], ◌∷◌, ◌++◌, length, take, None}
 use Rattle.store_base.specs.Counts.{HasRisen, raised}
 use Rattle.store_base.specs.declared.error.StoreError.{StoreError}
 use Rattle.store_base.specs.declared.error.StoreError.TheVariants.{Read, Memory, OldVersion, TooManyDocs, Failed}
-use Rattle.layered_index.specs.declared.index.Checkpoint.{Checkpoint}
+use Rattle.layered_index.specs.declared.checkpoint.Checkpoint.{Checkpoint}
 use Rattle.layered_index.specs.Checkpoint.{doc_count, byte_len}
 use Rattle.store_format.specs.StoreFile.{StoreBlock, checkpoints_of, docs_in}
 use Rattle.store_reader.specs.Parts.{number_of_parts, front_up_to, rest_from, IsBetween}

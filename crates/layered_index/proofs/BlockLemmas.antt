@@ -1,6 +1,6 @@
 -- Lists in line, seen as a block of checkpoints.
 use Rattle.std.proofs.Common.{◌≡◌, ℕ, ◌-◌, List, [], ◌∷◌, length, Some, slice_get, ap, subst, arith}
-use Rattle.layered_index.specs.declared.index.Checkpoint.{Checkpoint}
+use Rattle.layered_index.specs.declared.checkpoint.Checkpoint.{Checkpoint}
 use Rattle.layered_index.specs.Checkpoint.{docs_end, doc_interval}
 
 docs_end_last : (doc : ℕ) (c : Checkpoint) (cs : List Checkpoint) (last : Checkpoint) → slice_get (c ∷ cs) (length cs) ≡ Some last → docs_end doc (c ∷ cs) ≡ last.doc_range.end

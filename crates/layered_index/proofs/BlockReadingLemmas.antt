@@ -9,9 +9,9 @@ use Rattle.store_base.specs.VInt.{◌>>=◌, number_below}
 use Rattle.store_base.specs.VIntLemmas.{number_some}
 use Rattle.store_base.specs.ReadingLemmas.{bind_some, some_is, below_again, below_takes, Takes, takes_then}
 use Rattle.store_base.specs.Serialize.{IsBytes}
-use Rattle.layered_index.specs.declared.index.Checkpoint.{Checkpoint}
+use Rattle.layered_index.specs.declared.checkpoint.Checkpoint.{Checkpoint}
 use Rattle.layered_index.specs.Checkpoint.{checkpoint, doc_count, byte_len, IsWithinLimits, IsInLineFrom, IsInLine, step, starts, checkpoint_block}
-use Rattle.layered_index.specs.declared.index.block_reading.Heading.{Heading}
+use Rattle.layered_index.specs.declared.run_reading.Heading.{Heading}
 use Rattle.layered_index.specs.BlockReading.{step_at, steps_at, heading_at, checkpoint_block_at}
 use Rattle.layered_index.proofs.CheckpointLemmas.{same_checkpoint, block_then}
 

@@ -3,7 +3,7 @@ use Rattle.std.proofs.Common.{◌≡◌, ℕ, ◌<◌, List, [], ◌∷◌, ◌+
 use Rattle.std.specs.List.{flat_map}
 use Rattle.store_base.specs.VInt.{number}
 use Rattle.store_base.specs.VIntLemmas.{numbers_are_apart, number_some}
-use Rattle.layered_index.specs.declared.index.Checkpoint.{Checkpoint}
+use Rattle.layered_index.specs.declared.checkpoint.Checkpoint.{Checkpoint}
 use Rattle.layered_index.specs.Checkpoint.{doc_count, byte_len, IsWithinLimits, IsInLineFrom, IsInLine, step, starts, checkpoint_block}
 use Rattle.layered_index.specs.Laws.{CheckpointBlocksAreApart}
 use Rattle.layered_index.proofs.ListLemmas.{regroup_3}

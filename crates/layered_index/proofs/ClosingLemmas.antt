@@ -4,7 +4,7 @@ use Rattle.std.proofs.lemmas.List.{append-nil, length_push, take_all, take_at, d
 use Rattle.std.specs.List.{flat_map, concat}
 use Rattle.std.specs.Option.{option_to_list}
 use Rattle.store_base.specs.VInt.{number}
-use Rattle.layered_index.specs.declared.index.Checkpoint.{Checkpoint}
+use Rattle.layered_index.specs.declared.checkpoint.Checkpoint.{Checkpoint}
 use Rattle.layered_index.specs.Checkpoint.{IsInLine}
 use Rattle.layered_index.specs.Layers.{layer_text, pointers, layer_above, digit_count, layers_from, layers, ends_from, texts_down, index_part}
 use Rattle.layered_index.specs.Building.{Layer, texts_of, put_some, block_text, closed_text, pointer_at, last_pointer, closed, Closes, IsBuilt, list_of, IsBuilder}

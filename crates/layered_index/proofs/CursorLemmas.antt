@@ -5,8 +5,8 @@ use Rattle.std.specs.Option.{option_map_or}
 use Rattle.std.specs.List.{flat_map, AllByRecursion}
 use Rattle.store_base.specs.VInt.{◌>>=◌, number_at, number_below}
 use Rattle.store_base.specs.ReadingLemmas.{bind_some, some_is, guard_some, pass_some}
-use Rattle.layered_index.specs.declared.index.Checkpoint.{Checkpoint}
-use Rattle.layered_index.specs.declared.index.block_reading.Heading.{Heading}
+use Rattle.layered_index.specs.declared.checkpoint.Checkpoint.{Checkpoint}
+use Rattle.layered_index.specs.declared.run_reading.Heading.{Heading}
 use Rattle.layered_index.specs.Checkpoint.{checkpoint, IsInLineFrom, IsInLine, step, checkpoint_block}
 use Rattle.layered_index.specs.BlockReading.{step_at, heading_at}
 use Rattle.layered_index.specs.Layers.{groups, layer_text}

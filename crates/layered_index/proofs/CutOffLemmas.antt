@@ -6,8 +6,8 @@ use Rattle.std.proofs.lemmas.List.{take_all, take-append-drop, length-take}
 use Rattle.std.proofs.Math.Nat.{pow-suc, pow-zero}
 use Rattle.store_base.specs.VInt.{◌>>=◌, number_at, number_below}
 use Rattle.store_base.specs.ReadingLemmas.{last, longer, goes_on, guard_some, bind_some, some_is, pass_some}
-use Rattle.layered_index.specs.declared.index.Checkpoint.{Checkpoint}
-use Rattle.layered_index.specs.declared.index.block_reading.Heading.{Heading}
+use Rattle.layered_index.specs.declared.checkpoint.Checkpoint.{Checkpoint}
+use Rattle.layered_index.specs.declared.run_reading.Heading.{Heading}
 use Rattle.layered_index.specs.Checkpoint.{checkpoint}
 use Rattle.layered_index.specs.BlockReading.{step_at, heading_at}
 use Rattle.layered_index.specs.IndexHeads.{longest_run}

@@ -2,9 +2,9 @@
 use Rattle.std.proofs.Common.{◌≡◌, ℕ, ◌<◌, ◌^◌, List, length, Some, None, Result, Ok, Err, sym, ◌∙◌, ap, arith, length-append}
 use Rattle.std.specs.Prelude.{MatchResult}
 use Rattle.store_base.specs.Serialize.{IsBytes}
-use Rattle.layered_index.specs.declared.index.Checkpoint.{Checkpoint}
-use Rattle.layered_index.specs.declared.index.fault.ReadFault.{ReadFault}
-use Rattle.layered_index.specs.declared.index.fault.ReadFault.TheVariants.{Malformed, OutOfMemory}
+use Rattle.layered_index.specs.declared.checkpoint.Checkpoint.{Checkpoint}
+use Rattle.layered_index.specs.declared.fault.ReadFault.{ReadFault}
+use Rattle.layered_index.specs.declared.fault.ReadFault.TheVariants.{Malformed, OutOfMemory}
 use Rattle.layered_index.specs.Checkpoint.{checkpoint_block}
 use Rattle.layered_index.specs.BlockReading.{checkpoint_block_at, HasBlock, BeginsWithBlock}
 use Rattle.layered_index.specs.Refusal.{FailsOnlyUnless, Gives}

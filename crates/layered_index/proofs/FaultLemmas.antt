@@ -5,11 +5,11 @@ use Rattle.std.proofs.Math.Seq.{drop-cons}
 use Rattle.std.proofs.lemmas.Bool.{cond-true, cond-false}
 use Rattle.std.specs.Prelude.{◌↔◌, IsTrue, IsSome}
 use Rattle.std.specs.Option.{option_map_or}
-use Rattle.layered_index.specs.declared.index.Checkpoint.{Checkpoint}
-use Rattle.layered_index.specs.declared.index.layers.Run.{Run}
+use Rattle.layered_index.specs.declared.checkpoint.Checkpoint.{Checkpoint}
+use Rattle.layered_index.specs.declared.layers.Run.{Run}
 use Rattle.layered_index.specs.Checkpoint.{checkpoint}
-use Rattle.layered_index.specs.declared.index.fault.ReadFault.{ReadFault}
-use Rattle.layered_index.specs.declared.index.fault.ReadFault.TheVariants.{Malformed, OutOfMemory}
+use Rattle.layered_index.specs.declared.fault.ReadFault.{ReadFault}
+use Rattle.layered_index.specs.declared.fault.ReadFault.TheVariants.{Malformed, OutOfMemory}
 use Rattle.layered_index.specs.Refusal.{Fails, BreaksOnlyUnless, at_byte}
 use Rattle.layered_index.specs.BlockReading.{run_at}
 use Rattle.layered_index.specs.LayerReading.{may_stand, ArePointers}

@@ -12,7 +12,7 @@ use Rattle.store_base.specs.Files.{Part, ReadsOnce}
 use Rattle.store_base.specs.VInt.{number_below}
 use Rattle.store_base.specs.ReadingLemmas.{some_is}
 use Rattle.store_base.specs.declared.error.StoreError.{StoreError}
-use Rattle.layered_index.specs.declared.index.Checkpoint.{Checkpoint}
+use Rattle.layered_index.specs.declared.checkpoint.Checkpoint.{Checkpoint}
 use Rattle.layered_index.specs.Checkpoint.{first_past}
 use Rattle.layered_index.specs.Layers.{digit_count}
 use Rattle.layered_index.specs.IndexReading.{IsIndexPart}

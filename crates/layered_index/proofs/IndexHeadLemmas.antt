@@ -5,7 +5,7 @@ use Rattle.std.proofs.lemmas.List.{reverse-reverse}
 use Rattle.std.specs.List.{flat_map, concat, AllByRecursion}
 use Rattle.store_base.specs.VInt.{number, ◌>>=◌, number_at, number_below}
 use Rattle.store_base.specs.ReadingLemmas.{bind_some, some_is, pass_some, numbers_are_read}
-use Rattle.layered_index.specs.declared.index.Checkpoint.{Checkpoint}
+use Rattle.layered_index.specs.declared.checkpoint.Checkpoint.{Checkpoint}
 use Rattle.layered_index.specs.Layers.{layer_text, digit_count, layers, ends_from, texts_down}
 use Rattle.layered_index.specs.IndexReading.{numbers_at, texts_at, ends_at, split_at, IsIndexPart, HasIndex}
 use Rattle.layered_index.specs.Sought.{layers_left, next_layer, after_numbers, IndexBytes, IsHeaded}

@@ -5,7 +5,7 @@ use Rattle.std.proofs.lemmas.Int.Digits.{length-digits_of_step, length-digits_of
 use Rattle.std.specs.List.{flat_map, concat}
 use Rattle.store_base.specs.VInt.{number}
 use Rattle.store_base.specs.VIntLemmas.{numbers_are_apart}
-use Rattle.layered_index.specs.declared.index.Checkpoint.{Checkpoint}
+use Rattle.layered_index.specs.declared.checkpoint.Checkpoint.{Checkpoint}
 use Rattle.layered_index.specs.Checkpoint.{IsInLine}
 use Rattle.layered_index.specs.Layers.{layer_text, layer_above, digit_count, layers_from, layers}
 use Rattle.layered_index.specs.Layers.{ends_from, texts_down, index_part}

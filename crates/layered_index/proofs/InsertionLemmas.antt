@@ -3,7 +3,7 @@ use Rattle.std.proofs.Common.{◌≡◌, ◌⊎◌, inl, inr, Result, Ok, Err, O
 use Rattle.std.proofs.Common.{append_assoc}
 use Rattle.std.proofs.lemmas.List.{take_all, drop_all, take_at, drop_more, take_more_set, drop-set-lt, set_split, set_at, set-set, set-get_or, get_or_at, get_or-set_same, get_or_default, length-take}
 use Rattle.std.proofs.lemmas.List.{length_push}
-use Rattle.layered_index.specs.declared.index.Checkpoint.{Checkpoint}
+use Rattle.layered_index.specs.declared.checkpoint.Checkpoint.{Checkpoint}
 use Rattle.layered_index.specs.Checkpoint.{IsInLine, checkpoint_block}
 use Rattle.layered_index.specs.Building.{Layer, put, text_with, pointer_to, flushed, inserted, Takes}
 use Rattle.layered_index.proofs.BuilderLemmas.{inserted_none, inserted_stays, inserted_flushes}

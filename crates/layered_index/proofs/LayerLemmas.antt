@@ -4,7 +4,7 @@ use Rattle.std.proofs.lemmas.List.{length-drop}
 use Rattle.std.specs.List.{flat_map, AllByRecursion}
 use Rattle.store_base.specs.VInt.{number}
 use Rattle.store_base.specs.VIntLemmas.{length-number-le_5, length-number-le_10}
-use Rattle.layered_index.specs.declared.index.Checkpoint.{Checkpoint}
+use Rattle.layered_index.specs.declared.checkpoint.Checkpoint.{Checkpoint}
 use Rattle.layered_index.specs.Checkpoint.{doc_count, byte_len, docs_end, bytes_end, IsWithinLimits, IsInLineFrom, IsInLine, step, starts, checkpoint_block}
 use Rattle.layered_index.specs.Layers.{groups, layer_text, docs_start, pointers, layer_above, digit_count, layers_from}
 use Rattle.layered_index.specs.Laws.{LayerAboveIsInLine, LayersAreInLine}

@@ -9,17 +9,17 @@ use Rattle.std.specs.Option.{option_map_or}
 use Rattle.store_base.specs.VInt.{◌>>=◌}
 use Rattle.store_base.specs.ReadingLemmas.{bind_some, some_is, Takes}
 use Rattle.store_base.specs.Serialize.{IsBytes}
-use Rattle.layered_index.specs.declared.index.Checkpoint.{Checkpoint}
-use Rattle.layered_index.specs.declared.index.block_reading.Heading.{Heading}
-use Rattle.layered_index.specs.declared.index.layers.Run.{Run}
+use Rattle.layered_index.specs.declared.checkpoint.Checkpoint.{Checkpoint}
+use Rattle.layered_index.specs.declared.run_reading.Heading.{Heading}
+use Rattle.layered_index.specs.declared.layers.Run.{Run}
 use Rattle.layered_index.specs.Checkpoint.{checkpoint, docs_end, bytes_end, IsInLineFrom, IsInLine, step, checkpoint_block}
 use Rattle.layered_index.specs.Layers.{groups, layer_text, pointers, layer_above}
 use Rattle.layered_index.specs.BlockReading.{steps_at, heading_at, ends_of, run_at}
 use Rattle.layered_index.specs.LayerReading.{items, may_stand, len_from, len_at, pointers_at, ArePointers, IsLayerBelow}
 use Rattle.layered_index.specs.Tables.{EndLists, no_ends, with_ends}
 use Rattle.layered_index.specs.Refusal.{BreaksOnlyUnless}
-use Rattle.layered_index.specs.declared.index.fault.LayerFault.{LayerFault}
-use Rattle.layered_index.specs.declared.index.fault.LayerFault.TheVariants.{Broken, OutOfMemory}
+use Rattle.layered_index.specs.declared.fault.LayerFault.{LayerFault}
+use Rattle.layered_index.specs.declared.fault.LayerFault.TheVariants.{Broken, OutOfMemory}
 use Rattle.layered_index.specs.Faults.{standing_from, PassedTo, BreaksAt}
 use Rattle.layered_index.proofs.FaultLemmas.{passed_here}
 use Rattle.layered_index.proofs.TableLemmas.{none_to_come}

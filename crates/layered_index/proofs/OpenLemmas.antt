@@ -5,16 +5,16 @@ use Rattle.std.specs.List.{flat_map, concat, AllByRecursion}
 use Rattle.store_base.specs.VInt.{number}
 use Rattle.store_base.specs.ReadingLemmas.{bind_some, some_is}
 use Rattle.store_base.specs.Serialize.{IsBytes}
-use Rattle.layered_index.specs.declared.index.Checkpoint.{Checkpoint}
-use Rattle.layered_index.specs.declared.index.fault.ReadFault.{ReadFault}
-use Rattle.layered_index.specs.declared.index.fault.ReadFault.TheVariants.{Malformed, OutOfMemory}
+use Rattle.layered_index.specs.declared.checkpoint.Checkpoint.{Checkpoint}
+use Rattle.layered_index.specs.declared.fault.ReadFault.{ReadFault}
+use Rattle.layered_index.specs.declared.fault.ReadFault.TheVariants.{Malformed, OutOfMemory}
 use Rattle.layered_index.specs.Checkpoint.{IsInLine}
 use Rattle.layered_index.specs.Layers.{layer_text, digit_count, layers, ends_from, texts_down, index_part}
 use Rattle.layered_index.specs.LayerReading.{items}
 use Rattle.layered_index.specs.Tables.{no_ends, with_ends}
-use Rattle.layered_index.specs.declared.index.fault.Refusal.{Refusal}
-use Rattle.layered_index.specs.declared.index.fault.Refusal.TheVariants as refusal
-use Rattle.layered_index.specs.declared.index.index_fault.IndexFault.{IndexFault}
+use Rattle.layered_index.specs.declared.fault.Refusal.{Refusal}
+use Rattle.layered_index.specs.declared.fault.Refusal.TheVariants as refusal
+use Rattle.layered_index.specs.declared.index_fault.IndexFault.{IndexFault}
 use Rattle.layered_index.specs.Faults.{fault_of_list, HasFault, FaultOf, IsFirstFault}
 use Rattle.layered_index.specs.Refusal.{Fails, RefusedOnlyUnless, in_list}
 use Rattle.layered_index.specs.IndexReading.{texts_at, ends_at, split_at, AreLayersBelow, AreLayers, last_items, last_ends, IsIndexPart, HasIndex}

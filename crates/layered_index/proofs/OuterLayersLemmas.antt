@@ -6,14 +6,14 @@ use Rattle.std.specs.Prelude.{Result, Ok}
 use Rattle.store_base.specs.declared.error.StoreError.{StoreError}
 use Rattle.std.specs.List.{flat_map, AllByRecursion}
 use Rattle.store_base.specs.ReadingLemmas.{some_is}
-use Rattle.layered_index.specs.declared.index.Checkpoint.{Checkpoint}
+use Rattle.layered_index.specs.declared.checkpoint.Checkpoint.{Checkpoint}
 use Rattle.layered_index.specs.Checkpoint.{docs_end, IsInLine, checkpoint_block, first_past}
 use Rattle.layered_index.specs.Layers.{groups, layer_text, docs_start, pointers, layer_above, digit_count, layers_from, layers, texts_down}
 use Rattle.layered_index.specs.IndexReading.{last_items, IsIndexPart}
 use Rattle.layered_index.specs.LayerReading.{items}
 use Rattle.layered_index.specs.LineLemmas.{in_line_somewhere}
 use Rattle.layered_index.specs.Sought.{sought_at, IsFoundAbove, layers_left, next_layer, IsHeaded}
-use Rattle.layered_index.specs.declared.index.block_seek.Sought.{Sought}
+use Rattle.layered_index.specs.declared.run_seek.Sought.{Sought}
 use Rattle.layered_index.proofs.SoughtLemmas.{top_sought}
 use Rattle.layered_index.proofs.IndexLemmas.{digit_count_zero, no_layers}
 use Rattle.layered_index.proofs.DigitLemmas.{below_digits}

@@ -5,7 +5,7 @@ use Rattle.std.specs.Prelude.{◌↔◌, IsSome, is_some}
 use Rattle.std.proofs.Math.Nat.{pow-le-pow_left}
 use Rattle.std.specs.List.{flat_map, AllByRecursion}
 use Rattle.store_base.specs.Serialize.{IsBytes}
-use Rattle.layered_index.specs.declared.index.Checkpoint.{Checkpoint}
+use Rattle.layered_index.specs.declared.checkpoint.Checkpoint.{Checkpoint}
 use Rattle.layered_index.specs.Checkpoint.{IsInLine, checkpoint_block}
 use Rattle.layered_index.specs.Layers.{groups, layer_text, layer_above, digit_count, layers_from, layers}
 use Rattle.layered_index.specs.LayerReading.{items, len_at, pointers_at}

@@ -1,10 +1,10 @@
 -- Faults and refusals.
 use Rattle.std.proofs.Common.{inl, inr, refl}
-use Rattle.layered_index.specs.declared.index.fault.ReadFault.{ReadFault}
-use Rattle.layered_index.specs.declared.index.fault.ReadFault.TheVariants.{Malformed, OutOfMemory}
-use Rattle.layered_index.specs.declared.index.fault.Refusal.{Refusal}
-use Rattle.layered_index.specs.declared.index.fault.Refusal.TheVariants as refusal
-use Rattle.layered_index.specs.declared.index.index_fault.IndexFault.{IndexFault}
+use Rattle.layered_index.specs.declared.fault.ReadFault.{ReadFault}
+use Rattle.layered_index.specs.declared.fault.ReadFault.TheVariants.{Malformed, OutOfMemory}
+use Rattle.layered_index.specs.declared.fault.Refusal.{Refusal}
+use Rattle.layered_index.specs.declared.fault.Refusal.TheVariants as refusal
+use Rattle.layered_index.specs.declared.index_fault.IndexFault.{IndexFault}
 use Rattle.layered_index.specs.Refusal.{refusal_of, answer_to, RefusesOnlyUnless, RefusedOnlyUnless, FailsOnlyUnless}
 
 -- A fault is answered by its refusal.

@@ -1,7 +1,7 @@
 -- Passing over checkpoints one after the other, as a loop does.
 use Rattle.std.proofs.Common.{◌≡◌, ℕ, suc, ◌-◌, ◌+◌, ◌≤◌, ◌<◌, List, ◌∷◌, Option, Some, None, refl, sym, ◌∙◌, arith}
 use Rattle.store_base.specs.VInt.{◌>>=◌}
-use Rattle.layered_index.specs.declared.index.Checkpoint.{Checkpoint}
+use Rattle.layered_index.specs.declared.checkpoint.Checkpoint.{Checkpoint}
 use Rattle.layered_index.specs.BlockReading.{step_at, steps_at}
 use Rattle.layered_index.specs.BlockReading.{ends_of}
 

@@ -8,9 +8,9 @@ use Rattle.std.specs.List.{flat_map}
 use Rattle.store_base.specs.VInt.{◌>>=◌}
 use Rattle.store_base.specs.ReadingLemmas.{bind_some, some_is, pass_some, bytes_behind}
 use Rattle.store_base.specs.Serialize.{IsBytes}
-use Rattle.layered_index.specs.declared.index.Checkpoint.{Checkpoint}
-use Rattle.layered_index.specs.declared.index.block_reading.Heading.{Heading}
-use Rattle.layered_index.specs.declared.index.block_seek.Sought.{Sought}
+use Rattle.layered_index.specs.declared.checkpoint.Checkpoint.{Checkpoint}
+use Rattle.layered_index.specs.declared.run_reading.Heading.{Heading}
+use Rattle.layered_index.specs.declared.run_seek.Sought.{Sought}
 use Rattle.layered_index.specs.Checkpoint.{docs_end, IsInLineFrom, IsInLine, step, checkpoint_block, first_past}
 use Rattle.layered_index.specs.Layers.{layer_text, docs_start}
 use Rattle.layered_index.specs.BlockReading.{step_at, steps_at, heading_at}

@@ -6,8 +6,8 @@ use Rattle.std.proofs.lemmas.List.{append-nil, drop-drop, length-drop, drop_all}
 use Rattle.std.proofs.Math.Seq.{drop-cons, drop-append_seam}
 use Rattle.store_base.specs.VInt.{◌>>=◌, number_at, number_below}
 use Rattle.store_base.specs.ReadingLemmas.{bind_some, some_is, guard_some, pass_some}
-use Rattle.layered_index.specs.declared.index.fault.ReadFault.{ReadFault}
-use Rattle.layered_index.specs.declared.index.fault.ReadFault.TheVariants.{Malformed, OutOfMemory}
+use Rattle.layered_index.specs.declared.fault.ReadFault.{ReadFault}
+use Rattle.layered_index.specs.declared.fault.ReadFault.TheVariants.{Malformed, OutOfMemory}
 use Rattle.layered_index.specs.IndexReading.{numbers_at, texts_at, ends_at, split_at}
 use Rattle.layered_index.specs.Refusal.{Fails}
 

@@ -3,7 +3,7 @@ use Rattle.std.proofs.Common.{◌≡◌, ℕ, zero, suc, ◌-◌, List, [], ◌�
 use Rattle.std.proofs.lemmas.List.{append-nil, length-map}
 use Rattle.std.specs.Prelude.{slice_get}
 use Rattle.store_base.specs.ReadingLemmas.{some_is}
-use Rattle.layered_index.specs.declared.index.Checkpoint.{Checkpoint}
+use Rattle.layered_index.specs.declared.checkpoint.Checkpoint.{Checkpoint}
 use Rattle.layered_index.specs.Checkpoint.{checkpoint, IsInLineFrom}
 use Rattle.layered_index.specs.Tables.{EndLists, doc_end, byte_end, are_filled, with_ends, between}
 use Rattle.layered_index.proofs.CheckpointLemmas.{same_checkpoint}

@@ -5,8 +5,8 @@ use Rattle.std.specs.Prelude.{◌↔◌, MatchOption, IsTrue, IsSome, is_none}
 use Rattle.std.specs.Option.{option_map_or}
 use Rattle.store_base.specs.VInt.{◌>>=◌, number_at}
 use Rattle.store_base.specs.ReadingLemmas.{bind_some, some_is}
-use Rattle.layered_index.specs.declared.index.Checkpoint.{Checkpoint}
-use Rattle.layered_index.specs.declared.index.layers.Run.{Run}
+use Rattle.layered_index.specs.declared.checkpoint.Checkpoint.{Checkpoint}
+use Rattle.layered_index.specs.declared.layers.Run.{Run}
 use Rattle.layered_index.specs.Checkpoint.{checkpoint, docs_end, bytes_end}
 use Rattle.layered_index.specs.BlockReading.{step_at, steps_at, heading_at, ends_of, run_at}
 use Rattle.layered_index.specs.LayerReading.{may_stand, len_within, len_from, pointers_within, pointers_at}

@@ -2,9 +2,9 @@
 use Rattle.std.specs.Prelude.{◌≡◌, ℕ, zero, suc, ◌+◌, ◌/◌, ◌^◌, nat_lt, ◌==◌, if◌then◌else◌, List, [], ◌∷◌, ◌++◌}
 use Rattle.std.specs.Prelude.{length, Option, Some, None}
 use Rattle.store_base.specs.VInt.{◌>>=◌, number_below}
-use Rattle.layered_index.specs.declared.index.Checkpoint.{Checkpoint}
-use Rattle.layered_index.specs.declared.index.block_reading.Heading.{Heading}
-use Rattle.layered_index.specs.declared.index.layers.Run.{Run}
+use Rattle.layered_index.specs.declared.checkpoint.Checkpoint.{Checkpoint}
+use Rattle.layered_index.specs.declared.run_reading.Heading.{Heading}
+use Rattle.layered_index.specs.declared.layers.Run.{Run}
 use Rattle.layered_index.specs.Checkpoint.{checkpoint, docs_end, bytes_end, IsInLine, checkpoint_block}
 
 -- one checkpoint, which begins at this document and this byte

@@ -4,7 +4,7 @@ use Rattle.std.specs.Prelude.{◌≡◌, ℕ, ◌-◌, ◌<◌, ◌≤◌, ◌^�
 use Rattle.std.specs.declared.ops.Range.{Range}
 use Rattle.std.specs.List.{find, flat_map, AllByRecursion}
 use Rattle.store_base.specs.VInt.{number}
-use Rattle.layered_index.specs.declared.index.Checkpoint.{Checkpoint}
+use Rattle.layered_index.specs.declared.checkpoint.Checkpoint.{Checkpoint}
 
 -- these documents and these bytes, each from a start to an end
 abbrev pub checkpoint : ℕ → ℕ → ℕ → ℕ → Checkpoint

@@ -1,6 +1,6 @@
 -- The test of covering.
 use Rattle.std.specs.Prelude.{ℕ, ◌==◌, ◌&&◌, nat_lt, Bool, if◌then◌else◌, List, [], ◌∷◌, Option, Some, None}
-use Rattle.layered_index.specs.declared.index.Checkpoint.{Checkpoint}
+use Rattle.layered_index.specs.declared.checkpoint.Checkpoint.{Checkpoint}
 
 -- whether it begins at this document and this byte, and has one of each
 abbrev pub goes_on : ℕ → ℕ → Checkpoint → Bool

@@ -2,8 +2,8 @@
 use Rattle.std.specs.Prelude.{◌≡◌, ◌⊎◌, ℕ, zero, suc, ◌+◌, ◌-◌, if◌then◌else◌, List, [], ◌∷◌, ◌++◌, length, Option, Some, None}
 use Rattle.std.specs.List.{concat}
 use Rattle.std.specs.Option.{option_map_or}
-use Rattle.layered_index.specs.declared.index.Checkpoint.{Checkpoint}
-use Rattle.layered_index.specs.declared.index.index_fault.IndexFault.{IndexFault}
+use Rattle.layered_index.specs.declared.checkpoint.Checkpoint.{Checkpoint}
+use Rattle.layered_index.specs.declared.index_fault.IndexFault.{IndexFault}
 use Rattle.layered_index.specs.Checkpoint.{checkpoint, bytes_end}
 use Rattle.layered_index.specs.Layers.{digit_count}
 use Rattle.layered_index.specs.BlockReading.{heading_at, run_at}

@@ -3,7 +3,7 @@ use Rattle.std.specs.Prelude.{ℕ, zero, suc, ◌+◌, List, [], ◌∷◌, ◌+
 use Rattle.std.specs.List.{flat_map, concat}
 use Rattle.std.specs.Int.Digits.{digits_of}
 use Rattle.store_base.specs.VInt.{number}
-use Rattle.layered_index.specs.declared.index.Checkpoint.{Checkpoint}
+use Rattle.layered_index.specs.declared.checkpoint.Checkpoint.{Checkpoint}
 use Rattle.layered_index.specs.Checkpoint.{checkpoint, docs_end, checkpoint_block}
 
 -- the runs of a list, of at most so many runs

@@ -1,7 +1,7 @@
 -- Lists in line are cut and joined; and for callers: one that is known to end somewhere takes what begins there.
 use Rattle.std.proofs.Common.{◌≡◌, ℕ, ◌+◌, ◌^◌, ◌<◌, List, [], ◌∷◌, ◌++◌, take, drop, refl, sym, ◌∙◌, subst, arith}
 use Rattle.std.proofs.lemmas.List.{take-append-drop}
-use Rattle.layered_index.specs.declared.index.Checkpoint.{Checkpoint}
+use Rattle.layered_index.specs.declared.checkpoint.Checkpoint.{Checkpoint}
 use Rattle.layered_index.specs.Checkpoint.{checkpoint, docs_end, bytes_end, IsWithinLimits, IsInLineFrom, IsInLine}
 use Rattle.layered_index.specs.Checkpoint.{EndsAt}
 

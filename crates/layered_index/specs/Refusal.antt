@@ -2,13 +2,13 @@
 use Rattle.std.specs.Prelude.{◌≡◌, ◌⊎◌, ℕ, Option, Some, None, Result, Ok, Err}
 use Rattle.store_base.specs.declared.error.StoreError.{StoreError}
 use Rattle.store_base.specs.declared.error.StoreError.TheVariants.{BadIndex, Memory}
-use Rattle.layered_index.specs.declared.index.fault.ReadFault.{ReadFault}
-use Rattle.layered_index.specs.declared.index.fault.ReadFault.TheVariants.{Malformed, OutOfMemory}
-use Rattle.layered_index.specs.declared.index.fault.LayerFault.{LayerFault}
-use Rattle.layered_index.specs.declared.index.fault.LayerFault.TheVariants as layer_fault
-use Rattle.layered_index.specs.declared.index.fault.Refusal.{Refusal}
-use Rattle.layered_index.specs.declared.index.fault.Refusal.TheVariants as refusal
-use Rattle.layered_index.specs.declared.index.index_fault.IndexFault.{IndexFault}
+use Rattle.layered_index.specs.declared.fault.ReadFault.{ReadFault}
+use Rattle.layered_index.specs.declared.fault.ReadFault.TheVariants.{Malformed, OutOfMemory}
+use Rattle.layered_index.specs.declared.fault.LayerFault.{LayerFault}
+use Rattle.layered_index.specs.declared.fault.LayerFault.TheVariants as layer_fault
+use Rattle.layered_index.specs.declared.fault.Refusal.{Refusal}
+use Rattle.layered_index.specs.declared.fault.Refusal.TheVariants as refusal
+use Rattle.layered_index.specs.declared.index_fault.IndexFault.{IndexFault}
 use Rattle.layered_index.specs.Faults.{fault_of_list}
 
 -- the refusal that a fault is answered by

@@ -1,6 +1,6 @@
 -- Where the answer of a seek lies, and how many looks a guess may take.
 use Rattle.std.specs.Prelude.{◌≡◌, ℕ, ◌/◌, ◌<◌, ◌≤◌, List, length, Option, Some, None, slice_get}
-use Rattle.layered_index.specs.declared.index.Checkpoint.{Checkpoint}
+use Rattle.layered_index.specs.declared.checkpoint.Checkpoint.{Checkpoint}
 use Rattle.layered_index.specs.Layers.{digit_count}
 
 -- none of the first so many ends past the target

@@ -4,8 +4,8 @@ use Rattle.std.specs.Prelude.{Option, Some, None, Result, Ok, Err}
 use Rattle.std.specs.Option.{option_or, option_map_or}
 use Rattle.store_base.specs.VInt.{◌>>=◌, number_below}
 use Rattle.store_base.specs.declared.error.StoreError.{StoreError}
-use Rattle.layered_index.specs.declared.index.Checkpoint.{Checkpoint}
-use Rattle.layered_index.specs.declared.index.block_seek.Sought.{Sought}
+use Rattle.layered_index.specs.declared.checkpoint.Checkpoint.{Checkpoint}
+use Rattle.layered_index.specs.declared.run_seek.Sought.{Sought}
 use Rattle.layered_index.specs.Checkpoint.{docs_end, IsInLine, checkpoint_block, first_past}
 use Rattle.layered_index.specs.Layers.{docs_start, layer_above}
 use Rattle.layered_index.specs.BlockReading.{step_at, steps_at, heading_at}

@@ -1,15 +1,32 @@
 //! The layered skip index of a store: checkpoints, their blocks and layers, and the seek.
 #![tactic(auto)]
 
-pub mod index;
+pub mod checkpoint;
+pub mod checkpoint_block;
+mod fault;
+mod guide;
+pub mod index_fault;
+pub mod index_head;
+pub mod index_slice;
 pub mod laws;
+pub mod layer_cursor;
+mod layers;
+pub mod looks;
+mod run_in_file;
+mod run_reading;
+mod run_seek;
+mod short_number;
+pub mod skip_index;
+pub mod skip_index_builder;
+mod split;
+mod tables;
 
-pub use index::block::CheckpointBlock;
-pub use index::index_fault::IndexFault;
-pub use index::index_head::IndexHead;
-pub use index::index_slice::IndexSlice;
-pub use index::layer_cursor::LayerCursor;
-pub use index::looks::{Looks, Steps, seek_near, seek_over};
-pub use index::skip_index::SkipIndex;
-pub use index::skip_index_builder::SkipIndexBuilder;
-pub use index::{CHECKPOINT_PERIOD, Checkpoint};
+pub use checkpoint::{CHECKPOINT_PERIOD, Checkpoint};
+pub use checkpoint_block::CheckpointBlock;
+pub use index_fault::IndexFault;
+pub use index_head::IndexHead;
+pub use index_slice::IndexSlice;
+pub use layer_cursor::LayerCursor;
+pub use looks::{Looks, Steps, seek_near, seek_over};
+pub use skip_index::SkipIndex;
+pub use skip_index_builder::SkipIndexBuilder;

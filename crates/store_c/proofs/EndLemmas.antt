@@ -1,7 +1,7 @@
 -- The index of blocks that end at some places, and the end of their file.
 use Rattle.std.proofs.Common.{◌≡◌, ℕ, ◌+◌, ◌<◌, List, [], ◌∷◌, ◌++◌, length, take, drop, get_or, map, refl, sym, ap, ◌∙◌, subst, arith, append_assoc}
 use Rattle.std.proofs.lemmas.List.{get_or-map, length-map, map-append, take_more, take-append-drop}
-use Rattle.layered_index.specs.declared.index.Checkpoint.{Checkpoint}
+use Rattle.layered_index.specs.declared.checkpoint.Checkpoint.{Checkpoint}
 use Rattle.layered_index.specs.Checkpoint.{bytes_end, docs_end, IsInLineFrom, IsWithinLimits, EndsAt}
 use Rattle.layered_index.specs.LineLemmas.{ends_put}
 use Rattle.layered_index.proofs.CheckpointLemmas.{same_checkpoint}

@@ -6,7 +6,7 @@ use Rattle.std.specs.Prelude.{slice_range, replicate, Ok, Err}
 use Rattle.store_base.specs.Outcome.{number_of}
 use Rattle.store_base.specs.declared.error.StoreError.{StoreError}
 use Rattle.store_base.specs.declared.error.StoreError.TheVariants.{BadIndex, InvalidArgument, ShortFile, Memory}
-use Rattle.layered_index.specs.declared.index.Checkpoint.{Checkpoint}
+use Rattle.layered_index.specs.declared.checkpoint.Checkpoint.{Checkpoint}
 use Rattle.layered_index.specs.Checkpoint.{first_past}
 use Rattle.store_format.specs.StoreFile.{checkpoints_of}
 use Rattle.store_reader.specs.Opening.{IsSomeStore}

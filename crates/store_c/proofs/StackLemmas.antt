@@ -6,7 +6,7 @@ use Rattle.std.proofs.Math.Seq.{take-append_seam}
 use Rattle.std.specs.Prelude.{drop}
 use borrow.Rule.Slice.PartMut.{put_mid}
 use Rattle.std.specs.List.{AllByRecursion, concat}
-use Rattle.layered_index.specs.declared.index.Checkpoint.{Checkpoint}
+use Rattle.layered_index.specs.declared.checkpoint.Checkpoint.{Checkpoint}
 use Rattle.layered_index.specs.Checkpoint.{IsInLineFrom}
 use Rattle.store_format.specs.Footer.{version_number}
 use Rattle.store_format.specs.StoreFile.{StoreBlock, IsStoreBlock, IsStore, AreBlocks, data_of, docs_in, checkpoints_of, checkpoints_from}

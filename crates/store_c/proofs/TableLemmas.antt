@@ -5,7 +5,7 @@ use Rattle.std.specs.Prelude.{slice_get, slice_index_or}
 use Rattle.std.specs.List.{AllByRecursion}
 use Rattle.std.proofs.lemmas.List.{length-map, length-take-le, map-append, take-append-drop}
 use Rattle.std.proofs.lemmas.Slice.{drop-append-drop}
-use Rattle.layered_index.specs.declared.index.Checkpoint.{Checkpoint}
+use Rattle.layered_index.specs.declared.checkpoint.Checkpoint.{Checkpoint}
 use Rattle.layered_index.specs.Checkpoint.{checkpoint, IsInLineFrom, IsWithinLimits, IsFilled, docs_end}
 use Rattle.layered_index.specs.LineLemmas.{in_line-split}
 use Rattle.docstore.specs.Stacking.{shifted}

@@ -1,6 +1,6 @@
 -- What the full check of a file tells a caller in C.
 use Rattle.std.specs.Prelude.{◌≡◌, ℕ, ◌+◌, ◌-◌, ◌^◌, ◌<◌, List, Option, Some, None}
-use Rattle.layered_index.specs.declared.index.index_fault.IndexFault.{IndexFault}
+use Rattle.layered_index.specs.declared.index_fault.IndexFault.{IndexFault}
 use Rattle.store_format.specs.Block.{damaged}
 use Rattle.store_reader.specs.Viewing.{Viewing, IsViewOf, slot_of}
 use Rattle.store_reader.specs.IndexChecks.{BreaksIndex}

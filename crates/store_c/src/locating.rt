@@ -1,6 +1,6 @@
 //! Where documents lie, by the table of their store's blocks.
 ghost use Rattle.std.specs.Prelude.{◌≡◌, ◌+◌, ◌≤◌, ◌<◌, List, length, drop, map, IfOk, MatchOption, MatchResult};
-ghost use Rattle.layered_index.specs.declared.index.Checkpoint.{Checkpoint as CheckpointOf};
+ghost use Rattle.layered_index.specs.declared.checkpoint.Checkpoint.{Checkpoint as CheckpointOf};
 ghost use Rattle.layered_index.specs.Checkpoint.{docs_end};
 ghost use Rattle.store_c.specs.Calls.{ends_of, ends_in, IsPlace, ArePlaces, IsTableBlock, RefusesDocument};
 ghost use Rattle.store_c.specs.declared.block.Block.{Block as BlockOf};

@@ -1,6 +1,6 @@
 //! The seek in a table, from a guess on.
 ghost use Rattle.std.specs.Prelude.{◌≡◌, ◌≤◌, ◌+◌, ◌-◌, ◌*◌, ℕ, List, length, map, slice_get};
-ghost use Rattle.layered_index.specs.declared.index.Checkpoint.{Checkpoint as CheckpointOf};
+ghost use Rattle.layered_index.specs.declared.checkpoint.Checkpoint.{Checkpoint as CheckpointOf};
 ghost use Rattle.layered_index.specs.Checkpoint.{IsInLineFrom, first_past};
 ghost use Rattle.layered_index.specs.Layers.{digit_count};
 ghost use Rattle.layered_index.specs.Seeking.{LiesBetween, looks_to_spare};

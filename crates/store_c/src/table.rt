@@ -1,6 +1,6 @@
 //! What the table of a store's blocks tells.
 ghost use Rattle.std.specs.Prelude.{◌≡◌, ◌≤◌, List, length, map};
-ghost use Rattle.layered_index.specs.declared.index.Checkpoint.{Checkpoint as CheckpointOf};
+ghost use Rattle.layered_index.specs.declared.checkpoint.Checkpoint.{Checkpoint as CheckpointOf};
 ghost use Rattle.layered_index.specs.Checkpoint.{docs_end};
 ghost use Rattle.store_c.specs.Calls.{ends_of, ends_in, start_in};
 

@@ -8,7 +8,7 @@ use Rattle.std.proofs.lemmas.List.{append-nil, take_at, drop_at}
 use Rattle.std.proofs.lemmas.List.Concat.{flat_map-append}
 use Rattle.std.proofs.lemmas.List.Sums.{sum_by-cons, sum_by-append}
 use Rattle.store_base.specs.Counts.{HasRisen}
-use Rattle.layered_index.specs.declared.index.Checkpoint.{Checkpoint}
+use Rattle.layered_index.specs.declared.checkpoint.Checkpoint.{Checkpoint}
 use Rattle.layered_index.specs.Checkpoint.{byte_len, Covers, checkpoint, docs_end, first_past}
 use Rattle.store_format.specs.StoreFile.{StoreBlock, IsStoreBlock, docs_in, data_of, checkpoints_from, checkpoints_of}
 use Rattle.store_reader.specs.declared.data_part.DataPart.{DataPart}

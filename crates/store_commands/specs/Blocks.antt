@@ -1,6 +1,6 @@
 -- What is found in a block.
 use Rattle.std.specs.Prelude.{◌≢◌, ◌<◌, ◌-◌, ℕ, List}
-use Rattle.layered_index.specs.declared.index.Checkpoint.{Checkpoint}
+use Rattle.layered_index.specs.declared.checkpoint.Checkpoint.{Checkpoint}
 use Rattle.store_format.specs.Block.{slot, damaged}
 
 -- None of the first so many documents of a block is damaged.

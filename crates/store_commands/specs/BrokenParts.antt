@@ -3,7 +3,7 @@ use Rattle.std.specs.Prelude.{◌≡◌, ◌≢◌, ℕ, ◌-◌, List, length, 
 use Rattle.std.specs.Option.{option_map}
 use Rattle.store_base.specs.declared.error.StoreError.{StoreError}
 use Rattle.store_base.specs.declared.error.StoreError.TheVariants.{Read, Memory, BadIndex}
-use Rattle.layered_index.specs.declared.index.Checkpoint.{Checkpoint}
+use Rattle.layered_index.specs.declared.checkpoint.Checkpoint.{Checkpoint}
 use Rattle.layered_index.specs.Covering.{covered_to}
 use Rattle.layered_index.specs.Faults.{IsFirstFault}
 use Rattle.layered_index.specs.IndexReading.{HasIndex, IsIndexPart}

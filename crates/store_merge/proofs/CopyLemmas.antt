@@ -12,7 +12,7 @@ use Rattle.store_base.specs.Files.{Part}
 use Rattle.layered_index.specs.Checkpoint.{docs_end}
 use Rattle.store_base.specs.declared.error.StoreError.{StoreError}
 use Rattle.store_base.specs.declared.error.StoreError.TheVariants.{Read, Memory, DamagedDocument}
-use Rattle.layered_index.specs.declared.index.Checkpoint.{Checkpoint}
+use Rattle.layered_index.specs.declared.checkpoint.Checkpoint.{Checkpoint}
 use Rattle.store_reader.specs.GetAnswer.{AnswersFrom, AnswersTruly}
 use Rattle.store_format.specs.StoreFile.{blocks_at}
 use Rattle.store_format.specs.Block.{Slot, doc, damaged}

@@ -5,7 +5,7 @@ use Rattle.std.specs.Prelude.{◌==◌, if◌then◌else◌, Bool, Result}
 use Rattle.std.specs.List.{sum_by}
 use Rattle.store_base.specs.Files.{Part}
 use Rattle.store_base.specs.declared.error.StoreError.{StoreError}
-use Rattle.layered_index.specs.declared.index.Checkpoint.{Checkpoint}
+use Rattle.layered_index.specs.declared.checkpoint.Checkpoint.{Checkpoint}
 use Rattle.layered_index.specs.Checkpoint.{byte_len, bytes_end, first_past, IsInLineFrom, Covers}
 use Rattle.store_reader.specs.Kept.{Blocks}
 use Rattle.store_reader.specs.LookingUp.{LooksUp}

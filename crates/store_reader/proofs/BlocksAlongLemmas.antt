@@ -3,7 +3,7 @@ use Rattle.std.proofs.Common.{◌≡◌, ℕ, zero, suc, ◌+◌, ◌-◌, ◌<�
 use Rattle.std.specs.List.{AllByRecursion, count_by, range_with_len}
 use Rattle.std.proofs.lemmas.Bool.{le-leb, lt-leb}
 use Rattle.std.proofs.lemmas.List.Sums.{sum_by-cons}
-use Rattle.layered_index.specs.declared.index.Checkpoint.{Checkpoint}
+use Rattle.layered_index.specs.declared.checkpoint.Checkpoint.{Checkpoint}
 use Rattle.store_reader.specs.declared.walk.Walk.{Walk}
 use Rattle.layered_index.specs.Checkpoint.{IsInLineFrom, IsFilled, Covers, docs_end, doc_count}
 use Rattle.store_reader.specs.Iteration.{is_in, alive_count, alive_below, looked_along, keys_along}

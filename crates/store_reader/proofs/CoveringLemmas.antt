@@ -2,7 +2,7 @@
 use Rattle.std.proofs.Common.{◌≡◌, ℕ, ◌≤◌, Bool, true, false, cond, List, [], ◌∷◌, Option, Some, None, refl, sym, ap, ◌∙◌, arith}
 use Rattle.std.specs.List.{AllByRecursion}
 use Rattle.store_base.specs.ReadingLemmas.{some_is}
-use Rattle.layered_index.specs.declared.index.Checkpoint.{Checkpoint}
+use Rattle.layered_index.specs.declared.checkpoint.Checkpoint.{Checkpoint}
 use Rattle.layered_index.specs.Checkpoint.{IsInLineFrom, IsInLine, IsFilled, Covers, docs_end, bytes_end}
 use Rattle.layered_index.specs.LineLemmas.{in_line_from, in_line_somewhere}
 use Rattle.layered_index.specs.IndexReading.{IsIndexPart}

@@ -1,7 +1,7 @@
 -- What a part of a store's data is, once it was read.
 use Rattle.std.proofs.Common.{◌≡◌, ℕ, ◌+◌, ◌-◌, ◌<◌, ◌≤◌, ◌⊎◌, inl, inr, List, length, Some, None, IsTrue, IfSome, refl, ◌∙◌, ap, arith}
 use Rattle.std.specs.Prelude.{slice_range}
-use Rattle.layered_index.specs.declared.index.Checkpoint.{Checkpoint}
+use Rattle.layered_index.specs.declared.checkpoint.Checkpoint.{Checkpoint}
 use Rattle.layered_index.specs.Checkpoint.{byte_len, docs_end, first_past, Covers}
 use Rattle.store_reader.specs.Reading.{Reading}
 use Rattle.store_reader.specs.Parts.{parts_beyond, number_of_parts, rest_from, IsBetween, IsPartFrom}

@@ -9,7 +9,7 @@ use Rattle.store_format.specs.declared.kinds.Decompressor.TheVariants as unpacke
 use Rattle.store_base.specs.declared.error.StoreError.{StoreError}
 use Rattle.store_format.specs.declared.footer.DocStoreFooter.{DocStoreFooter}
 use Rattle.store_format.specs.declared.version.DocStoreVersion.{DocStoreVersion}
-use Rattle.layered_index.specs.declared.index.Checkpoint.{Checkpoint}
+use Rattle.layered_index.specs.declared.checkpoint.Checkpoint.{Checkpoint}
 use Rattle.layered_index.specs.Checkpoint.{Covers}
 use Rattle.store_format.specs.Extraction.{SaysFrom, ExtractsFooter}
 use Rattle.store_format.specs.FileReading.{Comes}

@@ -3,7 +3,7 @@ use Rattle.std.proofs.Common.{◌≡◌, ℕ, ◌+◌, ◌<◌, ◌≤◌, true,
 use Rattle.std.proofs.Common.{◌∙◌, ap, subst, arith}
 use Rattle.std.specs.List.{AllByRecursion}
 use Rattle.std.proofs.lemmas.Bool.{ltb-false, lt-ltb, le-ltb, lt-leb, le-leb}
-use Rattle.layered_index.specs.declared.index.Checkpoint.{Checkpoint}
+use Rattle.layered_index.specs.declared.checkpoint.Checkpoint.{Checkpoint}
 use Rattle.layered_index.specs.Checkpoint.{IsWithinLimits, IsInLineFrom, IsFilled, docs_end, bytes_end, first_past, Covers}
 use Rattle.layered_index.specs.LineLemmas.{in_line-split, docs_end-put, bytes_end-put}
 use Rattle.store_reader.proofs.SeekLemmas.{within, docs_go_on, bytes_go_on}

@@ -8,7 +8,7 @@ use Rattle.std.specs.Map.{keys_of}
 use Rattle.store_base.specs.Counts.{raised}
 use Rattle.store_base.specs.Files.{Part}
 use Rattle.store_base.specs.declared.error.StoreError.{StoreError}
-use Rattle.layered_index.specs.declared.index.Checkpoint.{Checkpoint}
+use Rattle.layered_index.specs.declared.checkpoint.Checkpoint.{Checkpoint}
 use Rattle.store_reader.specs.GetAnswer.{IsLookedUp}
 use Rattle.store_reader.specs.Cache.{CacheState, LookUp, look_up, recent, misses_along}
 use Rattle.store_reader.specs.Kept.{Blocks, state_of}

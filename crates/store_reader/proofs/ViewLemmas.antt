@@ -4,7 +4,7 @@ use Rattle.std.specs.Prelude.{slice_range, slice_get}
 use Rattle.std.proofs.lemmas.Bool.{lt-ltb, le-ltb}
 use Rattle.store_base.specs.Counts.{raised}
 use Rattle.store_base.proofs.Ranges.{part_of_part}
-use Rattle.layered_index.specs.declared.index.Checkpoint.{Checkpoint}
+use Rattle.layered_index.specs.declared.checkpoint.Checkpoint.{Checkpoint}
 use Rattle.layered_index.specs.Checkpoint.{IsInLineFrom, bytes_end, docs_end, first_past}
 use Rattle.layered_index.specs.Layers.{digit_count, index_part}
 use Rattle.store_format.specs.declared.version.DocStoreVersion.{DocStoreVersion}

@@ -4,7 +4,7 @@ use Rattle.std.proofs.lemmas.Bool.{ltb-true, ltb-false, lt-ltb, le-ltb}
 use Rattle.std.proofs.lemmas.List.{drop-drop}
 use Rattle.std.proofs.Math.Seq.{take-add}
 use Rattle.std.specs.Prelude.{nat_lt, IsTrue, IfOk, IfErr, IfSome, Result, Ok, Err, slice_get, slice_range}
-use Rattle.layered_index.specs.declared.index.Checkpoint.{Checkpoint}
+use Rattle.layered_index.specs.declared.checkpoint.Checkpoint.{Checkpoint}
 use Rattle.store_base.specs.declared.error.StoreError.{StoreError}
 use Rattle.store_reader.specs.declared.walk.Walk.{Walk}
 use Rattle.store_base.specs.declared.error.StoreError.TheVariants.{Read, Memory}

@@ -1,6 +1,6 @@
 -- The index of a store.
 use Rattle.std.specs.Prelude.{◌≡◌, ℕ, List}
-use Rattle.layered_index.specs.declared.index.Checkpoint.{Checkpoint}
+use Rattle.layered_index.specs.declared.checkpoint.Checkpoint.{Checkpoint}
 use Rattle.layered_index.specs.Checkpoint.{Covers}
 use Rattle.layered_index.specs.Layers.{index_part}
 

@@ -2,7 +2,7 @@
 use Rattle.std.specs.Prelude.{◌≡◌, ◌⊎◌, ℕ, ◌-◌, IsTrue, IfOk, List, Option, Some, None, Result, Ok, Err}
 use Rattle.store_base.specs.declared.error.StoreError.{StoreError}
 use Rattle.store_base.specs.declared.error.StoreError.TheVariants.{InvalidArgument, DamagedDocument, Read, Memory}
-use Rattle.layered_index.specs.declared.index.Checkpoint.{Checkpoint}
+use Rattle.layered_index.specs.declared.checkpoint.Checkpoint.{Checkpoint}
 use Rattle.store_format.specs.Block.{Slot, slot, doc, damaged}
 use Rattle.layered_index.specs.Checkpoint.{first_past}
 use Rattle.store_reader.specs.LookingUp.{LooksUp}

@@ -1,6 +1,6 @@
 -- What a check of a file's index finds.
 use Rattle.std.specs.Prelude.{◌≡◌, ℕ, ◌-◌, ◌≤◌, List, length, slice_range, Option, Some, None, Ok}
-use Rattle.layered_index.specs.declared.index.index_fault.IndexFault.{IndexFault}
+use Rattle.layered_index.specs.declared.index_fault.IndexFault.{IndexFault}
 use Rattle.layered_index.specs.IndexReading.{HasIndex}
 use Rattle.layered_index.specs.Faults.{IsFirstFault}
 use Rattle.store_format.specs.declared.footer.DocStoreFooter.{DocStoreFooter}

@@ -1,7 +1,7 @@
 -- What going over a store gives, and which blocks it looks up.
 use Rattle.std.specs.Prelude.{ℕ, ◌-◌, Bool, true, if◌then◌else◌, nat_le, List, [], ◌∷◌, map, Option, Some, None}
 use Rattle.std.specs.List.{filter, count_by, enumerate_from, range_with_len}
-use Rattle.layered_index.specs.declared.index.Checkpoint.{Checkpoint}
+use Rattle.layered_index.specs.declared.checkpoint.Checkpoint.{Checkpoint}
 use Rattle.layered_index.specs.Checkpoint.{doc_count}
 use Rattle.store_format.specs.Block.{Slot}
 use Rattle.store_format.specs.StoreFile.{StoreBlock, checkpoints_of}

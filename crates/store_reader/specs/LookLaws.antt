@@ -4,7 +4,7 @@ use Rattle.std.specs.Prelude.{Option, Result}
 use Rattle.std.specs.List.{sum_by}
 use Rattle.store_base.specs.Counts.{raised}
 use Rattle.store_base.specs.declared.error.StoreError.{StoreError}
-use Rattle.layered_index.specs.declared.index.Checkpoint.{Checkpoint}
+use Rattle.layered_index.specs.declared.checkpoint.Checkpoint.{Checkpoint}
 use Rattle.store_reader.specs.declared.walk.Walk.{Walk}
 use Rattle.store_reader.specs.Cache.{CacheState, LookUp, recent, misses_along}
 use Rattle.layered_index.specs.Checkpoint.{byte_len, Covers}

@@ -4,7 +4,7 @@ use Rattle.std.specs.List.{AllByRecursion}
 use Rattle.store_base.specs.Files.{Part, ReadsOnce}
 use Rattle.store_format.specs.declared.kinds.Decompressor.{Decompressor}
 use Rattle.store_format.specs.declared.version.DocStoreVersion.{DocStoreVersion}
-use Rattle.layered_index.specs.declared.index.Checkpoint.{Checkpoint}
+use Rattle.layered_index.specs.declared.checkpoint.Checkpoint.{Checkpoint}
 use Rattle.layered_index.specs.Checkpoint.{docs_end, Covers}
 use Rattle.store_reader.specs.Kept.{Blocks}
 use Rattle.store_format.specs.StoreFile.{StoreBlock, AreBlocks, data_of, checkpoints_of, blocks_at}

@@ -6,7 +6,7 @@ use Rattle.store_base.specs.AliveBitSet.{is_alive_at}
 use Rattle.store_base.specs.declared.error.StoreError.{StoreError}
 use Rattle.store_base.specs.declared.error.StoreError.TheVariants.{InvalidArgument, DamagedDocument, BadIndex}
 use Rattle.store_base.specs.declared.error.StoreError.TheVariants.{BadDocument, Memory}
-use Rattle.layered_index.specs.declared.index.Checkpoint.{Checkpoint}
+use Rattle.layered_index.specs.declared.checkpoint.Checkpoint.{Checkpoint}
 use Rattle.layered_index.specs.Checkpoint.{docs_end, first_past}
 use Rattle.layered_index.specs.Layers.{index_part}
 use Rattle.layered_index.specs.Sought.{IndexBytes}

@@ -1,7 +1,7 @@
 //! Where an iteration stands, and how it goes on.
 ghost use Rattle.std.specs.Prelude.{◌≡◌, ◌≤◌, ◌<◌, ◌+◌, true, Some, length, slice_get, slice_range, take, Err};
 ghost use Rattle.std.specs.Prelude.{MatchOption};
-ghost use Rattle.layered_index.specs.declared.index.Checkpoint.{Checkpoint};
+ghost use Rattle.layered_index.specs.declared.checkpoint.Checkpoint.{Checkpoint};
 ghost use Rattle.store_reader.specs.Iteration.{is_in};
 ghost use Rattle.store_reader.specs.Reading.{IsSameStore, num_docs};
 ghost use Rattle.store_reader.specs.Walking.{set_in, IsTaken, StandsIn, IsWalk, LooksAlong, WalksTo, AnswersOf};

@@ -1,7 +1,7 @@
 //! Whole lists of calls, and the functions of the main theorem.
 
 use docstore::{Answer, ReadCall, StoreCommand, StoreError, write_store};
-use headline::{stacked_in_two_orders, written_and_asked};
+use main_theorem::{stacked_in_two_orders, written_and_asked};
 use std::alloc::Global;
 use std::test::Fail;
 use store_base::{Field, MemFile, MemSink, RecordDocument, Schema};

@@ -1,5 +1,5 @@
 use Rattle.std.proofs.Common.{◌≡◌, List, ◌++◌, length, drop, map}
-use Rattle.layered_index.specs.declared.index.Checkpoint.{Checkpoint}
+use Rattle.layered_index.specs.declared.checkpoint.Checkpoint.{Checkpoint}
 use Rattle.store_c.specs.Calls.{ends_in, ends_behind, with_front}
 use Rattle.store_c.proofs.filling.fill.Given as goal
 

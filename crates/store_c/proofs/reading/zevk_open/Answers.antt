@@ -1,7 +1,7 @@
 use Rattle.std.proofs.Common.{◌≡◌, ◌≤◌, ℕ, List, length, map, take, refl, sym, ap, ◌∙◌, subst, arith, inl, inr}
 use Rattle.std.proofs.lemmas.List.{length-map, take-map}
 use Rattle.layered_index.specs.Checkpoint.{IsInLineFrom}
-use Rattle.layered_index.specs.declared.index.Checkpoint.{Checkpoint}
+use Rattle.layered_index.specs.declared.checkpoint.Checkpoint.{Checkpoint}
 use Rattle.store_base.specs.Outcome.{number_of}
 use Rattle.store_c.specs.declared.block.Block.{Block}
 use Rattle.store_c.specs.Calls.{end_of, ends_in, ends_of, with_front}

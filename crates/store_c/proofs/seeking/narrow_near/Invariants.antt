@@ -1,5 +1,5 @@
 use Rattle.std.proofs.Common.{◌≡◌, ◌≤◌, ◌+◌, ◌-◌, List, length, map}
-use Rattle.layered_index.specs.declared.index.Checkpoint.{Checkpoint}
+use Rattle.layered_index.specs.declared.checkpoint.Checkpoint.{Checkpoint}
 use Rattle.layered_index.specs.Checkpoint.{IsInLineFrom}
 use Rattle.layered_index.specs.Layers.{digit_count}
 use Rattle.layered_index.specs.Seeking.{LiesBetween, looks_to_spare}

@@ -4,7 +4,7 @@ use Rattle.std.proofs.lemmas.Result.{err_from_is_err_and}
 use Rattle.store_reader.specs.Reading.{Reading, IsSameStore}
 use Rattle.store_reader.specs.Walking.{set_of, set_in, LooksAlong, GivesNext}
 use Rattle.store_reader.specs.declared.walk.Walk.{Walk}
-use Rattle.layered_index.specs.declared.index.Checkpoint.{Checkpoint}
+use Rattle.layered_index.specs.declared.checkpoint.Checkpoint.{Checkpoint}
 use Rattle.store_base.specs.declared.error.StoreError.TheVariants.{Memory}
 use Rattle.store_reader.proofs.AskedLemmas.{asked_within}
 use Rattle.store_reader.proofs.BlocksAlongLemmas.{take_length_one}

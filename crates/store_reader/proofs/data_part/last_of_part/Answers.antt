@@ -1,5 +1,5 @@
 use Rattle.std.proofs.Common.{◌≡◌, ◌+◌, ◌<◌, ◌≤◌, inl, inr, List, [], refl, sym, ◌∙◌, ap, arith}
-use Rattle.layered_index.specs.declared.index.Checkpoint.{Checkpoint}
+use Rattle.layered_index.specs.declared.checkpoint.Checkpoint.{Checkpoint}
 use Rattle.store_reader.specs.Parts.{parts_beyond, number_of_parts, rest_from}
 use Rattle.store_reader.proofs.PartLemmas.{next_of, is_block_of, is_inside, none_left, fresh_part, same_part}
 use Rattle.store_reader.proofs.data_part.last_of_part.Goals as goal

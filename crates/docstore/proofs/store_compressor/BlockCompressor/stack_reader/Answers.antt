@@ -1,5 +1,5 @@
 use Rattle.std.proofs.Common.{◌≡◌, ℕ, List, length, sym, ◌∙◌, ap, subst}
-use Rattle.layered_index.specs.declared.index.Checkpoint.{Checkpoint}
+use Rattle.layered_index.specs.declared.checkpoint.Checkpoint.{Checkpoint}
 use Rattle.layered_index.specs.Checkpoint.{Covers}
 use Rattle.store_format.specs.StoreFile.{StoreBlock, checkpoints_of, blocks_at}
 use Rattle.store_reader.specs.Reading.{Reading}

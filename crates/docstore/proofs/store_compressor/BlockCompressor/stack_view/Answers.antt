@@ -1,5 +1,5 @@
 use Rattle.std.proofs.Common.{◌≡◌, List, length, ◌∙◌, ap, arith}
-use Rattle.layered_index.specs.declared.index.Checkpoint.{Checkpoint}
+use Rattle.layered_index.specs.declared.checkpoint.Checkpoint.{Checkpoint}
 use Rattle.layered_index.specs.Checkpoint.{Covers, docs_end}
 use Rattle.store_format.specs.StoreFile.{blocks_at, docs_in, checkpoints_of, data_of}
 use Rattle.store_format.proofs.StoreLemmas.{blocks_back, checkpoints_cover}

@@ -3,7 +3,7 @@ use Rattle.std.proofs.lemmas.Grind.{common_steps}
 use Rattle.std.specs.List.{sum_by}
 use Rattle.store_base.specs.Counts.{raised}
 use Rattle.store_base.specs.declared.error.Cause.{Cause}
-use Rattle.layered_index.specs.declared.index.Checkpoint.{Checkpoint}
+use Rattle.layered_index.specs.declared.checkpoint.Checkpoint.{Checkpoint}
 use Rattle.layered_index.specs.Checkpoint.{doc_count}
 use Rattle.layered_index.specs.Layers.{Index}
 use Rattle.store_format.specs.StoreFile.{docs_in, checkpoints_from, blocks_at}

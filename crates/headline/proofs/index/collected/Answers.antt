@@ -1,5 +1,0 @@
-use Rattle.headline.proofs.IndexLemmas.{next_in_line}
-use Rattle.headline.proofs.index.collected.Goals as goal
-
-pub push-requires : goal.push-requires
-push-requires c = next_in_line _ _ _ _ _ c.loop-checkpoint.invariant c.in-Some.ensures.steps c.requires.in_line

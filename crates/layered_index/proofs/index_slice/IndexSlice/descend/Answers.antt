@@ -1,0 +1,181 @@
+use Rattle.std.proofs.Common.{ℕ, ◌≡◌, ◌≤◌, ◌+◌, ◌-◌, ◌*◌, List, length, Some, None, eqb, refl, sym, ◌∙◌, ap, subst, not, arith}
+use Rattle.std.proofs.lemmas.Option.{IfSome_then}
+use Rattle.std.proofs.lemmas.Bool.{eqb-false, cond-true, cond-false}
+use Rattle.layered_index.specs.declared.checkpoint.Checkpoint.{Checkpoint}
+use Rattle.layered_index.specs.Layers.{digit_count}
+use Rattle.layered_index.specs.Sought.{IndexBytes, layers_left, found_in_index}
+use Rattle.layered_index.proofs.IndexHeadLemmas.{inside, head_few, head_digits}
+use Rattle.layered_index.proofs.DescentLemmas.{LeadsOn, leads_first, leads_next, leads_sought, leads_to_none, leads_on, leads_last, counted_within, one_more_counted}
+use Rattle.layered_index.proofs.FoundLemmas.{found_first, found_no_layer, found_next, found_nothing, found_goes_on, found_last}
+use Rattle.layered_index.proofs.index_slice.IndexSlice.descend.Goals as goal
+
+-- the looks at so many layers, where the head tells how many there are
+most : (u v : IndexBytes) (steps old i count : ℕ) (cs : List Checkpoint) → u ≡ v → i ≤ count → steps ≤ old + u.period * i → count ≡ digit_count u.period (length cs)
+    → steps ≤ old + v.period * digit_count v.period (length cs)
+most u v steps old i count cs e le h digits =
+    subst (λ (w : IndexBytes). steps ≤ old + w.period * digit_count w.period (length cs)) e
+    (subst (λ (n : ℕ). steps ≤ old + u.period * n) digits (counted_within steps old u.period i count le h))
+
+always : (u v : IndexBytes) (steps old i count : ℕ) → u ≡ v → i ≤ count → count ≤ 64 → steps ≤ old + u.period * i → steps ≤ old + v.period * 64
+always u v steps old i count e le few h = subst (λ (w : IndexBytes). steps ≤ old + w.period * 64) e
+    (counted_within steps old u.period count 64 few (counted_within steps old u.period i count le h))
+
+pub loop-init : goal.loop-init
+loop-init c =
+    let all : c.self.inside.count - 0 ≡ c.self.inside.count = omega arith in
+    record {
+      leads = λ cs is. subst (λ (n : ℕ). LeadsOn c.self.inside.period c.args.target cs None c.self.inside.texts.now (layers_left n 0 c.self.inside.ends.now c.self.inside.texts.now)) (sym all)
+          (leads_first c.self.inside.period c.args.target c.self.inside.bytes.now c.self.inside.count c.self.inside.ends.now c.self.inside.texts.now cs c.self.inside.texts.now c.self.invariant
+          (omega arith)
+          (inside _ _ cs c.self.view_is is));
+      exact = found_first _ _ c.args.whole c.args.target c.self.inside.count c.self.inside.ends.now c.self.inside.texts.now c.self.view_is c.self.invariant;
+      counted = omega arith;
+      past = tt;
+      more = omega arith;
+      least = tt;
+    }
+
+pub returns-in_default-clause-answer : goal.returns-in_default-clause-answer
+returns-in_default-clause-answer c cs is =
+    let l = c.loop in
+    absurd (leads_next c.self.inside.period c.args.target cs l.found l.run.now c.self.inside.count l.counter l.place l.ends.now l.texts.now c.loop-test.true (sym c.in_default.ensures)
+    (l.invariant.leads cs is))
+
+pub returns-in_default-clause-most : goal.returns-in_default-clause-most
+returns-in_default-clause-most c cs is =
+    let digits = head_digits c.self.inside.period c.self.inside.bytes.now c.self.inside.count c.self.inside.ends.now c.self.inside.texts.now cs c.self.invariant (inside _ _ cs c.self.view_is is) in
+    most _ _ c.loop.steps c.args.steps.now c.loop.counter c.self.inside.count cs c.self.view_is (omega arith) c.loop.invariant.counted digits
+
+pub returns-in_default-clause-always : goal.returns-in_default-clause-always
+returns-in_default-clause-always c =
+    always _ _ c.loop.steps c.args.steps.now c.loop.counter c.self.inside.count c.self.view_is (omega arith) (head_few _ _ _ c.self.invariant.counted) c.loop.invariant.counted
+
+pub returns-in_default-seek_layer-clause-answer : goal.returns-in_default-seek_layer-clause-answer
+returns-in_default-seek_layer-clause-answer c cs is =
+    let l = c.loop in
+    absurd (leads_sought c.self.inside.period c.args.target cs l.found l.run.now c.self.inside.count l.counter l.place l.ends.now l.texts.now c.in-Some.layer.now c.in-Some.end
+    c.in-Some.more_ends.now c.in-Some.more.now None c.loop-test.true (sym c.in-Some.ensures) (l.invariant.leads cs is) c.in_default-seek_layer.ensures.answer refl)
+
+pub returns-in_default-seek_layer-clause-most : goal.returns-in_default-seek_layer-clause-most
+returns-in_default-seek_layer-clause-most c cs is =
+    let digits = head_digits c.self.inside.period c.self.inside.bytes.now c.self.inside.count c.self.inside.ends.now c.self.inside.texts.now cs c.self.invariant (inside _ _ cs c.self.view_is is) in
+    most _ _ c.seek_layer.new.steps c.args.steps.now (c.loop.counter + 1) c.self.inside.count cs c.self.view_is (omega arith)
+    (one_more_counted _ c.loop.steps c.args.steps.now c.self.inside.period c.loop.counter c.seek_layer.ensures.counted c.loop.invariant.counted) digits
+
+pub returns-in_default-seek_layer-clause-always : goal.returns-in_default-seek_layer-clause-always
+returns-in_default-seek_layer-clause-always c =
+    always _ _ c.seek_layer.new.steps c.args.steps.now (c.loop.counter + 1) c.self.inside.count c.self.view_is (omega arith) (head_few _ _ _ c.self.invariant.counted)
+    (one_more_counted _ c.loop.steps c.args.steps.now c.self.inside.period c.loop.counter c.seek_layer.ensures.counted c.loop.invariant.counted)
+
+pub returns-then-is_none-clause-answer : goal.returns-then-is_none-clause-answer
+returns-then-is_none-clause-answer c cs is =
+    let l = c.loop in
+    sym (leads_to_none c.self.inside.period c.args.target cs l.found c.in-Some-seek_layer.next l.run.now c.self.inside.count l.counter l.place l.ends.now l.texts.now
+    c.in-Some.layer.now c.in-Some.end c.in-Some.more_ends.now c.in-Some.more.now c.loop-test.true (sym c.in-Some.ensures) (c.is_none.ensures ∙ ap not c.if-is_none.true) (l.invariant.leads cs is)
+    c.in-Some-seek_layer.ensures.answer)
+
+pub returns-then-is_none-clause-most : goal.returns-then-is_none-clause-most
+returns-then-is_none-clause-most c cs is =
+    let digits = head_digits c.self.inside.period c.self.inside.bytes.now c.self.inside.count c.self.inside.ends.now c.self.inside.texts.now cs c.self.invariant (inside _ _ cs c.self.view_is is) in
+    most _ _ c.seek_layer.new.steps c.args.steps.now (c.loop.counter + 1) c.self.inside.count cs c.self.view_is (omega arith)
+    (one_more_counted _ c.loop.steps c.args.steps.now c.self.inside.period c.loop.counter c.seek_layer.ensures.counted c.loop.invariant.counted) digits
+
+pub returns-then-is_none-clause-always : goal.returns-then-is_none-clause-always
+returns-then-is_none-clause-always c =
+    always _ _ c.seek_layer.new.steps c.args.steps.now (c.loop.counter + 1) c.self.inside.count c.self.view_is (omega arith) (head_few _ _ _ c.self.invariant.counted)
+    (one_more_counted _ c.loop.steps c.args.steps.now c.self.inside.period c.loop.counter c.seek_layer.ensures.counted c.loop.invariant.counted)
+
+pub loop-preserved : goal.loop-preserved
+loop-preserved c =
+    let l = c.loop in
+    record {
+      leads = λ cs is. subst (λ (t : List ℕ). LeadsOn c.self.inside.period c.args.target cs c.in-Some-seek_layer.next t (layers_left (c.self.inside.count - (l.counter + 1)) c.in-Some.end
+          c.in-Some.more_ends.now c.in-Some.more.now)) (sym c.from_pointer-run.ensures)
+          (leads_on c.self.inside.period c.args.target cs l.found c.in-Some-seek_layer.next l.run.now c.self.inside.count l.counter l.place l.ends.now l.texts.now
+          c.in-Some.layer.now c.in-Some.end c.in-Some.more_ends.now c.in-Some.more.now c.loop-test.true (sym c.in-Some.ensures) (c.is_none.ensures
+          ∙ ap not c.if-is_none.false) (l.invariant.leads cs is)
+          c.in-Some-seek_layer.ensures.answer);
+      exact = found_goes_on c.args.whole c.self.inside.period c.args.target (c.self.inside.count - (l.counter + 1)) c.in-Some.end c.in-Some.more_ends.now c.in-Some.more.now
+          c.in-Some-seek_layer.next _ (c.is_none.ensures ∙ ap not c.if-is_none.false)
+          (found_next c.args.whole c.self.inside.period c.args.target c.self.inside.count l.counter l.place l.ends.now l.texts.now l.found _ c.in-Some.layer.now c.in-Some.end c.in-Some.more_ends.now
+          c.in-Some.more.now (Some c.in-Some-seek_layer.next) c.loop-test.true (sym c.in-Some.ensures) c.in-Some-seek_layer.ensures.exact l.invariant.exact);
+      counted = one_more_counted _ l.steps c.args.steps.now c.self.inside.period l.counter c.seek_layer.ensures.counted l.invariant.counted;
+      past = c.in-Some-seek_layer.ensures.past;
+      more = omega (arith, c.seek_layer.ensures.more, l.invariant.more);
+      least = IfSome_then c.in-Some-seek_layer.next c.in-Some-seek_layer.ensures.least (λ _ h. omega (arith, h, l.invariant.more));
+    }
+
+pub returns-then-not-is_empty-clause-answer : goal.returns-then-not-is_empty-clause-answer
+returns-then-not-is_empty-clause-answer c cs is =
+    let l = c.loop in
+    let last = leads_last c.self.inside.period c.args.target cs l.found l.run.now c.self.inside.count l.counter l.place l.ends.now l.texts.now c.loop-test.false (l.invariant.leads cs is) in
+    absurd (eqb-false (length l.texts.now) 0 (sym c.if-not-is_empty.ensures) last.2)
+
+pub returns-then-not-is_empty-clause-most : goal.returns-then-not-is_empty-clause-most
+returns-then-not-is_empty-clause-most c cs is =
+    let digits = head_digits c.self.inside.period c.self.inside.bytes.now c.self.inside.count c.self.inside.ends.now c.self.inside.texts.now cs c.self.invariant (inside _ _ cs c.self.view_is is) in
+    most _ _ c.loop.steps c.args.steps.now c.loop.counter c.self.inside.count cs c.self.view_is (omega arith) c.loop.invariant.counted digits
+
+pub returns-then-not-is_empty-clause-always : goal.returns-then-not-is_empty-clause-always
+returns-then-not-is_empty-clause-always c =
+    always _ _ c.loop.steps c.args.steps.now c.loop.counter c.self.inside.count c.self.view_is (omega arith) (head_few _ _ _ c.self.invariant.counted) c.loop.invariant.counted
+
+pub returns-clause-answer : goal.returns-clause-answer
+returns-clause-answer c cs is =
+    let l = c.loop in
+    let last = leads_last c.self.inside.period c.args.target cs l.found l.run.now c.self.inside.count l.counter l.place l.ends.now l.texts.now c.loop-test.false (l.invariant.leads cs is) in
+    sym last.0
+
+pub returns-clause-run : goal.returns-clause-run
+returns-clause-run c cs is =
+    let l = c.loop in
+    let last = leads_last c.self.inside.period c.args.target cs l.found l.run.now c.self.inside.count l.counter l.place l.ends.now l.texts.now c.loop-test.false (l.invariant.leads cs is) in
+    last.1
+
+pub returns-clause-most : goal.returns-clause-most
+returns-clause-most c cs is =
+    let digits = head_digits c.self.inside.period c.self.inside.bytes.now c.self.inside.count c.self.inside.ends.now c.self.inside.texts.now cs c.self.invariant (inside _ _ cs c.self.view_is is) in
+    most _ _ c.loop.steps c.args.steps.now c.loop.counter c.self.inside.count cs c.self.view_is (omega arith) c.loop.invariant.counted digits
+
+pub returns-clause-always : goal.returns-clause-always
+returns-clause-always c =
+    always _ _ c.loop.steps c.args.steps.now c.loop.counter c.self.inside.count c.self.view_is (omega arith) (head_few _ _ _ c.self.invariant.counted) c.loop.invariant.counted
+
+pub returns-in_default-clause-exact : goal.returns-in_default-clause-exact
+returns-in_default-clause-exact c =
+    let l = c.loop in
+    let total = found_in_index c.args.whole c.args.self.now.period c.args.target c.args.self.now.bytes in
+    found_no_layer c.args.whole c.self.inside.period c.args.target c.self.inside.count l.counter l.place l.ends.now l.texts.now l.found
+    total c.loop-test.true (sym c.in_default.ensures) l.invariant.exact
+
+pub returns-in_default-seek_layer-clause-exact : goal.returns-in_default-seek_layer-clause-exact
+returns-in_default-seek_layer-clause-exact c =
+    let l = c.loop in
+    let total = found_in_index c.args.whole c.args.self.now.period c.args.target c.args.self.now.bytes in
+    sym (found_next c.args.whole c.self.inside.period c.args.target c.self.inside.count l.counter l.place l.ends.now l.texts.now l.found
+    total c.in-Some.layer.now c.in-Some.end c.in-Some.more_ends.now c.in-Some.more.now
+    None c.loop-test.true (sym c.in-Some.ensures) c.in_default-seek_layer.ensures.exact l.invariant.exact)
+
+pub returns-then-is_none-clause-exact : goal.returns-then-is_none-clause-exact
+returns-then-is_none-clause-exact c =
+    let l = c.loop in
+    let total = found_in_index c.args.whole c.args.self.now.period c.args.target c.args.self.now.bytes in
+    found_nothing c.args.whole c.self.inside.period c.args.target (c.self.inside.count - (l.counter + 1)) c.in-Some.end c.in-Some.more_ends.now c.in-Some.more.now c.in-Some-seek_layer.next total
+    (c.is_none.ensures ∙ ap not c.if-is_none.true)
+    (found_next c.args.whole c.self.inside.period c.args.target c.self.inside.count l.counter l.place l.ends.now l.texts.now l.found
+    total c.in-Some.layer.now c.in-Some.end c.in-Some.more_ends.now c.in-Some.more.now
+    (Some c.in-Some-seek_layer.next) c.loop-test.true (sym c.in-Some.ensures) c.in-Some-seek_layer.ensures.exact l.invariant.exact)
+
+pub returns-then-not-is_empty-clause-exact : goal.returns-then-not-is_empty-clause-exact
+returns-then-not-is_empty-clause-exact c =
+    let l = c.loop in
+    let total = found_in_index c.args.whole c.args.self.now.period c.args.target c.args.self.now.bytes in
+    found_last c.args.whole c.self.inside.period c.args.target c.self.inside.count l.counter l.place l.ends.now l.texts.now l.found
+    total c.loop-test.false l.invariant.exact ∙ cond-false (eqb (length l.texts.now) 0) (Some l.found) None (sym c.if-not-is_empty.ensures)
+
+pub returns-clause-exact : goal.returns-clause-exact
+returns-clause-exact c =
+    let l = c.loop in
+    let total = found_in_index c.args.whole c.args.self.now.period c.args.target c.args.self.now.bytes in
+    found_last c.args.whole c.self.inside.period c.args.target c.self.inside.count l.counter l.place l.ends.now l.texts.now l.found
+    total c.loop-test.false l.invariant.exact ∙ cond-true (eqb (length l.texts.now) 0) (Some l.found) None (sym c.if-not-is_empty.ensures)

@@ -1,0 +1,5 @@
+use Rattle.main_theorem.proofs.IndexLemmas.{next_in_line}
+use Rattle.main_theorem.proofs.index.collected.Goals as goal
+
+pub push-requires : goal.push-requires
+push-requires c = next_in_line _ _ _ _ _ c.loop-checkpoint.invariant c.in-Some.ensures.steps c.requires.in_line
