@@ -34,14 +34,15 @@ lengths: each document follows its length, which is four bytes, the lowest first
 files: each file is a document; 'get' and 'cat' add nothing between documents";
 
 impl Framing {
-    /// The framing of this name; lines where it is none.
-    pub fn from_name(name: &str) -> Framing {
+    /// The framing of this name, one of `FRAMINGS`.
+    pub fn from_name(name: &str) -> Option<Framing> {
         match name {
-            "text" => Framing::Text,
-            "nul" => Framing::Nul,
-            "lengths" => Framing::Lengths,
-            "files" => Framing::Files,
-            _ => Framing::Lines,
+            "lines" => Some(Framing::Lines),
+            "text" => Some(Framing::Text),
+            "nul" => Some(Framing::Nul),
+            "lengths" => Some(Framing::Lengths),
+            "files" => Some(Framing::Files),
+            _ => None,
         }
     }
 

@@ -4,18 +4,24 @@ use crate::fault::FramingFault;
 use std::io;
 use std::io::{BufRead, Read};
 
+// What an input has where the length of a document is expected.
+enum Head {
+    Length(u32),
+    // Fewer bytes than a length has.
+    Cut,
+    End,
+}
+
 /// Reads a length and that many bytes, or returns false at the end of the input.
 pub(crate) fn read_measured<R: BufRead>(
     input: &mut R,
     document: &mut Vec<u8>,
 ) -> Result<bool, FramingFault> {
-    let mut head = [0u8; 4];
-    match read_up_to(input, &mut head)? {
-        0 => return Ok(false),
-        4 => {}
-        _ => return Err(FramingFault::Cut),
-    }
-    let len = u32::from_le_bytes(head);
+    let len = match read_head(input)? {
+        Head::Length(len) => len,
+        Head::Cut => return Err(FramingFault::Cut),
+        Head::End => return Ok(false),
+    };
     input.by_ref().take(u64::from(len)).read_to_end(document)?;
     if document.len() < len as usize {
         return Err(FramingFault::Cut);
@@ -23,14 +29,15 @@ pub(crate) fn read_measured<R: BufRead>(
     Ok(true)
 }
 
-// Fills the buffer as far as the input goes, and counts the bytes.
-fn read_up_to<R: BufRead>(input: &mut R, head: &mut [u8; 4]) -> io::Result<usize> {
+// Reads the length of the next document.
+fn read_head<R: BufRead>(input: &mut R) -> io::Result<Head> {
     if input.fill_buf()?.is_empty() {
-        return Ok(0);
+        return Ok(Head::End);
     }
-    match input.read_exact(head) {
-        Ok(()) => Ok(4),
-        Err(error) if error.kind() == io::ErrorKind::UnexpectedEof => Ok(1),
+    let mut head = [0u8; 4];
+    match input.read_exact(&mut head) {
+        Ok(()) => Ok(Head::Length(u32::from_le_bytes(head))),
+        Err(error) if error.kind() == io::ErrorKind::UnexpectedEof => Ok(Head::Cut),
         Err(error) => Err(error),
     }
 }

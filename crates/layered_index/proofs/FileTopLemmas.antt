@@ -5,40 +5,20 @@ use Rattle.std.proofs.lemmas.List.{take_all, take_rest, length-take}
 use Rattle.std.specs.List.{flat_map}
 use Rattle.std.specs.Prelude.{slice_range}
 use Rattle.store_base.specs.VInt.{◌>>=◌, number, number_below}
-use Rattle.store_base.specs.VIntLemmas.{length-number-le_5, length-number-le_10}
+use Rattle.store_base.specs.VIntLemmas.{length-number-le_10}
 use Rattle.layered_index.specs.declared.checkpoint.Checkpoint.{Checkpoint}
 use Rattle.layered_index.specs.declared.run_seek.Sought.{Sought}
-use Rattle.layered_index.specs.Checkpoint.{docs_end, doc_count, byte_len, IsWithinLimits, IsInLineFrom, IsInLine, step, starts, checkpoint_block}
+use Rattle.layered_index.specs.Checkpoint.{docs_end, IsInLine, step, starts, checkpoint_block}
 use Rattle.layered_index.specs.IndexReading.{IsIndexPart}
 use Rattle.layered_index.specs.IndexHeads.{longest_head, longest_run, run_end, end_in_index, HeadBytes, index_in, IsHead, IsHeadOf}
 use Rattle.layered_index.specs.Sought.{sought_at, after_numbers, next_layer, IsHeaded}
+use Rattle.layered_index.proofs.LayerLemmas.{length-steps-le, length-starts-le}
 use Rattle.layered_index.proofs.FileHeadLemmas.{Heads, heads, seen_head}
 use Rattle.layered_index.proofs.FileSeekLemmas.{some_end, next_behind, next_here}
 use Rattle.layered_index.proofs.OuterLayersLemmas.{IsTop, top_there, top_is, top_read}
 use Rattle.layered_index.proofs.SoughtLemmas.{one_block}
 
 -- ---- how long a run is at most
-
-length-step-le : (c : Checkpoint) → IsWithinLimits c → length (step c) ≤ 10
-length-step-le c fits = omega (
-  arith,
-  length-append (number (doc_count c)) (number (byte_len c)),
-  length-number-le_5 (doc_count c) (omega (arith, fits.doc_end)),
-  length-number-le_5 (byte_len c) (omega (arith, fits.byte_len)),
-)
-
-length-steps-le : (doc byte : ℕ) (cs : List Checkpoint) → IsInLineFrom doc byte cs → length (flat_map step cs) ≤ 10 * length cs
-length-steps-le doc byte [] h = omega arith
-length-steps-le doc byte (c ∷ cs) h = omega (arith, length-append (step c) (flat_map step cs), length-step-le c h.2, length-steps-le c.doc_range.end c.byte_range.end cs h.3)
-
-length-starts-le : (cs : List Checkpoint) → IsInLine cs → length (starts cs) ≤ 15
-length-starts-le [] h = omega arith
-length-starts-le (c ∷ cs) h = omega (
-  arith,
-  length-append (number c.doc_range.start) (number c.byte_range.start),
-  length-number-le_5 c.doc_range.start (omega (arith, h.2.doc_order, h.2.doc_end)),
-  length-number-le_10 c.byte_range.start (omega (arith, h.2.byte_order, h.2.byte_end)),
-)
 
 in_steps : (cs : List Checkpoint) → IsInLine cs → length (flat_map step cs) ≤ 10 * length cs
 in_steps [] h = omega arith

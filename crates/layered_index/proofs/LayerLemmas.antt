@@ -23,11 +23,11 @@ length-step-le c h = omega (
   length-number-le_5 (byte_len c) (omega (arith, h.byte_len)),
 )
 
-length-steps-le : (doc byte : ℕ) (cs : List Checkpoint) → IsInLineFrom doc byte cs → length (flat_map step cs) ≤ 10 * length cs
+pub length-steps-le : (doc byte : ℕ) (cs : List Checkpoint) → IsInLineFrom doc byte cs → length (flat_map step cs) ≤ 10 * length cs
 length-steps-le doc byte [] h = omega arith
 length-steps-le doc byte (c ∷ cs) h = omega (arith, length-append (step c) (flat_map step cs), length-step-le c h.2, length-steps-le c.doc_range.end c.byte_range.end cs h.3)
 
-length-starts-le : (cs : List Checkpoint) → IsInLine cs → length (starts cs) ≤ 15
+pub length-starts-le : (cs : List Checkpoint) → IsInLine cs → length (starts cs) ≤ 15
 length-starts-le [] h = omega arith
 length-starts-le (c ∷ cs) h = omega (
   arith,

@@ -46,8 +46,8 @@ extern "C" {
  * Those marked "file" are the file errors: the bytes are not the file of a store. A call returns the first of them that
  * it finds, in this order: SHORT_FILE, BAD_VERSION, BAD_BLOCK_KIND, BAD_PERIOD, BAD_OFFSET, BAD_INDEX. */
 enum zevk_refusal {
-    ZEVK_DONE = 0,
-    ZEVK_SHORT_FILE = 1,        /* file: it has fewer bytes than a footer */
+    ZEVK_DONE = 0,              /* done */
+    ZEVK_SHORT_FILE = 1,        /* file: the file is shorter than a footer */
     ZEVK_BAD_VERSION = 2,       /* file: the footer has an unknown version */
     ZEVK_BAD_BLOCK_KIND = 3,    /* file: the blocks are compressed */
     ZEVK_BAD_OFFSET = 4,        /* file: the index would begin after the footer's first byte */
@@ -58,8 +58,8 @@ enum zevk_refusal {
     ZEVK_OLD_VERSION = 11,      /* a store of version 1 can't be stacked */
     ZEVK_BLOCK_TOO_LARGE = 13,  /* a block would have 2^32 bytes or more */
     ZEVK_TOO_MANY_DOCS = 14,    /* there would be 2^32 documents or more */
-    ZEVK_BAD_PERIOD = 16,       /* file, or an argument: a period below 2 or above 64 */
-    ZEVK_NO_ROOM = 32,          /* an array of the caller's is too short */
+    ZEVK_BAD_PERIOD = 16,       /* file: the period is below 2 or above 64 */
+    ZEVK_NO_ROOM = 32,          /* an array of the caller is too short */
     ZEVK_OTHER_TABLE = 33,      /* the table is not the one of the file */
     ZEVK_OPEN_BLOCK = 34,       /* the open block has documents; end it first */
     ZEVK_OTHER_WRITER = 35,     /* the writer or its table is not as these calls left it */

@@ -202,21 +202,6 @@ same_slots first old same = λ i. slots (blocks_at (same.checkpoints i) (same.co
 same_count : (first old : Reading) → IsSameStore first old → num_docs old ≡ num_docs first
 same_count first old same = ap (docs_end 0) same.checkpoints
 
-pub same_as_it_is : (r : Reading) → IsSameStore r r
-same_as_it_is r = record { content = refl; honest = refl; failures = omega arith; checkpoints = refl; period = refl; version = refl; decompressor = refl; capacity = refl }
-
-pub same_on : (a b c : Reading) → IsSameStore a b → IsSameStore b c → IsSameStore a c
-same_on a b c p q = record {
-  content = q.content ∙ p.content;
-  honest = q.honest ∙ p.honest;
-  failures = omega (arith, p.failures, q.failures);
-  checkpoints = q.checkpoints ∙ p.checkpoints;
-  period = q.period ∙ p.period;
-  version = q.version ∙ p.version;
-  decompressor = q.decompressor ∙ p.decompressor;
-  capacity = q.capacity ∙ p.capacity;
-}
-
 -- a damaged document of an honest file
 truly_damaged : (id : ℕ) (s : Option Slot) → AnswersTruly id s (Err (DamagedDocument id)) → s ≡ Some damaged
 truly_damaged id s h = elim h [

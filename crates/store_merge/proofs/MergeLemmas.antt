@@ -15,7 +15,8 @@ use Rattle.store_merge.specs.declared.input.MergeInput.{MergeInput}
 use Rattle.store_merge.specs.Bringing.{Brought, stacked, copied, with_documents, with_brought, merged, slots_of, IsBrought, AreBrought}
 use Rattle.store_merge.specs.Inputs.{AreEach, AreInputsKept, IsInputTaken}
 use Rattle.store_merge.specs.Merge.{IsMerged}
-use Rattle.store_merge.proofs.CopyLemmas.{counted_document, same_failure, same_as_it_is}
+use Rattle.store_merge.proofs.CopyLemmas.{counted_document, same_failure}
+use Rattle.store_reader.proofs.RecentLemmas.{same_as_it_is}
 
 -- ---- lists that are gone over
 

@@ -8,19 +8,30 @@ use document_framing::framing::{FRAMING_HELP, FRAMINGS};
 use std::alloc::{AllocError, Global};
 use store_commands::StoreShape;
 
-/// A file that has to be named.
-pub fn file<'a>(alloc: Global, id: &'a str, help: &'a str) -> Arg<'a> {
+/// The name of the argument for the file that is written.
+const OUTPUT: &str = "OUT";
+
+/// The name of the argument for the file that is read.
+const INPUT_FILE: &str = "FILE";
+
+// A file that has to be named.
+fn file<'a>(alloc: Global, id: &'a str, help: &'a str) -> Arg<'a> {
     Arg::new(alloc, id)
         .required(true)
         .action(ArgAction::Set)
         .help(help)
 }
 
+/// The store that is read.
+pub fn input<'a>(alloc: Global) -> Arg<'a> {
+    file(alloc, INPUT_FILE, "The store")
+}
+
 /// The store that is written.
 pub fn output<'a>(alloc: Global) -> Arg<'a> {
     file(
         alloc,
-        "OUT",
+        OUTPUT,
         "Output file. It replaces an existing store or empty file when writing succeeds, never any other file",
     )
 }
@@ -97,28 +108,39 @@ pub fn period<'a>(alloc: Global) -> Arg<'a> {
     .default_value("8")
 }
 
-// The shape, or `None` where a word names none.
-fn shape_in(matches: &ArgMatches<'_>) -> Option<StoreShape> {
-    let block_size = parse_size(matches.get_str("block-size").unwrap_or("16K"))?;
-    let period = matches.get_one::<u8>("period").unwrap_or(8);
-    StoreShape::new(block_size, period)
+/// The word of an argument that is required or has a default.
+pub fn word<'a>(alloc: Global, matches: &ArgMatches<'a>, id: &str) -> Result<&'a str, Failure> {
+    matches
+        .get_str(id)
+        .ok_or_else(|| wrong_words(alloc, "missing argument", id))
+}
+
+/// The name of the file that is read.
+pub fn input_path<'a>(alloc: Global, matches: &ArgMatches<'a>) -> Result<&'a str, Failure> {
+    word(alloc, matches, INPUT_FILE)
+}
+
+/// The name of the file that is written.
+pub fn output_path<'a>(alloc: Global, matches: &ArgMatches<'a>) -> Result<&'a str, Failure> {
+    word(alloc, matches, OUTPUT)
 }
 
 /// How the store is to be written.
 pub fn shape_of(alloc: Global, matches: &ArgMatches<'_>) -> Result<StoreShape, Failure> {
-    match shape_in(matches) {
-        Some(shape) => Ok(shape),
-        None => Err(wrong_words(
-            alloc,
-            "invalid block size",
-            matches.get_str("block-size").unwrap_or(""),
-        )),
-    }
+    let block_size_word = word(alloc, matches, "block-size")?;
+    let Some(block_size) = parse_size(block_size_word) else {
+        return Err(wrong_words(alloc, "invalid block size", block_size_word));
+    };
+    matches
+        .get_one::<u8>("period")
+        .and_then(|period| StoreShape::new(block_size, period))
+        .ok_or_else(|| wrong_words(alloc, "invalid argument", "period"))
 }
 
 /// How documents are delimited.
-pub fn framing_of(matches: &ArgMatches<'_>) -> Framing {
-    Framing::from_name(matches.get_str("framing").unwrap_or("lines"))
+pub fn framing_of(alloc: Global, matches: &ArgMatches<'_>) -> Result<Framing, Failure> {
+    let name = word(alloc, matches, "framing")?;
+    Framing::from_name(name).ok_or_else(|| wrong_words(alloc, "unknown framing", name))
 }
 
 // That a word is wrong, and why.

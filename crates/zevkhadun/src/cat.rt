@@ -31,7 +31,7 @@ pub fn command<'a>(alloc: Global) -> Result<Command<'a>, AllocError> {
     Command::new(alloc, "cat")
         .about("Print all documents in order")
         .after_help(EXAMPLE)
-        .arg(arguments::file(alloc, "FILE", "The store"))?
+        .arg(arguments::input(alloc))?
         .arg(without(alloc))?
         .arg(arguments::framing(alloc))?
         .arg(arguments::tantivy(alloc))
@@ -63,8 +63,9 @@ fn print(
 
 /// Prints the documents.
 pub fn run(rt: &HostRuntime, matches: &ArgMatches<'_>) -> Result<(), Failure> {
-    let store = store_path(matches);
+    let store = store_path(rt, matches)?;
+    let framing = framing_of(rt.alloc(), matches)?;
     let without = matches.get_strs("without").unwrap_or(&[]);
-    let printed = print(rt, store, framing_of(matches), without);
+    let printed = print(rt, store, framing, without);
     at(rt.alloc(), store.path, printed)
 }

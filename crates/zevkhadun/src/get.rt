@@ -21,7 +21,7 @@ pub fn command<'a>(alloc: Global) -> Result<Command<'a>, AllocError> {
     Command::new(alloc, "get")
         .about("Print documents by their numbers")
         .after_help(EXAMPLE)
-        .arg(arguments::file(alloc, "FILE", "The store"))?
+        .arg(arguments::input(alloc))?
         .arg(arguments::several(
             alloc,
             "ID",
@@ -75,10 +75,11 @@ fn print(
 
 /// Prints the documents.
 pub fn run(rt: &HostRuntime, matches: &ArgMatches<'_>) -> Result<(), Failure> {
-    let store = store_path(matches);
-    let words = matches.get_strs("ID").unwrap_or(&[]);
     let alloc = rt.alloc();
+    let store = store_path(rt, matches)?;
+    let framing = framing_of(alloc, matches)?;
+    let words = matches.get_strs("ID").unwrap_or(&[]);
     let ranges = at(alloc, store.path, ranges_of(alloc, words))?;
-    let printed = print(rt, store, framing_of(matches), &ranges);
+    let printed = print(rt, store, framing, &ranges);
     at(alloc, store.path, printed)
 }

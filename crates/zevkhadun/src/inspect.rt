@@ -1,6 +1,6 @@
 //! `inspect`: draws what a store has on a page of HTML.
 
-use crate::arguments::{self, option};
+use crate::arguments::{self, option, word};
 use crate::failure::{Cause, Failure, at};
 use crate::replacing::check_page;
 use crate::store_file::{DiskReader, StorePath, store_path};
@@ -34,7 +34,7 @@ pub fn command<'a>(alloc: Global) -> Result<Command<'a>, AllocError> {
     Command::new(alloc, "inspect")
         .about("Draw a store on a page of HTML")
         .after_help(EXAMPLE)
-        .arg(arguments::file(alloc, "FILE", "The store"))?
+        .arg(arguments::input(alloc))?
         .arg(html(alloc))?
         .arg(arguments::tantivy(alloc))
 }
@@ -164,8 +164,8 @@ fn write_page(rt: &HostRuntime, path: &str, page: &str) -> Result<(), Cause> {
 
 /// Writes the page.
 pub fn run(rt: &HostRuntime, matches: &ArgMatches<'_>) -> Result<(), Failure> {
-    let store = store_path(matches);
-    let out = matches.get_str("html").unwrap_or("");
+    let store = store_path(rt, matches)?;
+    let out = word(rt.alloc(), matches, "html")?;
     let page = at(rt.alloc(), store.path, page_of(rt, store))?;
     at(rt.alloc(), out, write_page(rt, out, page.as_str()))
 }

@@ -1,6 +1,6 @@
 //! `merge`: writes a store of the documents of others, in order.
 
-use crate::arguments::{self, option, shape_of};
+use crate::arguments::{self, option, output_path, shape_of};
 use crate::failure::{Cause, Failure, at};
 use crate::progress::Progress;
 use crate::store_file::{DiskReader, StorePath};
@@ -196,6 +196,6 @@ pub fn run(rt: &HostRuntime, matches: &ArgMatches<'_>) -> Result<(), Failure> {
         without: matches.get_strs("without").unwrap_or(&[]),
         is_tantivy: matches.get_flag("tantivy"),
     };
-    let out = matches.get_str("OUT").unwrap_or("");
+    let out = output_path(rt.alloc(), matches)?;
     merge_stores(rt, out, shape, &merging, &mut progress)
 }

@@ -1,6 +1,6 @@
 //! `pack`: writes a store of the documents of files or of the standard input.
 
-use crate::arguments::{self, framing_of, shape_of};
+use crate::arguments::{self, framing_of, output_path, shape_of};
 use crate::failure::{Failure, at};
 use crate::progress::Progress;
 use crate::store_output::{DiskWriter, create, finish, summarize};
@@ -13,7 +13,7 @@ use std::io::{BufRead, BufReader};
 // How many bytes of an input are read at once.
 const BUFFER_SIZE: usize = 1 << 16;
 
-// Under which name the standard input is told of.
+// The name of the standard input in messages.
 const STANDARD_INPUT: &str = "standard input";
 
 const EXAMPLE: &str = "\
@@ -42,34 +42,37 @@ pub fn command<'a>(alloc: Global) -> Result<Command<'a>, AllocError> {
         .arg(arguments::quiet(alloc))
 }
 
-// What is done with each document.
-#[derive(Clone, Copy)]
+// A store that is packed.
 struct Packing<'a> {
     rt: &'a HostRuntime,
     out: &'a str,
     framing: Framing,
+    writer: DiskWriter,
+    progress: Progress<'a>,
 }
 
 impl<'a> Packing<'a> {
-    // Stores the documents that the input has at hand whole, straight from its buffer.
-    fn store_at_hand<R: BufRead>(
-        &self,
-        writer: &mut DiskWriter,
-        progress: &mut Progress<'_>,
-        input: &mut R,
-        end: u8,
-    ) -> Result<(), Failure> {
+    // Stores a document.
+    #[inline(always)]
+    fn store(&mut self, document: &[u8]) -> Result<(), Failure> {
+        at(self.rt.alloc(), self.out, self.writer.store_bytes(document))?;
+        self.progress.add(1, document.len() as u64);
+        Ok(())
+    }
+
+    // Stores the documents that the input has whole in its buffer, without copying them. A failed read is tried again,
+    // and reported, by `store_next`.
+    fn store_buffered<R: BufRead>(&mut self, input: &mut R, end: u8) -> Result<(), Failure> {
         let Ok(mut rest) = input.fill_buf() else {
             return Ok(());
         };
         let mut taken = 0usize;
-        for _ in 0..usize::MAX {
+        // Each turn takes a byte at least.
+        for _ in 0..rest.len() {
             let Some((piece, after)) = split_after(rest, end) else {
                 break;
             };
-            let document = self.framing.document_in(piece);
-            at(self.rt.alloc(), self.out, writer.store_bytes(document))?;
-            progress.add(1, document.len() as u64);
+            self.store(self.framing.document_in(piece))?;
             taken = taken.saturating_add(piece.len());
             rest = after;
         }
@@ -77,38 +80,29 @@ impl<'a> Packing<'a> {
         Ok(())
     }
 
-    // Stores the next document of an input, or answers false at its end.
+    // Stores the next document of an input, and returns whether there may be more.
     fn store_next<R: BufRead>(
-        &self,
-        writer: &mut DiskWriter,
-        progress: &mut Progress<'_>,
+        &mut self,
         path: &str,
         input: &mut R,
         document: &mut Vec<u8>,
     ) -> Result<bool, Failure> {
-        let alloc = self.rt.alloc();
-        if !at(alloc, path, self.framing.read(input, document))? {
+        if !at(self.rt.alloc(), path, self.framing.read(input, document))? {
             return Ok(false);
         }
-        at(alloc, self.out, writer.store_bytes(document))?;
-        progress.add(1, document.len() as u64);
+        self.store(document)?;
         Ok(self.framing != Framing::Files)
     }
 
-    // Stores each document of an input. A read that fails at hand is told of at the next document.
-    fn store_documents<R: BufRead>(
-        &self,
-        writer: &mut DiskWriter,
-        progress: &mut Progress<'_>,
-        path: &str,
-        input: &mut R,
-    ) -> Result<(), Failure> {
+    // Stores each document of an input.
+    fn store_documents<R: BufRead>(&mut self, path: &str, input: &mut R) -> Result<(), Failure> {
         let mut document = Vec::new(self.rt.alloc());
+        // No input has this many documents: a store holds fewer.
         for _ in 0..u64::MAX {
             if let Some(end) = self.framing.end() {
-                self.store_at_hand(writer, progress, input, end)?;
+                self.store_buffered(input, end)?;
             }
-            if !self.store_next(writer, progress, path, input, &mut document)? {
+            if !self.store_next(path, input, &mut document)? {
                 break;
             }
         }
@@ -116,26 +110,17 @@ impl<'a> Packing<'a> {
     }
 
     // Stores each document of the standard input.
-    fn store_standard_input(
-        &self,
-        writer: &mut DiskWriter,
-        progress: &mut Progress<'_>,
-    ) -> Result<(), Failure> {
+    fn store_standard_input(&mut self) -> Result<(), Failure> {
         let alloc = self.rt.alloc();
         let input = BufReader::with_capacity(alloc, BUFFER_SIZE, self.rt.reader());
         let mut input = at(alloc, STANDARD_INPUT, input)?;
-        self.store_documents(writer, progress, STANDARD_INPUT, &mut input)
+        self.store_documents(STANDARD_INPUT, &mut input)
     }
 
     // Stores each document of a file.
-    fn store_file(
-        &self,
-        writer: &mut DiskWriter,
-        progress: &mut Progress<'_>,
-        path: &str,
-    ) -> Result<(), Failure> {
+    fn store_file(&mut self, path: &str) -> Result<(), Failure> {
         if path == "-" {
-            return self.store_standard_input(writer, progress);
+            return self.store_standard_input();
         }
         let alloc = self.rt.alloc();
         let file = at(alloc, path, File::open(self.rt, path))?;
@@ -144,38 +129,48 @@ impl<'a> Packing<'a> {
             path,
             BufReader::with_capacity(alloc, BUFFER_SIZE, file),
         )?;
-        self.store_documents(writer, progress, path, &mut input)
+        self.store_documents(path, &mut input)
     }
 
-    // Stores each document of each input.
-    fn store_files(
-        &self,
-        writer: &mut DiskWriter,
-        progress: &mut Progress<'_>,
-        paths: &[&str],
-    ) -> Result<(), Failure> {
+    // Stores each document of each file, or of the standard input where none is named.
+    fn store_inputs(&mut self, paths: Option<&[&str]>) -> Result<(), Failure> {
+        let Some(paths) = paths else {
+            return self.store_standard_input();
+        };
         for path in paths {
-            self.store_file(writer, progress, path)?;
+            self.store_file(path)?;
         }
         Ok(())
+    }
+
+    // Ends the store after its documents were stored or not, and prints what it has.
+    fn finish(self, stored: Result<(), Failure>) -> Result<(), Failure> {
+        let Packing {
+            rt,
+            out,
+            writer,
+            progress,
+            ..
+        } = self;
+        progress.end();
+        let written = finish(rt, out, writer, stored)?;
+        summarize(rt, out, written, &progress)
     }
 }
 
 /// Writes the store.
 pub fn run(rt: &HostRuntime, matches: &ArgMatches<'_>) -> Result<(), Failure> {
-    let out = matches.get_str("OUT").unwrap_or("");
-    let packing = Packing {
+    let alloc = rt.alloc();
+    let out = output_path(alloc, matches)?;
+    let framing = framing_of(alloc, matches)?;
+    let writer = create(rt, out, shape_of(alloc, matches)?)?;
+    let mut packing = Packing {
         rt,
         out,
-        framing: framing_of(matches),
+        framing,
+        writer,
+        progress: Progress::begin(rt, matches.get_flag("quiet")),
     };
-    let mut writer = create(rt, out, shape_of(rt.alloc(), matches)?)?;
-    let mut progress = Progress::begin(rt, matches.get_flag("quiet"));
-    let stored = match matches.get_strs("INPUT") {
-        Some(paths) => packing.store_files(&mut writer, &mut progress, paths),
-        None => packing.store_standard_input(&mut writer, &mut progress),
-    };
-    progress.end();
-    let written = finish(rt, out, writer, stored)?;
-    summarize(rt, out, written, &progress)
+    let stored = packing.store_inputs(matches.get_strs("INPUT"));
+    packing.finish(stored)
 }

@@ -1,6 +1,7 @@
 //! A store's file on disk, opened to be read.
 
-use crate::failure::Cause;
+use crate::arguments::input_path;
+use crate::failure::{Cause, Failure};
 use clap::ArgMatches;
 use docstore::{OpenError, StoreReader};
 use std::fs;
@@ -57,9 +58,12 @@ pub fn reader_of(
 }
 
 /// The store that the words of a command name.
-pub fn store_path<'a>(matches: &ArgMatches<'a>) -> StorePath<'a> {
-    StorePath {
-        path: matches.get_str("FILE").unwrap_or(""),
+pub fn store_path<'a>(
+    rt: &HostRuntime,
+    matches: &ArgMatches<'a>,
+) -> Result<StorePath<'a>, Failure> {
+    Ok(StorePath {
+        path: input_path(rt.alloc(), matches)?,
         is_tantivy: matches.get_flag("tantivy"),
-    }
+    })
 }

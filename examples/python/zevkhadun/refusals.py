@@ -12,76 +12,117 @@ class Refused(Exception):
     number = 0
 
 
+# From refusals.txt:
+
 class ShortFile(Refused):
-    """The file has fewer bytes than a footer."""
+    """The file is shorter than a footer."""
+
+    number = 1
 
 
 class BadVersion(Refused):
     """The footer has an unknown version."""
 
+    number = 2
+
 
 class BadBlockKind(Refused):
     """The blocks are compressed."""
+
+    number = 3
 
 
 class BadOffset(Refused):
     """The index would begin after the footer's first byte."""
 
+    number = 4
+
 
 class BadIndex(Refused):
     """The index is not one of blocks that cover the data."""
+
+    number = 5
 
 
 class NoDocument(Refused, IndexError):
     """The store has no document of this number."""
 
+    number = 6
+
 
 class DamagedDocument(Refused):
     """The block's table doesn't say where the document is."""
+
+    number = 7
 
 
 class NoMemory(Refused, MemoryError):
     """Out of memory."""
 
+    number = 10
+
 
 class OldVersion(Refused):
     """A store of version 1 can't be stacked."""
+
+    number = 11
 
 
 class BlockTooLarge(Refused):
     """A block would have 2^32 bytes or more."""
 
+    number = 13
+
 
 class TooManyDocs(Refused):
     """There would be 2^32 documents or more."""
 
+    number = 14
+
 
 class BadPeriod(Refused):
-    """A period below 2 or above 64."""
+    """The period is below 2 or above 64."""
+
+    number = 16
 
 
 class NoRoom(Refused):
-    """An array is too short for what the library writes to it."""
+    """An array of the caller is too short."""
+
+    number = 32
 
 
 class OtherTable(Refused):
-    """The file was changed after it was opened."""
+    """The table is not the one of the file."""
+
+    number = 33
 
 
 class OpenBlock(Refused):
-    """The open block has documents, and has to be ended first."""
+    """The open block has documents; end it first."""
+
+    number = 34
 
 
 class OtherWriter(Refused):
-    """The writer or its table is not as the library left it."""
+    """The writer or its table is not as these calls left it."""
+
+    number = 35
 
 
 class TailTooShort(Refused):
     """The end of the file lacks the footer or a part of the index."""
 
+    number = 36
+
 
 class OtherBlock(Refused):
-    """The block's place doesn't have the document, or not so many bytes."""
+    """The block doesn't have the document, or has another length."""
+
+    number = 37
+
+
+# End of refusals.txt
 
 
 class Closed(Refused, ValueError):
@@ -101,29 +142,7 @@ class NotPlainFile(Refused):
 
 
 #: the class of each number
-REFUSALS: Dict[int, Type[Refused]] = {
-    1: ShortFile,
-    2: BadVersion,
-    3: BadBlockKind,
-    4: BadOffset,
-    5: BadIndex,
-    6: NoDocument,
-    7: DamagedDocument,
-    10: NoMemory,
-    11: OldVersion,
-    13: BlockTooLarge,
-    14: TooManyDocs,
-    16: BadPeriod,
-    32: NoRoom,
-    33: OtherTable,
-    34: OpenBlock,
-    35: OtherWriter,
-    36: TailTooShort,
-    37: OtherBlock,
-}
-
-for _number, _class in REFUSALS.items():
-    _class.number = _number
+REFUSALS: Dict[int, Type[Refused]] = {kind.number: kind for kind in Refused.__subclasses__() if kind.number}
 
 
 def check(answer: int) -> None:

@@ -9,28 +9,10 @@ use zevkhadun::{Refusal, Store};
 /// How many of the first documents are printed.
 const FIRST: u32 = 200;
 
-fn number_of(refusal: Refusal) -> u32 {
-    match refusal {
-        Refusal::ShortFile => 1,
-        Refusal::BadVersion => 2,
-        Refusal::BadBlockKind => 3,
-        Refusal::BadOffset => 4,
-        Refusal::BadIndex => 5,
-        Refusal::NoDocument => 6,
-        Refusal::DamagedDocument => 7,
-        Refusal::NoMemory => 10,
-        Refusal::OldVersion => 11,
-        Refusal::BlockTooLarge => 13,
-        Refusal::TooManyDocs => 14,
-        Refusal::BadPeriod => 16,
-        Refusal::Other(number) => number,
-    }
-}
-
 fn text_of(answer: Result<&[u8], Refusal>) -> String {
     let mut text = String::new();
     match answer {
-        Err(refusal) => return format!("error {}", number_of(refusal)),
+        Err(refusal) => return format!("error {}", refusal.number()),
         Ok([]) => text.push('-'),
         Ok(document) => {
             for byte in document {
@@ -46,7 +28,7 @@ fn main() -> std::io::Result<()> {
     for path in std::env::args_os().skip(1) {
         let file = std::fs::read(path)?;
         match Store::open(&file) {
-            Err(refusal) => println!("error {}", number_of(refusal)),
+            Err(refusal) => println!("error {}", refusal.number()),
             Ok(store) => {
                 println!("docs {}", store.len());
                 let first = 0..store.len().min(FIRST);

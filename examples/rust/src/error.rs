@@ -2,21 +2,46 @@
 
 use std::{error, fmt, io};
 
-/// An error of the library.
+/// An error of the library. `tools/refusals.py` writes its lists from `crates/store_c/refusals.txt`.
 #[derive(Clone, Copy, Debug, PartialEq, Eq)]
+#[non_exhaustive]
 pub enum Refusal {
+    /// The file is shorter than a footer.
     ShortFile,
+    /// The footer has an unknown version.
     BadVersion,
+    /// The blocks are compressed.
     BadBlockKind,
+    /// The index would begin after the footer's first byte.
     BadOffset,
+    /// The index is not one of blocks that cover the data.
     BadIndex,
+    /// The store has no document of this number.
     NoDocument,
+    /// The block's table doesn't say where the document is.
     DamagedDocument,
+    /// Out of memory.
     NoMemory,
+    /// A store of version 1 can't be stacked.
     OldVersion,
+    /// A block would have 2^32 bytes or more.
     BlockTooLarge,
+    /// There would be 2^32 documents or more.
     TooManyDocs,
+    /// The period is below 2 or above 64.
     BadPeriod,
+    /// An array of the caller is too short.
+    NoRoom,
+    /// The table is not the one of the file.
+    OtherTable,
+    /// The open block has documents; end it first.
+    OpenBlock,
+    /// The writer or its table is not as these calls left it.
+    OtherWriter,
+    /// The end of the file lacks the footer or a part of the index.
+    TailTooShort,
+    /// The block doesn't have the document, or has another length.
+    OtherBlock,
     /// A number that this crate doesn't know.
     Other(u32),
 }
@@ -36,7 +61,38 @@ impl Refusal {
             13 => Refusal::BlockTooLarge,
             14 => Refusal::TooManyDocs,
             16 => Refusal::BadPeriod,
+            32 => Refusal::NoRoom,
+            33 => Refusal::OtherTable,
+            34 => Refusal::OpenBlock,
+            35 => Refusal::OtherWriter,
+            36 => Refusal::TailTooShort,
+            37 => Refusal::OtherBlock,
             other => Refusal::Other(other),
+        }
+    }
+
+    /// The number of the error, the same in every language.
+    pub const fn number(self) -> u32 {
+        match self {
+            Refusal::ShortFile => 1,
+            Refusal::BadVersion => 2,
+            Refusal::BadBlockKind => 3,
+            Refusal::BadOffset => 4,
+            Refusal::BadIndex => 5,
+            Refusal::NoDocument => 6,
+            Refusal::DamagedDocument => 7,
+            Refusal::NoMemory => 10,
+            Refusal::OldVersion => 11,
+            Refusal::BlockTooLarge => 13,
+            Refusal::TooManyDocs => 14,
+            Refusal::BadPeriod => 16,
+            Refusal::NoRoom => 32,
+            Refusal::OtherTable => 33,
+            Refusal::OpenBlock => 34,
+            Refusal::OtherWriter => 35,
+            Refusal::TailTooShort => 36,
+            Refusal::OtherBlock => 37,
+            Refusal::Other(number) => number,
         }
     }
 
@@ -47,13 +103,19 @@ impl Refusal {
             Refusal::BadBlockKind => "the blocks are compressed",
             Refusal::BadOffset => "the index would begin after the footer's first byte",
             Refusal::BadIndex => "the index is not one of blocks that cover the data",
-            Refusal::NoDocument => "no document of this number",
+            Refusal::NoDocument => "the store has no document of this number",
             Refusal::DamagedDocument => "the block's table doesn't say where the document is",
             Refusal::NoMemory => "out of memory",
             Refusal::OldVersion => "a store of version 1 can't be stacked",
             Refusal::BlockTooLarge => "a block would have 2^32 bytes or more",
             Refusal::TooManyDocs => "there would be 2^32 documents or more",
             Refusal::BadPeriod => "the period is below 2 or above 64",
+            Refusal::NoRoom => "an array of the caller is too short",
+            Refusal::OtherTable => "the table is not the one of the file",
+            Refusal::OpenBlock => "the open block has documents; end it first",
+            Refusal::OtherWriter => "the writer or its table is not as these calls left it",
+            Refusal::TailTooShort => "the end of the file lacks the footer or a part of the index",
+            Refusal::OtherBlock => "the block doesn't have the document, or has another length",
             Refusal::Other(_) => "refused",
         }
     }
@@ -111,10 +173,10 @@ impl From<io::Error> for Error {
 }
 
 /// What the library returns for an array that is too short.
-pub(crate) const NO_ROOM: u32 = 32;
+pub(crate) const NO_ROOM: u32 = Refusal::NoRoom.number();
 
 /// What it returns if the open block has to be ended first.
-pub(crate) const OPEN_BLOCK: u32 = 34;
+pub(crate) const OPEN_BLOCK: u32 = Refusal::OpenBlock.number();
 
 /// The error of a number that the library returned, if it is one.
 pub(crate) fn check(answer: u32) -> Result<(), Refusal> {

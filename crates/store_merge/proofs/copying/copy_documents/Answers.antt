@@ -11,7 +11,8 @@ use Rattle.store_reader.proofs.BlocksAlongLemmas.{take_length_one}
 use Rattle.store_reader.proofs.IterationLookUpLemmas.{looks_joined}
 use Rattle.store_merge.specs.Inputs.{IsAskedOnce}
 use Rattle.store_merge.specs.Refusals.{StopsAt}
-use Rattle.store_merge.proofs.CopyLemmas.{IsBegun, begins, copied_next, below_next, failed_next, copied_all, stops, same_on}
+use Rattle.store_merge.proofs.CopyLemmas.{IsBegun, begins, copied_next, below_next, failed_next, copied_all, stops}
+use Rattle.store_reader.proofs.RecentLemmas.{same_on}
 use Rattle.store_base.proofs.Steady.{still}
 use Rattle.store_merge.proofs.copying.copy_documents.Goals as goal
 
