@@ -1,7 +1,7 @@
 //! Arguments that several commands have.
 
 use crate::byte_size::parse_size;
-use crate::failure::{Cause, Failure};
+use crate::failure::{FailureCause, Failure};
 use clap::{Arg, ArgAction, ArgMatches, value_parser};
 use document_framing::Framing;
 use document_framing::framing::{FRAMING_HELP, FRAMINGS};
@@ -144,14 +144,14 @@ pub fn framing_of(alloc: Global, matches: &ArgMatches<'_>) -> Result<Framing, Fa
 }
 
 // That a word is wrong, and why.
-fn refusal(alloc: Global, why: &str, word: &str) -> Result<Cause, AllocError> {
-    Ok(Cause::Words(format!(in alloc; "{why}: '{word}'")?))
+fn refusal(alloc: Global, why: &str, word: &str) -> Result<FailureCause, AllocError> {
+    Ok(FailureCause::Words(format!(in alloc; "{why}: '{word}'")?))
 }
 
 /// That a word is wrong, and why.
 pub fn wrong_words(alloc: Global, why: &str, word: &str) -> Failure {
     Failure::from(match refusal(alloc, why, word) {
         Ok(cause) => cause,
-        Err(error) => Cause::from(error),
+        Err(error) => FailureCause::from(error),
     })
 }

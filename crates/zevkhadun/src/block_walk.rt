@@ -2,7 +2,7 @@
 
 ghost use Rattle.store_commands.specs.LeftOut.{AreApartFrom};
 
-use crate::failure::{Cause, printed};
+use crate::failure::{FailureCause, to_output};
 use crate::store_file::DiskReader;
 use document_framing::Framing;
 use std::alloc::Global;
@@ -22,17 +22,17 @@ impl<'a, W: Write> DocumentTarget for FramedOutput<'a, W> {
 
     ghost takes = { λ _ _ _. ⊤ };
 
-    type Error = Cause;
+    type Error = FailureCause;
 
-    fn take(&mut self, document: &[u8]) -> Result<(), Cause> {
-        printed(self.framing.write(self.output, document))
+    fn take(&mut self, document: &[u8]) -> Result<(), FailureCause> {
+        to_output(self.framing.write(self.output, document))
     }
 }
 
-impl From<GivingError<Cause>> for Cause {
-    fn from(error: GivingError<Cause>) -> Cause {
+impl From<GivingError<FailureCause>> for FailureCause {
+    fn from(error: GivingError<FailureCause>) -> FailureCause {
         match error {
-            GivingError::Store(error) => Cause::Store(error),
+            GivingError::Store(error) => FailureCause::Store(error),
             GivingError::Target(cause) => cause,
         }
     }
@@ -45,7 +45,7 @@ pub fn write_documents<W: Write>(
     output: &mut W,
     framing: Framing,
     left_out: &[IdSpan],
-) -> Result<(), Cause>
+) -> Result<(), FailureCause>
     requires { AreApartFrom 0 left_out.now }
 {
     let mut target = FramedOutput { output, framing };

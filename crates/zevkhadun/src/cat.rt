@@ -3,7 +3,7 @@
 use crate::arguments::{self, framing_of, option};
 use crate::block_walk::write_documents;
 use crate::document_output::standard_output;
-use crate::failure::{Cause, Failure, at, printed};
+use crate::failure::{FailureCause, Failure, with_file, to_output};
 use crate::store_file::{DiskReader, StorePath, store_path};
 use clap::{Arg, ArgAction, ArgMatches, Command};
 use document_framing::Framing;
@@ -43,11 +43,11 @@ fn print_documents(
     reader: &mut DiskReader,
     framing: Framing,
     without: &[&str],
-) -> Result<(), Cause> {
+) -> Result<(), FailureCause> {
     let left_out = left_out(rt.alloc(), without, reader.num_docs())?;
     let mut output = standard_output(rt)?;
     write_documents(rt.alloc(), reader, &mut output, framing, &left_out)?;
-    printed(output.flush())
+    to_output(output.flush())
 }
 
 // Prints the documents of a store.
@@ -56,7 +56,7 @@ fn print(
     store: StorePath<'_>,
     framing: Framing,
     without: &[&str],
-) -> Result<(), Cause> {
+) -> Result<(), FailureCause> {
     let mut reader = store.reader(rt)?;
     print_documents(rt, &mut reader, framing, without)
 }
@@ -67,5 +67,5 @@ pub fn run(rt: &HostRuntime, matches: &ArgMatches<'_>) -> Result<(), Failure> {
     let framing = framing_of(rt.alloc(), matches)?;
     let without = matches.get_strs("without").unwrap_or(&[]);
     let printed = print(rt, store, framing, without);
-    at(rt.alloc(), store.path, printed)
+    with_file(rt.alloc(), store.path, printed)
 }

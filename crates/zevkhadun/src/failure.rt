@@ -1,16 +1,16 @@
-//! Why a command failed, and what is told of it.
+//! Why a command failed, and the line that reports it.
 
 use document_framing::FramingFault;
 use std::alloc::{AllocError, AllocFailed, Global};
 use std::process::ExitCode;
 use std::{fmt, io};
-use store_base::{DocId, NoMemory, StoreError};
+use store_base::{NoMemory, StoreError};
 use store_commands::RequestError;
 use store_files::CreateError;
 
 /// What went wrong.
 #[derive(Debug, Drop)]
-pub enum Cause {
+pub enum FailureCause {
     /// The words of the command line are wrong.
     Words(String),
     /// The words are not UTF-8.
@@ -25,31 +25,35 @@ pub enum Cause {
     OtherFile(&'static str),
     /// A call on a store was refused.
     Store(StoreError),
-    /// The store has `num_docs` documents, and none of the number `doc_id`.
-    NoDocument { doc_id: DocId, num_docs: DocId },
-    /// The store claims more documents than its bytes can hold.
-    TooManyDocuments { num_docs: DocId, bytes: u64 },
+    /// A request to a store was refused.
+    Request(RequestError),
     /// The input of lengths and documents ends within one.
     CutInput,
-    /// The bytes behind the store are not those that tantivy's directory leaves.
-    NoTantivyTail,
-    /// It was told already.
-    Told,
+    /// It was reported already.
+    Reported,
 }
 
-impl Cause {
+impl FailureCause {
     // What to do, where there is something to do.
     fn advice(&self) -> &'static str {
         match self {
-            Cause::Words(_) => "; try '--help'",
-            Cause::Create(CreateError::Busy(_)) => "; wait until it ends, or stop it",
-            Cause::OtherFile(_) => "; choose another name, or remove it",
-            Cause::CutInput => "; does it have another framing?",
-            Cause::TooManyDocuments { .. } => "; 'zevkhadun verify' says where",
-            Cause::NoTantivyTail => "; leave '--tantivy' out for a file that is only a store",
-            Cause::Store(error) => advice_for(error),
+            FailureCause::Words(_) => "; try '--help'",
+            FailureCause::Create(CreateError::Busy(_)) => "; wait until it ends, or stop it",
+            FailureCause::OtherFile(_) => "; choose another name, or remove it",
+            FailureCause::CutInput => "; does it have another framing?",
+            FailureCause::Request(error) => advice_for_request(error),
+            FailureCause::Store(error) => advice_for(error),
             _ => "",
         }
+    }
+}
+
+// What to do where a request to a store is refused.
+fn advice_for_request(error: &RequestError) -> &'static str {
+    match error {
+        RequestError::TooManyDocuments { .. } => "; 'zevkhadun verify' says where",
+        RequestError::NoTantivyTail => "; leave '--tantivy' out for a file that is only a store",
+        _ => "",
     }
 }
 
@@ -67,94 +71,78 @@ fn advice_for(error: &StoreError) -> &'static str {
     }
 }
 
-impl fmt::Display for Cause {
+impl fmt::Display for FailureCause {
     fn fmt<W: fmt::Write>(&self, f: &mut fmt::Formatter<W>) -> fmt::Result {
         match self {
-            Cause::Words(text) => f.write_str(text.as_str()),
-            Cause::NoText => f.write_str("file names and other arguments have to be UTF-8"),
-            Cause::System(error) => write!(f, "{error}"),
-            Cause::Output(error) => write!(f, "standard output: {error}"),
-            Cause::Create(error) => write!(f, "{error}"),
-            Cause::OtherFile(kind) => write!(f, "the file exists and is not a {kind}"),
-            Cause::Store(StoreError::BadBlockKind(kind)) => {
+            FailureCause::Words(text) => f.write_str(text.as_str()),
+            FailureCause::NoText => f.write_str("file names and other arguments have to be UTF-8"),
+            FailureCause::System(error) => write!(f, "{error}"),
+            FailureCause::Output(error) => write!(f, "standard output: {error}"),
+            FailureCause::Create(error) => write!(f, "{error}"),
+            FailureCause::OtherFile(kind) => write!(f, "the file exists and is not a {kind}"),
+            FailureCause::Store(StoreError::BadBlockKind(kind)) => {
                 write!(f, "blocks are compressed (kind {kind})")
             }
-            Cause::Store(error) => write!(f, "{error}"),
-            Cause::NoDocument { doc_id, num_docs } => {
-                write!(
-                    f,
-                    "no document {doc_id}; the store has {num_docs}, numbered from 0"
-                )
-            }
-            Cause::TooManyDocuments { num_docs, bytes } => {
-                write!(
-                    f,
-                    "it claims {num_docs} documents in {bytes} bytes of blocks and index, so some of them are damaged"
-                )
-            }
-            Cause::CutInput => f.write_str("the input ends inside a document"),
-            Cause::NoTantivyTail => f.write_str("no footer of tantivy's directory at the end"),
-            Cause::Told => Ok(()),
+            FailureCause::Store(error) => write!(f, "{error}"),
+            FailureCause::Request(error) => write!(f, "{error}"),
+            FailureCause::CutInput => f.write_str("the input ends inside a document"),
+            FailureCause::Reported => Ok(()),
         }
     }
 }
 
-impl From<io::Error> for Cause {
-    fn from(error: io::Error) -> Cause {
-        Cause::System(error)
+impl From<io::Error> for FailureCause {
+    fn from(error: io::Error) -> FailureCause {
+        FailureCause::System(error)
     }
 }
 
-impl From<FramingFault> for Cause {
-    fn from(fault: FramingFault) -> Cause {
+impl From<FramingFault> for FailureCause {
+    fn from(fault: FramingFault) -> FailureCause {
         match fault {
-            FramingFault::Io(error) => Cause::System(error),
-            FramingFault::Cut => Cause::CutInput,
+            FramingFault::Io(error) => FailureCause::System(error),
+            FramingFault::Cut => FailureCause::CutInput,
         }
     }
 }
 
-impl From<CreateError> for Cause {
-    fn from(error: CreateError) -> Cause {
-        Cause::Create(error)
+impl From<CreateError> for FailureCause {
+    fn from(error: CreateError) -> FailureCause {
+        FailureCause::Create(error)
     }
 }
 
-impl From<StoreError> for Cause {
-    fn from(error: StoreError) -> Cause {
-        Cause::Store(error)
+impl From<StoreError> for FailureCause {
+    fn from(error: StoreError) -> FailureCause {
+        FailureCause::Store(error)
     }
 }
 
-impl From<RequestError> for Cause {
-    fn from(error: RequestError) -> Cause {
+impl From<RequestError> for FailureCause {
+    fn from(error: RequestError) -> FailureCause {
         match error {
-            RequestError::NoRange(text) => Cause::Words(text),
-            RequestError::NoDocument { doc_id, num_docs } => Cause::NoDocument { doc_id, num_docs },
-            RequestError::TooManyDocuments { num_docs, bytes } => {
-                Cause::TooManyDocuments { num_docs, bytes }
-            }
-            RequestError::NoTantivyTail => Cause::NoTantivyTail,
-            RequestError::Store(error) => Cause::Store(error),
+            RequestError::NoRange(text) => FailureCause::Words(text),
+            RequestError::Store(error) => FailureCause::Store(error),
+            error => FailureCause::Request(error),
         }
     }
 }
 
-impl From<NoMemory> for Cause {
-    fn from(_: NoMemory) -> Cause {
-        Cause::Store(StoreError::Memory)
+impl From<NoMemory> for FailureCause {
+    fn from(_: NoMemory) -> FailureCause {
+        FailureCause::Store(StoreError::Memory)
     }
 }
 
-impl From<AllocError> for Cause {
-    fn from(_: AllocError) -> Cause {
-        Cause::Store(StoreError::Memory)
+impl From<AllocError> for FailureCause {
+    fn from(_: AllocError) -> FailureCause {
+        FailureCause::Store(StoreError::Memory)
     }
 }
 
-impl<T: Drop> From<AllocFailed<T>> for Cause {
-    fn from(_: AllocFailed<T>) -> Cause {
-        Cause::Store(StoreError::Memory)
+impl<T: Drop> From<AllocFailed<T>> for FailureCause {
+    fn from(_: AllocFailed<T>) -> FailureCause {
+        FailureCause::Store(StoreError::Memory)
     }
 }
 
@@ -162,20 +150,20 @@ impl<T: Drop> From<AllocFailed<T>> for Cause {
 #[derive(Debug, Drop)]
 pub struct Failure {
     file: Option<String>,
-    cause: Cause,
+    cause: FailureCause,
 }
 
 /// At no file.
-impl From<Cause> for Failure {
-    fn from(cause: Cause) -> Failure {
+impl From<FailureCause> for Failure {
+    fn from(cause: FailureCause) -> Failure {
         Failure { file: None, cause }
     }
 }
 
 impl Failure {
     /// At this file. What is wrong with the words or the standard output is at none.
-    pub fn at_file(alloc: Global, path: &str, cause: Cause) -> Failure {
-        if let Cause::Words(_) | Cause::Output(_) = &cause {
+    pub fn at_file(alloc: Global, path: &str, cause: FailureCause) -> Failure {
+        if let FailureCause::Words(_) | FailureCause::Output(_) = &cause {
             return Failure::from(cause);
         }
         Failure {
@@ -184,10 +172,10 @@ impl Failure {
         }
     }
 
-    // Whether the reader of what is printed went away.
+    // Whether the other end of the standard output was closed.
     fn is_closed_pipe(&self) -> bool {
         match &self.cause {
-            Cause::Output(error) => error.kind() == io::ErrorKind::BrokenPipe,
+            FailureCause::Output(error) => error.kind() == io::ErrorKind::BrokenPipe,
             _ => false,
         }
     }
@@ -209,8 +197,8 @@ impl Failure {
             return ExitCode::SUCCESS;
         }
         match &self.cause {
-            Cause::Told => ExitCode::FAILURE,
-            Cause::Words(_) | Cause::NoText => {
+            FailureCause::Reported => ExitCode::FAILURE,
+            FailureCause::Words(_) | FailureCause::NoText => {
                 self.print(rt);
                 ExitCode::from(2u8)
             }
@@ -222,8 +210,8 @@ impl Failure {
     }
 }
 
-/// What a call gave, or the failure at this file.
-pub fn at<T: Drop, E: Into<Cause> + Drop>(
+/// The result of a call on the file of this name: an error names the file.
+pub fn with_file<T: Drop, E: Into<FailureCause> + Drop>(
     alloc: Global,
     path: &str,
     given: Result<T, E>,
@@ -234,11 +222,11 @@ pub fn at<T: Drop, E: Into<Cause> + Drop>(
     }
 }
 
-/// What came of a write to the standard output.
+/// The result of a write to the standard output: an error says so.
 #[inline(always)]
-pub fn printed(written: io::Result<()>) -> Result<(), Cause> {
+pub fn to_output(written: io::Result<()>) -> Result<(), FailureCause> {
     match written {
         Ok(()) => Ok(()),
-        Err(error) => Err(Cause::Output(error)),
+        Err(error) => Err(FailureCause::Output(error)),
     }
 }

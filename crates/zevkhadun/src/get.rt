@@ -2,7 +2,7 @@
 
 use crate::arguments::{self, framing_of};
 use crate::document_output::{DocumentOutput, standard_output};
-use crate::failure::{Cause, Failure, at, printed};
+use crate::failure::{FailureCause, Failure, with_file, to_output};
 use crate::store_file::{DiskReader, StorePath, store_path};
 use clap::{ArgMatches, Command};
 use document_framing::Framing;
@@ -38,10 +38,10 @@ fn print_range(
     output: &mut DocumentOutput<'_>,
     framing: Framing,
     ids: Range<DocId>,
-) -> Result<(), Cause> {
+) -> Result<(), FailureCause> {
     for doc_id in ids {
         let document = reader.get_document_bytes(alloc, doc_id)?;
-        printed(framing.write(output, document.as_slice()))?;
+        to_output(framing.write(output, document.as_slice()))?;
     }
     Ok(())
 }
@@ -53,12 +53,12 @@ fn print_ranges(
     output: &mut DocumentOutput<'_>,
     framing: Framing,
     ranges: &[IdRange],
-) -> Result<(), Cause> {
+) -> Result<(), FailureCause> {
     for range in ranges {
         let ids = range.among(reader.num_docs())?;
         print_range(alloc, reader, output, framing, ids)?;
     }
-    printed(output.flush())
+    to_output(output.flush())
 }
 
 // Prints the documents of each range of a store.
@@ -67,7 +67,7 @@ fn print(
     store: StorePath<'_>,
     framing: Framing,
     ranges: &[IdRange],
-) -> Result<(), Cause> {
+) -> Result<(), FailureCause> {
     let mut reader = store.reader(rt)?;
     let mut output = standard_output(rt)?;
     print_ranges(rt.alloc(), &mut reader, &mut output, framing, ranges)
@@ -79,7 +79,7 @@ pub fn run(rt: &HostRuntime, matches: &ArgMatches<'_>) -> Result<(), Failure> {
     let store = store_path(rt, matches)?;
     let framing = framing_of(alloc, matches)?;
     let words = matches.get_strs("ID").unwrap_or(&[]);
-    let ranges = at(alloc, store.path, ranges_of(alloc, words))?;
+    let ranges = with_file(alloc, store.path, ranges_of(alloc, words))?;
     let printed = print(rt, store, framing, &ranges);
-    at(alloc, store.path, printed)
+    with_file(alloc, store.path, printed)
 }

@@ -1,7 +1,7 @@
 //! `inspect`: draws what a store has on a page of HTML.
 
 use crate::arguments::{self, option, word};
-use crate::failure::{Cause, Failure, at};
+use crate::failure::{FailureCause, Failure, with_file};
 use crate::replacing::check_page;
 use crate::store_file::{DiskReader, StorePath, store_path};
 use clap::{Arg, ArgAction, ArgMatches, Command};
@@ -116,7 +116,7 @@ fn named(numbers: &StoreNumbers, damaged: u64) -> [(&'static str, u64); 11] {
 }
 
 // The page on an opened store of this name.
-fn page_on(alloc: Global, name: &str, reader: &mut DiskReader) -> Result<String, Cause> {
+fn page_on(alloc: Global, name: &str, reader: &mut DiskReader) -> Result<String, FailureCause> {
     let documents = document_sizes(alloc, reader)?;
     let sizes = block_sizes(alloc, reader)?;
     let spread = spread_of(&sizes);
@@ -139,21 +139,21 @@ fn page_on(alloc: Global, name: &str, reader: &mut DiskReader) -> Result<String,
 }
 
 // The page on a store.
-fn page_of(rt: &HostRuntime, store: StorePath<'_>) -> Result<String, Cause> {
+fn page_of(rt: &HostRuntime, store: StorePath<'_>) -> Result<String, FailureCause> {
     let mut reader = store.reader(rt)?;
     page_on(rt.alloc(), store.path, &mut reader)
 }
 
 // Why an output refused a call.
-fn refusal_of(sink: &DiskSink<HostRuntime>) -> Cause {
+fn refusal_of(sink: &DiskSink<HostRuntime>) -> FailureCause {
     match sink.last_error() {
-        Some(error) => Cause::System(error),
-        None => Cause::Store(StoreError::Memory),
+        Some(error) => FailureCause::System(error),
+        None => FailureCause::Store(StoreError::Memory),
     }
 }
 
 // Writes the page in place of one of this name.
-fn write_page(rt: &HostRuntime, path: &str, page: &str) -> Result<(), Cause> {
+fn write_page(rt: &HostRuntime, path: &str, page: &str) -> Result<(), FailureCause> {
     check_page(rt, path)?;
     let mut sink = DiskSink::create(rt.alloc(), *rt, path)?;
     if sink.write_all(page.as_bytes()).is_err() || sink.terminate().is_err() {
@@ -166,6 +166,6 @@ fn write_page(rt: &HostRuntime, path: &str, page: &str) -> Result<(), Cause> {
 pub fn run(rt: &HostRuntime, matches: &ArgMatches<'_>) -> Result<(), Failure> {
     let store = store_path(rt, matches)?;
     let out = word(rt.alloc(), matches, "html")?;
-    let page = at(rt.alloc(), store.path, page_of(rt, store))?;
-    at(rt.alloc(), out, write_page(rt, out, page.as_str()))
+    let page = with_file(rt.alloc(), store.path, page_of(rt, store))?;
+    with_file(rt.alloc(), out, write_page(rt, out, page.as_str()))
 }

@@ -1,7 +1,7 @@
 //! `merge`: writes a store of the documents of others, in order.
 
 use crate::arguments::{self, option, output_path, shape_of};
-use crate::failure::{Cause, Failure, at};
+use crate::failure::{FailureCause, Failure, with_file};
 use crate::progress::Progress;
 use crate::store_file::{DiskReader, StorePath};
 use crate::store_output::{DiskWriter, create, finish, summarize};
@@ -65,7 +65,7 @@ fn ids_for<'a>(word: &'a str, path: &str) -> Option<&'a str> {
 
 impl<'m, 'w> Merging<'m, 'w> {
     // The words that leave documents out of an input.
-    fn words_for(&self, alloc: Global, path: &str) -> Result<Vec<&'w str>, Cause> {
+    fn words_for(&self, alloc: Global, path: &str) -> Result<Vec<&'w str>, FailureCause> {
         let mut words = Vec::new(alloc);
         for word in self.without {
             if let Some(ids) = ids_for(word, path) {
@@ -76,7 +76,7 @@ impl<'m, 'w> Merging<'m, 'w> {
     }
 
     // A reader of the input of this name.
-    fn reader(&self, rt: &HostRuntime, path: &str) -> Result<DiskReader, Cause> {
+    fn reader(&self, rt: &HostRuntime, path: &str) -> Result<DiskReader, FailureCause> {
         StorePath {
             path,
             is_tantivy: self.is_tantivy,
@@ -85,11 +85,11 @@ impl<'m, 'w> Merging<'m, 'w> {
     }
 
     // Opens an input, so that what keeps it from being merged is told before anything is written.
-    fn check_input(&self, rt: &HostRuntime, path: &str) -> Result<(), Cause> {
+    fn check_input(&self, rt: &HostRuntime, path: &str) -> Result<(), FailureCause> {
         let words = self.words_for(rt.alloc(), path)?;
         let input = input_without(rt.alloc(), self.reader(rt, path)?, &words)?;
         if input.reader.version() == DocStoreVersion::V1 {
-            return Err(Cause::Store(StoreError::OldVersion));
+            return Err(FailureCause::Store(StoreError::OldVersion));
         }
         Ok(())
     }
@@ -97,7 +97,7 @@ impl<'m, 'w> Merging<'m, 'w> {
     // Opens each input once. None stays open: there may be more of them than files may be.
     fn check_inputs(&self, rt: &HostRuntime) -> Result<(), Failure> {
         for path in self.paths {
-            at(rt.alloc(), path, self.check_input(rt, path))?;
+            with_file(rt.alloc(), path, self.check_input(rt, path))?;
         }
         Ok(())
     }
@@ -109,7 +109,7 @@ impl<'m, 'w> Merging<'m, 'w> {
         writer: &mut DiskWriter,
         progress: &mut Progress<'_>,
         path: &str,
-    ) -> Result<(), Cause> {
+    ) -> Result<(), FailureCause> {
         let words = self.words_for(rt.alloc(), path)?;
         let reader = self.reader(rt, path)?;
         let bytes = reader.space_usage().total();
@@ -127,7 +127,7 @@ impl<'m, 'w> Merging<'m, 'w> {
         progress: &mut Progress<'_>,
     ) -> Result<(), Failure> {
         for path in self.paths {
-            at(
+            with_file(
                 rt.alloc(),
                 path,
                 self.merge_input(rt, writer, progress, path),
@@ -163,8 +163,8 @@ fn stray_text(alloc: Global, word: &str) -> Result<String, AllocError> {
 // The usage error of a word of `--without` that names none of the inputs.
 fn stray_failure(alloc: Global, word: &str) -> Failure {
     Failure::from(match stray_text(alloc, word) {
-        Ok(text) => Cause::Words(text),
-        Err(error) => Cause::from(error),
+        Ok(text) => FailureCause::Words(text),
+        Err(error) => FailureCause::from(error),
     })
 }
 

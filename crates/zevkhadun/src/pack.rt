@@ -1,7 +1,7 @@
 //! `pack`: writes a store of the documents of files or of the standard input.
 
 use crate::arguments::{self, framing_of, output_path, shape_of};
-use crate::failure::{Failure, at};
+use crate::failure::{Failure, with_file};
 use crate::progress::Progress;
 use crate::store_output::{DiskWriter, create, finish, summarize};
 use clap::{Arg, ArgAction, ArgMatches, Command};
@@ -55,7 +55,7 @@ impl<'a> Packing<'a> {
     // Stores a document.
     #[inline(always)]
     fn store(&mut self, document: &[u8]) -> Result<(), Failure> {
-        at(self.rt.alloc(), self.out, self.writer.store_bytes(document))?;
+        with_file(self.rt.alloc(), self.out, self.writer.store_bytes(document))?;
         self.progress.add(1, document.len() as u64);
         Ok(())
     }
@@ -87,7 +87,7 @@ impl<'a> Packing<'a> {
         input: &mut R,
         document: &mut Vec<u8>,
     ) -> Result<bool, Failure> {
-        if !at(self.rt.alloc(), path, self.framing.read(input, document))? {
+        if !with_file(self.rt.alloc(), path, self.framing.read(input, document))? {
             return Ok(false);
         }
         self.store(document)?;
@@ -113,7 +113,7 @@ impl<'a> Packing<'a> {
     fn store_standard_input(&mut self) -> Result<(), Failure> {
         let alloc = self.rt.alloc();
         let input = BufReader::with_capacity(alloc, BUFFER_SIZE, self.rt.reader());
-        let mut input = at(alloc, STANDARD_INPUT, input)?;
+        let mut input = with_file(alloc, STANDARD_INPUT, input)?;
         self.store_documents(STANDARD_INPUT, &mut input)
     }
 
@@ -123,8 +123,8 @@ impl<'a> Packing<'a> {
             return self.store_standard_input();
         }
         let alloc = self.rt.alloc();
-        let file = at(alloc, path, File::open(self.rt, path))?;
-        let mut input = at(
+        let file = with_file(alloc, path, File::open(self.rt, path))?;
+        let mut input = with_file(
             alloc,
             path,
             BufReader::with_capacity(alloc, BUFFER_SIZE, file),

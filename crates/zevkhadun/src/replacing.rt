@@ -1,6 +1,6 @@
 //! What an output may replace: a file of its own kind, or an empty one.
 
-use crate::failure::Cause;
+use crate::failure::FailureCause;
 use crate::store_file::{StoreFile, StorePath};
 use docstore::DocStoreFooter;
 use std::fs;
@@ -11,7 +11,7 @@ use store_commands::store_part::part_of;
 const DOCTYPE: &[u8; 15] = b"<!DOCTYPE html>";
 
 // The file of this name, where there is one that has bytes. An output refuses itself what is no plain file.
-fn file_with_bytes(rt: &HostRuntime, path: &str) -> Result<Option<StoreFile>, Cause> {
+fn file_with_bytes(rt: &HostRuntime, path: &str) -> Result<Option<StoreFile>, FailureCause> {
     let store = StorePath {
         path,
         is_tantivy: false,
@@ -23,21 +23,21 @@ fn file_with_bytes(rt: &HostRuntime, path: &str) -> Result<Option<StoreFile>, Ca
 }
 
 /// Refuses a name that a file has which is no store.
-pub fn check_store(rt: &HostRuntime, path: &str) -> Result<(), Cause> {
+pub fn check_store(rt: &HostRuntime, path: &str) -> Result<(), FailureCause> {
     let Some(file) = file_with_bytes(rt, path)? else {
         return Ok(());
     };
     match DocStoreFooter::extract_footer(rt.alloc(), file) {
         Ok(_) => Ok(()),
         Err(refusal) => Err(match refusal.error {
-            StoreError::Read | StoreError::Memory => Cause::Store(refusal.error),
-            _ => Cause::OtherFile("store"),
+            StoreError::Read | StoreError::Memory => FailureCause::Store(refusal.error),
+            _ => FailureCause::OtherFile("store"),
         }),
     }
 }
 
 /// Refuses a name that a file has which is no page of HTML.
-pub fn check_page(rt: &HostRuntime, path: &str) -> Result<(), Cause> {
+pub fn check_page(rt: &HostRuntime, path: &str) -> Result<(), FailureCause> {
     let Some(mut file) = file_with_bytes(rt, path)? else {
         return Ok(());
     };
@@ -46,6 +46,6 @@ pub fn check_page(rt: &HostRuntime, path: &str) -> Result<(), Cause> {
     if beginning.as_slice() == DOCTYPE.as_slice() {
         Ok(())
     } else {
-        Err(Cause::OtherFile("page of HTML"))
+        Err(FailureCause::OtherFile("page of HTML"))
     }
 }

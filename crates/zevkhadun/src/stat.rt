@@ -1,7 +1,7 @@
 //! `stat`: tells what stores have, as numbers.
 
 use crate::arguments;
-use crate::failure::{Cause, Failure, at, printed};
+use crate::failure::{FailureCause, Failure, with_file, to_output};
 use crate::store_file::StorePath;
 use clap::{ArgMatches, Command};
 use serde_json::json;
@@ -27,13 +27,13 @@ pub fn command<'a>(alloc: Global) -> Result<Command<'a>, AllocError> {
 }
 
 // The numbers of a store.
-fn read_numbers(rt: &HostRuntime, store: StorePath<'_>) -> Result<StoreNumbers, Cause> {
+fn read_numbers(rt: &HostRuntime, store: StorePath<'_>) -> Result<StoreNumbers, FailureCause> {
     let reader = store.reader(rt)?;
     Ok(numbers_in(rt.alloc(), &reader)?)
 }
 
 // Prints the numbers as an object of JSON.
-fn print_object(rt: &HostRuntime, path: &str, numbers: &StoreNumbers) -> Result<(), Cause> {
+fn print_object(rt: &HostRuntime, path: &str, numbers: &StoreNumbers) -> Result<(), FailureCause> {
     let object = json!(in rt.alloc(); {
         "file": path,
         "version": numbers.version,
@@ -47,11 +47,11 @@ fn print_object(rt: &HostRuntime, path: &str, numbers: &StoreNumbers) -> Result<
         "median_block": numbers.median_block,
         "largest_block": numbers.largest_block
     })?;
-    printed(println!(rt; "{object}"))
+    to_output(println!(rt; "{object}"))
 }
 
 // Prints the numbers in lines.
-fn print_lines(rt: &HostRuntime, path: &str, numbers: &StoreNumbers) -> Result<(), Cause> {
+fn print_lines(rt: &HostRuntime, path: &str, numbers: &StoreNumbers) -> Result<(), FailureCause> {
     let StoreNumbers {
         version,
         period,
@@ -64,16 +64,16 @@ fn print_lines(rt: &HostRuntime, path: &str, numbers: &StoreNumbers) -> Result<(
         median_block,
         largest_block,
     } = *numbers;
-    printed(println!(rt; "{path}"))?;
-    printed(println!(rt; "  version         {version}\n  period          {period}"))?;
-    printed(println!(rt; "  documents       {documents}\n  blocks          {blocks}"))?;
-    printed(println!(rt; "  layers          {layers}\n  data bytes      {data_bytes}"))?;
-    printed(println!(rt; "  index bytes     {index_bytes}\n  smallest block  {smallest_block}"))?;
-    printed(println!(rt; "  median block    {median_block}\n  largest block   {largest_block}"))
+    to_output(println!(rt; "{path}"))?;
+    to_output(println!(rt; "  version         {version}\n  period          {period}"))?;
+    to_output(println!(rt; "  documents       {documents}\n  blocks          {blocks}"))?;
+    to_output(println!(rt; "  layers          {layers}\n  data bytes      {data_bytes}"))?;
+    to_output(println!(rt; "  index bytes     {index_bytes}\n  smallest block  {smallest_block}"))?;
+    to_output(println!(rt; "  median block    {median_block}\n  largest block   {largest_block}"))
 }
 
 // Tells of one store.
-fn print_store(rt: &HostRuntime, store: StorePath<'_>, is_json: bool) -> Result<(), Cause> {
+fn print_store(rt: &HostRuntime, store: StorePath<'_>, is_json: bool) -> Result<(), FailureCause> {
     let numbers = read_numbers(rt, store)?;
     if is_json {
         print_object(rt, store.path, &numbers)
@@ -88,7 +88,7 @@ pub fn run(rt: &HostRuntime, matches: &ArgMatches<'_>) -> Result<(), Failure> {
     let is_tantivy = matches.get_flag("tantivy");
     for path in matches.get_strs("FILE").unwrap_or(&[]) {
         let store = StorePath { path, is_tantivy };
-        at(rt.alloc(), path, print_store(rt, store, is_json))?;
+        with_file(rt.alloc(), path, print_store(rt, store, is_json))?;
     }
     Ok(())
 }

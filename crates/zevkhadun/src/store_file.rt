@@ -1,7 +1,7 @@
 //! A store's file on disk, opened to be read.
 
 use crate::arguments::input_path;
-use crate::failure::{Cause, Failure};
+use crate::failure::{FailureCause, Failure};
 use clap::ArgMatches;
 use docstore::{OpenError, StoreReader};
 use std::fs;
@@ -28,9 +28,9 @@ pub struct StorePath<'a> {
 
 impl<'a> StorePath<'a> {
     /// The file that is the store.
-    pub fn file(&self, rt: &HostRuntime) -> Result<StoreFile, Cause> {
+    pub fn file(&self, rt: &HostRuntime) -> Result<StoreFile, FailureCause> {
         if !fs::metadata(rt, self.path)?.is_file() {
-            return Err(Cause::Create(CreateError::NotPlainFile));
+            return Err(FailureCause::Create(CreateError::NotPlainFile));
         }
         let file = FileSlice::new(DiskFile::new(OsFile::open(rt, self.path)?)?);
         if self.is_tantivy {
@@ -41,10 +41,10 @@ impl<'a> StorePath<'a> {
     }
 
     /// A reader of the store.
-    pub fn reader(&self, rt: &HostRuntime) -> Result<DiskReader, Cause> {
+    pub fn reader(&self, rt: &HostRuntime) -> Result<DiskReader, FailureCause> {
         match reader_of(rt, self.file(rt)?) {
             Ok(reader) => Ok(reader),
-            Err(refusal) => Err(Cause::Store(refusal.error)),
+            Err(refusal) => Err(FailureCause::Store(refusal.error)),
         }
     }
 }

@@ -1,7 +1,7 @@
 //! A store that is written to disk.
 
 use crate::arguments::wrong_words;
-use crate::failure::{Cause, Failure, at};
+use crate::failure::{FailureCause, Failure, with_file};
 use crate::progress::Progress;
 use crate::replacing::check_store;
 use docstore::{Compressor, StoreWriter};
@@ -26,8 +26,8 @@ pub fn create(rt: &HostRuntime, path: &str, shape: StoreShape) -> Result<DiskWri
     if path == "-" {
         return Err(wrong_words(alloc, "a store can't be written to standard output", path));
     }
-    at(alloc, path, check_store(rt, path))?;
-    let sink = at(alloc, path, DiskSink::create(alloc, *rt, path))?;
+    with_file(alloc, path, check_store(rt, path))?;
+    let sink = with_file(alloc, path, DiskSink::create(alloc, *rt, path))?;
     Ok(StoreWriter::with_period(
         alloc,
         sink,
@@ -38,7 +38,7 @@ pub fn create(rt: &HostRuntime, path: &str, shape: StoreShape) -> Result<DiskWri
 }
 
 // Ends a writer. Where the output failed, the cause is the system's.
-fn close(writer: DiskWriter) -> Result<Written, Cause> {
+fn close(writer: DiskWriter) -> Result<Written, FailureCause> {
     let (documents, blocks) = (writer.num_docs(), writer.num_blocks());
     match writer.close() {
         Ok(output) => Ok(Written {
@@ -47,8 +47,8 @@ fn close(writer: DiskWriter) -> Result<Written, Cause> {
             bytes: output.num_bytes(),
         }),
         Err(refusal) => Err(match refusal.output.last_error() {
-            Some(error) => Cause::System(error),
-            None => Cause::Store(refusal.error),
+            Some(error) => FailureCause::System(error),
+            None => FailureCause::Store(refusal.error),
         }),
     }
 }
@@ -64,11 +64,11 @@ pub fn finish(
     if !writer.has_failed() {
         stored?;
     }
-    at(rt.alloc(), path, close(writer))
+    with_file(rt.alloc(), path, close(writer))
 }
 
 // Prints what a store has.
-fn print_summary(rt: &HostRuntime, written: Written, seconds: f64) -> Result<(), Cause> {
+fn print_summary(rt: &HostRuntime, written: Written, seconds: f64) -> Result<(), FailureCause> {
     let Written {
         documents,
         blocks,
@@ -88,7 +88,7 @@ pub fn summarize(
     if !progress.is_shown() {
         return Ok(());
     }
-    at(
+    with_file(
         rt.alloc(),
         path,
         print_summary(rt, written, progress.elapsed().as_secs_f64()),

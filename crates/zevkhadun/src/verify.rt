@@ -1,7 +1,7 @@
 //! `verify`: reads stores whole, and tells what breaks a promise of the format.
 
 use crate::arguments;
-use crate::failure::{Cause, Failure, printed};
+use crate::failure::{FailureCause, Failure, to_output};
 use crate::progress::Progress;
 use crate::store_file::{DiskReader, StoreFile, StorePath, reader_of};
 use clap::{ArgMatches, Command};
@@ -32,7 +32,7 @@ pub fn command<'a>(alloc: Global) -> Result<Command<'a>, AllocError> {
 }
 
 // Reads the blocks of an opened store.
-fn verdict_of(rt: &HostRuntime, reader: &mut DiskReader, is_quiet: bool) -> Result<Verdict, Cause> {
+fn verdict_of(rt: &HostRuntime, reader: &mut DiskReader, is_quiet: bool) -> Result<Verdict, FailureCause> {
     let mut progress = Progress::begin(rt, is_quiet);
     let verdict = check_blocks(rt.alloc(), reader, &mut progress);
     progress.end();
@@ -40,7 +40,7 @@ fn verdict_of(rt: &HostRuntime, reader: &mut DiskReader, is_quiet: bool) -> Resu
 }
 
 // Tells what was found in a store that was opened, and whether it is sound.
-fn print_verdict(rt: &HostRuntime, path: &str, verdict: &Verdict) -> Result<bool, Cause> {
+fn print_verdict(rt: &HostRuntime, path: &str, verdict: &Verdict) -> Result<bool, FailureCause> {
     let Verdict {
         documents,
         blocks,
@@ -55,13 +55,13 @@ fn print_verdict(rt: &HostRuntime, path: &str, verdict: &Verdict) -> Result<bool
             "documents"
         };
         let block = if blocks == 1 { "block" } else { "blocks" };
-        printed(println!(rt; "{path}: sound: {documents} {document} in {blocks} {block}"))?;
+        to_output(println!(rt; "{path}: sound: {documents} {document} in {blocks} {block}"))?;
         return Ok(true);
     };
     let extent = format_args!(
         "{damaged} of {documents} documents, {broken_blocks} of {blocks} blocks"
     );
-    printed(println!(rt; "{path}: broken: {place}; damaged: {extent}"))?;
+    to_output(println!(rt; "{path}: broken: {place}; damaged: {extent}"))?;
     Ok(false)
 }
 
@@ -71,19 +71,19 @@ fn print_error(
     path: &str,
     file: StoreFile,
     error: StoreError,
-) -> Result<bool, Cause> {
+) -> Result<bool, FailureCause> {
     match broken_part(rt.alloc(), file, error)? {
         BrokenPart::Footer => {
-            let cause = Cause::Store(error);
-            printed(println!(rt; "{path}: broken: footer: {cause}"))?;
+            let cause = FailureCause::Store(error);
+            to_output(println!(rt; "{path}: broken: footer: {cause}"))?;
         }
-        part => printed(println!(rt; "{path}: broken: {part}"))?,
+        part => to_output(println!(rt; "{path}: broken: {part}"))?,
     }
     Ok(false)
 }
 
 // Tells of a store, and whether it is sound.
-fn verify_store(rt: &HostRuntime, store: StorePath<'_>, is_quiet: bool) -> Result<bool, Cause> {
+fn verify_store(rt: &HostRuntime, store: StorePath<'_>, is_quiet: bool) -> Result<bool, FailureCause> {
     match reader_of(rt, store.file(rt)?) {
         Ok(mut reader) => {
             let verdict = verdict_of(rt, &mut reader, is_quiet)?;
@@ -105,7 +105,7 @@ fn verify_all(
         let store = StorePath { path, is_tantivy };
         match verify_store(rt, store, is_quiet) {
             Ok(found) => is_sound &= found,
-            Err(Cause::Output(error)) => return Err(Failure::from(Cause::Output(error))),
+            Err(FailureCause::Output(error)) => return Err(Failure::from(FailureCause::Output(error))),
             Err(cause) => {
                 Failure::at_file(rt.alloc(), path, cause).report(rt);
                 is_sound = false;
@@ -120,10 +120,10 @@ pub fn run(rt: &HostRuntime, matches: &ArgMatches<'_>) -> Result<(), Failure> {
     let paths = matches.get_strs("FILE").unwrap_or(&[]);
     let (is_tantivy, is_quiet) = (matches.get_flag("tantivy"), matches.get_flag("quiet"));
     let is_sound = verify_all(rt, paths, is_tantivy, is_quiet)?;
-    printed(println!(rt; "{BLIND_SPOT}"))?;
+    to_output(println!(rt; "{BLIND_SPOT}"))?;
     if is_sound {
         Ok(())
     } else {
-        Err(Failure::from(Cause::Told))
+        Err(Failure::from(FailureCause::Reported))
     }
 }

@@ -1,6 +1,6 @@
 //! The words that the program takes.
 
-use crate::failure::{Cause, Failure};
+use crate::failure::{FailureCause, Failure};
 use crate::{cat, get, inspect, merge, pack, stat, verify};
 use clap::{ArgMatches, Command, Error};
 use std::alloc::{AllocError, Global};
@@ -47,11 +47,11 @@ fn command<'a>(alloc: Global) -> Result<Command<'a>, AllocError> {
 }
 
 // What keeps the words from being read.
-fn refusal_of(error: io::Error) -> Cause {
+fn refusal_of(error: io::Error) -> FailureCause {
     if error.kind() == io::ErrorKind::InvalidData {
-        return Cause::NoText;
+        return FailureCause::NoText;
     }
-    Cause::System(error)
+    FailureCause::System(error)
 }
 
 /// The words that the program was given.
@@ -62,7 +62,7 @@ pub fn given(rt: &HostRuntime) -> Result<Vec<String>, Failure> {
     };
     match words {
         Ok(words) => Ok(words),
-        Err(_) => Err(Failure::from(Cause::System(io::ErrorKind::OutOfMemory.into()))),
+        Err(_) => Err(Failure::from(FailureCause::System(io::ErrorKind::OutOfMemory.into()))),
     }
 }
 
