@@ -45,7 +45,7 @@ impl CheckpointList {
         Ok(())
     }
 
-    /// So many.
+    /// This many.
     pub fn of_count(alloc: Global, count: u64) -> Result<CheckpointList, StoreError> {
         let mut generator = Generator::new(CHECKPOINTS_SEED);
         let mut list = CheckpointList {

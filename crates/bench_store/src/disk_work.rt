@@ -13,7 +13,7 @@ use store_files::{DiskFile, DiskSink, OsFile, load};
 /// The file that is written and read.
 pub const PATH: &str = "bench.store";
 
-// Opens the file, with a cache of so many blocks.
+// Opens the file, with a cache of this many blocks.
 fn opened(rt: &HostRuntime, capacity: usize) -> Result<StoreReader<DiskFile<OsFile>>> {
     let file = FileSlice::new(DiskFile::new(OsFile::open(rt, PATH)?)?);
     let opened = StoreReader::open(rt.alloc(), file, capacity);
@@ -58,7 +58,7 @@ pub struct WriteDisk<'a> {
     pub block_size: usize,
 }
 
-/// Writes the file, of so many documents.
+/// Writes the file, of this many documents.
 pub fn write_disk(
     rt: &HostRuntime,
     documents: &Documents,

@@ -15,7 +15,7 @@ const DELETED_EVERY: u64 = 10;
 pub enum Order {
     /// Each as often as the others.
     Uniform,
-    /// Mostly the first so many.
+    /// Mostly one of the first few.
     Hot(u64),
     /// The first ones the more often.
     Zipf,
@@ -50,7 +50,7 @@ fn next_id(generator: &mut Generator, order: Order, i: u64, num_docs: u64) -> u6
     }
 }
 
-/// So many ids below the number of documents.
+/// This many ids, below the number of documents.
 pub fn ids(alloc: Global, order: Order, count: u64, num_docs: u32) -> Result<Vec<DocId>, AllocError>
     requires { 0 < num_docs }
 {

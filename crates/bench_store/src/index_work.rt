@@ -75,7 +75,7 @@ impl Workload for Build {
     }
 }
 
-/// Opens an index so many times, and drops it.
+/// Opens an index this many times, and drops it.
 #[derive(Drop)]
 pub struct OpenIndex {
     pub alloc: Global,

@@ -1,4 +1,4 @@
-//! Doing a workload so many times, and what is told of it.
+//! Repeating a workload, and printing its figures.
 use anyhow::{Result, ensure};
 use std::rt::Clock;
 use std::time::{Duration, Instant};
@@ -18,7 +18,7 @@ pub trait Workload {
     fn run<C: Clock>(&mut self, clock: &C) -> Result<Run>;
 }
 
-/// What is told of a workload.
+/// The figures of a workload.
 #[derive(Clone, Copy, PartialEq, Eq)]
 pub enum Telling {
     /// Its check alone, which is the same at each run.
@@ -27,7 +27,7 @@ pub enum Telling {
     Times,
 }
 
-/// How a workload is measured: how often it is done, and what is told of it.
+/// How a workload is measured: how often it is done, and which figures are printed.
 #[derive(Clone, Copy)]
 pub struct Measure {
     pub repetitions: u64,
@@ -82,7 +82,7 @@ fn tell_times<R: Print + Eprint>(rt: &R, name: &str, run: Run) -> Result<()> {
     Ok(())
 }
 
-/// Does a workload, and prints what is told of it under this name.
+/// Does a workload, and prints its figures under this name.
 pub fn perform<R: Print + Eprint + Clock, W: Workload>(
     rt: &R,
     name: &str,

@@ -1,6 +1,6 @@
 //! Lists of workloads, a command line each.
 
-/// Small sizes: what is told of them by default.
+/// Small sizes, which are the default.
 pub const SMALL: &str = "\
 write n=3000 l=8
 write n=2000 l=100

@@ -57,7 +57,7 @@ impl Source {
     }
 }
 
-/// Opens the store so many times, and drops the reader.
+/// Opens the store this many times, and drops the reader.
 #[derive(Drop)]
 pub struct Open {
     pub source: Source,
@@ -152,7 +152,7 @@ impl Workload for Iterate {
     }
 }
 
-/// Stacks a store so many times on an empty one.
+/// Stacks a store this many times on an empty one.
 #[derive(Drop)]
 pub struct Stack {
     pub source: Source,

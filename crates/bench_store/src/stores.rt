@@ -13,7 +13,7 @@ pub fn closed<W: TerminatingWrite>(writer: StoreWriter<W>) -> Result<W, StoreErr
     }
 }
 
-/// The store of the first so many documents, in this output.
+/// The store of the first `count` documents, in this output.
 pub fn written<W: TerminatingWrite>(
     alloc: Global,
     output: W,
@@ -28,7 +28,7 @@ pub fn written<W: TerminatingWrite>(
     closed(writer)
 }
 
-/// Opens a file, with a cache of so many blocks.
+/// Opens a file, with a cache of this many blocks.
 pub fn opened(
     alloc: Global,
     file: &OwnedBytes,

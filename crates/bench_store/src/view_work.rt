@@ -1,4 +1,4 @@
-//! Workloads over a store whose bytes are at hand.
+//! Workloads over a store whose bytes are in memory.
 use crate::checks::Slots;
 use crate::measure::{Run, Workload};
 use anyhow::Result;
@@ -7,7 +7,7 @@ use std::alloc::Global;
 use std::rt::Clock;
 use std::time::Instant;
 
-/// Opens the bytes so many times.
+/// Opens the bytes this many times.
 #[derive(Drop)]
 pub struct OpenView {
     pub alloc: Global,

@@ -1,4 +1,4 @@
-//! Workloads by their names: each is made, done and told.
+//! Workloads by their names: each is made, done and printed.
 ghost use Rattle.std.specs.Prelude.{◌<◌, IfSome};
 
 use crate::arguments::Numbers;
@@ -16,7 +16,7 @@ use std::alloc::Global;
 use std::fs;
 use store_base::{MemSink, OwnedBytes};
 
-/// Where workloads are printed, and how they are told.
+/// Where workloads are printed, and in which form.
 #[derive(Drop)]
 pub struct Bench<'a> {
     pub rt: &'a HostRuntime,
@@ -51,7 +51,7 @@ fn some_documents(count: u64) -> Option<u32>
 }
 
 impl<'a> Bench<'a> {
-    /// Makes the workload of this name, does it and tells of it.
+    /// Makes the workload of this name, does it and prints its figures.
     pub fn run(&self, name: &str, numbers: &Numbers) -> Result<()> {
         match name {
             "write" => self.write(numbers),
@@ -91,7 +91,7 @@ impl<'a> Bench<'a> {
         perform(self.rt, name, workload, how)
     }
 
-    // A store of so many documents, and how it is opened.
+    // A store of this many documents, and how it is opened.
     fn source(&self, documents: u64, capacity: u64, numbers: &Numbers) -> Result<Source> {
         let alloc = self.alloc;
         let pool = documents_of(alloc, numbers.length())?;
@@ -154,7 +154,7 @@ impl<'a> Bench<'a> {
         self.measure(name.as_str(), numbers, &mut work)
     }
 
-    // The file of a store of so many documents, and what names say of it.
+    // The file of a store of this many documents, and what names say of it.
     fn file(&self, documents: u64, numbers: &Numbers) -> Result<(OwnedBytes, String)> {
         let length = numbers.length();
         let block_size = numbers.block_size();
@@ -193,14 +193,14 @@ impl<'a> Bench<'a> {
         self.measure(name.as_str(), numbers, &mut work)
     }
 
-    // Writes the file of so many documents, which is read from disk.
+    // Writes the file of this many documents, which is read from disk.
     fn make_file(&self, documents: u64, numbers: &Numbers) -> Result<()> {
         let pool = documents_of(self.alloc, numbers.length())?;
         let block_size = numbers.block_size() as usize;
         write_disk(self.rt, &pool, documents as usize, block_size)
     }
 
-    // The same for one that works on the file, which is removed behind it.
+    // The same for one that works on the file, which is removed after it.
     fn measure_disk<W: Workload>(&self, name: &str, numbers: &Numbers, work: &mut W) -> Result<()> {
         self.measure(name, numbers, work)?;
         fs::remove_file(self.rt, PATH)?;

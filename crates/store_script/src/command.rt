@@ -26,7 +26,7 @@ pub enum Command {
     Put { document: Vec<u8> },
     /// `rec`, and then any number of ` FIELD HEX`: stores a record.
     Record { record: RecordDocument },
-    /// `stack STORE`: stacks a store behind the documents.
+    /// `stack STORE`: stacks a store after the documents.
     Stack { store: u32 },
     /// `close`: closes the writer and opens what it wrote.
     Close,
@@ -34,11 +34,11 @@ pub enum Command {
     Load { file: Vec<u8> },
     /// `merge SIZE`, and then one or more ` STORE`: merges these stores, of which nothing is deleted, into one.
     Merge { block_size: usize, stores: Vec<u32> },
-    /// What is asked of a store.
+    /// A question to a store.
     Ask { store: u32, question: Question },
 }
 
-/// What is asked of a store.
+/// A question to a store.
 #[derive(Drop)]
 pub enum Question {
     /// `get STORE ID`: a document.
@@ -51,7 +51,7 @@ pub enum Question {
     Dump,
     /// `hex STORE`: the file.
     File,
-    /// `open STORE CAPACITY`: the store opened again, with a cache of so many blocks.
+    /// `open STORE CAPACITY`: the store opened again, with a cache of this many blocks.
     Open { capacity: usize },
     /// `stats STORE`: what its cache did.
     Stats,
@@ -177,7 +177,7 @@ fn ask(store: &str, question: Question) -> Result<Command, LineFault> {
     })
 }
 
-// A command of one word behind its name.
+// A command of one word after its name.
 fn with_word(alloc: Global, name: &str, word: &str) -> Result<Command, LineFault> {
     match name {
         "new" => Ok(Command::New {
@@ -204,7 +204,7 @@ fn with_word(alloc: Global, name: &str, word: &str) -> Result<Command, LineFault
     }
 }
 
-// A command of two words behind its name.
+// A command of two words after its name.
 fn with_words(name: &str, first: &str, second: &str) -> Result<Command, LineFault> {
     match name {
         "new" => Ok(Command::New {

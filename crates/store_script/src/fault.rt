@@ -19,7 +19,7 @@ pub enum ToolFault {
 }
 
 impl From<io::Error> for ToolFault {
-    // A failed read is told at its place: all other streams are written.
+    // A failed read is reported at its place: all other streams are written.
     fn from(_: io::Error) -> ToolFault {
         ToolFault::Output
     }

@@ -16,7 +16,7 @@ pub struct Store {
     reader: StoreReader<MemFile>,
 }
 
-/// Opens a file of these bytes, with a cache of so many blocks. What the file is refused for is inside.
+/// Opens a file of these bytes, with a cache of this many blocks. An error of the file is inside.
 pub fn open_bytes(
     alloc: Global,
     bytes: Vec<u8>,

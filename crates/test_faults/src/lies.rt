@@ -10,7 +10,7 @@ use test_support::making::{is_found, is_listed, opened, opened_with_cache, writt
 // An open reads the footer and the index.
 const READS_OF_AN_OPEN: u64 = 2;
 
-// A store of `abc` and `def`, in a block each. Later reads lie in so many bytes at their front.
+// A store of `abc` and `def`, in a block each. Later reads lie in this many bytes at their front.
 fn lying(
     alloc: Global,
     lying_bytes: usize,

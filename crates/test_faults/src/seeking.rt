@@ -24,7 +24,7 @@ const FAILED: [(bool, bool); 6] = [
 
 type Reader = SeekingReader<FailingFile>;
 
-// Opens the file, again where that fails, and tells whether it did.
+// Opens the file, again where that fails, and returns whether it did.
 fn open(rt: &impl Abort, alloc: Global, file: FailingFile) -> Result<(Reader, bool), StoreError> {
     let refusal = match SeekingReader::open(alloc, FileSlice::new(file)) {
         Ok(reader) => return Ok((reader, false)),
@@ -37,7 +37,7 @@ fn open(rt: &impl Abort, alloc: Global, file: FailingFile) -> Result<(Reader, bo
     }
 }
 
-// Gets the last document, again where that fails, and tells whether it did.
+// Gets the last document, again where that fails, and returns whether it did.
 fn get(rt: &impl Abort, alloc: Global, reader: &mut Reader) -> Result<bool, StoreError> {
     let (document, failed) = match reader.get(alloc, 8) {
         Ok(document) => (document, false),

@@ -45,7 +45,7 @@ impl<'a> Read for Dripping<'a> {
     }
 }
 
-/// An output that takes so many bytes, one at a time, and then fails.
+/// An output that takes this many bytes, one at a time, and then fails.
 #[derive(Drop)]
 struct Closing<'a> {
     bytes: &'a mut Vec<u8>,

@@ -58,7 +58,7 @@ fn a_view_tells_of_its_store(rt: HostRuntime) -> Result<(), Fail> {
     Ok(())
 }
 
-// How many documents an iteration gives that is dropped after so many, and how many blocks it looks up.
+// How many documents an iteration gives that is dropped after this many, and how many blocks it looks up.
 fn given_and_looked_up(
     alloc: Global,
     reader: &mut StoreReader<MemFile>,

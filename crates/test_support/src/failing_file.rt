@@ -17,7 +17,7 @@ pub struct FailingFile {
     failing_read: u64,
 }
 
-/// Clauses see what every file tells, and not which read will fail.
+/// Clauses see the model of a file, and not which read will fail.
 impl Model for FailingFile {
     ghost use Rattle.std.specs.Prelude.{true};
     ghost use Rattle.store_base.specs.Files.{Part};

@@ -20,7 +20,7 @@ pub struct FailingSink {
     failing_call: u64,
 }
 
-/// Clauses see what every output tells, and not which call will fail.
+/// Clauses see the model of an output, and not which call will fail.
 impl Model for FailingSink {
     ghost use Rattle.store_base.specs.Outputs.{Output};
 
@@ -56,7 +56,7 @@ impl FailingSink {
         &self.bytes
     }
 
-    /// Whether a `terminate` answered Ok and nothing was written behind it.
+    /// Whether a `terminate` returned Ok and nothing was written after it.
     pub fn is_terminated(&self) -> bool
         ensures { IsTrue result ↔ IsTerminated self.now.content self.now.termination }
     {

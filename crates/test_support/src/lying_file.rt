@@ -17,7 +17,7 @@ pub struct LyingFile {
     asked: u64,
 }
 
-/// Clauses see what every file tells.
+/// Clauses see the model of a file.
 impl Model for LyingFile {
     ghost use Rattle.std.specs.Prelude.{false};
     ghost use Rattle.store_base.specs.Files.{Part};
@@ -42,8 +42,8 @@ impl LyingFile {
         LyingFile::after_reads(bytes, 0, usize::MAX)
     }
 
-    /// The same behind so many reads that tell every byte as it is. They aren't counted in the numbers, and only so
-    /// many bytes at the front of each later read are told wrong.
+    /// The same after `honest_reads` reads that give every byte as it is. They aren't counted in the numbers, and only
+    /// the first `lying_bytes` bytes of each later read are wrong.
     pub fn after_reads(bytes: Vec<u8>, honest_reads: u64, lying_bytes: usize) -> LyingFile
         ensures { result ≡ record { content = bytes.items; honest = false; failures = 0; reads = 0; asked = 0 } }
     {
@@ -57,7 +57,7 @@ impl LyingFile {
     }
 }
 
-// The bytes, so many at the front with the mask xored in.
+// The bytes, those at the front with the mask xored in.
 fn masked(alloc: Global, bytes: &[u8], count: usize, mask: u8) -> Result<Vec<u8>, NoMemory>
     ensures { IfOk result (λ masked. length masked.items ≡ length bytes.now) }
 {

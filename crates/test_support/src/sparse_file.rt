@@ -27,7 +27,7 @@ pub struct SparseFile {
     failures: u64,
 }
 
-/// Clauses see how long it is. What it holds is not told.
+/// Clauses see how long it is, and not what it holds.
 impl Model for SparseFile {
     ghost use Rattle.std.specs.Prelude.{◌+◌, ◌<◌, ◌^◌, ◌++◌, length, replicate, false};
     ghost use Rattle.store_base.specs.Files.{Part};
@@ -57,7 +57,7 @@ fn block_at(number: u32) -> Checkpoint
     }
 }
 
-// The index of so many blocks.
+// The index of this many blocks.
 fn index_of(alloc: Global, count: u32) -> Result<SkipIndexBuilder, StoreError> {
     let mut builder = SkipIndexBuilder::new(alloc);
     for number in 0..count {
@@ -66,7 +66,7 @@ fn index_of(alloc: Global, count: u32) -> Result<SkipIndexBuilder, StoreError> {
     Ok(builder)
 }
 
-// The index and the footer of a file of so many blocks.
+// The index and the footer of a file of this many blocks.
 fn tail_of(alloc: Global, count: u32) -> Result<Vec<u8>, StoreError> {
     let mut output = MemSink::new(alloc);
     index_of(alloc, count)?.serialize_into(&mut output)?;
@@ -76,7 +76,7 @@ fn tail_of(alloc: Global, count: u32) -> Result<Vec<u8>, StoreError> {
 }
 
 impl SparseFile {
-    /// The file of so many blocks, which brings so many bytes.
+    /// The file of this many blocks, with this many bytes of data.
     pub fn of_blocks(alloc: Global, count: u32, budget: u64) -> Result<SparseFile, StoreError> {
         let tail = tail_of(alloc, count)?;
         let data_len = u64::from(count) * SPARSE_BLOCK;

@@ -60,7 +60,7 @@ fn compared(rt: &HostRuntime, text: &str) -> anyhow::Result<Comparison> {
     Ok(comparison)
 }
 
-// Tells how many files of a text are read alike.
+// Prints how many files of a text are read alike.
 fn compare(rt: &HostRuntime, name: &str, text: &[u8]) -> anyhow::Result<()> {
     let Ok(text) = str::from_utf8(text) else {
         println!(rt; "{name} is no text")?;

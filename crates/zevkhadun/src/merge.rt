@@ -84,7 +84,7 @@ impl<'m, 'w> Merging<'m, 'w> {
         .reader(rt)
     }
 
-    // Opens an input, so that what keeps it from being merged is told before anything is written.
+    // Opens an input, so that what keeps it from being merged is reported before anything is written.
     fn check_input(&self, rt: &HostRuntime, path: &str) -> Result<(), FailureCause> {
         let words = self.words_for(rt.alloc(), path)?;
         let input = input_without(rt.alloc(), self.reader(rt, path)?, &words)?;
@@ -102,7 +102,7 @@ impl<'m, 'w> Merging<'m, 'w> {
         Ok(())
     }
 
-    // Puts the documents of an input behind those of the writer.
+    // Adds the documents of an input to those of the writer.
     fn merge_input(
         &self,
         rt: &HostRuntime,
@@ -119,7 +119,7 @@ impl<'m, 'w> Merging<'m, 'w> {
         Ok(())
     }
 
-    // Puts the documents of each input behind those of the writer, in order.
+    // Adds the documents of each input to those of the writer, in order.
     fn merge_inputs(
         &self,
         rt: &HostRuntime,

@@ -41,7 +41,7 @@ impl<'a> Progress<'a> {
         self.is_shown
     }
 
-    /// So many documents more, and so many bytes.
+    /// Adds documents and bytes to those that are done.
     pub fn add(&mut self, documents: u32, bytes: u64) {
         self.documents = self.documents.saturating_add(u64::from(documents));
         self.bytes = self.bytes.saturating_add(bytes);

@@ -1,4 +1,4 @@
-//! `stat`: tells what stores have, as numbers.
+//! `stat`: prints counts and sizes of stores.
 
 use crate::arguments;
 use crate::failure::{FailureCause, Failure, with_file, to_output};
@@ -72,7 +72,7 @@ fn print_lines(rt: &HostRuntime, path: &str, numbers: &StoreNumbers) -> Result<(
     to_output(println!(rt; "  median block    {median_block}\n  largest block   {largest_block}"))
 }
 
-// Tells of one store.
+// Prints the numbers of one store.
 fn print_store(rt: &HostRuntime, store: StorePath<'_>, is_json: bool) -> Result<(), FailureCause> {
     let numbers = read_numbers(rt, store)?;
     if is_json {
@@ -82,7 +82,7 @@ fn print_store(rt: &HostRuntime, store: StorePath<'_>, is_json: bool) -> Result<
     }
 }
 
-/// Tells of each store.
+/// Prints the numbers of each store.
 pub fn run(rt: &HostRuntime, matches: &ArgMatches<'_>) -> Result<(), Failure> {
     let is_json = matches.get_flag("json");
     let is_tantivy = matches.get_flag("tantivy");

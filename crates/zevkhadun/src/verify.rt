@@ -1,4 +1,4 @@
-//! `verify`: reads stores whole, and tells what breaks a promise of the format.
+//! `verify`: reads stores whole, and reports what breaks a promise of the format.
 
 use crate::arguments;
 use crate::failure::{FailureCause, Failure, to_output};
@@ -39,7 +39,7 @@ fn verdict_of(rt: &HostRuntime, reader: &mut DiskReader, is_quiet: bool) -> Resu
     Ok(verdict?)
 }
 
-// Tells what was found in a store that was opened, and whether it is sound.
+// Prints what was found in a store that was opened, and returns whether it is sound.
 fn print_verdict(rt: &HostRuntime, path: &str, verdict: &Verdict) -> Result<bool, FailureCause> {
     let Verdict {
         documents,
@@ -65,7 +65,7 @@ fn print_verdict(rt: &HostRuntime, path: &str, verdict: &Verdict) -> Result<bool
     Ok(false)
 }
 
-// Tells why a store can't be opened.
+// Prints why a store can't be opened.
 fn print_error(
     rt: &HostRuntime,
     path: &str,
@@ -82,7 +82,7 @@ fn print_error(
     Ok(false)
 }
 
-// Tells of a store, and whether it is sound.
+// Prints the line of a store, and returns whether it is sound.
 fn verify_store(rt: &HostRuntime, store: StorePath<'_>, is_quiet: bool) -> Result<bool, FailureCause> {
     match reader_of(rt, store.file(rt)?) {
         Ok(mut reader) => {
@@ -93,7 +93,7 @@ fn verify_store(rt: &HostRuntime, store: StorePath<'_>, is_quiet: bool) -> Resul
     }
 }
 
-// Tells of each store, and whether all are sound.
+// Prints the line of each store, and returns whether all are sound.
 fn verify_all(
     rt: &HostRuntime,
     paths: &[&str],
@@ -115,7 +115,7 @@ fn verify_all(
     Ok(is_sound)
 }
 
-/// Tells of each store. It fails where one is broken.
+/// Prints the line of each store. It fails if one is broken.
 pub fn run(rt: &HostRuntime, matches: &ArgMatches<'_>) -> Result<(), Failure> {
     let paths = matches.get_strs("FILE").unwrap_or(&[]);
     let (is_tantivy, is_quiet) = (matches.get_flag("tantivy"), matches.get_flag("quiet"));
