@@ -1,7 +1,7 @@
 //! Arguments that several commands have.
 
 use crate::byte_size::parse_size;
-use crate::failure::{FailureCause, Failure};
+use crate::failure::{Failure, FailureCause};
 use clap::{Arg, ArgAction, ArgMatches, value_parser};
 use document_framing::Framing;
 use document_framing::framing::{FRAMING_HELP, FRAMINGS};

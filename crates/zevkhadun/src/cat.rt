@@ -3,7 +3,7 @@
 use crate::arguments::{self, framing_of, option};
 use crate::block_walk::write_documents;
 use crate::document_output::standard_output;
-use crate::failure::{FailureCause, Failure, with_file, to_output};
+use crate::failure::{Failure, FailureCause, to_output, with_file};
 use crate::store_file::{DiskReader, StorePath, store_path};
 use clap::{Arg, ArgAction, ArgMatches, Command};
 use document_framing::Framing;

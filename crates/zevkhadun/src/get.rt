@@ -2,7 +2,7 @@
 
 use crate::arguments::{self, framing_of};
 use crate::document_output::{DocumentOutput, standard_output};
-use crate::failure::{FailureCause, Failure, with_file, to_output};
+use crate::failure::{Failure, FailureCause, to_output, with_file};
 use crate::store_file::{DiskReader, StorePath, store_path};
 use clap::{ArgMatches, Command};
 use document_framing::Framing;

@@ -1,7 +1,7 @@
 //! `inspect`: draws what a store has on a page of HTML.
 
 use crate::arguments::{self, option, word};
-use crate::failure::{FailureCause, Failure, with_file};
+use crate::failure::{Failure, FailureCause, with_file};
 use crate::replacing::check_page;
 use crate::store_file::{DiskReader, StorePath, store_path};
 use clap::{Arg, ArgAction, ArgMatches, Command};

@@ -1,7 +1,7 @@
 //! `merge`: writes a store of the documents of others, in order.
 
 use crate::arguments::{self, option, output_path, shape_of};
-use crate::failure::{FailureCause, Failure, with_file};
+use crate::failure::{Failure, FailureCause, with_file};
 use crate::progress::Progress;
 use crate::store_file::{DiskReader, StorePath};
 use crate::store_output::{DiskWriter, create, finish, summarize};

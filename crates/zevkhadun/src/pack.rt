@@ -43,6 +43,7 @@ pub fn command<'a>(alloc: Global) -> Result<Command<'a>, AllocError> {
 }
 
 // A store that is packed.
+#[derive(Drop)]
 struct Packing<'a> {
     rt: &'a HostRuntime,
     out: &'a str,

@@ -1,7 +1,7 @@
 //! `stat`: prints counts and sizes of stores.
 
 use crate::arguments;
-use crate::failure::{FailureCause, Failure, with_file, to_output};
+use crate::failure::{Failure, FailureCause, to_output, with_file};
 use crate::store_file::StorePath;
 use clap::{ArgMatches, Command};
 use serde_json::json;

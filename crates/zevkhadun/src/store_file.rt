@@ -1,7 +1,7 @@
 //! A store's file on disk, opened to be read.
 
 use crate::arguments::input_path;
-use crate::failure::{FailureCause, Failure};
+use crate::failure::{Failure, FailureCause};
 use clap::ArgMatches;
 use docstore::{OpenError, StoreReader};
 use std::fs;

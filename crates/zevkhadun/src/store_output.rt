@@ -1,7 +1,7 @@
 //! A store that is written to disk.
 
 use crate::arguments::wrong_words;
-use crate::failure::{FailureCause, Failure, with_file};
+use crate::failure::{Failure, FailureCause, with_file};
 use crate::progress::Progress;
 use crate::replacing::check_store;
 use docstore::{Compressor, StoreWriter};

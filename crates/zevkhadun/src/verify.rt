@@ -1,7 +1,7 @@
 //! `verify`: reads stores whole, and reports what breaks a promise of the format.
 
 use crate::arguments;
-use crate::failure::{FailureCause, Failure, to_output};
+use crate::failure::{Failure, FailureCause, to_output};
 use crate::progress::Progress;
 use crate::store_file::{DiskReader, StoreFile, StorePath, reader_of};
 use clap::{ArgMatches, Command};
@@ -32,7 +32,11 @@ pub fn command<'a>(alloc: Global) -> Result<Command<'a>, AllocError> {
 }
 
 // Reads the blocks of an opened store.
-fn verdict_of(rt: &HostRuntime, reader: &mut DiskReader, is_quiet: bool) -> Result<Verdict, FailureCause> {
+fn verdict_of(
+    rt: &HostRuntime,
+    reader: &mut DiskReader,
+    is_quiet: bool,
+) -> Result<Verdict, FailureCause> {
     let mut progress = Progress::begin(rt, is_quiet);
     let verdict = check_blocks(rt.alloc(), reader, &mut progress);
     progress.end();
@@ -83,7 +87,11 @@ fn print_error(
 }
 
 // Prints the line of a store, and returns whether it is sound.
-fn verify_store(rt: &HostRuntime, store: StorePath<'_>, is_quiet: bool) -> Result<bool, FailureCause> {
+fn verify_store(
+    rt: &HostRuntime,
+    store: StorePath<'_>,
+    is_quiet: bool,
+) -> Result<bool, FailureCause> {
     match reader_of(rt, store.file(rt)?) {
         Ok(mut reader) => {
             let verdict = verdict_of(rt, &mut reader, is_quiet)?;
@@ -105,7 +113,9 @@ fn verify_all(
         let store = StorePath { path, is_tantivy };
         match verify_store(rt, store, is_quiet) {
             Ok(found) => is_sound &= found,
-            Err(FailureCause::Output(error)) => return Err(Failure::from(FailureCause::Output(error))),
+            Err(FailureCause::Output(error)) => return Err(Failure::from(FailureCause::Output(
+                error,
+            ))),
             Err(cause) => {
                 Failure::at_file(rt.alloc(), path, cause).report(rt);
                 is_sound = false;

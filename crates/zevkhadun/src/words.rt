@@ -1,6 +1,6 @@
 //! The words that the program takes.
 
-use crate::failure::{FailureCause, Failure};
+use crate::failure::{Failure, FailureCause};
 use crate::{cat, get, inspect, merge, pack, stat, verify};
 use clap::{ArgMatches, Command, Error};
 use std::alloc::{AllocError, Global};
