@@ -1,10 +1,19 @@
 """A store of more than 4 GiB, in less than 200 MB of memory."""
 
-import os
 import shutil
 import subprocess
+import sys
 
 from files.old_store import OldStoreCase
+
+# Runs a command, and prints how many KiB of memory it had at most. The system counts the memory of the process that
+# starts a command, too; so it is this small one, and not that of the tests.
+MEASURED = """
+import resource, subprocess, sys
+status = subprocess.call(sys.argv[1:])
+print(resource.getrusage(resource.RUSAGE_CHILDREN).ru_maxrss, file=sys.stderr)
+sys.exit(status)
+"""
 
 
 class Large(OldStoreCase):
@@ -21,15 +30,21 @@ class Large(OldStoreCase):
         """Line i, with its end."""
         return b"%010d" % i + self.rest
 
+    def measured(self, *words, **how):
+        """Starts the program, whose memory is measured."""
+        command = [sys.executable, "-c", MEASURED, self.program.path, *words]
+        return subprocess.Popen(command, cwd=self.folder, stderr=subprocess.PIPE, **how)
+
     def end(self, process):
-        """Waits for a process, which has to end with 0 in less than 200 MB of memory."""
-        _, status, usage = os.wait4(process.pid, 0)
-        process.returncode = os.waitstatus_to_exitcode(status)
-        self.assertEqual(process.returncode, 0)
-        self.assertLess(usage.ru_maxrss * 1024, 200_000_000)
+        """Waits for a process, which has to end with 0, without errors, and in less than 200 MB of memory."""
+        said = process.stderr.read().decode()
+        process.stderr.close()
+        self.assertEqual(process.wait(), 0, said)
+        self.assertRegex(said, r"^\d+\n$")
+        self.assertLess(int(said) * 1024, 200_000_000, "bytes of memory")
 
     def pack_lines(self, name):
-        packing = self.begin("pack", name, stdin=subprocess.PIPE)
+        packing = self.measured("pack", name, stdin=subprocess.PIPE)
         for i in range(self.COUNT):
             packing.stdin.write(self.line(i))
         packing.stdin.close()
@@ -37,14 +52,14 @@ class Large(OldStoreCase):
 
     def assert_line(self, name, i):
         """Document i is line i."""
-        getting = self.begin("get", name, str(i), stdout=subprocess.PIPE)
+        getting = self.measured("get", name, str(i), stdout=subprocess.PIPE)
         self.assert_same(getting.stdout.read(), self.line(i), f"document {i} of {name}")
         getting.stdout.close()
         self.end(getting)
 
     def assert_lines(self, name):
         """The documents are all lines, and then those of the old store."""
-        reading = self.begin("cat", name, stdout=subprocess.PIPE)
+        reading = self.measured("cat", name, stdout=subprocess.PIPE)
         for i in range(self.COUNT):
             self.assert_same(reading.stdout.read(self.LENGTH), self.line(i), f"document {i} of {name}")
         self.assertEqual(reading.stdout.read(), self.OLD)
@@ -57,8 +72,8 @@ class Large(OldStoreCase):
         self.assertGreater(large.stat().st_size, 4 << 30)
         for number in (0, self.COUNT // 2, self.COUNT - 1):
             self.assert_line("large.store", number)
-        self.end(self.begin("merge", "merged.store", "large.store", "a.store"))
+        self.end(self.measured("merge", "merged.store", "large.store", "a.store"))
         large.unlink()
         self.assert_line("merged.store", self.COUNT - 1)
         self.assert_lines("merged.store")
-        self.end(self.begin("verify", "merged.store", stdout=subprocess.DEVNULL))
+        self.end(self.measured("verify", "merged.store", stdout=subprocess.DEVNULL))

@@ -43,11 +43,13 @@ class Writers(OldStoreCase):
 
 
 class Readers(OldStoreCase):
-    TEXT = lines(2_000_000)
+    def setUp(self):
+        super().setUp()
+        self.whole = lines(2_000_000)
 
     def reading(self, change):
         """What a reader gives of a file that is changed once some of it came, and how it ends."""
-        self.pack("a.store", self.TEXT)
+        self.pack("a.store", self.whole)
         reader = self.begin("cat", "a.store", stdout=subprocess.PIPE, stderr=subprocess.PIPE, bufsize=0)
         first = reader.stdout.read(1000)
         change()
@@ -56,8 +58,8 @@ class Readers(OldStoreCase):
 
     def test_of_a_file_that_is_cut_a_beginning_is_read(self):
         given, status, said = self.reading(lambda: os.truncate(self.path, self.size() // 2))
-        self.assertTrue(self.TEXT.startswith(given), "what came is no beginning")
-        self.assertEqual(given == self.TEXT, status == 0, said)
+        self.assertTrue(self.whole.startswith(given), "what came is no beginning")
+        self.assertEqual(given == self.whole, status == 0, said)
         self.assertIn(status, (0, 1), said)
 
     def test_a_file_that_grows_is_read_as_it_was(self):
@@ -67,4 +69,4 @@ class Readers(OldStoreCase):
 
         given, status, said = self.reading(grow)
         self.assertEqual((status, said), (0, b""))
-        self.assert_same(given, self.TEXT, "what came")
+        self.assert_same(given, self.whole, "what came")
