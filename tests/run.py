@@ -1,9 +1,9 @@
 #!/usr/bin/env python3
 """Runs the tests of the repository's documents and scripts, and of what its gate builds.
 
-A suite is a folder beside this file; what it tests is the first line of its `__init__.py`. A name may go on to a module,
-a class or a test: `program.test_words`. Without names all suites run of which what they need is built. Last come the
-tests that this machine can't run, each by its name, and then how many passed and how many were skipped.
+A suite is a folder beside this file; what it tests is the first line of its `__init__.py`. A name may go on to a
+module, a class or a test: `program.test_words`. Without names all suites run of which what they need is built. The last
+lines name each test that this machine can't run, and say how many passed and how many were skipped.
 """
 
 from __future__ import annotations
@@ -15,14 +15,11 @@ import sys
 import unittest
 from pathlib import Path
 
+from harness import BUILT, Built
+
 TESTS = Path(__file__).resolve().parent
-sys.path.insert(0, str(TESTS))
-sys.dont_write_bytecode = True
-
-from harness import BUILT, Built  # noqa: E402  (it is beside this file, wherever Python was started)
-
 SUITES = (
-    "documents", "scripts", "program", "files", "pages", "vectors", "lists", "sessions", "library", "packages",
+    "documents", "scripts", "program", "files", "pages", "vectors", "lists", "sessions", "library", "packages", "answers",
 )
 
 

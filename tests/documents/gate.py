@@ -15,7 +15,8 @@ SCRIPT = TOP / ".ci/run"
 def suites() -> list[str]:
     """The suites that the gate's script runs, which follow `tests/run.py` on its lines."""
     lines = [line for line in text_of(SCRIPT).splitlines() if not line.lstrip().startswith("#")]
-    return [name for line in lines for words in re.findall(r"tests/run\.py((?: \w+)+)", line) for name in words.split()]
+    found = [words for line in lines for words in re.findall(r"tests/run\.py((?: \w+)+)", line)]
+    return " ".join(found).split()
 
 
 def files_of(suite: str) -> list[Path]:
@@ -36,7 +37,7 @@ def is_run(path: str) -> bool:
     if parts[0] == "tests" and len(parts) == 3:
         return parts[1] in suites()
     if parts[:2] == ["examples", "c"]:
-        return re.search(rf'"(?:examples/c/)?{re.escape(parts[-1])}"', text_of_suites("library", "packages")) is not None
+        return f'"{parts[-1]}"' in text_of_suites("library", "packages", "answers")
     if parts[0] == "examples":
         return f'"{"/".join(parts[:2])}"' in text_of_suites("packages")
     return path in text_of(SCRIPT)

@@ -7,7 +7,8 @@ from harness import TOP, ProgramCase
 HELP = Path(__file__).resolve().parent / "help"
 COMMANDS = ("pack", "get", "cat", "stat", "verify", "merge", "inspect")
 WRONG = (
-    "", "pac x", "pack", "get x", "cat", "stat", "verify", "merge x", "inspect x", "pack --framing bytes x y", "cat --jsn x",
+    "", "pac x", "pack", "get x", "cat", "stat", "verify", "merge x", "inspect x", "pack --framing bytes x y",
+    "cat --jsn x",
 )
 
 

@@ -1,4 +1,4 @@
-"""Where a store is sound, `get` and `cat` give the same; where it isn't, some command that reads fails with one line."""
+"""Where a store is sound, `get` and `cat` give the same; where it isn't, some command fails with one line."""
 
 from __future__ import annotations
 

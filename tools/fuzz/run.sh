@@ -3,14 +3,15 @@
 #
 # usage: run.sh [SECONDS]
 #
-# It fuzzes for an hour, or as many seconds as it is told, on two processors; begins with corpus.hex, which `tests/c.sh`
-# replays; and writes the smallest corpus that reaches the same edges back. It prints how many edges the inputs reached
+# It fuzzes for SECONDS, or an hour, on two processors. It begins with the corpus of tests/library/fuzz, which the gate
+# replays, and writes the smallest corpus that reaches the same edges back. It prints how many edges the inputs reached
 # before and reach now. Needs clang and libclang-rt-14-dev. The code is that of `rt lib`, compiled with counters by a
-# `clang` that passes the kit's what it was told, and three flags more.
+# `clang` that passes its words and three flags more to the kit's.
 set -euo pipefail
 seconds=${1:-3600}
 here=$(cd "$(dirname "$0")" && pwd)
 top=$(cd "$here/../.." && pwd)
+data=$top/tests/library/fuzz
 crate=$top/crates/store_c
 kit=$(dirname "$(rt doc | head -n 1)")
 out=$here/out
@@ -31,8 +32,9 @@ chmod +x "$out/toolchain/bin/clang"
 
 # The library, proved once more as it is compiled: `rattle build` compiles nothing else.
 (cd "$crate" && rt lib --jobs 2 >/dev/null)
+read -ra below < <(sed -n 's/^store_c staticlib: //p' "$top/crates.txt")
 libraries=()
-for library in $(sed -n 's/^store_c staticlib: //p' "$top/crates.txt"); do
+for library in "${below[@]}"; do
     libraries+=(--extern "$library=$top/crates/$library/out/rlib/$library.rlib")
 done
 for folder in "$top"/crates/*/out/rlib; do
@@ -47,7 +49,7 @@ done
 bash "$top/examples/c/build.sh" --static "$out/prefix" "$out/libstore_c.a"
 
 # Only the library counts edges: the calls are compiled without.
-clang -std=c11 -g -O1 -I"$out/prefix/include" -I"$top/examples/c" -c -o "$out/calls.o" "$here/calls.c"
+clang -std=c11 -g -O1 -I"$out/prefix/include" -I"$top/examples/c" -c -o "$out/calls.o" "$data/calls.c"
 clang -g -fsanitize=fuzzer -o "$out/calls" "$out/calls.o" "$out/prefix/lib/libzevkhadun.a"
 
 # How many edges the inputs of a folder reach, each run once: in its fork mode libFuzzer counts other things besides.
@@ -55,14 +57,14 @@ reached() {
     "$out/calls" -runs=0 "$1" 2>&1 | sed -nE 's/.*DONE +cov: ([0-9]+) .*/\1/p'
 }
 
-python3 "$here/corpus.py" unpack "$here/corpus.hex" "$out/corpus"
+python3 "$here/corpus.py" unpack "$data/corpus.hex" "$out/corpus"
 before=$(reached "$out/corpus")
 (cd "$out" && ./calls -max_total_time="$seconds" -fork=2 -max_len=4096 corpus >fuzz.log 2>&1) ||
     { tail -n 40 "$out/fuzz.log" >&2; exit 1; }
 mkdir "$out/least"
 "$out/calls" -merge=1 -use_counters=0 "$out/least" "$out/corpus" >"$out/merge.log" 2>&1
-python3 "$here/corpus.py" pack "$out/least" "$here/corpus.hex"
+python3 "$here/corpus.py" pack "$out/least" "$data/corpus.hex"
 
 edges=$(sed -nE 's/.*Loaded 1 modules +\(([0-9]+) .*/\1/p' "$out/fuzz.log")
 echo "edges inside the library: $edges; reached before: $before; after $seconds seconds: $(reached "$out/least")"
-echo "inputs in the corpus: $(wc -l <"$here/corpus.hex")"
+echo "inputs in the corpus: $(wc -l <"$data/corpus.hex")"
