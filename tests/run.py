@@ -19,7 +19,8 @@ from harness import BUILT, Built
 
 TESTS = Path(__file__).resolve().parent
 SUITES = (
-    "documents", "scripts", "program", "files", "pages", "vectors", "lists", "sessions", "library", "packages", "answers",
+    "documents", "scripts", "program", "files", "pages", "vectors", "lists", "sessions",
+    "library", "packages", "answers",
 )
 
 

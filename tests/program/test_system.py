@@ -53,9 +53,10 @@ class OtherWriter(ProgramCase):
         command = [self.program.path, "pack", "kept.store", "slow"]
         self.writer = subprocess.Popen(command, cwd=self.folder)
         self.addCleanup(self.end)
-        self.input = open(self.folder / "slow", "wb", buffering=0)
-        self.addCleanup(self.input.close)
-        self.input.write(b"begun\n")
+        # For reading too, so that it opens even if no program does.
+        self.input = os.open(self.folder / "slow", os.O_RDWR)
+        self.addCleanup(os.close, self.input)
+        os.write(self.input, b"begun\n")
         self.wait_for("kept.store.part")
 
     def wait_for(self, name):

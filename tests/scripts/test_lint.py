@@ -35,7 +35,8 @@ class Lint(Case):
         self.assertTrue(scripts, "there is no script")
         self.require(command[0])
         done = subprocess.run([*command, *scripts], cwd=TOP, capture_output=True, text=True, timeout=300)
-        self.assertEqual((done.returncode, done.stdout + done.stderr), (0, ""), done.stdout + done.stderr)
+        self.assertEqual(done.returncode, 0, f"\n{done.stdout}{done.stderr}")
+        self.assertEqual(done.stdout + done.stderr, "")
 
     def test_shellcheck_finds_nothing(self):
         self.assert_silent(["shellcheck", "--external-sources"], SHELL)
