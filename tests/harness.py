@@ -31,8 +31,8 @@ class Built:
         """Where it is: by its variable of the environment, or in the folder of its crate."""
         return Path(os.environ.get(self.variable) or TOP / self.default).absolute()
 
-    def is_missing(self) -> str:
-        """Says that it isn't there, and what builds it; nothing if it is there."""
+    def lack(self) -> str:
+        """What is wrong if it isn't there, and what builds it; nothing if it is there."""
         return "" if self.path().is_file() else f"{self.path()} is not built; {self.command} builds it"
 
 

@@ -15,7 +15,7 @@ import sys
 import unittest
 from pathlib import Path
 
-from harness import BUILT, Built
+from harness import BUILT
 
 TESTS = Path(__file__).resolve().parent
 SUITES = (
@@ -57,7 +57,7 @@ class Result(unittest.TextTestResult):
 def missing(suite: str) -> str:
     """What a suite needs and isn't built; nothing if all of it is."""
     needs = importlib.import_module(suite).NEEDS
-    return "; ".join(thing.is_missing() for thing in BUILT if thing.name in needs and thing.is_missing())
+    return "; ".join(filter(None, (thing.lack() for thing in BUILT if thing.name in needs)))
 
 
 def chosen(names: list[str]) -> list[str]:
@@ -73,7 +73,7 @@ def chosen(names: list[str]) -> list[str]:
     lacks = {suite: missing(suite) for suite in SUITES}
     for suite, lack in lacks.items():
         if lack:
-            print(f"not run: {suite}: {lack}")
+            print(f"not run: {suite}: {lack}", flush=True)
     return [suite for suite, lack in lacks.items() if not lack]
 
 
@@ -98,11 +98,11 @@ def words() -> argparse.Namespace:
 
 
 def set_paths(options: argparse.Namespace) -> None:
-    """Hands the options on to the tests by the environment."""
-    paths: list[tuple[Built, str | None]] = [(thing, getattr(options, thing.name)) for thing in BUILT]
-    os.environ.update({thing.variable: str(Path(path).absolute()) for thing, path in paths if path})
-    if options.pictures:
-        os.environ["ZEVKHADUN_TEST_PICTURES"] = str(Path(options.pictures).absolute())
+    """Gives the options to the tests, by the environment."""
+    variables = {thing.name: thing.variable for thing in BUILT} | {"pictures": "ZEVKHADUN_TEST_PICTURES"}
+    for name, variable in variables.items():
+        if path := getattr(options, name):
+            os.environ[variable] = str(Path(path).absolute())
 
 
 def main() -> int:

@@ -10,12 +10,14 @@ from pathlib import Path
 
 
 def unpack(text: Path, folder: Path) -> None:
+    """Writes each line of a text into a file of its own."""
     folder.mkdir(exist_ok=True)
     for number, line in enumerate(text.read_text().splitlines()):
         (folder / f"{number:05}").write_bytes(bytes.fromhex(line))
 
 
 def pack(folder: Path, text: Path) -> None:
+    """Writes each file of a folder as a line of a text."""
     inputs = sorted((path.read_bytes() for path in folder.iterdir()), key=lambda data: (len(data), data))
     text.write_text("".join(data.hex() + "\n" for data in inputs))
 
