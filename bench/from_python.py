@@ -23,8 +23,8 @@ from typing import Callable, Dict, Iterable, Iterator, List
 HERE = Path(__file__).resolve().parent
 sys.path.insert(0, str(HERE.parent / "examples" / "python"))
 
-import machine  # noqa: E402
-from zevkhadun import Store, Writer  # noqa: E402
+import machine  # noqa: E402 (the package is found by the path above)
+from zevkhadun import Store, Writer  # noqa: E402 (the same)
 
 try:
     import dbm.gnu as gnu

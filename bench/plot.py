@@ -12,7 +12,7 @@ import scaling
 import volume
 from drawing import Drawing
 from figures import EVEN, Figures, label_of
-from plan import C_SIDES, MEMORY, PROCESS
+from plan import C_SIDES
 
 HERE = Path(__file__).resolve().parent
 

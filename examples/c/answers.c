@@ -1,5 +1,5 @@
 /* Prints what a store's file is answered: for each file the number of the refusal of its opening, or how many documents
- * there are and some of them in hexadecimal digits, as tests/answers.py asks for them. Of each file the calls that read
+ * there are and some of them in hexadecimal digits, as tests/answers gets them. Of each file the calls that read
  * without opening have to give the same as those by the table.
  *
  * usage: answers FILE..

@@ -31,8 +31,9 @@ if [ $# -eq 1 ]; then
 fi
 
 # Each proved call that null_arrays.c makes gets the name by which it is made there.
+mapfile -t proved < <(grep -oE 'zevk_proved_[a-z_]+' "$calls" | sort -u)
 names=()
-for name in $(grep -oE 'zevk_proved_[a-z_]+' "$calls" | sort -u); do
+for name in "${proved[@]}"; do
     names+=(--redefine-sym "zevk_${name#zevk_proved_}=$name")
 done
 "${OBJCOPY:-objcopy}" "${names[@]}" "$library" "$work/proved.a"

@@ -41,7 +41,7 @@ static void is_found(far_file *file, size_t tail_len, uint32_t id) {
     zevk_place place = {1, 2}, same = {1, 2};
     uint32_t error = zevk_get(file->bytes, file->len, id, &same);
     file->reads = 0;
-    WANT(find_block(file, tail_len, id, &block) == (error == ZEVK_NO_DOCUMENT ? error : ZEVK_DONE));
+    WANT(find_block(file, tail_len, id, &block) == (error == ZEVK_NO_DOCUMENT ? error : (uint32_t)ZEVK_DONE));
     WANT(file->reads <= (tail_len < 28 ? 3 : 2));
     if (error == ZEVK_NO_DOCUMENT) {
         return;

@@ -22,10 +22,10 @@ from dask.distributed import Client, Future, LocalCluster, as_completed, wait
 HERE = Path(__file__).resolve().parent
 sys.path.insert(0, str(HERE.parent / "python"))
 
-from corpus import Corpus, Places
-from segments import pack_segment, remove_leftovers
-from tree import stacked_in, stacked_in_turn
-from zevkhadun import Store
+from corpus import Corpus, Places  # noqa: E402 (the package is found by the path above)
+from segments import pack_segment, remove_leftovers  # noqa: E402 (the same)
+from tree import stacked_in, stacked_in_turn  # noqa: E402 (the same)
+from zevkhadun import Store  # noqa: E402 (the same)
 
 
 def arguments() -> argparse.Namespace:

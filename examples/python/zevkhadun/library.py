@@ -53,6 +53,7 @@ _PARAMETERS = {
     "zevk_writer_close": (_WRITER, *_TABLE, ctypes.c_uint8, *_BYTES, _SIZE),
 }
 
+
 class _Buffer(ctypes.Structure):
     """The interpreter's `Py_buffer`."""
 

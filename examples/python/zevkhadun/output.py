@@ -140,4 +140,4 @@ class Output:
     def _hand_over(self, content: Union[bytes, bytearray, memoryview]) -> None:
         rest = memoryview(content)
         while rest:
-            rest = rest[self._file.write(rest) :]
+            rest = rest[self._file.write(rest):]

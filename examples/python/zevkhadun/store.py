@@ -55,7 +55,7 @@ class _Opened:
         if answer:
             check(answer)
         start = place.start
-        return self.bytes[start : start + place.len]
+        return self.bytes[start:start + place.len]
 
     def places(self, first: int) -> Iterator[Tuple[int, int]]:
         """Where the next documents start and how long they are: one document at least."""
@@ -119,7 +119,7 @@ class Store:
             for start, length in opened.places(number):
                 if self._opened is not opened:
                     raise Closed("the store is closed")
-                yield content[start : start + length]
+                yield content[start:start + length]
                 number += 1
 
     def close(self) -> None:

@@ -1,0 +1,109 @@
+"""The texts of the documents: the theorem, versions, words, widths and figures."""
+
+from __future__ import annotations
+
+import re
+import subprocess
+import sys
+from collections.abc import Iterator
+from pathlib import Path
+
+from documents.case import HEADER, Rules
+from documents.pages import at, documents, text_of
+from harness import TOP
+
+README = TOP / "README.md"
+BUILD = TOP / "examples/c/build.sh"
+# Words that this house no longer uses where users begin to read.
+OLD_WORDS = (
+    "so many", "at hand", "(?:is|are) told", "tells? of", "told of", "behind", "asked of", "hands? on", "want of",
+    "who has", "whoever", "stands? there", "as it stands", "words are wrong", "weighs? more", "owes?",
+)
+VERSIONS = {
+    "crates/zevkhadun/src/*.rt": r'\.version\("([^"]*)"\)',
+    "examples/rust/Cargo.toml": r'^version = "([^"]*)"',
+    "examples/rust/Cargo.lock": r'name = "zevkhadun"\nversion = "([^"]*)"',
+    "examples/python/zevkhadun/__init__.py": r'^__version__ = "([^"]*)"',
+    "CHANGELOG.md": r"\A.*?^## (\S+)",
+}
+
+
+def theorems_of(text: str) -> list[list[str]]:
+    """The texts between the markers of the theorem, each as its words."""
+    found = re.findall(r"<!-- theorem -->\n(.*?)<!-- end of theorem -->", text, re.S)
+    return [re.sub(r"^> ?", "", one, flags=re.M).split() for one in found]
+
+
+def theorem_faults(path: Path, home: list[list[str]]) -> Iterator[str]:
+    """What is wrong with the theorem on a page."""
+    text = text_of(path)
+    found = theorems_of(text)
+    if any([one] != home for one in found):
+        yield at(path, 1, "another text of the theorem")
+    if len(re.findall(r"For\s+every\s+list\s+of", text)) != len(found):
+        yield at(path, 1, "a theorem without its markers")
+
+
+def version_faults(pattern: str, form: str, version: str) -> Iterator[str]:
+    """What is wrong with the versions that the files of a pattern have in a form."""
+    found = [(path, one) for path in TOP.glob(pattern) for one in re.findall(form, text_of(path), re.M | re.S)]
+    if not found:
+        yield f"{pattern}:1: no version"
+    yield from (at(path, 1, f"version {one}, not {version}") for path, one in found if one != version)
+
+
+def front() -> Iterator[tuple[Path, str]]:
+    """What users read first: README, the help texts, and the header up to its first declaration."""
+    yield README, text_of(README)
+    yield HEADER, text_of(HEADER).partition("#ifndef")[0]
+    yield from ((path, text_of(path)) for path in sorted((TOP / "tests/program/help").glob("*.txt")))
+
+
+def old_words(path: Path, text: str) -> Iterator[str]:
+    """Where a text has a word of the old ones."""
+    form = re.compile(r"\b(?:" + "|".join(OLD_WORDS).replace(" ", r"\s+(?:\*\s+)?") + r")\b", re.I)
+    for found in form.finditer(text):
+        yield at(path, text[:found.start()].count("\n") + 1, f"an old word: {' '.join(found[0].split())}")
+
+
+class Texts(Rules):
+    def test_the_theorem_has_one_text_wherever_it_stands(self):
+        home = theorems_of(text_of(README))
+        self.assertEqual(len(home), 1, "theorems in README.md")
+        self.assert_no_faults(fault for path in documents() for fault in theorem_faults(path, home))
+        self.assert_looked_at(sum(len(theorems_of(text_of(path))) for path in documents()), 2, "theorems")
+
+    def test_all_versions_are_that_of_the_file_version(self):
+        version = text_of(TOP / "VERSION").strip()
+        self.assert_no_faults(
+            fault for pattern, form in VERSIONS.items() for fault in version_faults(pattern, form, version)
+        )
+
+    def test_the_version_for_pkg_config_is_taken_from_the_file_version(self):
+        self.assertNotRegex(text_of(BUILD), re.compile(r"^Version: *\d", re.M))
+        self.assertIn("VERSION", text_of(BUILD))
+
+    def test_what_users_read_first_has_no_old_word(self):
+        texts = list(front())
+        self.assert_no_faults(fault for path, text in texts for fault in old_words(path, text))
+        self.assert_looked_at(len(texts), 10, "texts")
+
+    def test_no_line_is_longer_than_120_columns(self):
+        """Rows of tables and the page that bench/plot.py writes aside."""
+        lines = [
+            (path, number, line)
+            for path in documents() if path.parent.name != "plots"
+            for number, line in enumerate(text_of(path).splitlines(), 1)
+        ]
+        self.assert_no_faults(
+            at(path, number, f"{len(line)} columns")
+            for path, number, line in lines
+            if len(line) > 120 and not line.startswith("|")
+        )
+
+    def test_the_tables_of_figures_are_made_of_the_measurements(self):
+        command = [sys.executable, str(TOP / "bench/pages.py"), "--check"]
+        done = subprocess.run(command, capture_output=True, text=True)
+        self.assertEqual(done.returncode, 0, done.stderr or "bench/pages.py fails")
+        count = sum(text_of(page).count("<!-- figures: ") for page in documents())
+        self.assert_looked_at(count, 1, "tables of figures")

@@ -1,0 +1,55 @@
+"""What an output may not take the place of, what is kept of the file in whose place it comes, and names of files."""
+
+import os
+
+from files.old_store import NOBODY, OldStoreCase
+
+
+class Refused(OldStoreCase):
+    def test_a_missing_folder_is_refused(self):
+        self.assert_refused("b.store", "No such file or directory", "pack", self.folder / "none/b.store")
+
+    def test_a_folder_is_refused(self):
+        self.assert_refused(str(self.folder), "not a plain file", "pack", self.folder)
+
+    def test_a_device_is_refused(self):
+        self.assert_refused("/dev/full", "not a plain file", "pack", "/dev/full", input=b"x")
+
+    def test_a_link_to_nothing_is_refused(self):
+        (self.folder / "link.store").symlink_to("none.store")
+        self.assert_refused("link.store", "No such file or directory", "pack", "link.store", input=b"x")
+
+    def test_a_folder_without_rights_is_refused(self):
+        self.folder.chmod(0o555)
+        self.addCleanup(self.folder.chmod, 0o755)
+        how = {"user": NOBODY, "group": NOBODY, "extra_groups": []} if os.geteuid() == 0 else {}
+        self.assert_refused("a.store", "Permission denied", "pack", "a.store", input=b"x", **how)
+
+
+class Kept(OldStoreCase):
+    def test_a_link_and_the_mode_and_owner_of_its_file_are_kept(self):
+        link = self.folder / "link.store"
+        link.symlink_to("a.store")
+        self.path.chmod(0o640)
+        if os.geteuid() == 0:
+            os.chown(self.path, NOBODY, NOBODY)
+        before = self.path.stat()
+        self.program.gives("pack", "link.store", input=b"new\n")
+        self.assertEqual(self.text(), b"new\n")
+        self.assertTrue(link.is_symlink(), "the link is replaced")
+        after = self.path.stat()
+        self.assertEqual((after.st_mode, after.st_uid, after.st_gid), (before.st_mode, before.st_uid, before.st_gid))
+
+
+class Names(OldStoreCase):
+    def test_names_that_are_no_plain_words_are_taken(self):
+        for name in ("two words.store", "ein Wörterbuch 書.store", "a\nb.store", "-x.store", "'\"$(true).store"):
+            with self.subTest(name):
+                path = self.folder / name
+                self.program.gives("pack", path, input=b"x\n")
+                self.assertEqual(self.program.gives("get", path, "0"), b"x\n")
+
+    def test_a_name_that_is_no_text_ends_with_an_error(self):
+        done = self.program.run("cat", os.fsencode(self.folder) + b"/\xff.store")
+        self.assertIn(done.returncode, (1, 2))
+        self.assertTrue(done.stderr, "there is no message")

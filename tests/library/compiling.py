@@ -1,0 +1,119 @@
+"""The library as it is installed, and programs that are compiled over it."""
+
+from __future__ import annotations
+
+import atexit
+import functools
+import os
+import re
+import shutil
+import subprocess
+import tempfile
+from dataclasses import dataclass
+from pathlib import Path
+
+from harness import LIBRARY, TOP, FolderCase
+
+SOURCES = TOP / "examples/c"
+HEADER = TOP / "crates/store_c/include/zevkhadun.h"
+# A store of 64 documents in 13 blocks, as hexadecimal text.
+HEX = TOP / "examples/words.hex"
+ARRAYS = SOURCES / "null_arrays.c"
+WARNINGS = ("-Wall", "-Wextra", "-Wpedantic", "-Wconversion", "-Wshadow", "-Werror")
+SECONDS = 900
+
+
+@dataclass(frozen=True)
+class Compiler:
+    """Two compilers, for C and for C++, with the sanitizers under which their programs run."""
+
+    c: str
+    cpp: str
+    sanitizers: tuple[str, ...] = ()
+
+    def flags(self) -> tuple[str, ...]:
+        """What both compilers get."""
+        return ("-g", "-O1", *self.sanitizers)
+
+
+SANITIZERS = ("-fsanitize=address,undefined", "-fno-sanitize-recover=all")
+GCC, CLANG = Compiler("gcc", "g++"), Compiler("clang", "clang++")
+COMPILERS = (GCC, CLANG, Compiler("gcc", "g++", SANITIZERS), Compiler("clang", "clang++", SANITIZERS))
+
+
+def default_compiler() -> str:
+    """The compiler of the environment, or the system's."""
+    return os.environ.get("CC", "cc")
+
+
+def names_in(path: Path, form: str) -> list[str]:
+    """The names of a form that a file has, once."""
+    return sorted(set(re.findall(form, path.read_text(), re.M)))
+
+
+def wrapped(names: list[str]) -> list[str]:
+    """What the linker gets so that calls of these functions go elsewhere."""
+    return [f"-Wl,--wrap={name}" for name in names]
+
+
+@functools.cache
+def prefix() -> Path:
+    """The folder in which the library is installed. It is made once, and removed at the end."""
+    folder = Path(tempfile.mkdtemp(prefix="zevkhadun-library-"))
+    atexit.register(shutil.rmtree, folder, ignore_errors=True)
+    command = ["bash", SOURCES / "build.sh", folder, LIBRARY.path()]
+    done = subprocess.run(command, capture_output=True, text=True, timeout=SECONDS)
+    if done.returncode:
+        raise AssertionError(f"build.sh ends with status {done.returncode}: {done.stdout}{done.stderr}")
+    return folder
+
+
+class LibraryCase(FolderCase):
+    """A test of programs over the library."""
+
+    def succeed(self, *command: str | Path, **how) -> bytes:
+        """Runs a command that has to end with 0, and returns its output."""
+        done = subprocess.run(command, capture_output=True, timeout=SECONDS, **{"cwd": self.folder} | how)
+        text = (done.stdout + done.stderr).decode(errors="replace")
+        self.assertEqual(done.returncode, 0, f"{' '.join(map(str, command))}: {text[-4000:]}")
+        return done.stdout
+
+    def require_library(self, compiler: str, *flags: str) -> None:
+        """Skips the test unless the machine has the compiler and the libraries of these flags."""
+        self.require(compiler)
+        source = self.write("empty.c", b"int main(void) { return 0; }\n")
+        command = [compiler, *flags, "-o", self.folder / "empty", source]
+        if subprocess.run(command, capture_output=True).returncode:
+            self.skipTest(f"there is no library for {compiler} {' '.join(flags)}")
+
+    def compiled(
+        self, command: list[str], source: Path, linked: tuple[str, ...] = (), objects: tuple[Path, ...] = ()
+    ) -> Path:
+        """A program over the static library. What these objects define is not taken from the library."""
+        program = self.folder / source.stem
+        part = self.folder / f"{source.stem}.o"
+        include = f"-I{prefix() / 'include'}"
+        compiling = [flag for flag in linked if not flag.startswith("-Wl,")]
+        self.succeed(*command, *compiling, *WARNINGS, include, f"-I{SOURCES}", "-c", "-o", part, source)
+        library = prefix() / "lib/libzevkhadun.a"
+        self.succeed(command[0], *linked, "-o", program, part, *objects, library)
+        return program
+
+    def arrays_object(self, compiler: Compiler) -> Path:
+        """The calls with arrays, compiled as the programs are, in place of the library's."""
+        path = self.folder / "null_arrays.o"
+        include = f"-I{prefix() / 'include'}"
+        self.succeed(compiler.c, "-std=c11", *compiler.flags(), *WARNINGS, include, "-c", "-o", path, ARRAYS)
+        return path
+
+    def compiled_by(self, compiler: Compiler, name: str, in_cpp: bool) -> Path:
+        """A program of examples/c in C11 or C++17, with the calls with arrays as they are compiled here."""
+        command = [compiler.c, "-std=c11", "-g", "-O1"]
+        if in_cpp:
+            command = [compiler.cpp, "-std=c++17", "-g", "-O1", "-x", "c++"]
+        return self.compiled(command, SOURCES / name, compiler.sanitizers, (self.arrays_object(compiler),))
+
+    def require_compiler(self, compiler: Compiler) -> None:
+        """Skips the test unless the machine has both compilers and their sanitizers."""
+        self.require_library(compiler.c, *compiler.sanitizers)
+        self.require(compiler.cpp)

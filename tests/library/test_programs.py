@@ -1,0 +1,59 @@
+"""Programs over the library by two compilers, in C11 and C++17, with and without sanitizers."""
+
+import subprocess
+
+from library.compiling import ARRAYS, COMPILERS, HEX, SOURCES, WARNINGS, LibraryCase, names_in, prefix, wrapped
+
+PROGRAMS = ("stress.c", "writing.c", "nulls.c", "getting.c", "ranges.c", "checking.c")
+
+
+class ByGcc(LibraryCase):
+    compiler = COMPILERS[0]
+
+    def setUp(self):
+        super().setUp()
+        self.require_compiler(self.compiler)
+
+    def run_programs(self, in_cpp):
+        for name in PROGRAMS:
+            with self.subTest(name):
+                self.succeed(self.compiled_by(self.compiler, name, in_cpp), HEX)
+
+    def test_programs_in_c(self):
+        self.run_programs(in_cpp=False)
+
+    def test_programs_in_cpp(self):
+        self.run_programs(in_cpp=True)
+
+    def test_what_reaches_the_proved_calls(self):
+        """Where NULL is given to the library, the proved calls get arrays that are there."""
+        program = self.folder / "program"
+        names = names_in(ARRAYS, r"zevk_proved_[a-z_]+")
+        self.assertTrue(names, "there is no proved call")
+        parts = [SOURCES / "nulls.c", SOURCES / "checked.c", self.arrays_object(self.compiler)]
+        self.succeed(
+            self.compiler.c, "-std=c11", *self.compiler.flags(), *WARNINGS, f"-I{prefix() / 'include'}", f"-I{SOURCES}",
+            "-o", program, *wrapped(names), *parts, prefix() / "lib/libzevkhadun.a",
+        )
+        self.succeed(program, HEX)
+
+
+class ByClang(ByGcc):
+    compiler = COMPILERS[1]
+
+
+class ByGccUnderSanitizers(ByGcc):
+    compiler = COMPILERS[2]
+
+    def test_sanitizers_report_a_wrong_program(self):
+        """A read past an array ends the program: the sanitizers are there, and are heeded."""
+        source = self.write("wrong.c", b"int main(int n, char **v) { int a[2] = {n, n}; (void)v; return a[n + 1]; }\n")
+        program = self.folder / "wrong"
+        self.succeed(self.compiler.c, *self.compiler.flags(), "-o", program, source)
+        done = subprocess.run([program], capture_output=True, timeout=60)
+        self.assertNotEqual(done.returncode, 0, "the read past the array is not reported")
+        self.assertTrue(done.stderr, "there is no report")
+
+
+class ByClangUnderSanitizers(ByGccUnderSanitizers):
+    compiler = COMPILERS[3]

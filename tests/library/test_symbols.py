@@ -1,0 +1,23 @@
+"""The functions that the libraries define, which are those of the header."""
+
+import re
+
+from library.compiling import HEADER, LibraryCase, names_in, prefix
+
+
+class Symbols(LibraryCase):
+    def defined(self, option, name):
+        """The symbols that a library defines."""
+        self.require("nm")
+        lines = self.succeed("nm", option, "--defined-only", prefix() / "lib" / name).decode().splitlines()
+        return [words[2] for words in map(str.split, lines) if len(words) == 3]
+
+    def test_the_shared_library_has_the_functions_of_the_header_and_no_others(self):
+        declared = names_in(HEADER, r"^[a-z0-9_]+ (zevk_[a-z_]+)\(")
+        self.assertTrue(declared, "the header has no function")
+        self.assertEqual(sorted(self.defined("-D", "libzevkhadun.so")), declared)
+
+    def test_the_static_library_has_its_own_names_and_those_of_the_heap(self):
+        names = self.defined("-g", "libzevkhadun.a")
+        self.assertTrue(names, "the library defines nothing")
+        self.assertEqual([name for name in names if not re.fullmatch(r"(zevk|rattle)_[a-z_]+", name)], [])

@@ -1,0 +1,3 @@
+"""The packages for Python and Rust over the library for C: their tests, and their examples."""
+
+NEEDS = ("library",)

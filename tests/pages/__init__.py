@@ -1,0 +1,3 @@
+"""Pages of `zevkhadun inspect` in Chromium: on a wide and a narrow screen, light, dark and in print."""
+
+NEEDS = ("program",)

@@ -1,0 +1,116 @@
+"""What the program does with full outputs, closed pipes, terminals and other writers."""
+
+import os
+import subprocess
+import time
+
+from harness import ProgramCase, numbers
+
+LINES = b"one\n\nthree\n"
+NUMBERS = numbers(20_000)
+READERS = (
+    ["cat", "numbers.store"],
+    ["get", "numbers.store", "0.."],
+    ["stat", "numbers.store", "numbers.store"],
+    ["verify", "numbers.store"],
+)
+
+
+class Outputs(ProgramCase):
+    def setUp(self):
+        super().setUp()
+        self.pack("numbers.store", NUMBERS)
+
+    def test_a_full_output_is_reported(self):
+        for words in READERS:
+            with self.subTest(words[0]), open("/dev/full", "wb") as full:
+                self.program.fails(1, "standard output: No space", *words, stdout=full)
+
+    def test_a_closed_pipe_is_silent_and_ends_with_0(self):
+        for words in READERS:
+            with self.subTest(words[0]):
+                closed, output = os.pipe()
+                os.close(closed)
+                with open(output, "wb") as pipe:
+                    self.program.gives(*words, stdout=pipe)
+
+    def test_a_pipe_that_is_closed_after_a_line_is_silent(self):
+        command = [self.program.path, "cat", "numbers.store"]
+        how = {"stdout": subprocess.PIPE, "stderr": subprocess.PIPE}
+        with subprocess.Popen(command, cwd=self.folder, **how) as printing:
+            self.assertEqual(printing.stdout.readline(), b"1\n")
+            printing.stdout.close()
+            self.assertEqual(printing.stderr.read(), b"")
+
+
+class OtherWriter(ProgramCase):
+    """A writer that waits for its input, at the name that another wants to write."""
+
+    def setUp(self):
+        super().setUp()
+        self.old = self.pack("kept.store", LINES)
+        os.mkfifo(self.folder / "slow")
+        command = [self.program.path, "pack", "kept.store", "slow"]
+        self.writer = subprocess.Popen(command, cwd=self.folder)
+        self.addCleanup(self.end)
+        # For reading too, so that it opens even if no program does.
+        self.input = os.open(self.folder / "slow", os.O_RDWR)
+        self.addCleanup(os.close, self.input)
+        os.write(self.input, b"begun\n")
+        self.wait_for("kept.store.part")
+
+    def wait_for(self, name):
+        for _ in range(1000):
+            if name in self.names():
+                return
+            time.sleep(0.01)
+        self.fail(f"there is no {name}: the writer has not begun")
+
+    def end(self):
+        self.writer.kill()
+        self.writer.wait()
+
+    def test_an_output_that_another_writes_is_refused(self):
+        reason = "kept.store.part is being written by another"
+        self.program.fails(1, reason, "pack", "kept.store", input=LINES)
+        self.assert_same(self.read("kept.store"), self.old, "kept.store")
+
+    def test_a_writer_that_is_killed_leaves_the_old_file(self):
+        self.end()
+        self.assert_same(self.read("kept.store"), self.old, "kept.store")
+
+    def test_what_a_killed_writer_left_is_taken_over(self):
+        self.end()
+        self.assertIn("kept.store.part", self.names())
+        whole = self.pack("numbers.store", NUMBERS)
+        self.assert_same(self.pack("kept.store", NUMBERS), whole, "kept.store")
+        self.assert_missing("kept.store.part")
+
+
+class Terminal(ProgramCase):
+    """Progress and summaries are shown on a terminal alone."""
+
+    MORE = numbers(200_000)
+
+    def setUp(self):
+        super().setUp()
+        self.write("numbers.txt", NUMBERS)
+        self.write("more.txt", self.MORE)
+
+    def test_a_summary_is_shown(self):
+        summary = r"20000 documents, [0-9]+ bytes, [0-9]+ blocks, [0-9.]+ seconds"
+        self.assertRegex(self.program.shows("pack", "a.store", "numbers.txt"), summary)
+        self.pack("b.store", LINES * 2)
+        self.assertRegex(self.program.shows("merge", "all.store", "a.store", "b.store"), "20006 documents")
+
+    def test_nothing_is_shown_with_quiet(self):
+        self.assertEqual(self.program.shows("pack", "--quiet", "a.store", "numbers.txt"), "")
+
+    def test_progress_is_shown(self):
+        text = self.program.shows("pack", "a.store", "more.txt")
+        self.assertRegex(text, r"65536 documents, [0-9]+ bytes, [0-9]+ MB/s")
+        text = self.program.shows("merge", "all.store", "a.store", "a.store")
+        self.assertRegex(text, r"200000 documents, [0-9]+ bytes, [0-9]+ MB/s")
+
+    def test_nothing_is_shown_where_there_is_no_terminal(self):
+        self.program.gives("pack", "a.store", "more.txt")

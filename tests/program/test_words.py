@@ -1,0 +1,41 @@
+"""The words of the command line: help, version, and words that are wrong."""
+
+from pathlib import Path
+
+from harness import TOP, ProgramCase
+
+HELP = Path(__file__).resolve().parent / "help"
+COMMANDS = ("pack", "get", "cat", "stat", "verify", "merge", "inspect")
+WRONG = (
+    "", "pac x", "pack", "get x", "cat", "stat", "verify", "merge x", "inspect x", "pack --framing bytes x y",
+    "cat --jsn x",
+)
+
+
+class Words(ProgramCase):
+    def test_each_help_is_its_text(self):
+        for words, name in [((), "zevkhadun"), *(((command,), command) for command in COMMANDS)]:
+            with self.subTest(name):
+                given = self.program.gives(*words, "--help").decode()
+                self.assertMultiLineEqual(given, (HELP / f"{name}.txt").read_text())
+
+    def test_each_help_text_is_compared(self):
+        names = {path.stem for path in HELP.iterdir()}
+        self.assertEqual(names, {"zevkhadun", *COMMANDS})
+
+    def test_the_version_is_that_of_the_repository(self):
+        version = (TOP / "VERSION").read_text()
+        self.assertEqual(self.program.gives("--version").decode(), f"zevkhadun {version}")
+
+    def test_wrong_words_end_with_2(self):
+        for words in WRONG:
+            with self.subTest(words):
+                done = self.program.run(*words.split())
+                self.assertEqual((done.returncode, done.stdout), (2, b""), done.stderr)
+                self.assertTrue(done.stderr, "there is no message")
+
+    def test_words_that_are_no_utf_8_end_with_2(self):
+        self.program.fails(2, "have to be UTF-8", "cat", b"\xff")
+
+    def test_a_misspelt_word_brings_a_suggestion(self):
+        self.assertIn(b"pack", self.program.run("pac", "x").stderr)

@@ -1,0 +1,3 @@
+"""Shell and Python scripts as shellcheck and flake8 see them."""
+
+NEEDS = ()
