@@ -1,5 +1,5 @@
 -- What a refused `close` leaves.
-use Rattle.std.proofs.Common.{◌≡◌, ℕ, ◌<◌, ◌≤◌, List, ◌++◌, length, Option, None, sym, ◌∙◌, ap, subst, arith, append_assoc, length-append}
+use Rattle.std.proofs.Common.{◌≡◌, ℕ, ◌<◌, ◌≤◌, List, [], ◌∷◌, ◌++◌, length, Option, None, sym, ◌∙◌, ap, subst, arith, append_assoc, length-append}
 use Rattle.store_base.specs.Counts.{HasRisen}
 use Rattle.store_base.specs.Outputs.{Termination}
 use Rattle.store_base.specs.declared.error.Cause.{Cause}
@@ -8,8 +8,16 @@ use Rattle.store_base.specs.declared.error.StoreError.{StoreError}
 use Rattle.store_base.specs.declared.error.StoreError.TheVariants.{ShortFile, BadVersion, BadBlockKind, BadOffset, BadIndex, InvalidArgument, DamagedDocument, BadDocument, Read, Memory, OldVersion}
 use Rattle.store_base.specs.declared.error.StoreError.TheVariants.{Unserializable, BlockTooLarge, TooManyDocs, Failed, BadPeriod}
 use Rattle.store_base.specs.Outcome.{behind_bytes}
+use Rattle.store_format.specs.Block.{block}
 use Rattle.store_format.specs.StoreFile.{StoreBlock, data_of}
+use Rattle.store_format.proofs.BlockLemmas.{length-block}
+use Rattle.docstore.specs.Writer.{blocks_of}
 use Rattle.docstore.specs.BlockOutput.{BlockOutput, with_blocks, with_risen, HasCause, HasNotEnded, AfterFailedClose, AfterClose}
+
+-- the block of some documents has bytes
+pub some_flushed : (docs : List (List ℕ)) → 0 < length docs → 0 < length (data_of (blocks_of docs))
+some_flushed [] some = absurd (omega arith)
+some_flushed (doc ∷ docs) some = omega (arith, length-append (block (doc ∷ docs)) [], length-block (doc ∷ docs))
 
 pub risen_further : (a b c : ℕ) → a ≤ b → HasRisen b c → HasRisen a c
 risen_further a b c le h = record { no_lower = omega (arith, h.no_lower); risen = λ lt. omega (arith, h.risen lt) }

@@ -29,6 +29,15 @@ pub record IsPending (starts bytes : List ℕ) (limit capacity : ℕ) : Type 0 w
   pub room : limit ≤ capacity
   pub within : 0 < length starts → length bytes + 4 * length starts + 4 ≤ limit
 
+-- The places are those of some documents, and the bytes those of their block, for which there was room.
+pub record IsFinished (starts bytes : List ℕ) (limit capacity : ℕ) : Type 0 where
+  pub some_docs : 0 < length starts
+  pub few_docs : length starts < 2 ^ 32
+  pub some_bytes : 0 < length bytes
+  pub few_bytes : length bytes < 2 ^ 32
+  pub small : limit < 2 ^ 32
+  pub room : limit ≤ capacity
+
 -- A block so long is within the limit, which is within the room and below 2^32.
 pub record HasRoom (long capacity limit : ℕ) : Type 0 where
   pub within : long ≤ limit

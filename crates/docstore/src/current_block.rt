@@ -6,15 +6,12 @@ ghost use Rattle.std.specs.List.{concat};
 ghost use Rattle.store_base.specs.Documents.{BeginsWith};
 ghost use Rattle.store_format.specs.Block.{block};
 ghost use Rattle.docstore.specs.Pending.{refusal_to_write, HasRoom, FindsRoom, IsDocumentRefusal};
-ghost use Rattle.store_format.specs.StoreFile.{docs_in};
 ghost use Rattle.docstore.specs.Trace.{weight};
 ghost use Rattle.store_format.specs.StoreFile.{block_of};
-ghost use Rattle.docstore.specs.BlockOutput.{with_blocks, with_risen, IsSound, FailsFor};
 
-use crate::store_compressor::BlockCompressor;
 use std::alloc::Global;
 use std::marker::Model;
-use store_base::{Cause, DocFault, Document, Schema, StoreError, TerminatingWrite};
+use store_base::{DocFault, Document, Schema, StoreError};
 use store_format::append_table;
 
 // A block is shorter than this.
@@ -115,29 +112,22 @@ impl CurrentBlock {
         }
     }
 
-    /// Writes them as a block. Afterwards none waits, whatever the result.
-    pub(crate) fn flush_to<W: TerminatingWrite>(
-        &mut self,
-        output: &mut BlockCompressor<W>,
-    ) -> Result<(), Cause>
-        requires some { 0 < length self.old }
-        requires works { output.old.failure ≡ None }
-        requires few { docs_in output.old.finished + length self.old < 2 ^ 32 }
-        ensures emptied { self.new ≡ [] }
-        ensures written { OnOk result (output.new
-            ≡ with_risen output.new.failures (with_blocks output.old (block_of self.old ∷ []))) }
-        ensures err { IfErr result (λ cause. FailsFor cause output.old output.new) }
-        ensures termination { output.new.termination ≡ output.old.termination }
-        ensures count { output.old.failures ≤ output.new.failures }
-        ensures steady { IsErrOf result Cause.Write ⊎ (output.new.failures ≡ output.old.failures) }
-        ensures sound { IsSound output.new }
+    /// Their block: the bytes, and the table after them. It takes no memory.
+    pub(crate) fn finish(self) -> FinishedBlock
+        requires some { 0 < length self }
+        ensures { result ≡ block_of self }
     {
-        let count = self.starts.len() as u32;
-        append_table(&mut self.bytes, &self.starts);
-        let result = output.write_block(&self.bytes, count);
-        self.bytes.clear();
-        self.starts.clear();
-        result
+        let CurrentBlock {
+            mut bytes,
+            starts,
+            limit,
+        } = self;
+        append_table(&mut bytes, &starts);
+        FinishedBlock {
+            bytes,
+            starts,
+            limit,
+        }
     }
 
     /// A lower bound of the memory that is taken.
@@ -147,6 +137,64 @@ impl CurrentBlock {
         self.bytes
             .capacity()
             .saturating_add(self.starts.capacity().saturating_mul(4))
+    }
+}
+
+/// The block of some documents. It keeps their room for the next ones.
+#[derive(Drop)]
+pub(crate) struct FinishedBlock {
+    bytes: Vec<u8>,
+    starts: Vec<u32>,
+    limit: usize,
+}
+
+/// Clauses see the block.
+impl Model for FinishedBlock {
+    ghost use Rattle.std.specs.Prelude.{length, vec_capacity};
+    ghost use Rattle.store_format.specs.StoreFile.{StoreBlock};
+    ghost use Rattle.docstore.specs.Pending.{IsFinished};
+
+    ghost Value = { StoreBlock };
+
+    ghost view = { λ b. record { count = length b.starts.items; bytes = b.bytes.items } };
+
+    ghost invariant = { λ b. IsFinished b.starts.items b.bytes.items b.limit (vec_capacity b.bytes) };
+}
+
+impl FinishedBlock {
+    /// How many documents it has.
+    pub(crate) fn num_docs(&self) -> u32
+        ensures count { result ≡ self.now.count }
+        ensures some { 0 < result }
+    {
+        self.starts.len() as u32
+    }
+
+    /// Its bytes.
+    pub(crate) fn bytes(&self) -> &[u8]
+        ensures bytes { result.now ≡ self.now.bytes }
+        ensures some { 0 < length result.now }
+        ensures few { length result.now < 2 ^ 32 }
+    {
+        &self.bytes
+    }
+
+    /// No documents, in the same room. It takes no memory.
+    pub(crate) fn into_empty(self) -> CurrentBlock
+        ensures { result ≡ [] }
+    {
+        let FinishedBlock {
+            mut bytes,
+            mut starts,
+            limit,
+        } = self;
+        bytes.clear();
+        starts.clear();
+        CurrentBlock {
+            bytes,
+            starts,
+            limit,
+        }
     }
 }
 

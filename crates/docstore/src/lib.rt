@@ -5,7 +5,6 @@
 mod block_index;
 pub mod close_error;
 mod current_block;
-mod flushing;
 pub mod laws;
 mod parts;
 pub mod run;

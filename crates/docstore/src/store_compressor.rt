@@ -1,7 +1,7 @@
 //! Writes blocks one behind the other, and their index behind them.
 
 ghost use Rattle.std.specs.Prelude.{◌≡◌, ◌≢◌, ◌+◌, ◌<◌, ◌≤◌, ◌^◌, ◌⊎◌, List, [], ◌∷◌, ◌++◌, length, map, true, None};
-ghost use Rattle.std.specs.Prelude.{OnOk, OnErr, IfOk, IfErr, IfSome, IsErrOf};
+ghost use Rattle.std.specs.Prelude.{Some, OnOk, OnErr, IfOk, IfErr, IfSome, IsErrOf, MatchResult};
 ghost use Rattle.std.specs.List.{sum_by, AllByRecursion};
 ghost use Rattle.layered_index.specs.Checkpoint.{doc_count, docs_end, IsFilled, IsInLineFrom, Covers};
 ghost use Rattle.store_format.specs.Footer.{footer, kind_of, unpacks};
@@ -92,11 +92,21 @@ impl<W: TerminatingWrite> BlockCompressor<W> {
         self.compressor
     }
 
-    /// Why it has failed, if it has.
-    pub(crate) fn failure(&self) -> Option<Cause>
-        ensures { result ≡ self.now.failure }
+    /// What its vectors and indexes take memory from.
+    pub(crate) fn alloc(&self) -> Global {
+        self.alloc
+    }
+
+    /// Refuses with the cause if it has failed.
+    #[inline]
+    pub(crate) fn check_works(&self) -> Result<(), Cause>
+        ensures works { MatchResult result (λ _. self.now.failure ≡ None) (λ cause. self.now.failure ≡ Some cause) }
+        ensures sound { IsSound self.now }
     {
-        self.failure
+        match self.failure {
+            Some(cause) => Err(cause),
+            None => Ok(()),
+        }
     }
 
     /// How many documents the blocks have.
@@ -141,9 +151,7 @@ impl<W: TerminatingWrite> BlockCompressor<W> {
             ⊎ (self.new.failures ≡ self.old.failures) }
         ensures sound { IsSound self.new }
     {
-        if let Some(cause) = self.failure {
-            return Err(StoreError::Failed(cause));
-        }
+        self.check_works()?;
         self.write_block(bytes, num_docs_in_block)?;
         Ok(())
     }
@@ -207,9 +215,7 @@ impl<W: TerminatingWrite> BlockCompressor<W> {
             ⊎ (self.new.failures ≡ self.old.failures) }
         ensures sound { IsSound self.new }
     {
-        if let Some(cause) = self.failure {
-            return Err(StoreError::from(cause));
-        }
+        self.check_works()?;
         let data = reader.block_data(self.alloc)?;
         self.write_blocks(data.as_slice(), reader.block_checkpoints())?;
         Ok(())
@@ -244,25 +250,26 @@ impl<W: TerminatingWrite> BlockCompressor<W> {
             ⊎ (self.new.failures ≡ self.old.failures) }
         ensures sound { IsSound self.new }
     {
-        match self.failure {
-            Some(cause) => Err(StoreError::from(cause)),
-            None => stack_parts(self.alloc, self, reader, part_bytes),
-        }
+        self.check_works()?;
+        stack_parts(self.alloc, self, reader, part_bytes)
     }
 
     /// Puts the blocks of a store whose bytes are at hand behind the others.
-    pub(crate) fn stack_view(&mut self, view: &StoreView<'_>) -> Result<(), Cause>
-        requires works { self.old.failure ≡ None }
+    pub(crate) fn stack_view(&mut self, view: &StoreView<'_>) -> Result<(), StoreError>
         requires few_docs { docs_in self.old.finished + count_in view.now < 2 ^ 32 }
         ensures stacked { OnOk result (self.new
             ≡ with_risen self.new.failures (with_blocks self.old view.now.store)) }
-        ensures err { IfErr result (λ cause. FailsFor cause self.old self.new) }
+        ensures works { OnOk result (self.old.failure ≡ None) }
+        ensures err { IfErr result (AfterBlock self.old self.new) }
         ensures termination { self.new.termination ≡ self.old.termination }
         ensures count { self.old.failures ≤ self.new.failures }
-        ensures steady { IsErrOf result Cause.Write ⊎ (self.new.failures ≡ self.old.failures) }
+        ensures steady { IsErrOf result (StoreError.Failed Cause.Write)
+            ⊎ (self.new.failures ≡ self.old.failures) }
         ensures sound { IsSound self.new }
     {
-        self.write_blocks(view.block_data(), view.block_checkpoints())
+        self.check_works()?;
+        self.write_blocks(view.block_data(), view.block_checkpoints())?;
+        Ok(())
     }
 
     // Puts the blocks that these checkpoints cut from the bytes behind the others.

@@ -1,31 +1,28 @@
 //! Writes a store.
 
-ghost use Rattle.std.specs.Prelude.{◌≡◌, ◌+◌, ◌-◌, ◌*◌, ◌<◌, ◌≤◌, ◌↔◌, ◌^◌, ◌⊎◌, List, [], ◌++◌, length, true, None};
+ghost use Rattle.std.specs.Prelude.{◌≡◌, ◌+◌, ◌-◌, ◌*◌, ◌<◌, ◌≤◌, ◌↔◌, ◌^◌, ◌⊎◌, [], ◌++◌, length, true, None};
 ghost use Rattle.std.specs.Prelude.{is_some, OnOk, IfOk, IfErr, IfSome, IsErrOf, MatchResult};
 ghost use Rattle.std.specs.List.{concat};
-ghost use Rattle.store_format.specs.StoreFile.{StoreBlock, file, IsStore};
+ghost use Rattle.store_format.specs.StoreFile.{docs_in, file, IsStore};
 ghost use Rattle.store_base.specs.Outputs.{terminated_once};
-ghost use Rattle.docstore.specs.BlockOutput.{new_output, AfterClose};
-ghost use Rattle.docstore.specs.Writer.{new_writing, num_docs, flushed, with_document};
+ghost use Rattle.docstore.specs.BlockOutput.{new_output, with_blocks, with_risen, IsSound, FailsFor};
+ghost use Rattle.docstore.specs.BlockOutput.{AfterFailedBlock, AfterClose};
+ghost use Rattle.docstore.specs.Trace.{weight};
+ghost use Rattle.docstore.specs.Writer.{new_writing, num_docs, blocks_of, flushed, flushed_if_full, with_document};
 ghost use Rattle.docstore.specs.Writer.{with_failures, HasIdLeft, HasNoIdLeft, IsTooLarge, HasTooMuch, IsStoreWriter};
 ghost use Rattle.docstore.specs.Writer.{Takes, AfterRefusal, AfterDocument};
-ghost use Rattle.store_reader.specs.Reading.{IsReadWhole, IsReadAtMostOnce};
-ghost use Rattle.docstore.specs.Stacking.{AreRead, with_store, IsOld, HasTooMany, AfterStack};
-ghost use Rattle.docstore.specs.Stacking.{HasRoomFor, HasNoIdsFor, HasNoRoomFor, AfterStackedView};
-ghost use Rattle.store_reader.specs.Parts.{number_of_parts};
-ghost use Rattle.docstore.specs.StackingInParts.{IsReadInPieces, IsReadAtMost, AfterStackInParts};
-ghost use Rattle.store_reader.specs.Viewing.{count_in};
+
+mod stacking;
 
 use crate::close_error::CloseError;
 use crate::current_block::CurrentBlock;
-use crate::flushing::{flush, flush_if_full};
 use crate::store_compressor::BlockCompressor;
 use layered_index::CHECKPOINT_PERIOD;
 use std::alloc::Global;
 use std::marker::Model;
-use store_base::{Cause, Document, FileHandle, Schema, StoreError, TerminatingWrite};
-use store_format::{Compressor, DocStoreVersion};
-use store_reader::{StoreReader, StoreView};
+use std::mem;
+use store_base::{Cause, Document, Schema, StoreError, TerminatingWrite};
+use store_format::Compressor;
 
 /// Writes a store. Blocks go out while documents are added; the index stays in memory until `close`.
 #[derive(Drop)]
@@ -121,7 +118,7 @@ impl<W: TerminatingWrite> StoreWriter<W> {
     pub fn has_failed(&self) -> bool
         ensures { result ≡ is_some self.now.output.failure }
     {
-        self.block_compressor.failure().is_some()
+        self.block_compressor.check_works().is_err()
     }
 
     /// A lower bound of the memory that is taken, in bytes.
@@ -135,27 +132,8 @@ impl<W: TerminatingWrite> StoreWriter<W> {
     fn check_id_left(&self) -> Result<(), StoreError>
         ensures { MatchResult result (λ _. HasIdLeft self.now) (HasNoIdLeft self.now) }
     {
-        if let Some(cause) = self.block_compressor.failure() {
-            return Err(StoreError::Failed(cause));
-        }
+        self.block_compressor.check_works()?;
         if self.num_docs() == u32::MAX {
-            return Err(StoreError::TooManyDocs);
-        }
-        Ok(())
-    }
-
-    // Refuses where a store in this form, with so many documents, can't be stacked.
-    fn check_room_for(&self, version: DocStoreVersion, num_docs: u32) -> Result<(), StoreError>
-        ensures { MatchResult result (λ _. HasRoomFor self.now version num_docs)
-            (HasNoRoomFor self.now version num_docs) }
-    {
-        if let Some(cause) = self.block_compressor.failure() {
-            return Err(StoreError::from(cause));
-        }
-        if version == DocStoreVersion::V1 {
-            return Err(StoreError::OldVersion);
-        }
-        if num_docs > u32::MAX - self.num_docs() {
             return Err(StoreError::TooManyDocs);
         }
         Ok(())
@@ -246,117 +224,6 @@ impl<W: TerminatingWrite> StoreWriter<W> {
         Ok(())
     }
 
-    /// Puts the documents of a store behind those that were taken: its blocks as they come from its
-    /// file, damaged ones too.
-    ///
-    /// The pending documents go out first, as one block. The store's whole data is read before any of
-    /// it is written; `Read` and `Memory` leave the pending documents as a finished block. After
-    /// `Failed` the writer answers only `Failed`. Any other error leaves it as it was.
-    pub fn stack<H: FileHandle>(&mut self, reader: &mut StoreReader<H>) -> Result<(), StoreError>
-        ensures stacked { OnOk result ((bs : List StoreBlock) × AreRead reader.old bs
-            × (self.new ≡ with_failures self.new.output.failures (with_store self.old bs))) }
-        ensures works { OnOk result (self.old.output.failure ≡ None) }
-
-        // Each cause, where none above it holds.
-        ensures failed { IfSome self.old.output.failure (λ cause. IsErrOf result (StoreError.Failed cause)
-            × (reader.new ≡ reader.old)) }
-        ensures old_version { IsErrOf result StoreError.OldVersion ↔ IsOld self.old reader.old }
-        ensures too_many { IsErrOf result StoreError.TooManyDocs ↔ HasTooMany self.old reader.old }
-
-        // After an error: as it was, flushed, or failed for good.
-        ensures err { IfErr result (AfterStack reader.old reader.new self.old self.new) }
-
-        // The reader keeps its store.
-        ensures read { OnOk result (IsReadWhole reader.old reader.new) }
-        ensures kept { IsReadAtMostOnce reader.old reader.new }
-        ensures reader { OnOk result (reader.new.file.failures ≡ reader.old.file.failures) }
-
-        ensures termination { self.new.output.termination ≡ self.old.output.termination }
-        ensures count { self.old.output.failures ≤ self.new.output.failures }
-        ensures steady { IsErrOf result (StoreError.Failed Cause.Write)
-            ⊎ (self.new.output.failures ≡ self.old.output.failures) }
-        ensures sound { IsStoreWriter self.new }
-    {
-        self.check_room_for(reader.version(), reader.num_docs())?;
-        flush(&mut self.current_block, &mut self.block_compressor)?;
-        self.block_compressor.stack_reader(reader)?;
-        Ok(())
-    }
-
-    /// Puts the documents of a store behind those that were taken, as `stack` does, but a part of its data at a time.
-    ///
-    /// A part is as many whole blocks as so many bytes hold, at least one. It is read by one read, and written
-    /// before the next is read, so memory has one part and the index. `Read` and `Memory` leave the pending
-    /// documents as a finished block, and those of the store's blocks behind it that came before.
-    pub fn stack_in_parts<H: FileHandle>(
-        &mut self,
-        reader: &mut StoreReader<H>,
-        part_bytes: usize,
-    ) -> Result<(), StoreError>
-        ensures stacked { OnOk result ((bs : List StoreBlock) × AreRead reader.old bs
-            × (self.new ≡ with_failures self.new.output.failures (with_store self.old bs))) }
-        ensures works { OnOk result (self.old.output.failure ≡ None) }
-
-        // Each cause, where none above it holds.
-        ensures failed { IfSome self.old.output.failure (λ cause. IsErrOf result (StoreError.Failed cause)
-            × (reader.new ≡ reader.old)) }
-        ensures old_version { IsErrOf result StoreError.OldVersion ↔ IsOld self.old reader.old }
-        ensures too_many { IsErrOf result StoreError.TooManyDocs ↔ HasTooMany self.old reader.old }
-
-        // After an error: as it was, with a beginning of the store's blocks, or failed for good.
-        ensures err { IfErr result (AfterStackInParts reader.old reader.new self.old self.new) }
-
-        // The reader keeps its store.
-        ensures read { OnOk result
-            (IsReadInPieces (number_of_parts part_bytes reader.old.checkpoints) reader.old reader.new) }
-        ensures kept { IsReadAtMost (number_of_parts part_bytes reader.old.checkpoints) reader.old reader.new }
-        ensures reader { OnOk result (reader.new.file.failures ≡ reader.old.file.failures) }
-
-        ensures termination { self.new.output.termination ≡ self.old.output.termination }
-        ensures count { self.old.output.failures ≤ self.new.output.failures }
-        ensures steady { IsErrOf result (StoreError.Failed Cause.Write)
-            ⊎ (self.new.output.failures ≡ self.old.output.failures) }
-        ensures sound { IsStoreWriter self.new }
-    {
-        let num_docs = reader.num_docs();
-        self.check_room_for(reader.version(), num_docs)?;
-        flush(&mut self.current_block, &mut self.block_compressor)?;
-        self.block_compressor
-            .stack_reader_in_parts(reader, part_bytes)?;
-        Ok(())
-    }
-
-    /// Puts the documents of a store whose bytes are at hand behind those that were taken, as `stack` does.
-    ///
-    /// Nothing is read and nothing copied but into the output. After `Failed` the writer answers only
-    /// `Failed`. Any other error leaves it as it was.
-    pub fn stack_view(&mut self, view: &StoreView<'_>) -> Result<(), StoreError>
-        ensures stacked { OnOk result (self.new
-            ≡ with_failures self.new.output.failures (with_store self.old view.now.store)) }
-        ensures works { OnOk result (self.old.output.failure ≡ None) }
-
-        // Each cause, where none above it holds.
-        ensures failed { IfSome self.old.output.failure (λ cause. IsErrOf result (StoreError.Failed cause)) }
-        ensures old_version { IsErrOf result StoreError.OldVersion
-            ↔ ((self.old.output.failure ≡ None) × (view.now.version ≡ DocStoreVersion.V1)) }
-        ensures too_many { IsErrOf result StoreError.TooManyDocs
-            ↔ HasNoIdsFor self.old view.now.version (count_in view.now) }
-
-        // After an error: as it was, or failed for good.
-        ensures err { IfErr result (AfterStackedView self.old self.new) }
-
-        ensures termination { self.new.output.termination ≡ self.old.output.termination }
-        ensures count { self.old.output.failures ≤ self.new.output.failures }
-        ensures steady { IsErrOf result (StoreError.Failed Cause.Write)
-            ⊎ (self.new.output.failures ≡ self.old.output.failures) }
-        ensures sound { IsStoreWriter self.new }
-    {
-        self.check_room_for(view.version(), view.num_docs())?;
-        flush(&mut self.current_block, &mut self.block_compressor)?;
-        self.block_compressor.stack_view(view)?;
-        Ok(())
-    }
-
     /// Writes the pending documents, the index and the footer, and ends the output: once, behind all that
     /// was written. No other call ends it.
     ///
@@ -377,15 +244,67 @@ impl<W: TerminatingWrite> StoreWriter<W> {
             mut block_compressor,
             ..
         } = self;
-        if block_compressor.failure().is_some() || current_block.len() == 0 {
-            return block_compressor.close();
-        }
-        if current_block.flush_to(&mut block_compressor).is_err() {
+        let is_pending = current_block.len() > 0;
+        if flush(&mut current_block, &mut block_compressor).is_err() {
             return block_compressor.close();
         }
         match block_compressor.close() {
-            Ok(output) => Ok(output),
-            Err(refusal) => Err(refusal.behind_bytes()),
+            Err(refusal) if is_pending => Err(refusal.behind_bytes()),
+            closed => closed,
         }
     }
+}
+
+// Writes the documents as a block if they weigh more than the block size.
+fn flush_if_full<W: TerminatingWrite>(
+    documents: &mut CurrentBlock,
+    output: &mut BlockCompressor<W>,
+    block_size: usize,
+) -> Result<(), Cause>
+    requires works { output.old.failure ≡ None }
+    requires few { docs_in output.old.finished + length documents.old < 2 ^ 32 }
+    requires sound { IsSound output.old }
+    ensures flushed { OnOk result (record { block_size = block_size; pending = documents.new; output = output.new }
+        ≡ with_failures output.new.failures
+        (flushed_if_full (record { block_size = block_size; pending = documents.old; output = output.old }))) }
+    ensures err { IfErr result (λ cause. FailsFor cause output.old output.new) }
+    ensures light { weight documents.new ≤ block_size }
+    ensures few { docs_in output.new.finished + length documents.new < 2 ^ 32 }
+    ensures termination { output.new.termination ≡ output.old.termination }
+    ensures count { output.old.failures ≤ output.new.failures }
+    ensures steady { IsErrOf result Cause.Write ⊎ (output.new.failures ≡ output.old.failures) }
+    ensures sound { IsSound output.new }
+{
+    if documents.weight() > block_size {
+        flush(documents, output)
+    } else {
+        Ok(())
+    }
+}
+
+// Writes the documents as a block if there are any. None waits afterwards, whether the write succeeds or not.
+fn flush<W: TerminatingWrite>(
+    documents: &mut CurrentBlock,
+    output: &mut BlockCompressor<W>,
+) -> Result<(), Cause>
+    requires few { docs_in output.old.finished + length documents.old < 2 ^ 32 }
+    requires sound { IsSound output.old }
+    ensures emptied { output.old.failure ≡ None → documents.new ≡ [] }
+    ensures written { OnOk result (output.new
+        ≡ with_risen output.new.failures (with_blocks output.old (blocks_of documents.old))) }
+    ensures works { OnOk result (output.old.failure ≡ None) }
+    ensures err { IfErr result (λ cause. AfterFailedBlock output.old.failure cause output.old output.new) }
+    ensures termination { output.new.termination ≡ output.old.termination }
+    ensures count { output.old.failures ≤ output.new.failures }
+    ensures steady { IsErrOf result Cause.Write ⊎ (output.new.failures ≡ output.old.failures) }
+    ensures sound { IsSound output.new }
+{
+    output.check_works()?;
+    if documents.len() == 0 {
+        return Ok(());
+    }
+    let block = mem::replace(documents, CurrentBlock::new(output.alloc())).finish();
+    let result = output.write_block(block.bytes(), block.num_docs());
+    *documents = block.into_empty();
+    result
 }

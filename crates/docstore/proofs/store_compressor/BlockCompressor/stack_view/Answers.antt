@@ -27,4 +27,4 @@ returns-clause-stacked g c =
     let cut : blocks_at c.block_checkpoints.result c.block_data.result.now ≡ bs =
     ap (λ (cs : List Checkpoint). blocks_at cs c.block_data.result.now) c.block_checkpoints.ensures
     ∙ ap (blocks_at (checkpoints_of bs)) c.block_data.ensures.data ∙ blocks_back 0 0 bs in
-    rw (← cut) c.write_blocks.ensures.written
+    rw (← cut) c.in_ok-write_blocks.ensures.written
