@@ -1,5 +1,5 @@
 -- What look-ups one after the other do, and what they leave.
-use Rattle.std.proofs.Common.{◌≡◌, ℕ, ◌+◌, ◌<◌, ◌≤◌, ◌^◌, Bool, true, false, List, [], ◌∷◌, ◌++◌, map, is_some, refl, sym, ap, ◌∙◌, subst, arith, inl, inr}
+use Rattle.std.proofs.Common.{◌≡◌, ℕ, ◌+◌, ◌<◌, ◌≤◌, ◌^◌, Bool, true, false, List, [], ◌∷◌, ◌++◌, map, is_some, Option, Some, refl, sym, ap, ◌∙◌, subst, arith, inl, inr}
 use Rattle.std.proofs.lemmas.List.{map-append}
 use Rattle.std.proofs.lemmas.List.Sums.{fold-append, sum_by-append}
 use Rattle.std.specs.Prelude.{if◌then◌else◌, ◌==◌, Result, Ok, Err}
@@ -89,9 +89,9 @@ same_on a b c p q = record {
   capacity = q.capacity ∙ p.capacity;
 }
 
-pub same_along : (cs : List Checkpoint) (r : Reading) (b : Result (List ℕ) StoreError) (r' : Reading) (b' : Result (List ℕ) StoreError) → LooksAlong cs r b r' b' → IsSameStore r r'
+pub same_along : (cs : List Checkpoint) (r : Reading) (b : Option (Result (List ℕ) StoreError)) (r' : Reading) (b' : Option (Result (List ℕ) StoreError)) → LooksAlong cs r b r' b' → IsSameStore r r'
 same_along [] r b r' b' l = subst (λ (x : Reading). IsSameStore r x) (sym l.0) (same_as_it_is r)
-same_along (c ∷ cs) r b r' b' l = same_on r l.0 r' (same_store r c.doc_range.start c l.2.came l.0 l.2.looked) (same_along cs l.0 l.1 r' b' l.3)
+same_along (c ∷ cs) r b r' b' l = same_on r l.0 r' (same_store r c.doc_range.start c l.2.came l.0 l.2.looked) (same_along cs l.0 (Some l.1) r' b' l.3)
 
 -- reads that are counted once and then again
 raised_on : (n k m reads : ℕ) → n < 2 ^ 64 → reads ≡ raised (raised n k) m → reads ≡ raised n (k + m)
@@ -154,7 +154,7 @@ looks_then ks ls old mid new p q =
 pub looks_are_recent : LooksAreRecent
 looks_are_recent [] old block new block' l = subst (λ (r : Reading). AreLookUps [] old r) (sym l.0) (no_looks old)
 looks_are_recent (c ∷ cs) old block new block' l =
-    looks_then (c.byte_range.start ∷ []) (keys_along cs) old l.0 new (look_once c.doc_range.start c old l.2.came l.0 l.2.looked) (looks_are_recent cs l.0 l.1 new block' l.3)
+    looks_then (c.byte_range.start ∷ []) (keys_along cs) old l.0 new (look_once c.doc_range.start c old l.2.came l.0 l.2.looked) (looks_are_recent cs l.0 (Some l.1) new block' l.3)
 
 counted_one : (capacity : ℕ) (s : CacheState) (l : LookUp) → s.hits + s.misses + 1 < 2 ^ 64 → (look_up capacity s l).hits + (look_up capacity s l).misses ≡ s.hits + s.misses + 1
 counted_one capacity s l few = (elim (list_any (λ k. k == l.key) s.keys) as (λ y. list_any (λ k. k == l.key) s.keys ≡ y

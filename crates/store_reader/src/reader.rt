@@ -1,5 +1,5 @@
 //! The reader of a store.
-ghost use Rattle.std.specs.Prelude.{◌≡◌, ◌<◌, ◌≤◌, Err, IsTrue, IfOk, IfErr, IfSome, IsErrOf, MatchResult, ◌⊎◌, ◌↔◌};
+ghost use Rattle.std.specs.Prelude.{◌≡◌, ◌<◌, ◌≤◌, IsTrue, IfOk, IfErr, IfSome, IsErrOf, MatchResult, ◌⊎◌, ◌↔◌};
 ghost use Rattle.std.specs.Prelude.{ℕ, ◌+◌, ◌*◌, ◌-◌, length, slice_get, slice_range, take};
 ghost use Rattle.store_base.specs.Counts.{HasRisen, raised};
 ghost use Rattle.store_reader.specs.GetAnswer.{IsAnswered, AnswersTruly};
@@ -235,7 +235,7 @@ impl<H: FileHandle> StoreReader<H> {
         ensures next { result.walk.next ≡ 0 }
         ensures walk { IsWalk result.reader.now result.walk }
         ensures first_block { LooksAlong (take 1 self.old.checkpoints)
-            self.old (Err StoreError.Memory) result.reader.now result.walk.block }
+            self.old None result.reader.now result.walk.block }
         ensures same_store { IsSameStore self.old result.reader.now }
         ensures place { result.walk.place ≡ length (take 1 self.old.checkpoints) }
     {
@@ -261,7 +261,7 @@ impl<H: FileHandle> StoreReader<H> {
         ensures next { result.walk.raw.next ≡ 0 }
         ensures walk { IsWalk result.reader.now result.walk.raw }
         ensures first_block { LooksAlong (take 1 self.old.checkpoints)
-            self.old (Err StoreError.Memory) result.reader.now result.walk.raw.block }
+            self.old None result.reader.now result.walk.raw.block }
         ensures same_store { IsSameStore self.old result.reader.now }
         ensures place { result.walk.raw.place ≡ length (take 1 self.old.checkpoints) }
     {
