@@ -7,14 +7,14 @@ use Rattle.store_base.specs.Files.{Part}
 use Rattle.store_base.specs.declared.error.StoreError.{StoreError}
 use Rattle.layered_index.specs.declared.checkpoint.Checkpoint.{Checkpoint}
 use Rattle.layered_index.specs.Checkpoint.{byte_len, bytes_end, first_past, IsInLineFrom, Covers}
-use Rattle.store_reader.specs.Kept.{Blocks}
+use Rattle.store_reader.specs.CachedBlocks.{CachedBlocks}
 use Rattle.store_reader.specs.LookingUp.{LooksUp}
 use Rattle.store_reader.specs.LookLaws.{bytes_at}
 use Rattle.store_reader.specs.Reading.{Reading}
 use Rattle.store_reader.specs.Walking.{LooksAlong}
 
 -- a look-up asks for its block, or for nothing
-pub asked_once : (c : Checkpoint) (file : Part) (cache : Blocks) (came : Result (List ℕ) StoreError) (file' : Part) (cache' : Blocks) → LooksUp c file cache came file' cache'
+pub asked_once : (c : Checkpoint) (file : Part) (cache : CachedBlocks) (came : Result (List ℕ) StoreError) (file' : Part) (cache' : CachedBlocks) → LooksUp c file cache came file' cache'
     → file'.asked ≤ file.asked + byte_len c
 asked_once c file cache came file' cache' l = elim l.cause [
   | inl hit ↦ let same = ap (λ (p : Part). p.asked) hit.file_stays in omega (arith, same)

@@ -11,29 +11,29 @@ use Rattle.store_base.specs.declared.error.StoreError.{StoreError}
 use Rattle.layered_index.specs.declared.checkpoint.Checkpoint.{Checkpoint}
 use Rattle.store_reader.specs.GetAnswer.{IsLookedUp}
 use Rattle.store_reader.specs.Cache.{CacheState, LookUp, look_up, recent, misses_along}
-use Rattle.store_reader.specs.Kept.{Blocks, state_of}
+use Rattle.store_reader.specs.CachedBlocks.{CachedBlocks, state_of}
 use Rattle.store_reader.specs.LookingUp.{LooksUp, cache_missed}
 use Rattle.store_reader.specs.Iteration.{keys_along}
 use Rattle.store_reader.specs.LookLaws.{bytes_at, AreLookUps, LooksAreRecent, LookUpsAreCounted}
 use Rattle.store_reader.specs.Reading.{Reading, IsSameStore}
 use Rattle.store_reader.specs.Walking.{LooksAlong}
 use Rattle.store_reader.proofs.AskedLemmas.{asked_once, found_bytes}
-use Rattle.store_reader.proofs.KeptLemmas.{any_from_some, apart_from_none}
+use Rattle.store_reader.proofs.CachedBlocksLemmas.{any_from_some, apart_from_none}
 
 -- the capacity stays
-capacity_missed : (key : ℕ) (came : Result (List ℕ) StoreError) (is_kept : Bool) (cache : Blocks) → (cache_missed key came is_kept cache).capacity ≡ cache.capacity
+capacity_missed : (key : ℕ) (came : Result (List ℕ) StoreError) (is_kept : Bool) (cache : CachedBlocks) → (cache_missed key came is_kept cache).capacity ≡ cache.capacity
 capacity_missed key (Ok block) is_kept cache = refl
 capacity_missed key (Err e) is_kept cache = refl
 
 -- what a look-up leaves of the file and of the capacity, and how often it reads
-record Leaves (c : Checkpoint) (file : Part) (cache : Blocks) (file' : Part) (cache' : Blocks) : Type 0 where
+record Leaves (c : Checkpoint) (file : Part) (cache : CachedBlocks) (file' : Part) (cache' : CachedBlocks) : Type 0 where
   content : file'.content ≡ file.content
   honest : file'.honest ≡ file.honest
   failures : file.failures ≤ file'.failures
   capacity : cache'.capacity ≡ cache.capacity
   reads : file.reads < 2 ^ 64 → file'.reads ≡ raised file.reads (if list_any (λ k. k == c.byte_range.start) (keys_of cache.kept) then 0 else 1)
 
-leaves : (c : Checkpoint) (file : Part) (cache : Blocks) (came : Result (List ℕ) StoreError) (file' : Part) (cache' : Blocks) → LooksUp c file cache came file' cache'
+leaves : (c : Checkpoint) (file : Part) (cache : CachedBlocks) (came : Result (List ℕ) StoreError) (file' : Part) (cache' : CachedBlocks) → LooksUp c file cache came file' cache'
     → Leaves c file cache file' cache'
 leaves c file cache came file' cache' l = elim l.cause [
   | inl hit ↦
@@ -45,7 +45,7 @@ leaves c file cache came file' cache' l = elim l.cause [
         content = ap (λ (f : Part). f.content) same;
         honest = ap (λ (f : Part). f.honest) same;
         failures = omega arith;
-        capacity = ap (λ (b : Blocks). b.capacity) hit.after;
+        capacity = ap (λ (b : CachedBlocks). b.capacity) hit.after;
         reads = λ few. rw any (omega arith);
       }
   | inr miss ↦
@@ -54,7 +54,7 @@ leaves c file cache came file' cache' l = elim l.cause [
         content = miss.read.once.content;
         honest = miss.read.once.honest;
         failures = miss.read.once.failures;
-        capacity = ap (λ (b : Blocks). b.capacity) miss.after ∙ capacity_missed c.byte_range.start came miss.is_kept cache;
+        capacity = ap (λ (b : CachedBlocks). b.capacity) miss.after ∙ capacity_missed c.byte_range.start came miss.is_kept cache;
         reads = λ few. rw none miss.read.once.reads;
       }
 ]

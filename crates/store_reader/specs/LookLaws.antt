@@ -9,7 +9,7 @@ use Rattle.store_reader.specs.declared.walk.Walk.{Walk}
 use Rattle.store_reader.specs.Cache.{CacheState, LookUp, recent, misses_along}
 use Rattle.layered_index.specs.Checkpoint.{byte_len, Covers}
 use Rattle.store_reader.specs.Iteration.{is_in, looked_along, alive_below, keys_along}
-use Rattle.store_reader.specs.Kept.{state_of}
+use Rattle.store_reader.specs.CachedBlocks.{state_of}
 use Rattle.store_reader.specs.Reading.{Reading, num_docs}
 use Rattle.store_reader.specs.Walking.{IsWalk, LooksAlong}
 

@@ -6,7 +6,7 @@ ghost use Rattle.store_reader.specs.GetAnswer.{IsAnswered, AnswersTruly};
 ghost use Rattle.layered_index.specs.Checkpoint.{Covers, first_past};
 ghost use Rattle.store_reader.specs.Documents.{document_version, IsGot, ReadsTruly};
 ghost use Rattle.store_format.specs.Footer.{version_number};
-ghost use Rattle.store_reader.specs.Kept.{last_key};
+ghost use Rattle.store_reader.specs.CachedBlocks.{last_key};
 ghost use Rattle.layered_index.specs.Layers.{digit_count, index_part};
 ghost use Rattle.store_reader.specs.Opening.{IsOpened, IsRefused, RefusesNoStore};
 ghost use Rattle.store_reader.specs.Reading.{IsReadOnce, IsReadWhole, IsSameStore, IsSeen, num_docs, store_of};
@@ -14,13 +14,13 @@ ghost use Rattle.store_format.specs.Slots.{slots};
 ghost use Rattle.store_format.specs.StoreFile.{IsStore};
 ghost use Rattle.store_reader.specs.Walking.{set_of, set_in, IsEntered, IsWalk, LooksAlong};
 
+use crate::block_request::BlockRequest;
 use crate::cache::BlockCache;
 use crate::cache_stats::CacheStats;
-use crate::documents::read_document;
+use crate::document_reading::read_document;
 use crate::iter::{DocIter, Items, RawIter, sets_of};
 use crate::look_up::{Entered, look_up};
 use crate::opening::read_store;
-use crate::share::Share;
 use crate::store_index::StoreIndex;
 use crate::walk::{DocWalk, first_walk};
 use layered_index::{Checkpoint, LayerCursor, Steps};
@@ -169,7 +169,7 @@ impl<H: FileHandle> StoreReader<H> {
             &mut self.cache,
             alloc,
             &checkpoint,
-            Share::Document {
+            BlockRequest::Document {
                 doc_id,
                 doc_pos: doc_id - checkpoint.doc_range.start,
             },
@@ -212,7 +212,7 @@ impl<H: FileHandle> StoreReader<H> {
             &mut self.cache,
             alloc,
             &checkpoint,
-            Share::Block,
+            BlockRequest::Whole,
         );
         Entered {
             first: checkpoint.doc_range.start,

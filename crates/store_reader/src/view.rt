@@ -11,10 +11,10 @@ ghost use Rattle.store_format.specs.StoreFile.{AreBlocks, IsStore, data_of, chec
 ghost use Rattle.store_reader.specs.Viewing.{Finds, IsViewOf, IsAt, IsBlockOf, StandsAt};
 ghost use Rattle.store_reader.specs.Viewing.{slot_of, count_in, document_of, given, placed_in};
 
-use crate::documents::read_bytes;
+use crate::document_reading::read_bytes;
 use crate::store_index::StoreIndex;
-use crate::view_iter::{AliveDocuments, Documents, ViewBlock};
-use crate::view_opening::view_store;
+use crate::documents::{AliveDocuments, Documents, ViewBlock};
+use crate::opening::view_store;
 use layered_index::{LayerCursor, Steps};
 use std::alloc::Global;
 use std::marker::Model;
