@@ -19,8 +19,8 @@ pub struct IndexCheck {
 
 // The first fault of the bytes of an index, of which a copy is made.
 fn fault_of(alloc: Global, part: &[u8], period: u8) -> Result<Option<IndexFault>, NoMemory>
-    requires two { 2 ≤ period }
-    requires few { period ≤ 64 }
+    requires least { 2 ≤ period }
+    requires most { period ≤ 64 }
     ensures { IfOk result (λ fault. IsCheckOf period part.now fault) }
 {
     let part = OwnedBytes::new(alloc, Vec::from_slice(alloc, part)?)?;

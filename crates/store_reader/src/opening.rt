@@ -37,8 +37,8 @@ fn read_index<H: FileHandle>(
     footer: &DocStoreFooter,
 ) -> Result<StoreIndex, StoreError>
     requires long { 28 ≤ length file.old.content }
-    requires two { 2 ≤ footer.now.period }
-    requires few { footer.now.period ≤ 64 }
+    requires least { 2 ≤ footer.now.period }
+    requires most { footer.now.period ≤ 64 }
     ensures { ReadsIndex file.old footer.now result file.new }
 {
     let range = index_range(footer, file.len())?;
@@ -81,8 +81,8 @@ fn copied(alloc: Global, bytes: &[u8]) -> Result<OwnedBytes, NoMemory>
 // The index of a file with this footer, of whose index a copy is made.
 fn index_of(alloc: Global, file: &[u8], footer: &DocStoreFooter) -> Result<StoreIndex, StoreError>
     requires long { 28 ≤ length file.now }
-    requires two { 2 ≤ footer.now.period }
-    requires few { footer.now.period ≤ 64 }
+    requires least { 2 ≤ footer.now.period }
+    requires most { footer.now.period ≤ 64 }
     ensures { FindsIndex file.now footer.now result }
 {
     let range = index_range(footer, file.len() as u64)?;

@@ -155,8 +155,8 @@ impl<H: FileHandle> SeekingReader<H> {
     /// How many checkpoints a full run of the store's index has, at least 2 and at most 64.
     pub fn period(&self) -> u8
         ensures period { IsTrue self.now.honest → (s : IsSomeStore self.now.content) → result ≡ s.period }
-        ensures two { 2 ≤ result }
-        ensures few { result ≤ 64 }
+        ensures least { 2 ≤ result }
+        ensures most { result ≤ 64 }
     {
         self.index.period()
     }

@@ -205,8 +205,8 @@ impl<'a> StoreView<'a> {
     /// How many checkpoints a full block of the store's index has, at least 2 and at most 64.
     pub fn period(&self) -> u8
         ensures period { result ≡ self.now.period }
-        ensures two { 2 ≤ result }
-        ensures few { result ≤ 64 }
+        ensures least { 2 ≤ result }
+        ensures most { result ≤ 64 }
     {
         self.index.period()
     }
