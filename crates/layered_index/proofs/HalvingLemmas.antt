@@ -6,7 +6,7 @@ use Rattle.layered_index.specs.declared.checkpoint.Checkpoint.{Checkpoint}
 use Rattle.layered_index.specs.Checkpoint.{IsInLineFrom, IsInLine, first_past}
 use Rattle.layered_index.specs.Layers.{digit_count}
 use Rattle.layered_index.proofs.IndexLemmas.{digit_count-le, digit_count_more}
-use Rattle.layered_index.specs.Seeking.{NoneBelow, EndsPast}
+use Rattle.layered_index.specs.Seeking.{NoneBelow, EndsPast, LiesBetween}
 use Rattle.layered_index.specs.LineLemmas.{in_line_somewhere}
 use Rattle.layered_index.proofs.DigitLemmas.{below_digits}
 
@@ -27,6 +27,15 @@ pub none_behind : (cs : List Checkpoint) (n : ℕ) → length cs ≤ n → slice
 none_behind [] n le = refl
 none_behind (c ∷ cs) zero le = absurd (omega arith)
 none_behind (c ∷ cs) (suc n) le = none_behind cs n (omega arith)
+
+-- the answer of a seek is one of all, or none
+pub all_between : (cs : List Checkpoint) (target high : ℕ) → high ≡ length cs → LiesBetween cs target 0 high
+all_between cs target high is = record {
+  order = omega arith;
+  within = omega (arith, is);
+  before = λ i c lt e. absurd (omega arith);
+  past = let none = none_behind cs high (omega (arith, is)) in rw none tt;
+}
 
 -- then it is the answer
 pub first_at : (cs : List Checkpoint) (target high : ℕ) → NoneBelow cs target high → EndsPast target (slice_get cs high) → first_past cs target ≡ slice_get cs high

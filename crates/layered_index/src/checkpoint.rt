@@ -9,6 +9,9 @@ use store_base::DocId;
 /// How many checkpoints a full block of a layer has, where nothing else is said.
 pub const CHECKPOINT_PERIOD: usize = 8;
 
+/// The same number, of the type that periods have.
+pub const USUAL_PERIOD: u8 = CHECKPOINT_PERIOD as u8;
+
 /// The ids of a block's documents, and the place of its bytes; both half open.
 #[derive(Clone, PartialEq, Eq, Default, Drop)]
 pub struct Checkpoint {

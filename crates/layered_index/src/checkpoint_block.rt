@@ -36,7 +36,15 @@ impl CheckpointBlock {
         ensures ok { IfOk result (λ block. block ≡ []) }
         ensures memory { IsOkUnless result StoreError.Memory }
     {
-        let checkpoints = Vec::with_capacity(alloc, 2 * CHECKPOINT_PERIOD)?;
+        CheckpointBlock::with_room(alloc, CHECKPOINT_PERIOD)
+    }
+
+    // An empty block, with room for two full ones of this period.
+    pub(crate) fn with_room(alloc: Global, period: usize) -> Result<CheckpointBlock, StoreError>
+        ensures ok { IfOk result (λ block. block ≡ []) }
+        ensures memory { IsOkUnless result StoreError.Memory }
+    {
+        let checkpoints = Vec::with_capacity(alloc, period.saturating_mul(2))?;
         Ok(CheckpointBlock { checkpoints })
     }
 

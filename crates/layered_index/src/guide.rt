@@ -6,20 +6,21 @@ use store_base::{DocId, NoMemory};
 // How many checkpoints a stretch has, on the average.
 const STRETCH: usize = 64;
 
-// How many checkpoints a stretch's beginning is sought among first.
+// The start of a stretch is sought among the next 256 checkpoints first, and then among all that are left.
 const NEAR: usize = 256;
 
 /// The documents parted into equal stretches, and how many checkpoints end before each of them.
 ///
-/// The pace is how many checkpoints there are to a document, in parts of 2^32; by it a stretch has
-/// 64 of them. A list of fewer has no stretches. All of it serves a guess, and no answer depends on it.
+/// The pace is the number of checkpoints divided by the number of documents, as a fixed-point number with 32 bits after
+/// the point. So a product with an id needs a shift and no division, and has no float's rounding. At this pace a stretch
+/// has 64 checkpoints. A list of fewer has no stretches. A guess uses it, and no answer depends on it.
 #[derive(Drop)]
 pub(crate) struct Guide {
     pace: u64,
     starts: Vec<usize>,
 }
 
-// How many checkpoints there are to a document.
+// The pace of a list.
 fn pace_of(doc_ends: &[DocId]) -> u64 {
     let Some(last) = doc_ends.last() else {
         return 0;
@@ -27,13 +28,13 @@ fn pace_of(doc_ends: &[DocId]) -> u64 {
     (doc_ends.len() as u64).saturating_mul(1 << 32) / (u64::from(*last) + 1)
 }
 
-// How many checkpoints so many documents have at a pace.
+// How many checkpoints `docs` documents have at a pace.
 fn at_pace(pace: u64, docs: DocId) -> usize {
     (u64::from(docs).saturating_mul(pace) >> 32) as usize
 }
 
-// How many checkpoints end before a stretch, whose first is this one by the pace. So many are known to end
-// before it.
+// How many checkpoints end before the stretch at whose start the pace expects `first` of them. At least `known` do: those
+// that end before the stretch before it.
 fn ends_before(doc_ends: &[DocId], pace: u64, first: usize, known: usize) -> usize {
     let rest = doc_ends.get(known..).unwrap_or(&[]);
     let near = match rest.get(..NEAR) {

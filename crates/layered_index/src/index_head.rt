@@ -49,8 +49,8 @@ impl Model for IndexHead {
 
 // The head in the bytes that were read of an index.
 fn head_in(front: OwnedBytes, start: u64, end: u64, period: u8) -> Result<IndexHead, StoreError>
-    requires two { 2 ≤ period }
-    requires few { period ≤ 64 }
+    requires least { 2 ≤ period }
+    requires most { period ≤ 64 }
     requires within { start + length front ≤ end }
     ensures made { IfOk result (λ head. head
         ≡ record { period = period; start = start; end = end; front = front }) }
@@ -88,8 +88,8 @@ impl IndexHead {
         end: u64,
         period: u8,
     ) -> Result<IndexHead, StoreError>
-        requires two { 2 ≤ period }
-        requires few { period ≤ 64 }
+        requires least { 2 ≤ period }
+        requires most { period ≤ 64 }
         requires order { start ≤ end }
         requires within { end ≤ length file.old.content }
         ensures made { IfOk result (λ head. (head.period ≡ period) × (head.start ≡ start) × (head.end ≡ end)) }
@@ -109,8 +109,8 @@ impl IndexHead {
     /// How many checkpoints a full run of the index has, at least 2 and at most 64.
     pub fn period(&self) -> u8
         ensures period { result ≡ self.now.period }
-        ensures two { 2 ≤ result }
-        ensures few { result ≤ 64 }
+        ensures least { 2 ≤ result }
+        ensures most { result ≤ 64 }
     {
         self.period
     }
@@ -132,7 +132,7 @@ impl IndexHead {
         ensures device { IsErrOf result StoreError.Read → HasRisen file.old.failures file.new.failures }
         ensures steady { IsErrOf result StoreError.Read ⊎ (file.new.failures ≡ file.old.failures) }
         ensures once { ReadsAtMost 1 (longest_run self.now.period) file.old file.new }
-        ensures few { self.now.period ≤ 64 }
+        ensures most { self.now.period ≤ 64 }
     {
         if self.count == 0 {
             return Ok(0);
@@ -168,7 +168,7 @@ impl IndexHead {
         ensures device { IsErrOf result StoreError.Read → HasRisen file.old.failures file.new.failures }
         ensures steady { IsErrOf result StoreError.Read ⊎ (file.new.failures ≡ file.old.failures) }
         ensures kept { ReadsRuns self.now.period 64 file.old file.new }
-        ensures few { self.now.period ≤ 64 }
+        ensures most { self.now.period ≤ 64 }
         ensures reads { IsTrue file.old.honest → IsHeadOf file.old.content self.now
             → (cs : List Checkpoint) → IsIndexPart self.now.period (index_in file.old.content self.now) cs
             → ReadsRuns self.now.period (digit_count self.now.period (length cs)) file.old file.new }

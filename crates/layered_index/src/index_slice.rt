@@ -99,8 +99,8 @@ impl<'a> IndexSlice<'a> {
     /// The index in these bytes. It reads how many layers there are and skips the numbers that say where each ends. It
     /// returns `BadIndex` where these numbers are missing; damage after them is found by the calls that meet it.
     pub fn new(bytes: &'a [u8], period: u8) -> Result<IndexSlice<'a>, StoreError>
-        requires two { 2 ≤ period }
-        requires few { period ≤ 64 }
+        requires least { 2 ≤ period }
+        requires most { period ≤ 64 }
         ensures ok { IfOk result (λ index. index ≡ record { period = period; bytes = bytes.now }) }
         ensures refused { IfErr result (λ e. (e ≡ StoreError.BadIndex) × (HasIndex period bytes.now → ⊥)) }
     {
@@ -123,8 +123,8 @@ impl<'a> IndexSlice<'a> {
     /// How many checkpoints a full run of the index has, at least 2 and at most 64.
     pub fn period(&self) -> u8
         ensures period { result ≡ self.now.period }
-        ensures two { 2 ≤ result }
-        ensures few { result ≤ 64 }
+        ensures least { 2 ≤ result }
+        ensures most { result ≤ 64 }
     {
         self.period
     }

@@ -30,31 +30,33 @@ pub(crate) struct Run {
     pub byte_end: usize,
 }
 
-// How many bytes a layer has from which on it is too long for a processor to learn.
-const LONG: usize = 1 << 16;
+// From 64 KiB on, a layer is too long for a processor to learn how many bytes each of its numbers has.
+const LONG_LAYER: usize = 1 << 16;
 
-// Whether a block of a long layer has another length than the one before it, so that how many bytes its
-// numbers have can't be foreseen. No answer depends on it.
+// How the numbers of the next run are decoded, by the lengths of the runs before it. Where two runs of a long layer have
+// different lengths, a processor mispredicts how many bytes their numbers have, and decoding takes the way with fewer
+// branches. No answer depends on it.
 #[derive(Drop)]
-struct Evenness {
-    long: bool,
-    len: usize,
+struct RunLengths {
+    is_long: bool,
+    last: usize,
     uneven: bool,
 }
 
-impl Evenness {
-    fn of(text: &[u8]) -> Evenness {
-        Evenness {
-            long: text.len() >= LONG,
-            len: 0,
+impl RunLengths {
+    // Before the first run of a layer.
+    fn new(layer: &[u8]) -> RunLengths {
+        RunLengths {
+            is_long: layer.len() >= LONG_LAYER,
+            last: 0,
             uneven: false,
         }
     }
 
-    // After a block of this length.
-    fn tell(&mut self, len: usize) {
-        self.uneven = self.long && len != self.len;
-        self.len = len;
+    // After a run of `len` bytes.
+    fn add(&mut self, len: usize) {
+        self.uneven = self.is_long && len != self.last;
+        self.last = len;
     }
 }
 
@@ -189,9 +191,9 @@ fn walk_runs(
     let mut place = 0;
     let mut doc_end = heading.doc;
     let mut byte_end = heading.byte;
-    let mut evenness = Evenness::of(text);
+    let mut lengths = RunLengths::new(text);
     while !rest.is_empty() {
-        let (run, after) = match run_front(evenness.uneven, rest, ends) {
+        let (run, after) = match run_front(lengths.uneven, rest, ends) {
             Ok(read) => read,
             Err(fault) => return Err(fault.at(place)),
         };
@@ -203,7 +205,7 @@ fn walk_runs(
         }
         doc_end = run.doc_end;
         byte_end = run.byte_end;
-        evenness.tell(end - place);
+        lengths.add(end - place);
         place = end;
         rest = after;
     }

@@ -21,7 +21,7 @@ pub mod skip_index_builder;
 mod split;
 mod tables;
 
-pub use checkpoint::{CHECKPOINT_PERIOD, Checkpoint};
+pub use checkpoint::{CHECKPOINT_PERIOD, Checkpoint, USUAL_PERIOD};
 pub use checkpoint_block::CheckpointBlock;
 pub use index_fault::IndexFault;
 pub use index_head::IndexHead;

@@ -70,6 +70,14 @@ pub trait Looks {
         ensures looks { looks self.new ≡ raised (looks self.old) 1 };
 }
 
+// Where halving ends: the index of the first checkpoint whose documents end past the target, or how many checkpoints
+// there are; and that checkpoint, if halving looked at it.
+#[derive(Drop)]
+struct Halved {
+    place: usize,
+    found: Option<Checkpoint>,
+}
+
 /// The first checkpoint whose documents end past the target, by halving.
 pub fn seek_over<S: Looks>(source: &mut S, target: DocId) -> Option<Checkpoint>
     ensures list { S.list source.new ≡ S.list source.old }
@@ -81,21 +89,14 @@ pub fn seek_over<S: Looks>(source: &mut S, target: DocId) -> Option<Checkpoint>
     ensures least { 0 < length (S.list source.old)
         → raised (S.looks source.old) 1 ≤ S.looks source.new }
 {
-    let mut found = None;
-    let mut low = 0;
-    let mut high = source.len();
-    while low < high {
-        let middle = low + (high - low) / 2;
-        let checkpoint = source.look(middle);
-        if checkpoint.doc_range.end > target {
-            found = Some(checkpoint);
-            high = middle;
-        } else {
-            low = middle + 1;
-        }
-    }
-    found
+    let len = source.len();
+    halve(source, target, 0..len).found
 }
+
+// How many looks there are to spare near a guess: one for each base-4 digit of an eighth of the length. Where the length
+// has b binary digits these are b / 2 - 1 at most. Halving takes b, and the look at the answer 1: in all b + b / 2.
+const SPARE_SHARE: usize = 8;
+const SPARE_BASE: usize = 4;
 
 // Where the answer lies, by looks where the guess is and from there on in growing steps, until the
 // target lies between two looks or no look is to spare.
@@ -114,10 +115,9 @@ fn narrow_near<S: Looks>(source: &mut S, target: DocId, guess: usize) -> Range<u
     let mut high = source.len();
     let mut probe = guess.min(high.saturating_sub(1));
     let mut step: usize = 2;
-    // There is a look to spare for each of its digits in base 4.
-    let mut spare = high / 8;
+    let mut spare = high / SPARE_SHARE;
     while spare > 0 && low <= probe && probe < high {
-        spare /= 4;
+        spare /= SPARE_BASE;
         step = step.saturating_mul(2);
         if source.look(probe).doc_range.end > target {
             high = probe;
@@ -130,32 +130,36 @@ fn narrow_near<S: Looks>(source: &mut S, target: DocId, guess: usize) -> Range<u
     low..high
 }
 
-// The index of the first checkpoint whose documents end past the target, or how many there are, by
-// halving what lies between.
+// Halves what lies between until one place is left.
 #[inline(always)]
-fn halve<S: Looks>(source: &mut S, target: DocId, between: Range<usize>) -> usize
+fn halve<S: Looks>(source: &mut S, target: DocId, between: Range<usize>) -> Halved
     requires in_line { IsInLine (S.list source.old) }
     requires between { LiesBetween (S.list source.old) target between.start between.end }
     ensures list { S.list source.new ≡ S.list source.old }
-    ensures few { result ≤ length (S.list source.old) }
-    ensures answer { slice_get (S.list source.old) result ≡ first_past (S.list source.old) target }
+    ensures few { result.place ≤ length (S.list source.old) }
+    ensures answer { slice_get (S.list source.old) result.place ≡ first_past (S.list source.old) target }
+    ensures found { result.place < between.end → result.found ≡ slice_get (S.list source.old) result.place }
+    ensures none { result.place ≡ between.end → result.found ≡ None }
     ensures most { S.looks source.new
         ≤ S.looks source.old + digit_count 2 (between.end - between.start) }
     ensures more { S.looks source.old ≤ S.looks source.new }
     ensures least { between.start < between.end
         → raised (S.looks source.old) 1 ≤ S.looks source.new }
 {
+    let mut found = None;
     let mut low = between.start;
     let mut high = between.end;
     while low < high {
         let middle = low + (high - low) / 2;
-        if source.look(middle).doc_range.end > target {
+        let checkpoint = source.look(middle);
+        if checkpoint.doc_range.end > target {
+            found = Some(checkpoint);
             high = middle;
         } else {
             low = middle + 1;
         }
     }
-    low
+    Halved { place: low, found }
 }
 
 /// The first checkpoint whose documents end past the target, sought from a guess on.
@@ -175,7 +179,7 @@ pub fn seek_near<S: Looks>(source: &mut S, target: DocId, guess: usize) -> Optio
 {
     let len = source.len();
     let between = narrow_near(source, target, guess);
-    let place = halve(source, target, between);
+    let place = halve(source, target, between).place;
     if place < len {
         Some(source.look(place))
     } else {

@@ -21,7 +21,7 @@ fn read_run<H: FileHandle>(
     period: usize,
     run: Range<u64>,
 ) -> Result<OwnedBytes, StoreError>
-    requires few { period ≤ 64 }
+    requires most { period ≤ 64 }
     requires order { run.start ≤ run.end }
     requires within { run.end ≤ length file.old.content }
     ensures bytes { IsTrue file.old.honest → IfOk result (λ bytes. bytes
@@ -44,8 +44,8 @@ fn seek_top_run<H: FileHandle>(
     target: DocId,
     layer: Range<u64>,
 ) -> Result<Option<Checkpoint>, StoreError>
-    requires one { 1 ≤ period }
-    requires few { period ≤ 64 }
+    requires least { 1 ≤ period }
+    requires most { period ≤ 64 }
     requires order { layer.start ≤ layer.end }
     requires within { layer.end ≤ length file.old.content }
     ensures exact { IsTrue file.old.honest → AnswersByReads
@@ -73,7 +73,7 @@ fn seek_pointed_run<H: FileHandle>(
     pointer: &Checkpoint,
     run: Range<u64>,
 ) -> Result<Option<Checkpoint>, StoreError>
-    requires few { period ≤ 64 }
+    requires most { period ≤ 64 }
     requires order { run.start ≤ run.end }
     requires within { run.end ≤ length file.old.content }
     ensures exact { IsTrue file.old.honest → AnswersByReads
@@ -99,7 +99,7 @@ pub(crate) fn docs_end_in<H: FileHandle>(
     period: usize,
     layer: Range<u64>,
 ) -> Result<DocId, StoreError>
-    requires few { period ≤ 64 }
+    requires most { period ≤ 64 }
     requires order { layer.start ≤ layer.end }
     requires within { layer.end ≤ length file.old.content }
     ensures exact { IsTrue file.old.honest → AnswersByReads
@@ -127,8 +127,8 @@ pub(crate) fn seek_layer_in<H: FileHandle>(
     layer: Range<u64>,
     above: &Option<Checkpoint>,
 ) -> Result<Option<Checkpoint>, StoreError>
-    requires one { 1 ≤ period }
-    requires few { period ≤ 64 }
+    requires least { 1 ≤ period }
+    requires most { period ≤ 64 }
     requires order { layer.start ≤ layer.end }
     requires within { layer.end ≤ length file.old.content }
     ensures exact { IsTrue file.old.honest → AnswersByReads

@@ -150,8 +150,8 @@ pub(crate) fn seek_top(
     layer: &[u8],
     steps: &mut Steps,
 ) -> Option<Option<Checkpoint>>
-    requires one { 1 ≤ period }
-    requires few { period ≤ 64 }
+    requires least { 1 ≤ period }
+    requires most { period ≤ 64 }
     ensures answer { (cs : List Checkpoint) → IsInLine cs → layer.now ≡ layer_text period cs
         → IsFoundAbove period target None cs → result ≡ Some (first_past cs target) }
     ensures exact { result ≡ found_on_top whole period target layer.now }
@@ -208,8 +208,8 @@ fn seek_below(
     pointer: &Checkpoint,
     steps: &mut Steps,
 ) -> Option<Option<Checkpoint>>
-    requires one { 1 ≤ period }
-    requires few { period ≤ 64 }
+    requires least { 1 ≤ period }
+    requires most { period ≤ 64 }
     ensures answer { (cs : List Checkpoint) → IsInLine cs → layer.now ≡ layer_text period cs
         → IsFoundAbove period target (Some pointer.now) cs → result ≡ Some (first_past cs target) }
     ensures exact { result ≡ found_in whole period target (Some pointer.now) layer.now }
@@ -238,8 +238,8 @@ pub(crate) fn seek_layer(
     above: &Option<Checkpoint>,
     steps: &mut Steps,
 ) -> Option<Option<Checkpoint>>
-    requires one { 1 ≤ period }
-    requires few { period ≤ 64 }
+    requires least { 1 ≤ period }
+    requires most { period ≤ 64 }
     ensures answer { (cs : List Checkpoint) → IsInLine cs → layer.now ≡ layer_text period cs
         → IsFoundAbove period target above.now cs → result ≡ Some (first_past cs target) }
     ensures exact { result ≡ found_in whole period target above.now layer.now }

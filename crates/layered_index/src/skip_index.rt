@@ -18,7 +18,7 @@ use crate::layers::{digit_count, walk_down};
 use crate::looks::{Steps, seek_near, seek_over};
 use crate::split::split;
 use crate::tables::{Ends, TableLooks, Tables};
-use crate::checkpoint::{CHECKPOINT_PERIOD, Checkpoint};
+use crate::checkpoint::{CHECKPOINT_PERIOD, Checkpoint, USUAL_PERIOD};
 use std::alloc::Global;
 use std::marker::Model;
 use store_base::{DocId, NoMemory, OwnedBytes, StoreError};
@@ -62,8 +62,8 @@ fn bottom_layer(
     period: usize,
 ) -> Result<(OwnedBytes, Ends), Refusal>
     requires source { bytes.now ≡ source.now }
-    requires two { 2 ≤ period }
-    requires few { period ≤ 64 }
+    requires least { 2 ≤ period }
+    requires most { period ≤ 64 }
     ensures { MatchResult result
         (λ x. IsIndexPart period source.now (items 0 0 0 x.0)
         × (x.1 ≡ with_ends no_ends (items 0 0 0 x.0)))
@@ -89,7 +89,7 @@ impl SkipIndex {
             × IsIndexPart CHECKPOINT_PERIOD source index.checkpoints) }
         ensures refused { IfErr result (RefusesOnlyUnless (HasIndex CHECKPOINT_PERIOD source)) }
     {
-        SkipIndex::open_with_period(alloc, source, CHECKPOINT_PERIOD as u8)
+        SkipIndex::open_with_period(alloc, source, USUAL_PERIOD)
     }
 
     /// Reads an index whose full blocks have so many checkpoints. It is refused unless the bytes are
@@ -99,8 +99,8 @@ impl SkipIndex {
         source: OwnedBytes,
         period: u8,
     ) -> Result<SkipIndex, StoreError>
-        requires two { 2 ≤ period }
-        requires few { period ≤ 64 }
+        requires least { 2 ≤ period }
+        requires most { period ≤ 64 }
         ensures ok { IfOk result (λ index. (index.period ≡ period)
             × IsIndexPart period source index.checkpoints) }
         ensures refused { IfErr result (RefusesOnlyUnless (HasIndex period source)) }
@@ -121,8 +121,8 @@ impl SkipIndex {
         source: &OwnedBytes,
         period: u8,
     ) -> Result<Option<IndexFault>, NoMemory>
-        requires two { 2 ≤ period }
-        requires few { period ≤ 64 }
+        requires least { 2 ≤ period }
+        requires most { period ≤ 64 }
         ensures sound { IfOk result (λ fault. IsNone fault → HasIndex period source.now) }
         ensures broken { IfOk result (λ fault. IsSome fault → HasIndex period source.now → ⊥) }
         ensures first { IfOk result (λ fault. IfSome fault (IsFirstFault period source.now)) }
@@ -132,6 +132,15 @@ impl SkipIndex {
             Err(Refusal::Broken(fault)) => Ok(Some(fault)),
             Err(Refusal::OutOfMemory) => Err(NoMemory),
         }
+    }
+
+    /// How many checkpoints its full blocks have.
+    pub fn period(&self) -> u8
+        ensures period { result ≡ self.now.period }
+        ensures least { 2 ≤ result }
+        ensures most { result ≤ 64 }
+    {
+        self.period
     }
 
     /// The first checkpoint whose documents end past the target.

@@ -11,7 +11,7 @@ ghost use Rattle.layered_index.specs.Building.{put, put_some, closed_text, last_
 ghost use Rattle.layered_index.specs.Building.{TookOne, Takes, inserted, Closes, closed, texts_of};
 
 use crate::checkpoint_block::CheckpointBlock;
-use crate::checkpoint::{CHECKPOINT_PERIOD, Checkpoint};
+use crate::checkpoint::{CHECKPOINT_PERIOD, Checkpoint, USUAL_PERIOD};
 use std::alloc::Global;
 use std::marker::Model;
 use store_base::{Cause, StoreError, TerminatingWrite, VInt, WriteFault};
@@ -32,11 +32,12 @@ impl Model for LayerBuilder {
 }
 
 impl LayerBuilder {
-    fn new(alloc: Global) -> Result<LayerBuilder, StoreError>
+    // A layer of no checkpoints, with room for two full blocks of this period.
+    fn new(alloc: Global, period: usize) -> Result<LayerBuilder, StoreError>
         ensures ok { IfOk result (λ layer. layer ≡ record { bytes = []; rest = [] }) }
         ensures memory { IsOkUnless result StoreError.Memory }
     {
-        let block = CheckpointBlock::new(alloc)?;
+        let block = CheckpointBlock::with_room(alloc, period)?;
         Ok(LayerBuilder {
             buffer: Vec::new(alloc),
             block,
@@ -148,7 +149,11 @@ impl LayerBuilder {
 }
 
 // Adds a layer at the top, with one checkpoint.
-fn add_layer(layers: &mut Vec<LayerBuilder>, checkpoint: Checkpoint) -> Result<(), StoreError>
+fn add_layer(
+    layers: &mut Vec<LayerBuilder>,
+    period: usize,
+    checkpoint: Checkpoint,
+) -> Result<(), StoreError>
     requires { IsInLine (checkpoint ∷ []) }
     ensures ok { OnOk result (layers.new.items ≡
         layers.old.items ++ record { bytes = []; rest = checkpoint ∷ [] } ∷ []) }
@@ -156,7 +161,7 @@ fn add_layer(layers: &mut Vec<LayerBuilder>, checkpoint: Checkpoint) -> Result<(
     ensures memory { IsOkUnless result StoreError.Memory }
 {
     let alloc = *layers.allocator();
-    let mut layer = LayerBuilder::new(alloc)?;
+    let mut layer = LayerBuilder::new(alloc, period)?;
     layer.push(checkpoint)?;
     layers.push(layer)?;
     Ok(())
@@ -178,7 +183,7 @@ fn insert_at(
     ensures memory { IsOkUnless result StoreError.Memory }
 {
     if at == layers.len() {
-        return add_layer(layers, checkpoint);
+        return add_layer(layers, period, checkpoint);
     }
     let layer = &mut layers[at];
     let start = layer.len();
@@ -265,7 +270,7 @@ impl SkipIndexBuilder {
     pub fn new(alloc: Global) -> SkipIndexBuilder
         ensures { result ≡ record { period = CHECKPOINT_PERIOD; checkpoints = [] } }
     {
-        SkipIndexBuilder::with_period(alloc, CHECKPOINT_PERIOD as u8)
+        SkipIndexBuilder::with_period(alloc, USUAL_PERIOD)
     }
 
     /// An index of no checkpoints, whose full blocks have `period` checkpoints. It takes no memory.

@@ -5,7 +5,7 @@ use Rattle.store_format.specs.Footer.{version_number}
 use Rattle.store_format.specs.StoreFile.{IsStore}
 use Rattle.store_reader.specs.declared.answers.ReadCall.{ReadCall}
 use Rattle.store_reader.specs.CallAnswers.{exact_results, keys_of_calls, results_of}
-use Rattle.store_reader.specs.Kept.{no_blocks}
+use Rattle.store_reader.specs.CachedBlocks.{no_blocks}
 use Rattle.store_reader.specs.LookLaws.{AreLookUps}
 use Rattle.store_reader.specs.Reading.{Reading, IsSameStore, num_docs, store_of}
 use Rattle.docstore.specs.declared.run.StoreCommand.{StoreCommand}

@@ -1,7 +1,7 @@
 //! Files in memory, opened.
 ghost use Rattle.std.specs.Prelude.{◌≡◌, ◌⊎◌, IfOk, IfErr, IsTrue};
 ghost use Rattle.store_format.specs.Footer.{version_number};
-ghost use Rattle.store_reader.specs.Kept.{no_blocks};
+ghost use Rattle.store_reader.specs.CachedBlocks.{no_blocks};
 ghost use Rattle.store_reader.specs.Opening.{IsSomeStore};
 ghost use Rattle.store_reader.specs.Reading.{IsSeen, store_of};
 ghost use Rattle.store_format.specs.StoreFile.{IsStore};

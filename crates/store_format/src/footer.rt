@@ -4,7 +4,7 @@ ghost use Rattle.std.specs.Prelude.{◌≡◌, ◌≤◌};
 
 use crate::kinds::Decompressor;
 use crate::version::{DOC_STORE_VERSION, DocStoreVersion};
-use layered_index::CHECKPOINT_PERIOD;
+use layered_index::{CHECKPOINT_PERIOD, USUAL_PERIOD};
 use std::alloc::Global;
 use store_base::{BinarySerializable, DecodeFault, FixedSize, TerminatingWrite, WriteFault};
 
@@ -37,7 +37,7 @@ impl DocStoreFooter {
             offset,
             decompressor,
             doc_store_version,
-            CHECKPOINT_PERIOD as u8,
+            USUAL_PERIOD,
         )
     }
 

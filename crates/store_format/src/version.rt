@@ -3,7 +3,7 @@
 ghost use Rattle.std.specs.Prelude.{◌≡◌, ◌≤◌, ◌<◌, ◌+◌, length, OnOk, IfOk, IfErr};
 ghost use Rattle.store_format.specs.Footer.{version_number};
 
-use layered_index::CHECKPOINT_PERIOD;
+use layered_index::USUAL_PERIOD;
 use std::alloc::Global;
 use std::fmt;
 use store_base::{BinarySerializable, DecodeFault, TerminatingWrite, WriteFault};
@@ -52,8 +52,8 @@ impl DocStoreVersion {
             × (version_number self.now ≡ 3) × (2 ≤ byte → 64 < byte)) }
     {
         match self {
-            DocStoreVersion::V1 => Ok(CHECKPOINT_PERIOD as u8),
-            DocStoreVersion::V2 => Ok(CHECKPOINT_PERIOD as u8),
+            DocStoreVersion::V1 => Ok(USUAL_PERIOD),
+            DocStoreVersion::V2 => Ok(USUAL_PERIOD),
             DocStoreVersion::V3 if byte < 2 || byte > 64 => Err(DecodeFault::Period(byte)),
             DocStoreVersion::V3 => Ok(byte),
         }

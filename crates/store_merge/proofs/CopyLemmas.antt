@@ -5,7 +5,7 @@ use Rattle.std.proofs.lemmas.List.{append-nil, take_more, take_all, map-append}
 use Rattle.std.proofs.lemmas.List.Elements.{filter-append}
 use Rattle.std.proofs.lemmas.List.Sums.{fold-append}
 use Rattle.std.proofs.lemmas.Option.{get_or_from_slice_get}
-use Rattle.std.specs.Prelude.{slice_get, IsTrue, IfErr, nat_lt}
+use Rattle.std.specs.Prelude.{slice_get, IsTrue, IfErr, IfSome, IsSomeAnd, nat_lt}
 use Rattle.std.specs.List.{filter, enumerate_from}
 use Rattle.store_base.specs.Counts.{HasRisen}
 use Rattle.store_base.specs.Files.{Part}
@@ -153,17 +153,17 @@ module _ (honest : Bool) (old : Writing) where
 
 -- ---- reads that failed
 
--- Where a failed read was taken of a block, the file's count of failures has risen.
-abbrev pub HasFailedRead : Reading → Reading → Result (List ℕ) StoreError → Type 0
-HasFailedRead first r block = block ≡ Err Read → HasRisen first.file.failures r.file.failures
+-- Where a failed read was taken of the last block, the file's count of failures has risen.
+abbrev pub HasFailedRead : Reading → Reading → Option (Result (List ℕ) StoreError) → Type 0
+HasFailedRead first r block = block ≡ Some (Err Read) → HasRisen first.file.failures r.file.failures
 
-pub none_failed : (first r : Reading) (block : Result (List ℕ) StoreError) → block ≡ Err Memory → HasFailedRead first r block
-none_failed first r block memory = λ is. absurd (let h : ◌≡◌ {A = Result (List ℕ) StoreError} (Err Memory) (Err Read) = sym memory ∙ is in cc)
+none_failed : (first r : Reading) → HasFailedRead first r None
+none_failed first r is = absurd cc
 
 -- one look-up of a block
 failed_once : (first r : Reading) (id : ℕ) (c : Checkpoint) (block : Result (List ℕ) StoreError) (mid : Reading) → first.file.failures ≤ r.file.failures → IsBlockTaken r id c block mid
-    → HasFailedRead first mid block
-failed_once first r id c block mid le t = by block t.taken
+    → HasFailedRead first mid (Some block)
+failed_once first r id c block mid le t is = by block t.taken (cc)
   where
     came_failed : t.came ≡ Err Read → HasRisen first.file.failures mid.file.failures
     came_failed is = elim t.looked.looks_up.cause [
@@ -186,13 +186,13 @@ failures_once r c came mid l = elim l.cause [
 ]
 
 -- look-ups one after the other
-failed_along : (cs : List Checkpoint) (first r : Reading) (b : Result (List ℕ) StoreError) (r' : Reading) (b' : Result (List ℕ) StoreError) → first.file.failures ≤ r.file.failures
+failed_along : (cs : List Checkpoint) (first r : Reading) (b : Option (Result (List ℕ) StoreError)) (r' : Reading) (b' : Option (Result (List ℕ) StoreError)) → first.file.failures ≤ r.file.failures
     → HasFailedRead first r b → LooksAlong cs r b r' b' → HasFailedRead first r' b'
 failed_along [] first r b r' b' le h l = λ is. subst (λ (x : Reading). HasRisen first.file.failures x.file.failures) (sym l.0) (h (sym l.1 ∙ is))
 failed_along (c ∷ cs) first r b r' b' le h l =
     let mid = l.0 in
     let on = failures_once r c l.2.came mid l.2.looked.looks_up in
-    failed_along cs first mid l.1 r' b' (omega (arith, le, on)) (failed_once first r c.doc_range.start c l.1 mid le l.2) l.3
+    failed_along cs first mid (Some l.1) r' b' (omega (arith, le, on)) (failed_once first r c.doc_range.start c l.1 mid le l.2) l.3
 
 -- ---- by what an iterator gives
 
@@ -228,10 +228,11 @@ module _ (first old new : Reading) (set : Option (ℕ → Bool)) (from to : Walk
 
   -- why no document came
   refuses_item : (e : StoreError) → IsWalk new to → HasFailedRead first new to.block → item ≡ Err e → RefusesItem gives.last first new e
-  refuses_item e walk failed is = by to.block refl (subst (AnswersFrom gives.last (gives.last - to.first) to.block) is gives.gives.answers)
+  refuses_item e walk failed is = by to.block refl (subst (λ (r : Result (List ℕ) StoreError). IsSomeAnd to.block (λ b. AnswersFrom gives.last (gives.last - to.first) b r)) is gives.gives.answers)
     where
-      by : (block : Result (List ℕ) StoreError) → to.block ≡ block → AnswersFrom gives.last (gives.last - to.first) block (Err e) → RefusesItem gives.last first new e
-      by (Ok block) here answers = elim answers [
+      by : (block : Option (Result (List ℕ) StoreError)) → to.block ≡ block → IsSomeAnd block (λ b. AnswersFrom gives.last (gives.last - to.first) b (Err e)) → RefusesItem gives.last first new e
+      by None here answers = absurd answers
+      by (Some (Ok block)) here answers = elim answers [
         | inl x ↦ subst (RefusesItem gives.last first new) (sym x.0) (
           refl,
           λ honest. truly_damaged gives.last (slice_get (slots (store_of first)) gives.last)
@@ -239,10 +240,10 @@ module _ (first old new : Reading) (set : Option (ℕ → Bool)) (from to : Walk
         )
         | inr memory ↦ subst (RefusesItem gives.last first new) (sym memory) tt
       ]
-      by (Err f) here answers =
+      by (Some (Err f)) here answers =
           let same_error : e ≡ f = cc in
-          elim (subst (λ (b : Result (List ℕ) StoreError). IfErr b (λ x. (x ≡ Read) ⊎ (x ≡ Memory))) here walk.only) [
-            | inl read ↦ subst (RefusesItem gives.last first new) (sym (same_error ∙ read)) (failed (here ∙ ap (λ (y : StoreError). Err y) read))
+          elim (subst (λ (o : Option (Result (List ℕ) StoreError)). IfSome o (λ b. IfErr b (λ x. (x ≡ Read) ⊎ (x ≡ Memory)))) here walk.only) [
+            | inl read ↦ subst (RefusesItem gives.last first new) (sym (same_error ∙ read)) (failed (here ∙ ap (λ (y : StoreError). Some (Err y)) read))
             | inr memory ↦ subst (RefusesItem gives.last first new) (sym (same_error ∙ memory)) tt
           ]
 
@@ -301,10 +302,10 @@ pub record IsBegun (first : Reading) (set : Option (ℕ → Bool)) (start : Writ
   pub below : w.next ≤ length (slots (store_of first))
   pub failed : HasFailedRead first r w.block
 
-pub begins : (first r : Reading) (set : Option (ℕ → Bool)) (w : Walk) (start : Writing) → w.next ≡ 0 → LooksAlong (take 1 first.checkpoints) first (Err Memory) r w.block → IsBegun first set start r w
+pub begins : (first r : Reading) (set : Option (ℕ → Bool)) (w : Walk) (start : Writing) → w.next ≡ 0 → LooksAlong (take 1 first.checkpoints) first None r w.block → IsBegun first set start r w
 begins first r set w start is looks = record {
   copied = copied_as first.file.honest start [] (alive (take w.next (slots (store_of first))) set) start (ap (λ (k : ℕ). alive (take k (slots (store_of first))) set) (sym is))
       (copied_none first.file.honest start);
   below = omega (arith, is);
-  failed = failed_along (take 1 first.checkpoints) first first (Err Memory) r w.block (omega arith) (none_failed first first (Err Memory) refl) looks;
+  failed = failed_along (take 1 first.checkpoints) first first None r w.block (omega arith) (none_failed first first) looks;
 }

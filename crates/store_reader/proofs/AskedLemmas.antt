@@ -1,5 +1,5 @@
 -- How many bytes look-ups ask for.
-use Rattle.std.proofs.Common.{◌≡◌, ℕ, zero, suc, ◌+◌, ◌≤◌, true, false, inl, inr, List, [], ◌∷◌, length, take, Some, nat_lt, refl, sym, ◌∙◌, ap, subst, arith, eq-eqb}
+use Rattle.std.proofs.Common.{◌≡◌, ℕ, zero, suc, ◌+◌, ◌≤◌, true, false, inl, inr, List, [], ◌∷◌, length, take, Option, Some, nat_lt, refl, sym, ◌∙◌, ap, subst, arith, eq-eqb}
 use Rattle.std.proofs.lemmas.List.Sums.{sum_by-cons}
 use Rattle.std.specs.Prelude.{◌==◌, if◌then◌else◌, Bool, Result}
 use Rattle.std.specs.List.{sum_by}
@@ -7,14 +7,14 @@ use Rattle.store_base.specs.Files.{Part}
 use Rattle.store_base.specs.declared.error.StoreError.{StoreError}
 use Rattle.layered_index.specs.declared.checkpoint.Checkpoint.{Checkpoint}
 use Rattle.layered_index.specs.Checkpoint.{byte_len, bytes_end, first_past, IsInLineFrom, Covers}
-use Rattle.store_reader.specs.Kept.{Blocks}
+use Rattle.store_reader.specs.CachedBlocks.{CachedBlocks}
 use Rattle.store_reader.specs.LookingUp.{LooksUp}
 use Rattle.store_reader.specs.LookLaws.{bytes_at}
 use Rattle.store_reader.specs.Reading.{Reading}
 use Rattle.store_reader.specs.Walking.{LooksAlong}
 
 -- a look-up asks for its block, or for nothing
-pub asked_once : (c : Checkpoint) (file : Part) (cache : Blocks) (came : Result (List ℕ) StoreError) (file' : Part) (cache' : Blocks) → LooksUp c file cache came file' cache'
+pub asked_once : (c : Checkpoint) (file : Part) (cache : CachedBlocks) (came : Result (List ℕ) StoreError) (file' : Part) (cache' : CachedBlocks) → LooksUp c file cache came file' cache'
     → file'.asked ≤ file.asked + byte_len c
 asked_once c file cache came file' cache' l = elim l.cause [
   | inl hit ↦ let same = ap (λ (p : Part). p.asked) hit.file_stays in omega (arith, same)
@@ -22,11 +22,11 @@ asked_once c file cache came file' cache' l = elim l.cause [
 ]
 
 -- look-ups one after the other ask for their blocks
-pub asked_along : (cs : List Checkpoint) (r : Reading) (b : Result (List ℕ) StoreError) (r' : Reading) (b' : Result (List ℕ) StoreError) → LooksAlong cs r b r' b'
+pub asked_along : (cs : List Checkpoint) (r : Reading) (b : Option (Result (List ℕ) StoreError)) (r' : Reading) (b' : Option (Result (List ℕ) StoreError)) → LooksAlong cs r b r' b'
     → r'.file.asked ≤ r.file.asked + sum_by byte_len cs
 asked_along [] r b r' b' l = let same = ap (λ (x : Reading). x.file.asked) l.0 in omega (arith, same)
 asked_along (c ∷ cs) r b r' b' l =
-    omega (arith, sum_by-cons byte_len c cs, asked_once c r.file r.cache l.2.came l.0.file l.0.cache l.2.looked.looks_up, asked_along cs l.0 l.1 r' b' l.3)
+    omega (arith, sum_by-cons byte_len c cs, asked_once c r.file r.cache l.2.came l.0.file l.0.cache l.2.looked.looks_up, asked_along cs l.0 (Some l.1) r' b' l.3)
 
 sum_bytes : (doc byte : ℕ) (cs : List Checkpoint) → IsInLineFrom doc byte cs → byte + sum_by byte_len cs ≡ bytes_end byte cs
 sum_bytes doc byte [] r = omega arith
@@ -38,7 +38,7 @@ sum_taken (suc n) [] = omega arith
 sum_taken (suc n) (c ∷ cs) = omega (arith, sum_by-cons byte_len c (take n cs), sum_by-cons byte_len c cs, sum_taken n cs)
 
 -- those of some blocks of a store for no more than its data
-pub asked_within : (n : ℕ) (first : Reading) (b : Result (List ℕ) StoreError) (now : Reading) (b' : Result (List ℕ) StoreError) → Covers first.checkpoints (length first.file.content)
+pub asked_within : (n : ℕ) (first : Reading) (b : Option (Result (List ℕ) StoreError)) (now : Reading) (b' : Option (Result (List ℕ) StoreError)) → Covers first.checkpoints (length first.file.content)
     → LooksAlong (take n first.checkpoints) first b now b' → now.file.asked ≤ first.file.asked + length first.file.content
 asked_within n first b now b' covers l =
     omega (arith, asked_along (take n first.checkpoints) first b now b' l, sum_taken n first.checkpoints, sum_bytes 0 0 first.checkpoints covers.in_line, covers.end)

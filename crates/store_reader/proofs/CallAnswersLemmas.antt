@@ -1,9 +1,9 @@
 -- What calls of a reader answer, as far as they were made.
-use Rattle.std.proofs.Common.{◌≡◌, ◌⊎◌, inl, inr, ℕ, ◌+◌, ◌<◌, ◌≤◌, true, false, List, [], ◌∷◌, ◌++◌, length, take, get_or, refl, sym, ◌∙◌, ap, subst}
+use Rattle.std.proofs.Common.{◌≡◌, ◌⊎◌, inl, inr, ℕ, ◌+◌, ◌<◌, ◌≤◌, true, false, List, [], ◌∷◌, ◌++◌, length, take, get_or, Option, Some, None, refl, sym, ◌∙◌, ap, subst}
 use Rattle.std.proofs.lemmas.Bool.{ltb-true, ltb-false}
 use Rattle.std.proofs.lemmas.Grind.{flat_map-append}
 use Rattle.std.proofs.lemmas.List.{append-nil, take_more}
-use Rattle.std.specs.Prelude.{nat_lt, IsTrue, IfErr, Result, Ok, Err}
+use Rattle.std.specs.Prelude.{nat_lt, IsTrue, IfErr, IfSome, IsSomeAnd, Result, Ok, Err}
 use Rattle.std.specs.List.{AllByRecursion, AllZip, flat_map}
 use Rattle.store_base.specs.declared.error.StoreError.{StoreError}
 use Rattle.store_base.specs.declared.error.StoreError.TheVariants.{Read, Memory}
@@ -65,10 +65,16 @@ looks_more first old new calls i call lt at same so_far is =
 -- ---- ids at or past the count
 
 -- an item is none of these, since its id is below the count
-pub item_not_past : (id place : ℕ) (block item : Result (List ℕ) StoreError) → IfErr block (λ e. (e ≡ Read) ⊎ (e ≡ Memory)) → AnswersFrom id place block item → IsNotPast item
+item_not_past : (id place : ℕ) (block item : Result (List ℕ) StoreError) → IfErr block (λ e. (e ≡ Read) ⊎ (e ≡ Memory)) → AnswersFrom id place block item → IsNotPast item
 item_not_past id place (Ok b) (Ok bytes) only answer other is = cc
 item_not_past id place (Ok b) (Err e) only answer other is = elim answer [ inl bad ↦ let why = bad.0 in cc | inr memory ↦ cc ]
 item_not_past id place (Err e) item only answer other is = elim only [ inl read ↦ cc | inr memory ↦ cc ]
+
+-- nor is an item of a walk
+pub walked_not_past : (id place : ℕ) (block : Option (Result (List ℕ) StoreError)) (item : Result (List ℕ) StoreError) → IfSome block (λ b. IfErr b (λ e. (e ≡ Read) ⊎ (e ≡ Memory)))
+    → IsSomeAnd block (λ b. AnswersFrom id place b item) → IsNotPast item
+walked_not_past id place None item only answer = absurd answer
+walked_not_past id place (Some b) item only answer = item_not_past id place b item only answer
 
 pub items_not_past : (items : List (Result (List ℕ) StoreError)) (item : Result (List ℕ) StoreError) → AllByRecursion IsNotPast items → IsNotPast item → AllByRecursion IsNotPast (items ++ item ∷ [])
 items_not_past [] item h is = (is, tt)

@@ -1,10 +1,10 @@
 -- Where an answer is a failed read, the file's count of failures has risen.
-use Rattle.std.proofs.Common.{◌≡◌, ◌⊎◌, inl, inr, ℕ, ◌+◌, ◌-◌, ◌<◌, ◌≤◌, Bool, List, [], ◌∷◌, ◌++◌, length, take, get_or, Option, Some, sym, ap, ◌∙◌, subst, arith}
+use Rattle.std.proofs.Common.{◌≡◌, ◌⊎◌, inl, inr, ℕ, ◌+◌, ◌-◌, ◌<◌, ◌≤◌, Bool, List, [], ◌∷◌, ◌++◌, length, take, get_or, Option, Some, None, sym, ap, ◌∙◌, subst, arith}
 use Rattle.std.proofs.lemmas.List.Elements.{Contains-append_cases, Contains-append_left, Contains-append_right, Contains-push_cases}
 use Rattle.std.proofs.lemmas.Grind.{flat_map-append}
 use Rattle.std.proofs.lemmas.List.{append-nil, take_more}
 use Rattle.std.specs.List.{AllByRecursion, Contains, flat_map}
-use Rattle.std.specs.Prelude.{Result, Ok, Err}
+use Rattle.std.specs.Prelude.{IsSomeAnd, Result, Ok, Err}
 use Rattle.store_base.specs.Counts.{HasRisen}
 use Rattle.store_base.specs.declared.error.StoreError.{StoreError}
 use Rattle.store_base.specs.declared.error.StoreError.TheVariants.{Read, Memory}
@@ -37,11 +37,11 @@ failed_once r id c block mid t is = came (subst (λ (b : Result (List ℕ) Store
     came (inr memory) = absurd cc
 
 -- look-ups one after the other: a failed read that is taken at the end was taken at the beginning, or the count has risen
-failed_along : (cs : List Checkpoint) (r : Reading) (b : Result (List ℕ) StoreError) (r' : Reading) (b' : Result (List ℕ) StoreError) → LooksAlong cs r b r' b'
-    → b' ≡ Err Read → (b ≡ Err Read) ⊎ HasRisen r.file.failures r'.file.failures
+failed_along : (cs : List Checkpoint) (r : Reading) (b : Option (Result (List ℕ) StoreError)) (r' : Reading) (b' : Option (Result (List ℕ) StoreError)) → LooksAlong cs r b r' b'
+    → b' ≡ Some (Err Read) → (b ≡ Some (Err Read)) ⊎ HasRisen r.file.failures r'.file.failures
 failed_along [] r b r' b' l is = inl (sym l.1 ∙ is)
-failed_along (c ∷ cs) r b r' b' l is = inr (elim (failed_along cs l.0 l.1 r' b' l.3 is) [
-  | inl here ↦ risen_on r.file.failures l.0.file.failures r'.file.failures (failed_once r c.doc_range.start c l.1 l.0 l.2 here) (same_along cs l.0 l.1 r' b' l.3).failures
+failed_along (c ∷ cs) r b r' b' l is = inr (elim (failed_along cs l.0 (Some l.1) r' b' l.3 is) [
+  | inl here ↦ risen_on r.file.failures l.0.file.failures r'.file.failures (failed_once r c.doc_range.start c l.1 l.0 l.2 (cc)) (same_along cs l.0 (Some l.1) r' b' l.3).failures
   | inr later ↦ risen_before r.file.failures l.0.file.failures r'.file.failures (same_store r c.doc_range.start c l.2.came l.0 l.2.looked).failures later
 ])
 
@@ -51,6 +51,12 @@ block_failed id place (Ok b) (Ok bytes) answer is = absurd cc
 block_failed id place (Ok b) (Err e) answer is = absurd (elim answer [ inl bad ↦ let why = bad.0 in cc | inr memory ↦ cc ])
 block_failed id place (Err e) item answer is = sym answer ∙ is
 
+-- so is one of a walk only where the block is that was taken last
+taken_failed : (id place : ℕ) (block : Option (Result (List ℕ) StoreError)) (item : Result (List ℕ) StoreError) → IsSomeAnd block (λ b. AnswersFrom id place b item) → item ≡ Err Read
+    → block ≡ Some (Err Read)
+taken_failed id place None item answer is = absurd answer
+taken_failed id place (Some b) item answer is = ap Some (block_failed id place b item answer is)
+
 -- one more item
 pub item_failed : (first old new : Reading) (set : Option (ℕ → Bool)) (count : ℕ) (from to : Walk) (item : Result (List ℕ) StoreError) (items : List (Result (List ℕ) StoreError))
     → IsListedTo first set count new to → GivesNext set old from (Some item) new to
@@ -58,8 +64,8 @@ pub item_failed : (first old new : Reading) (set : Option (ℕ → Bool)) (count
 item_failed first old new set count from to item items listed gives before some = elim (Contains-push_cases items item (Err Read) some) [
   | inl earlier ↦ risen_on first.file.failures old.file.failures new.file.failures (before earlier) gives.same.failures
   | inr here ↦
-      let block = block_failed gives.last (gives.last - to.first) to.block item gives.gives.answers here in
-      elim (failed_along (take to.place first.checkpoints) first (Err Memory) new to.block listed.looks block) [ inl memory ↦ absurd cc | inr risen ↦ risen ]
+      let block = taken_failed gives.last (gives.last - to.first) to.block item gives.gives.answers here in
+      elim (failed_along (take to.place first.checkpoints) first None new to.block listed.looks block) [ inl none ↦ absurd cc | inr risen ↦ risen ]
 ]
 
 -- one more answer

@@ -14,7 +14,7 @@ use Rattle.store_reader.specs.Covering.{IsIndexOf, HasIndexOf}
 use Rattle.store_format.specs.Extraction.{ExtractsFooter}
 use Rattle.store_format.specs.FileReading.{Comes}
 use Rattle.store_format.specs.Footer.{version_number}
-use Rattle.store_reader.specs.Kept.{no_blocks}
+use Rattle.store_reader.specs.CachedBlocks.{no_blocks}
 use Rattle.store_reader.specs.Opening.{OpensFrom, IndexBy, ReadsIndex, Opens, IsSomeStore}
 use Rattle.store_reader.specs.Reading.{Reading, store_of}
 use Rattle.store_format.specs.StoreFile.{IsStore}

@@ -3,7 +3,7 @@ pub mod SeekLemmas
 pub mod PartLemmas
 pub mod DataPartLemmas
 pub mod CacheSumLemmas
-pub mod KeptLemmas
+pub mod CachedBlocksLemmas
 pub mod LookUpLemmas
 pub mod ReaderStoreLemmas
 pub mod StoreSlotLemmas

@@ -9,14 +9,14 @@ use Rattle.store_base.specs.declared.error.StoreError.{StoreError}
 use Rattle.layered_index.specs.Checkpoint.{Covers, first_past}
 use Rattle.store_reader.specs.Cache.{look_up}
 use Rattle.store_format.specs.FileReading.{Comes}
-use Rattle.store_reader.specs.Kept.{Blocks, block_at, after_hit, with_pair, state_of}
+use Rattle.store_reader.specs.CachedBlocks.{CachedBlocks, block_at, after_hit, with_pair, state_of}
 use Rattle.store_reader.specs.LookingUp.{LooksUp, cache_missed}
 use Rattle.store_reader.specs.Reading.{IsReader, HasPart, part_of}
-use Rattle.store_reader.proofs.KeptLemmas.{state-after_miss, All-promoted, All-lookup_at, All-taken}
+use Rattle.store_reader.proofs.CachedBlocksLemmas.{state-after_miss, All-promoted, All-lookup_at, All-taken}
 use Rattle.store_reader.proofs.SeekLemmas.{one_start, All-found}
 
 -- the block was kept, and answers
-pub look_up_by_hit : (c : Checkpoint) (file : Part) (cache cache' : Blocks) (P : List ℕ → Type 0)
+pub look_up_by_hit : (c : Checkpoint) (file : Part) (cache cache' : CachedBlocks) (P : List ℕ → Type 0)
     → IsSomeAnd (block_at c.byte_range.start cache) P → cache' ≡ after_hit c.byte_range.start cache
     → state_of cache' ≡ look_up cache.capacity (state_of cache) (record { key = c.byte_range.start; kept = true })
     → (block : List ℕ) × LooksUp c file cache (Ok block) file cache' × P block
@@ -27,7 +27,7 @@ look_up_by_hit c file cache cache' P some after step = go (block_at c.byte_range
     go (Some block) e s = (block, record { cause = inl (record { block = block; kept = e; given = refl; file_stays = refl; after = after }); is_kept = true; step = step }, s)
 
 -- it was not, and a read was tried
-pub look_up_by_miss : (c : Checkpoint) (file file' : Part) (cache cache' : Blocks) (came : Result (List ℕ) StoreError) (is_kept : Bool)
+pub look_up_by_miss : (c : Checkpoint) (file file' : Part) (cache cache' : CachedBlocks) (came : Result (List ℕ) StoreError) (is_kept : Bool)
     → block_at c.byte_range.start cache ≡ None → Comes file c.byte_range.start c.byte_range.end came file'
     → cache' ≡ cache_missed c.byte_range.start came is_kept cache
     → LooksUp c file cache came file' cache'
@@ -43,7 +43,7 @@ look_up_by_miss c file file' cache cache' (Err e) is_kept absent read after = re
 }
 
 -- a block that came is the data's part, and the kept blocks stay the data's parts
-pub record StaysHonest (file : Part) (cs : List Checkpoint) (c : Checkpoint) (came : Result (List ℕ) StoreError) (cache' : Blocks) : Type 0 where
+pub record StaysHonest (file : Part) (cs : List Checkpoint) (c : Checkpoint) (came : Result (List ℕ) StoreError) (cache' : CachedBlocks) : Type 0 where
   pub given : IsTrue file.honest → IfOk came (λ block. block ≡ part_of file.content c)
   pub kept : IsTrue file.honest → AllByRecursion (HasPart file.content cs) cache'.kept
 
@@ -57,17 +57,17 @@ own_part content cs target c covers seeks = each cs (one_start 0 0 cs target c c
     each [] a = tt
     each (x ∷ xs) a = (λ same. ap (part_of content) (a.0 same), each xs a.1)
 
-pub stays_honest : (file file' : Part) (cs : List Checkpoint) (period target : ℕ) (c : Checkpoint) (cache cache' : Blocks) (came : Result (List ℕ) StoreError)
+pub stays_honest : (file file' : Part) (cs : List Checkpoint) (period target : ℕ) (c : Checkpoint) (cache cache' : CachedBlocks) (came : Result (List ℕ) StoreError)
     → IsReader file cs period cache → first_past cs target ≡ Some c → LooksUp c file cache came file' cache' → StaysHonest file cs c came cache'
 stays_honest file file' cs period target c cache cache' came reader seeks looks = elim looks.cause [
   | inl hit ↦ record {
     given = λ honest. let here = All-lookup_at (HasPart file.content cs) c.byte_range.start cache.kept hit.block hit.kept (reader.holds honest) in
         subst (λ r. IfOk r (λ block. block ≡ part_of file.content c)) (sym hit.given) (All-found _ cs target c seeks here refl);
-    kept = λ honest. subst (λ (b : Blocks). AllByRecursion (HasPart file.content cs) b.kept) (sym hit.after) (All-promoted _ (nat_eq c.byte_range.start) cache.kept (reader.holds honest));
+    kept = λ honest. subst (λ (b : CachedBlocks). AllByRecursion (HasPart file.content cs) b.kept) (sym hit.after) (All-promoted _ (nat_eq c.byte_range.start) cache.kept (reader.holds honest));
   }
   | inr miss ↦ record {
     given = miss.read.bytes;
-    kept = λ honest. subst (λ (b : Blocks). AllByRecursion (HasPart file.content cs) b.kept) (sym miss.after) (missed came miss.is_kept (reader.holds honest) (miss.read.bytes honest));
+    kept = λ honest. subst (λ (b : CachedBlocks). AllByRecursion (HasPart file.content cs) b.kept) (sym miss.after) (missed came miss.is_kept (reader.holds honest) (miss.read.bytes honest));
   }
 ]
   where
@@ -84,7 +84,7 @@ stays_honest file file' cs period target c cache cache' came reader seeks looks 
     missed (Err e) is_kept a part = a
 
 -- a look-up changes neither the bytes of the data nor whether reads give them
-pub same_file : (c : Checkpoint) (file file' : Part) (cache cache' : Blocks) (came : Result (List ℕ) StoreError) → LooksUp c file cache came file' cache'
+pub same_file : (c : Checkpoint) (file file' : Part) (cache cache' : CachedBlocks) (came : Result (List ℕ) StoreError) → LooksUp c file cache came file' cache'
     → (file'.content ≡ file.content) × (file'.honest ≡ file.honest)
 same_file c file file' cache cache' came looks = elim looks.cause [
   | inl hit ↦ (ap (λ (f : Part). f.content) hit.file_stays, ap (λ (f : Part). f.honest) hit.file_stays)
@@ -92,7 +92,7 @@ same_file c file file' cache cache' came looks = elim looks.cause [
 ]
 
 -- what always holds of a reader holds after a look-up
-pub reader_after : (file file' : Part) (cs : List Checkpoint) (period target : ℕ) (c : Checkpoint) (cache cache' : Blocks) (came : Result (List ℕ) StoreError)
+pub reader_after : (file file' : Part) (cs : List Checkpoint) (period target : ℕ) (c : Checkpoint) (cache cache' : CachedBlocks) (came : Result (List ℕ) StoreError)
     → IsReader file cs period cache → first_past cs target ≡ Some c → LooksUp c file cache came file' cache' → IsReader file' cs period cache'
 reader_after file file' cs period target c cache cache' came reader seeks looks =
     let same = same_file c file file' cache cache' came looks in

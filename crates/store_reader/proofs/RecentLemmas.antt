@@ -1,5 +1,5 @@
 -- What look-ups one after the other do, and what they leave.
-use Rattle.std.proofs.Common.{◌≡◌, ℕ, ◌+◌, ◌<◌, ◌≤◌, ◌^◌, Bool, true, false, List, [], ◌∷◌, ◌++◌, map, is_some, refl, sym, ap, ◌∙◌, subst, arith, inl, inr}
+use Rattle.std.proofs.Common.{◌≡◌, ℕ, ◌+◌, ◌<◌, ◌≤◌, ◌^◌, Bool, true, false, List, [], ◌∷◌, ◌++◌, map, is_some, Option, Some, refl, sym, ap, ◌∙◌, subst, arith, inl, inr}
 use Rattle.std.proofs.lemmas.List.{map-append}
 use Rattle.std.proofs.lemmas.List.Sums.{fold-append, sum_by-append}
 use Rattle.std.specs.Prelude.{if◌then◌else◌, ◌==◌, Result, Ok, Err}
@@ -11,29 +11,29 @@ use Rattle.store_base.specs.declared.error.StoreError.{StoreError}
 use Rattle.layered_index.specs.declared.checkpoint.Checkpoint.{Checkpoint}
 use Rattle.store_reader.specs.GetAnswer.{IsLookedUp}
 use Rattle.store_reader.specs.Cache.{CacheState, LookUp, look_up, recent, misses_along}
-use Rattle.store_reader.specs.Kept.{Blocks, state_of}
+use Rattle.store_reader.specs.CachedBlocks.{CachedBlocks, state_of}
 use Rattle.store_reader.specs.LookingUp.{LooksUp, cache_missed}
 use Rattle.store_reader.specs.Iteration.{keys_along}
 use Rattle.store_reader.specs.LookLaws.{bytes_at, AreLookUps, LooksAreRecent, LookUpsAreCounted}
 use Rattle.store_reader.specs.Reading.{Reading, IsSameStore}
 use Rattle.store_reader.specs.Walking.{LooksAlong}
 use Rattle.store_reader.proofs.AskedLemmas.{asked_once, found_bytes}
-use Rattle.store_reader.proofs.KeptLemmas.{any_from_some, apart_from_none}
+use Rattle.store_reader.proofs.CachedBlocksLemmas.{any_from_some, apart_from_none}
 
 -- the capacity stays
-capacity_missed : (key : ℕ) (came : Result (List ℕ) StoreError) (is_kept : Bool) (cache : Blocks) → (cache_missed key came is_kept cache).capacity ≡ cache.capacity
+capacity_missed : (key : ℕ) (came : Result (List ℕ) StoreError) (is_kept : Bool) (cache : CachedBlocks) → (cache_missed key came is_kept cache).capacity ≡ cache.capacity
 capacity_missed key (Ok block) is_kept cache = refl
 capacity_missed key (Err e) is_kept cache = refl
 
 -- what a look-up leaves of the file and of the capacity, and how often it reads
-record Leaves (c : Checkpoint) (file : Part) (cache : Blocks) (file' : Part) (cache' : Blocks) : Type 0 where
+record Leaves (c : Checkpoint) (file : Part) (cache : CachedBlocks) (file' : Part) (cache' : CachedBlocks) : Type 0 where
   content : file'.content ≡ file.content
   honest : file'.honest ≡ file.honest
   failures : file.failures ≤ file'.failures
   capacity : cache'.capacity ≡ cache.capacity
   reads : file.reads < 2 ^ 64 → file'.reads ≡ raised file.reads (if list_any (λ k. k == c.byte_range.start) (keys_of cache.kept) then 0 else 1)
 
-leaves : (c : Checkpoint) (file : Part) (cache : Blocks) (came : Result (List ℕ) StoreError) (file' : Part) (cache' : Blocks) → LooksUp c file cache came file' cache'
+leaves : (c : Checkpoint) (file : Part) (cache : CachedBlocks) (came : Result (List ℕ) StoreError) (file' : Part) (cache' : CachedBlocks) → LooksUp c file cache came file' cache'
     → Leaves c file cache file' cache'
 leaves c file cache came file' cache' l = elim l.cause [
   | inl hit ↦
@@ -45,7 +45,7 @@ leaves c file cache came file' cache' l = elim l.cause [
         content = ap (λ (f : Part). f.content) same;
         honest = ap (λ (f : Part). f.honest) same;
         failures = omega arith;
-        capacity = ap (λ (b : Blocks). b.capacity) hit.after;
+        capacity = ap (λ (b : CachedBlocks). b.capacity) hit.after;
         reads = λ few. rw any (omega arith);
       }
   | inr miss ↦
@@ -54,7 +54,7 @@ leaves c file cache came file' cache' l = elim l.cause [
         content = miss.read.once.content;
         honest = miss.read.once.honest;
         failures = miss.read.once.failures;
-        capacity = ap (λ (b : Blocks). b.capacity) miss.after ∙ capacity_missed c.byte_range.start came miss.is_kept cache;
+        capacity = ap (λ (b : CachedBlocks). b.capacity) miss.after ∙ capacity_missed c.byte_range.start came miss.is_kept cache;
         reads = λ few. rw none miss.read.once.reads;
       }
 ]
@@ -89,9 +89,9 @@ same_on a b c p q = record {
   capacity = q.capacity ∙ p.capacity;
 }
 
-pub same_along : (cs : List Checkpoint) (r : Reading) (b : Result (List ℕ) StoreError) (r' : Reading) (b' : Result (List ℕ) StoreError) → LooksAlong cs r b r' b' → IsSameStore r r'
+pub same_along : (cs : List Checkpoint) (r : Reading) (b : Option (Result (List ℕ) StoreError)) (r' : Reading) (b' : Option (Result (List ℕ) StoreError)) → LooksAlong cs r b r' b' → IsSameStore r r'
 same_along [] r b r' b' l = subst (λ (x : Reading). IsSameStore r x) (sym l.0) (same_as_it_is r)
-same_along (c ∷ cs) r b r' b' l = same_on r l.0 r' (same_store r c.doc_range.start c l.2.came l.0 l.2.looked) (same_along cs l.0 l.1 r' b' l.3)
+same_along (c ∷ cs) r b r' b' l = same_on r l.0 r' (same_store r c.doc_range.start c l.2.came l.0 l.2.looked) (same_along cs l.0 (Some l.1) r' b' l.3)
 
 -- reads that are counted once and then again
 raised_on : (n k m reads : ℕ) → n < 2 ^ 64 → reads ≡ raised (raised n k) m → reads ≡ raised n (k + m)
@@ -154,7 +154,7 @@ looks_then ks ls old mid new p q =
 pub looks_are_recent : LooksAreRecent
 looks_are_recent [] old block new block' l = subst (λ (r : Reading). AreLookUps [] old r) (sym l.0) (no_looks old)
 looks_are_recent (c ∷ cs) old block new block' l =
-    looks_then (c.byte_range.start ∷ []) (keys_along cs) old l.0 new (look_once c.doc_range.start c old l.2.came l.0 l.2.looked) (looks_are_recent cs l.0 l.1 new block' l.3)
+    looks_then (c.byte_range.start ∷ []) (keys_along cs) old l.0 new (look_once c.doc_range.start c old l.2.came l.0 l.2.looked) (looks_are_recent cs l.0 (Some l.1) new block' l.3)
 
 counted_one : (capacity : ℕ) (s : CacheState) (l : LookUp) → s.hits + s.misses + 1 < 2 ^ 64 → (look_up capacity s l).hits + (look_up capacity s l).misses ≡ s.hits + s.misses + 1
 counted_one capacity s l few = (elim (list_any (λ k. k == l.key) s.keys) as (λ y. list_any (λ k. k == l.key) s.keys ≡ y

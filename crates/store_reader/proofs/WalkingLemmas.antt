@@ -1,9 +1,9 @@
 -- How an iteration goes over the documents.
-use Rattle.std.proofs.Common.{◌≡◌, ℕ, zero, suc, ◌+◌, ◌-◌, ◌<◌, ◌≤◌, Bool, true, false, List, [], ◌∷◌, ◌++◌, length, take, drop, Option, Some, refl, sym, ap, ◌∙◌, subst, arith, add-one, inl, inr, ◌⊎◌}
+use Rattle.std.proofs.Common.{◌≡◌, ℕ, zero, suc, ◌+◌, ◌-◌, ◌<◌, ◌≤◌, Bool, true, false, List, [], ◌∷◌, ◌++◌, length, take, drop, Option, Some, None, refl, sym, ap, ◌∙◌, subst, arith, add-one, inl, inr, ◌⊎◌}
 use Rattle.std.proofs.lemmas.Bool.{ltb-true, ltb-false, lt-ltb, le-ltb}
 use Rattle.std.proofs.lemmas.List.{drop-drop}
 use Rattle.std.proofs.Math.Seq.{take-add}
-use Rattle.std.specs.Prelude.{nat_lt, IsTrue, IfOk, IfErr, IfSome, Result, Ok, Err, slice_get, slice_range}
+use Rattle.std.specs.Prelude.{nat_lt, IsTrue, IfOk, IfErr, IfSome, IsSome, IsSomeAnd, Result, Ok, Err, slice_get, slice_range}
 use Rattle.layered_index.specs.declared.checkpoint.Checkpoint.{Checkpoint}
 use Rattle.store_base.specs.declared.error.StoreError.{StoreError}
 use Rattle.store_reader.specs.declared.walk.Walk.{Walk}
@@ -43,17 +43,17 @@ next_is cs bytes n target c covers here lt seeks =
     record { at = at; more = more; start = start_at 0 0 cs n c covers.in_line at ∙ sym here; inside = w.to; end = docs_end-take_more 0 cs n c at }
 
 -- the checkpoints stay
-pub checkpoints_along : (cs : List Checkpoint) (r : Reading) (b : Result (List ℕ) StoreError) (r' : Reading) (b' : Result (List ℕ) StoreError) → LooksAlong cs r b r' b'
+pub checkpoints_along : (cs : List Checkpoint) (r : Reading) (b : Option (Result (List ℕ) StoreError)) (r' : Reading) (b' : Option (Result (List ℕ) StoreError)) → LooksAlong cs r b r' b'
     → r'.checkpoints ≡ r.checkpoints
 checkpoints_along [] r b r' b' l = ap (λ (x : Reading). x.checkpoints) l.0
-checkpoints_along (c ∷ cs) r b r' b' l = checkpoints_along cs l.0 l.1 r' b' l.3 ∙ ap (λ (x : Reading). x.checkpoints) l.2.looked.stays
+checkpoints_along (c ∷ cs) r b r' b' l = checkpoints_along cs l.0 (Some l.1) r' b' l.3 ∙ ap (λ (x : Reading). x.checkpoints) l.2.looked.stays
 
 -- one block more
-pub looks_more : (cs : List Checkpoint) (r : Reading) (b : Result (List ℕ) StoreError) (mid : Reading) (b1 : Result (List ℕ) StoreError) (c : Checkpoint) (r' : Reading)
+pub looks_more : (cs : List Checkpoint) (r : Reading) (b : Option (Result (List ℕ) StoreError)) (mid : Reading) (b1 : Option (Result (List ℕ) StoreError)) (c : Checkpoint) (r' : Reading)
     (b' : Result (List ℕ) StoreError)
-    → LooksAlong cs r b mid b1 → IsTaken mid c.doc_range.start c b' r' → LooksAlong (cs ++ c ∷ []) r b r' b'
+    → LooksAlong cs r b mid b1 → IsTaken mid c.doc_range.start c b' r' → LooksAlong (cs ++ c ∷ []) r b r' (Some b')
 looks_more [] r b mid b1 c r' b' l t = (r', b', subst (λ (x : Reading). IsTaken x c.doc_range.start c b' r') l.0 t, (refl, refl))
-looks_more (d ∷ cs) r b mid b1 c r' b' l t = (l.0, l.1, l.2, looks_more cs l.0 l.1 mid b1 c r' b' l.3 t)
+looks_more (d ∷ cs) r b mid b1 c r' b' l t = (l.0, l.1, l.2, looks_more cs l.0 (Some l.1) mid b1 c r' b' l.3 t)
 
 take_one_more : (cs : List Checkpoint) (n : ℕ) (c : Checkpoint) → slice_get cs n ≡ Some c → take (n + 1) cs ≡ take n cs ++ c ∷ []
 take_one_more [] n c e = absurd cc
@@ -88,10 +88,10 @@ walks_past set old from id new to to' w dead place block = record {
     ]) refl
 
 -- blocks on and on
-pub looks_on : (cs ds : List Checkpoint) (r : Reading) (b : Result (List ℕ) StoreError) (mid : Reading) (b1 : Result (List ℕ) StoreError) (r' : Reading) (b' : Result (List ℕ) StoreError)
+pub looks_on : (cs ds : List Checkpoint) (r : Reading) (b : Option (Result (List ℕ) StoreError)) (mid : Reading) (b1 : Option (Result (List ℕ) StoreError)) (r' : Reading) (b' : Option (Result (List ℕ) StoreError))
     → LooksAlong cs r b mid b1 → LooksAlong ds mid b1 r' b' → LooksAlong (cs ++ ds) r b r' b'
-looks_on [] ds r b mid b1 r' b' l m = subst (λ (x : Reading). LooksAlong ds x b r' b') l.0 (subst (λ (x : Result (List ℕ) StoreError). LooksAlong ds mid x r' b') l.1 m)
-looks_on (c ∷ cs) ds r b mid b1 r' b' l m = (l.0, l.1, l.2, looks_on cs ds l.0 l.1 mid b1 r' b' l.3 m)
+looks_on [] ds r b mid b1 r' b' l m = subst (λ (x : Reading). LooksAlong ds x b r' b') l.0 (subst (λ (x : Option (Result (List ℕ) StoreError)). LooksAlong ds mid x r' b') l.1 m)
+looks_on (c ∷ cs) ds r b mid b1 r' b' l m = (l.0, l.1, l.2, looks_on cs ds l.0 (Some l.1) mid b1 r' b' l.3 m)
 
 pub range_joined : (cs : List Checkpoint) (p q n : ℕ) → p ≤ q → q ≤ n → slice_range cs p n ≡ slice_range cs p q ++ slice_range cs q n
 range_joined cs p q n pq qn =
@@ -138,9 +138,10 @@ pub walks_same : (set : Option (ℕ → Bool)) (old : Reading) (from : Walk) (id
 walks_same set old from id new to to' w place block = record { on = w.on; dead = w.dead; later = omega (arith, w.later); looks = rw (place, block) w.looks }
 
 -- one block
-pub looks_one : (r : Reading) (b : Result (List ℕ) StoreError) (r' : Reading) (b' : Result (List ℕ) StoreError) (p q next : ℕ) (c : Checkpoint)
-    → slice_get r.checkpoints p ≡ Some c → c.doc_range.start ≡ next → IsTaken r next c b' r' → q ≡ p + 1 → LooksAlong (slice_range r.checkpoints p q) r b r' b'
-looks_one r b r' b' p q next c at start taken place =
+pub looks_one : (r : Reading) (b : Option (Result (List ℕ) StoreError)) (r' : Reading) (b' : Option (Result (List ℕ) StoreError)) (p q next : ℕ) (c : Checkpoint)
+    → slice_get r.checkpoints p ≡ Some c → c.doc_range.start ≡ next → IsSomeAnd b' (λ t. IsTaken r next c t r') → q ≡ p + 1 → LooksAlong (slice_range r.checkpoints p q) r b r' b'
+looks_one r b r' None p q next c at start taken place = absurd taken
+looks_one r b r' (Some b') p q next c at start taken place =
     let none : p - p ≡ 0 = omega arith in
     let range : slice_range r.checkpoints p q ≡ c ∷ [] = ap (slice_range r.checkpoints p) place ∙ range_more r.checkpoints p p c (omega arith) at
     ∙ ap (λ n. take n (drop p r.checkpoints) ++ c ∷ []) none in
@@ -200,12 +201,12 @@ file_after : (old new : Reading) (id : ℕ) (c : Checkpoint) (block : Result (Li
     → (new.file.content ≡ old.file.content) × (new.file.honest ≡ old.file.honest)
 file_after old new id c block t = same_file c old.file new.file old.cache new.cache t.came t.looked.looks_up
 
-pub file_along : (cs : List Checkpoint) (r : Reading) (b : Result (List ℕ) StoreError) (r' : Reading) (b' : Result (List ℕ) StoreError) → LooksAlong cs r b r' b'
+pub file_along : (cs : List Checkpoint) (r : Reading) (b : Option (Result (List ℕ) StoreError)) (r' : Reading) (b' : Option (Result (List ℕ) StoreError)) → LooksAlong cs r b r' b'
     → (r'.file.content ≡ r.file.content) × (r'.file.honest ≡ r.file.honest)
 file_along [] r b r' b' l = (ap (λ (x : Reading). x.file.content) l.0, ap (λ (x : Reading). x.file.honest) l.0)
 file_along (c ∷ cs) r b r' b' l =
     let one = file_after r l.0 c.doc_range.start c l.1 l.2 in
-    let on = file_along cs l.0 l.1 r' b' l.3 in
+    let on = file_along cs l.0 (Some l.1) r' b' l.3 in
     (on.0 ∙ one.0, on.1 ∙ one.1)
 
 -- what was taken is the data's
@@ -225,9 +226,25 @@ pub only_next : (old new : Reading) (id : ℕ) (c : Checkpoint) (block : Result 
 only_next old new id c (Ok b) t = tt
 only_next old new id c (Err e) t = elim t.taken [ inl same ↦ why_none old new id c e (subst (λ r. IsLookedUp old id c r new) same t.looked) | inr memory ↦ inr memory ]
 
+-- where a document of the block stands that was taken last
+stands_there : (old new : Reading) (id first place : ℕ) (block : Option (Result (List ℕ) StoreError)) (c : Checkpoint) → IsIn old.checkpoints place first id c
+    → Covers old.checkpoints (length old.file.content) → first ≤ id → new.checkpoints ≡ old.checkpoints
+    → (new.file.content ≡ old.file.content) × (new.file.honest ≡ old.file.honest) → IsSome block
+    → (IsTrue new.file.honest → IfSome block (λ b. IfSome (slice_get new.checkpoints (place - 1)) (HoldsPart new.file.content b)))
+    → IfSome block (λ b. IfErr b (λ e. (e ≡ Read) ⊎ (e ≡ Memory))) → IsSomeAnd block (StandsIn old id first)
+stands_there old new id first place None c is covers above same file some holds only = absurd cc
+stands_there old new id first place (Some b) c is covers above same file some holds only =
+    let held : IsTrue old.file.honest → HoldsPart old.file.content b c = λ honest.
+    let part : IfSome (slice_get new.checkpoints (place - 1)) (HoldsPart new.file.content b) = holds (subst IsTrue (sym file.1) honest) in
+    let part' : IfSome (slice_get old.checkpoints (place - 1)) (HoldsPart new.file.content b) =
+    subst (λ (cs : List Checkpoint). IfSome (slice_get cs (place - 1)) (HoldsPart new.file.content b)) same part in
+    let part'' : HoldsPart new.file.content b c = subst (λ (o : Option Checkpoint). IfSome o (HoldsPart new.file.content b)) is.at part' in
+    subst (λ (bytes : List ℕ). HoldsPart bytes b c) file.0 part'' in
+    record { checkpoint = c; seeks = is.seeks; start = is.start; above = above; slot_is = slot_at old id c covers is.seeks; holds = held; only = only }
+
 -- where a document of the walk stands
 pub stands_in : (set : Option (ℕ → Bool)) (old : Reading) (from : Walk) (id : ℕ) (new : Reading) (w : Walk) → WalksTo set old from id new w → Covers old.checkpoints (length old.file.content)
-    → IsWalk new w → w.next ≡ id → id < w.end → StandsIn old id w.first w.block
+    → IsWalk new w → w.next ≡ id → id < w.end → IsSomeAnd w.block (StandsIn old id w.first)
 stands_in set old from id new w walks covers is here inside =
     let range = slice_range old.checkpoints from.place w.place in
     let same = checkpoints_along range old from.block new w.block walks.looks in
@@ -238,13 +255,7 @@ stands_in set old from id new w walks covers is here inside =
     let above = is.above in
     let found = is_in_block old.checkpoints (length old.file.content) w.place w.first id covers few first (omega arith) (omega arith) in
     let c = found.0 in
-    let holds : IsTrue old.file.honest → HoldsPart old.file.content w.block c = λ honest.
-    let part : IfSome (slice_get new.checkpoints (w.place - 1)) (HoldsPart new.file.content w.block) = is.holds (subst IsTrue (sym file.1) honest) found.1.some in
-    let part' : IfSome (slice_get old.checkpoints (w.place - 1)) (HoldsPart new.file.content w.block) =
-    subst (λ (cs : List Checkpoint). IfSome (slice_get cs (w.place - 1)) (HoldsPart new.file.content w.block)) same part in
-    let part'' : HoldsPart new.file.content w.block c = subst (λ (o : Option Checkpoint). IfSome o (HoldsPart new.file.content w.block)) found.1.at part' in
-    subst (λ (bytes : List ℕ). HoldsPart bytes w.block c) file.0 part'' in
-    record { checkpoint = c; seeks = found.1.seeks; start = found.1.start; above = omega arith; slot_is = slot_at old id c covers found.1.seeks; holds = holds; only = is.only }
+    stands_there old new id w.first w.place w.block c found.1 covers (omega arith) same file (is.some.1 found.1.some) is.holds is.only
 
 -- what it answers, by the bytes of the data
 answers_by : (content : List ℕ) (c : Checkpoint) (id : ℕ) (block result : Result (List ℕ) StoreError) → HoldsPart content block c → IfErr block (λ e. (e ≡ Read) ⊎ (e ≡ Memory))
@@ -258,11 +269,17 @@ answers_by content c id (Ok b) (Err f) part only answer = elim answer [
 answers_by content c id (Err e) (Ok bytes) part only answer = absurd cc
 answers_by content c id (Err e) (Err f) part only answer = let is : f ≡ e = cc in inr (inr (elim only [ inl r ↦ inl (is ∙ r) | inr m ↦ inr (is ∙ m) ]))
 
-pub item_is_true : (r : Reading) (id first : ℕ) (block result : Result (List ℕ) StoreError) → StandsIn r id first block → AnswersFrom id (id - first) block result → IsTrue r.file.honest
-    → AnswersTruly id (slice_get (slots (store_of r)) id) result
-item_is_true r id first block result s answer honest =
+pub item_is_true : (r : Reading) (id first : ℕ) (block : Option (Result (List ℕ) StoreError)) (result : Result (List ℕ) StoreError) → IsSomeAnd block (StandsIn r id first)
+    → IsSomeAnd block (λ b. AnswersFrom id (id - first) b result) → IsTrue r.file.honest → AnswersTruly id (slice_get (slots (store_of r)) id) result
+item_is_true r id first None result s answer honest = absurd s
+item_is_true r id first (Some block) result s answer honest =
     subst (λ (o : Option Slot). AnswersTruly id o result) (sym s.slot_is)
     (answers_by r.file.content s.checkpoint id block result (s.holds honest) s.only (subst (λ n. AnswersFrom id (id - n) block result) (sym s.start) answer))
+
+-- a document stands in a block at or past its first
+pub stands_from : (r : Reading) (id first : ℕ) (block : Option (Result (List ℕ) StoreError)) → IsSomeAnd block (StandsIn r id first) → IsSome block × (first ≤ id)
+stands_from r id first None s = absurd s
+stands_from r id first (Some b) s = (refl, s.above)
 
 -- what is read of an answer, by what it says of the slot
 pub read_truly : {D : Type 0} (reading : List ℕ → Option D) (id : ℕ) (s : Option Slot) (answer : Result (List ℕ) StoreError) (result : Result D StoreError) → AnswersTruly id s answer

@@ -1,12 +1,12 @@
 pub mod Laws
 pub mod Cache
-pub mod Kept
+pub mod CachedBlocks
 pub mod CacheSums
 pub mod LookingUp
 pub mod Covering
 pub mod Reading
 pub mod GetAnswer
-pub mod Sharing
+pub mod BlockRequests
 pub mod Documents
 pub mod Iteration
 pub mod Walking

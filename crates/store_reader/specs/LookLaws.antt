@@ -9,7 +9,7 @@ use Rattle.store_reader.specs.declared.walk.Walk.{Walk}
 use Rattle.store_reader.specs.Cache.{CacheState, LookUp, recent, misses_along}
 use Rattle.layered_index.specs.Checkpoint.{byte_len, Covers}
 use Rattle.store_reader.specs.Iteration.{is_in, looked_along, alive_below, keys_along}
-use Rattle.store_reader.specs.Kept.{state_of}
+use Rattle.store_reader.specs.CachedBlocks.{state_of}
 use Rattle.store_reader.specs.Reading.{Reading, num_docs}
 use Rattle.store_reader.specs.Walking.{IsWalk, LooksAlong}
 
@@ -31,8 +31,8 @@ pub record AreLookUps (keys : List ℕ) (old new : Reading) : Type 0 where
 
 -- Blocks that are looked up one after the other are look-ups of their first bytes.
 abbrev pub LooksAreRecent : Type 0
-LooksAreRecent = (cs : List Checkpoint) (old : Reading) (block : Result (List ℕ) StoreError) (new : Reading)
-    (block' : Result (List ℕ) StoreError)
+LooksAreRecent = (cs : List Checkpoint) (old : Reading) (block : Option (Result (List ℕ) StoreError)) (new : Reading)
+    (block' : Option (Result (List ℕ) StoreError))
     → LooksAlong cs old block new block' → AreLookUps (keys_along cs) old new
 
 -- Where an iteration stands behind an item, it has looked up what the definition says for so many items; and where it

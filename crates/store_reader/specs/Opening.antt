@@ -8,7 +8,7 @@ use Rattle.layered_index.specs.Layers.{Index}
 use Rattle.store_reader.specs.Covering.{IsIndexOf, HasIndexOf}
 use Rattle.store_format.specs.Extraction.{ExtractsFooter, narrowed}
 use Rattle.store_format.specs.FileReading.{Comes}
-use Rattle.store_reader.specs.Kept.{no_blocks}
+use Rattle.store_reader.specs.CachedBlocks.{no_blocks}
 use Rattle.store_reader.specs.Reading.{Reading}
 use Rattle.layered_index.specs.Refusal.{RefusesOnlyUnless}
 use Rattle.store_format.specs.StoreFile.{StoreBlock, IsStore}

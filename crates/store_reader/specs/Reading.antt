@@ -6,7 +6,7 @@ use Rattle.store_format.specs.declared.kinds.Decompressor.{Decompressor}
 use Rattle.store_format.specs.declared.version.DocStoreVersion.{DocStoreVersion}
 use Rattle.layered_index.specs.declared.checkpoint.Checkpoint.{Checkpoint}
 use Rattle.layered_index.specs.Checkpoint.{docs_end, Covers}
-use Rattle.store_reader.specs.Kept.{Blocks}
+use Rattle.store_reader.specs.CachedBlocks.{CachedBlocks}
 use Rattle.store_format.specs.StoreFile.{StoreBlock, AreBlocks, data_of, checkpoints_of, blocks_at}
 
 -- the data, the checkpoints of its blocks and the period of their index, how documents are spelled, how blocks are
@@ -18,14 +18,14 @@ pub record Reading : Type 0 where
   pub period : ℕ
   pub version : DocStoreVersion
   pub decompressor : Decompressor
-  pub cache : Blocks
+  pub cache : CachedBlocks
 
 -- how many documents there are
 abbrev pub num_docs : Reading → ℕ
 num_docs r = docs_end 0 r.checkpoints
 
 -- the same reader after its data was read and its cache was used
-abbrev pub with_parts : Reading → Part → Blocks → Reading
+abbrev pub with_parts : Reading → Part → CachedBlocks → Reading
 with_parts r file cache = record {
   file = file;
   checkpoints = r.checkpoints;
@@ -66,7 +66,7 @@ abbrev pub store_of : Reading → List StoreBlock
 store_of r = blocks_at r.checkpoints r.file.content
 
 -- what always holds: the checkpoints cover the data; where reads give what is there, so do the kept blocks
-pub record IsReader (file : Part) (cs : List Checkpoint) (period : ℕ) (cache : Blocks) : Type 0 where
+pub record IsReader (file : Part) (cs : List Checkpoint) (period : ℕ) (cache : CachedBlocks) : Type 0 where
   pub covers : Covers cs (length file.content)
   pub two : 2 ≤ period
   pub few : period ≤ 64

@@ -1,7 +1,7 @@
 -- How an iteration goes over the documents of a store.
-use Rattle.std.specs.Prelude.{◌≡◌, ◌⊎◌, ℕ, ◌+◌, ◌-◌, ◌≤◌, ◌<◌, Bool, true, false, List, [], ◌∷◌, length, take}
+use Rattle.std.specs.Prelude.{◌≡◌, ◌⊎◌, ◌↔◌, ℕ, ◌+◌, ◌-◌, ◌≤◌, ◌<◌, Bool, true, false, List, [], ◌∷◌, length, take}
 use Rattle.std.specs.Prelude.{slice_range, slice_get, IsTrue, IfErr, IfOk, IfSome, Option, Some, None, Result}
-use Rattle.std.specs.Prelude.{MatchOption}
+use Rattle.std.specs.Prelude.{IsSome, IsSomeAnd, MatchOption}
 use Rattle.std.specs.Borrow.{Bor}
 use Rattle.store_base.specs.AliveBitSet.{is_alive_at}
 use Rattle.store_base.specs.declared.error.StoreError.{StoreError}
@@ -57,24 +57,26 @@ pub record StandsIn (r : Reading) (id first : ℕ) (block : Result (List ℕ) St
   pub holds : IsTrue r.file.honest → HoldsPart r.file.content block checkpoint
   pub only : IfErr block (λ e. (e ≡ Read) ⊎ (e ≡ Memory))
 
--- So many blocks were looked up. The next id is in the last of them or just behind it. Where reads give what is there,
--- so does its block.
+-- `place` blocks were looked up, of which the walk has the last one. The next id is in it, or just after it. Where reads
+-- give what is there, so does the block.
 pub record IsWalk (r : Reading) (w : Walk) : Type 0 where
   pub few : w.place ≤ length r.checkpoints
+  pub some : IsSome w.block ↔ (0 < w.place)
   pub first : w.first ≡ docs_end 0 (take (w.place - 1) r.checkpoints)
   pub end : w.end ≡ docs_end 0 (take w.place r.checkpoints)
   pub above : w.first ≤ w.next
   pub below : w.next ≤ w.end
-  pub holds : IsTrue r.file.honest → 0 < w.place → IfSome (slice_get r.checkpoints (w.place - 1))
-      (HoldsPart r.file.content w.block)
-  pub only : IfErr w.block (λ e. (e ≡ Read) ⊎ (e ≡ Memory))
+  pub holds : IsTrue r.file.honest → IfSome w.block (λ block. IfSome (slice_get r.checkpoints (w.place - 1))
+      (HoldsPart r.file.content block))
+  pub only : IfSome w.block (λ block. IfErr block (λ e. (e ≡ Read) ⊎ (e ≡ Memory)))
 
--- These blocks are looked up, in order, each at its first document; what is taken of the last one.
-abbrev pub LooksAlong : List Checkpoint → Reading → Result (List ℕ) StoreError → Reading → Result (List ℕ) StoreError
-    → Type 0
+-- These blocks are looked up, in order, each at its first document. The block that was taken last is taken on; there is
+-- none before the first.
+abbrev pub LooksAlong : List Checkpoint → Reading → Option (Result (List ℕ) StoreError) → Reading
+    → Option (Result (List ℕ) StoreError) → Type 0
 LooksAlong [] r block r' block' = (r' ≡ r) × (block' ≡ block)
 LooksAlong (c ∷ cs) r block r' block' = (mid : Reading) × (taken : Result (List ℕ) StoreError)
-    × IsTaken r c.doc_range.start c taken mid × LooksAlong cs mid taken r' block'
+    × IsTaken r c.doc_range.start c taken mid × LooksAlong cs mid (Some taken) r' block'
 
 -- The walk goes on to an id, past none that is alive, and looks up the blocks on the way.
 pub record WalksTo (set : Option (ℕ → Bool)) (old : Reading) (from : Walk) (id : ℕ) (new : Reading)
@@ -84,9 +86,9 @@ pub record WalksTo (set : Option (ℕ → Bool)) (old : Reading) (from : Walk) (
   pub later : from.place ≤ to.place
   pub looks : LooksAlong (slice_range old.checkpoints from.place to.place) old from.block new to.block
 
--- what a document answers of a block that was taken
+-- what a document answers of the block that was taken last
 abbrev pub AnswersOf : ℕ → Walk → Result (List ℕ) StoreError → Type 0
-AnswersOf id w result = AnswersFrom id (id - w.first) w.block result
+AnswersOf id w result = IsSomeAnd w.block (λ block. AnswersFrom id (id - w.first) block result)
 
 -- The item of an id: it is alive, and its slot answers; failed reads and want of memory aside.
 pub record IsItem (set : Option (ℕ → Bool)) (old : Reading) (id : ℕ) (to : Walk)

@@ -1,5 +1,5 @@
 //! A block of a store in a slice of bytes.
-ghost use Rattle.std.specs.Prelude.{◌≡◌, ◌≤◌, ◌<◌, ◌+◌, ◌^◌, ℕ, List, length, IfOk, IfErr};
+ghost use Rattle.std.specs.Prelude.{◌≡◌, ◌≤◌, ◌<◌, ◌+◌, ◌^◌, ℕ, List, [], length, IfOk, IfErr};
 ghost use Rattle.store_reader.specs.Opening.{IsSomeStore};
 ghost use Rattle.store_reader.specs.Viewing.{placed_in};
 ghost use Rattle.store_reader.specs.StoreSlices.{document_in, IsBlockSlice};
@@ -18,6 +18,21 @@ pub struct BlockSlice<'a> {
 }
 
 impl<'a> BlockSlice<'a> {
+    // Before the first block: no document and no byte.
+    pub(crate) fn before_all() -> BlockSlice<'a>
+        ensures first { result.first ≡ 0 }
+        ensures end { result.end ≡ 0 }
+        ensures start { result.start ≡ 0 }
+        ensures bytes { result.bytes.now ≡ [] }
+    {
+        BlockSlice {
+            first: 0,
+            end: 0,
+            start: 0,
+            bytes: &[],
+        }
+    }
+
     /// Where a document of the block lies in the file. It returns `DamagedDocument` where the block doesn't say it.
     #[inline(always)]
     pub fn locate(&self, doc_id: DocId) -> Result<Range<usize>, StoreError>

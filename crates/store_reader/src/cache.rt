@@ -1,15 +1,15 @@
 //! The blocks that a reader keeps.
 
-ghost use Rattle.std.specs.Prelude.{◌≡◌, ◌-◌, ◌<◌, ◌≤◌, if◌then◌else◌, ◌∷◌, take, length, Bool, Ok, None};
+ghost use Rattle.std.specs.Prelude.{◌≡◌, ◌-◌, ◌<◌, ◌≤◌, if◌then◌else◌, [], ◌∷◌, take, length, Bool, Ok, None};
 ghost use Rattle.std.specs.Prelude.{IfOk, IfSome, IsSome, IsNone, MatchOption, IsSomeAnd, nat_eq};
 ghost use Rattle.std.specs.Map.{lookup};
 ghost use Rattle.lru.specs.LruCache.{lru_cache, promoted};
 ghost use Rattle.store_reader.specs.Cache.{look_up};
-ghost use Rattle.store_reader.specs.Kept.{capacity_of, entries_of, with_pair, no_blocks, block_at, last_key};
-ghost use Rattle.store_reader.specs.Kept.{after_hit, after_miss, with_block, state_of};
-ghost use Rattle.store_reader.specs.Sharing.{IsShare};
+ghost use Rattle.store_reader.specs.CachedBlocks.{capacity_of, entries_of, with_pair, no_blocks, block_at, last_key};
+ghost use Rattle.store_reader.specs.CachedBlocks.{after_hit, after_miss, with_block, state_of};
+ghost use Rattle.store_reader.specs.BlockRequests.{AnswersRequest};
 
-use crate::share::{Share, share_of};
+use crate::block_request::{BlockRequest, answer_request};
 use lru::LruCache;
 use std::alloc::Global;
 use std::marker::Model;
@@ -19,24 +19,24 @@ use store_base::{NoMemory, OwnedBytes, StoreError};
 /// The blocks that a reader keeps, and how many look-ups found theirs.
 #[derive(Drop)]
 pub(crate) struct BlockCache {
-    blocks: Option<LruCache<usize, OwnedBytes>>,
+    recent: RecentBlocks,
     hits: usize,
     misses: usize,
 }
 
 impl Model for BlockCache {
-    ghost use Rattle.store_reader.specs.Kept.{Blocks, AreKept, capacity_of, entries_of};
+    ghost use Rattle.store_reader.specs.CachedBlocks.{CachedBlocks, AreCached, capacity_of, entries_of};
 
-    ghost Value = { Blocks };
+    ghost Value = { CachedBlocks };
 
     ghost view = { λ c. record {
-      capacity = capacity_of c.blocks;
-      kept = entries_of c.blocks;
+      capacity = capacity_of c.recent.blocks;
+      kept = entries_of c.recent.blocks;
       hits = c.hits;
       misses = c.misses;
     } };
 
-    ghost invariant = { λ c. AreKept (capacity_of c.blocks) (entries_of c.blocks) };
+    ghost invariant = { λ c. AreCached (capacity_of c.recent.blocks) (entries_of c.recent.blocks) };
 }
 
 impl BlockCache {
@@ -44,28 +44,28 @@ impl BlockCache {
     pub fn new(alloc: Global, capacity: usize) -> Result<BlockCache, NoMemory>
         ensures { IfOk result (λ c. c ≡ no_blocks capacity) }
     {
-        let blocks = match NonZeroUsize::new(capacity) {
-            Some(capacity) => Some(LruCache::sparse(alloc, capacity)?),
-            None => None,
-        };
         Ok(BlockCache {
-            blocks,
+            recent: RecentBlocks::new(alloc, capacity)?,
             hits: 0,
             misses: 0,
         })
     }
 
-    /// A look-up: a share of the block with this key, if it is kept.
+    /// A look-up: what the request wants of the block with this key, if it is kept.
     #[inline(always)]
-    pub fn look_up(&mut self, key: usize, share: Share) -> Option<Result<OwnedBytes, StoreError>>
+    pub fn look_up(
+        &mut self,
+        key: usize,
+        request: BlockRequest,
+    ) -> Option<Result<OwnedBytes, StoreError>>
         ensures answer { MatchOption result (block_at key self.old ≡ None)
-            (λ answer. IsSomeAnd (block_at key self.old) (λ block. IsShare share (Ok block) answer)) }
+            (λ answer. IsSomeAnd (block_at key self.old) (λ block. AnswersRequest request (Ok block) answer)) }
         ensures hit { IsSome result → self.new ≡ after_hit key self.old }
         ensures step { IsSome result → (is_kept : Bool) → state_of self.new
             ≡ look_up self.old.capacity (state_of self.old) (record { key = key; kept = is_kept }) }
         ensures miss { IsNone result → self.new ≡ after_miss self.old }
     {
-        let found = share_in(&mut self.blocks, key, share);
+        let found = self.recent.answer(key, request);
         if found.is_some() {
             self.hits = self.hits.saturating_add(1);
         } else {
@@ -79,7 +79,7 @@ impl BlockCache {
         ensures len { result ≡ length self.now.kept }
         ensures few { result ≤ self.now.capacity }
     {
-        match &self.blocks {
+        match &self.recent.blocks {
             Some(blocks) => blocks.len(),
             None => 0,
         }
@@ -89,13 +89,8 @@ impl BlockCache {
     pub fn peek_lru(&self) -> Option<usize>
         ensures { result ≡ last_key self.now }
     {
-        match &self.blocks {
-            Some(blocks) => match blocks.peek_lru() {
-                Some((key, _)) => Some(*key),
-                None => None,
-            },
-            None => None,
-        }
+        let (key, _) = self.recent.blocks.as_ref()?.peek_lru()?;
+        Some(*key)
     }
 
     /// How many look-ups found their block.
@@ -117,84 +112,109 @@ impl BlockCache {
         requires { block_at key self.old ≡ None }
         ensures { (is_kept : Bool) × (self.new ≡ with_block key block is_kept self.old) }
     {
-        put_in(&mut self.blocks, key, block);
+        self.recent.put(key, block);
     }
 }
 
-// A share of the block in front, if it has this key. The order stays.
-#[inline(always)]
-fn share_in_front(
-    blocks: &LruCache<usize, OwnedBytes>,
-    key: usize,
-    share: Share,
-) -> Option<Result<OwnedBytes, StoreError>>
-    ensures order { IsSome result → promoted (nat_eq key) blocks.now.entries ≡ blocks.now.entries }
-    ensures answer { IfSome result (λ answer. IsSomeAnd (lookup (nat_eq key) blocks.now.entries)
-        (λ block. IsShare share (Ok block) answer)) }
-{
-    match blocks.peek_mru() {
-        Some((front, block)) if *front == key => Some(share_of(block, share)),
-        _ => None,
+// Blocks by their first bytes, the one that was used last in front. At capacity 0 there are none.
+#[derive(Drop)]
+struct RecentBlocks {
+    blocks: Option<LruCache<usize, OwnedBytes>>,
+}
+
+impl RecentBlocks {
+    fn new(alloc: Global, capacity: usize) -> Result<RecentBlocks, NoMemory>
+        ensures capacity { IfOk result (λ r. capacity_of r.blocks ≡ capacity) }
+        ensures none { IfOk result (λ r. entries_of r.blocks ≡ []) }
+    {
+        let blocks = match NonZeroUsize::new(capacity) {
+            Some(capacity) => Some(LruCache::sparse(alloc, capacity)?),
+            None => None,
+        };
+        Ok(RecentBlocks { blocks })
     }
-}
 
-// A share of the block with this key, if it is kept. The block goes to the front.
-#[inline(always)]
-fn share_kept(
-    blocks: &mut LruCache<usize, OwnedBytes>,
-    key: usize,
-    share: Share,
-) -> Option<Result<OwnedBytes, StoreError>>
-    ensures entries { blocks.new ≡ lru_cache (promoted (nat_eq key) blocks.old.entries) blocks.old.cap }
-    ensures answer { MatchOption result (lookup (nat_eq key) blocks.old.entries ≡ None)
-        (λ answer. IsSomeAnd (lookup (nat_eq key) blocks.old.entries) (λ block. IsShare share (Ok block) answer)) }
-{
-    if let Some(answer) = share_in_front(blocks, key, share) {
-        return Some(answer);
+    // What the request wants of the block in front, if it has this key. The order stays.
+    #[inline(always)]
+    fn answer_front(
+        blocks: &LruCache<usize, OwnedBytes>,
+        key: usize,
+        request: BlockRequest,
+    ) -> Option<Result<OwnedBytes, StoreError>>
+        ensures order { IsSome result → promoted (nat_eq key) blocks.now.entries ≡ blocks.now.entries }
+        ensures answer { IfSome result (λ answer. IsSomeAnd (lookup (nat_eq key) blocks.now.entries)
+            (λ block. AnswersRequest request (Ok block) answer)) }
+    {
+        match blocks.peek_mru() {
+            Some((front, block)) if *front == key => Some(answer_request(block, request)),
+            _ => None,
+        }
     }
-    let block = blocks.get(&key)?;
-    Some(share_of(block, share))
-}
 
-// The same, where there may be no cache.
-#[inline(always)]
-fn share_in(
-    blocks: &mut Option<LruCache<usize, OwnedBytes>>,
-    key: usize,
-    share: Share,
-) -> Option<Result<OwnedBytes, StoreError>>
-    ensures capacity { capacity_of blocks.new ≡ capacity_of blocks.old }
-    ensures entries { entries_of blocks.new ≡ promoted (nat_eq key) (entries_of blocks.old) }
-    ensures answer { MatchOption result (lookup (nat_eq key) (entries_of blocks.old) ≡ None)
-        (λ answer. IsSomeAnd (lookup (nat_eq key) (entries_of blocks.old)) (λ block. IsShare share (Ok block) answer)) }
-{
-    match blocks {
-        Some(blocks) => share_kept(blocks, key, share),
-        None => None,
+    // What it wants of the block with this key, if there is one. That block goes to the front.
+    #[inline(always)]
+    fn answer_from(
+        blocks: &mut LruCache<usize, OwnedBytes>,
+        key: usize,
+        request: BlockRequest,
+    ) -> Option<Result<OwnedBytes, StoreError>>
+        ensures entries { blocks.new ≡ lru_cache (promoted (nat_eq key) blocks.old.entries) blocks.old.cap }
+        ensures answer { MatchOption result (lookup (nat_eq key) blocks.old.entries ≡ None)
+            (λ answer. IsSomeAnd (lookup (nat_eq key) blocks.old.entries)
+            (λ block. AnswersRequest request (Ok block) answer)) }
+    {
+        if let Some(answer) = RecentBlocks::answer_front(blocks, key, request) {
+            return Some(answer);
+        }
+        let block = blocks.get(&key)?;
+        Some(answer_request(block, request))
     }
-}
 
-// Whether there was memory to put the block in front.
-fn put_front(blocks: &mut LruCache<usize, OwnedBytes>, key: usize, block: OwnedBytes) -> bool
-    requires { lookup (nat_eq key) blocks.old.entries ≡ None }
-    ensures cap { blocks.new.cap ≡ blocks.old.cap }
-    ensures room { 0 < blocks.old.cap }
-    ensures entries { blocks.new.entries
-        ≡ (if result then (key, block) ∷ take (blocks.old.cap - 1) blocks.old.entries else blocks.old.entries) }
-{
-    let _count = blocks.len();
-    blocks.put(key, block).is_ok()
-}
+    #[inline(always)]
+    fn answer(
+        &mut self,
+        key: usize,
+        request: BlockRequest,
+    ) -> Option<Result<OwnedBytes, StoreError>>
+        ensures capacity { capacity_of self.new.blocks ≡ capacity_of self.old.blocks }
+        ensures entries { entries_of self.new.blocks ≡ promoted (nat_eq key) (entries_of self.old.blocks) }
+        ensures answer { MatchOption result (lookup (nat_eq key) (entries_of self.old.blocks) ≡ None)
+            (λ answer. IsSomeAnd (lookup (nat_eq key) (entries_of self.old.blocks))
+            (λ block. AnswersRequest request (Ok block) answer)) }
+    {
+        match &mut self.blocks {
+            Some(blocks) => RecentBlocks::answer_from(blocks, key, request),
+            None => None,
+        }
+    }
 
-// The same, where there may be no cache.
-fn put_in(blocks: &mut Option<LruCache<usize, OwnedBytes>>, key: usize, block: OwnedBytes) -> bool
-    requires { lookup (nat_eq key) (entries_of blocks.old) ≡ None }
-    ensures capacity { capacity_of blocks.new ≡ capacity_of blocks.old }
-    ensures entries { entries_of blocks.new
-        ≡ with_pair (capacity_of blocks.old) key block result (entries_of blocks.old) }
-{
-    match blocks {
-        Some(blocks) => put_front(blocks, key, block),
-        None => false,
+    // Whether there was memory to put the block in front.
+    fn put_front(
+        blocks: &mut LruCache<usize, OwnedBytes>,
+        key: usize,
+        block: OwnedBytes,
+    ) -> bool
+        requires { lookup (nat_eq key) blocks.old.entries ≡ None }
+        ensures cap { blocks.new.cap ≡ blocks.old.cap }
+        ensures room { 0 < blocks.old.cap }
+        ensures entries { blocks.new.entries
+            ≡ (if result then (key, block) ∷ take (blocks.old.cap - 1) blocks.old.entries else blocks.old.entries) }
+    {
+        // The clauses of `len` say that the capacity is not 0.
+        let _len = blocks.len();
+        blocks.put(key, block).is_ok()
+    }
+
+    // Whether the block is kept.
+    fn put(&mut self, key: usize, block: OwnedBytes) -> bool
+        requires { lookup (nat_eq key) (entries_of self.old.blocks) ≡ None }
+        ensures capacity { capacity_of self.new.blocks ≡ capacity_of self.old.blocks }
+        ensures entries { entries_of self.new.blocks
+            ≡ with_pair (capacity_of self.old.blocks) key block result (entries_of self.old.blocks) }
+    {
+        match &mut self.blocks {
+            Some(blocks) => RecentBlocks::put_front(blocks, key, block),
+            None => false,
+        }
     }
 }

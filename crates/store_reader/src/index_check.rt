@@ -3,11 +3,10 @@ ghost use Rattle.std.specs.Prelude.{◌≡◌, ◌≢◌, ◌≤◌, ◌⊎◌, 
 ghost use Rattle.store_reader.specs.IndexChecks.{BreaksIndex, IsCheckOf};
 ghost use Rattle.store_reader.specs.Viewing.{Finds};
 
-use crate::view_opening::footer_of;
+use crate::opening::{footer_of, index_range};
 use layered_index::{IndexFault, SkipIndex};
 use std::alloc::Global;
 use store_base::{NoMemory, OwnedBytes, StoreError};
-use store_format::FOOTER_LEN;
 
 /// The index part of a file, and where it first breaks a rule.
 #[derive(Clone, Copy)]
@@ -20,8 +19,8 @@ pub struct IndexCheck {
 
 // The first fault of the bytes of an index, of which a copy is made.
 fn fault_of(alloc: Global, part: &[u8], period: u8) -> Result<Option<IndexFault>, NoMemory>
-    requires two { 2 ≤ period }
-    requires few { period ≤ 64 }
+    requires least { 2 ≤ period }
+    requires most { period ≤ 64 }
     ensures { IfOk result (λ fault. IsCheckOf period part.now fault) }
 {
     let part = OwnedBytes::new(alloc, Vec::from_slice(alloc, part)?)?;
@@ -35,11 +34,8 @@ pub fn check_index(alloc: Global, file: &[u8]) -> Result<IndexCheck, StoreError>
     ensures refused { IfErr result (λ e. Finds file.now (Err e) ⊎ (e ≡ StoreError.Memory)) }
 {
     let footer = footer_of(alloc, file)?;
-    let end = file.len() - FOOTER_LEN as usize;
-    if (end as u64) < footer.offset {
-        return Err(StoreError::BadOffset);
-    }
-    let start = footer.offset as usize;
-    let fault = fault_of(alloc, &file[start..end], footer.period)?;
+    let range = index_range(&footer, file.len() as u64)?;
+    let start = range.start as usize;
+    let fault = fault_of(alloc, &file[start..range.end as usize], footer.period)?;
     Ok(IndexCheck { start, fault })
 }

@@ -2,7 +2,7 @@
 ghost use Rattle.std.specs.Prelude.{◌≡◌};
 ghost use Rattle.store_reader.specs.Walking.{set_of, set_in};
 
-use crate::documents::read_document;
+use crate::document_reading::read_document;
 use crate::reader::StoreReader;
 use crate::walk::{DocWalk, Walk, answer_of, walk_on};
 use std::alloc::Global;

@@ -2,12 +2,11 @@
 
 ghost use Rattle.std.specs.Prelude.{◌≤◌, ℕ, List, Result, length};
 ghost use Rattle.store_base.specs.declared.error.StoreError.{StoreError as StoreErrorOf};
-ghost use Rattle.store_format.specs.FileReading.{Comes};
 ghost use Rattle.store_reader.specs.LookingUp.{LooksUp};
-ghost use Rattle.store_reader.specs.Sharing.{IsShare};
+ghost use Rattle.store_reader.specs.BlockRequests.{AnswersRequest};
 
 use crate::cache::BlockCache;
-use crate::share::{Share, share_of};
+use crate::block_request::{BlockRequest, answer_request};
 use layered_index::Checkpoint;
 use std::alloc::Global;
 use store_base::{DocId, FileHandle, FileSlice, OwnedBytes, StoreError};
@@ -21,41 +20,27 @@ pub(crate) struct Entered {
     pub(crate) block: Result<OwnedBytes, StoreError>,
 }
 
-// Reads a checkpoint's block.
-fn read_block<H: FileHandle>(
-    file: &mut FileSlice<H>,
-    alloc: Global,
-    checkpoint: &Checkpoint,
-) -> Result<OwnedBytes, StoreError>
-    requires order { checkpoint.now.byte_range.start ≤ checkpoint.now.byte_range.end }
-    requires within { checkpoint.now.byte_range.end ≤ length file.old.content }
-    ensures { Comes file.old checkpoint.now.byte_range.start checkpoint.now.byte_range.end result file.new }
-{
-    let range = checkpoint.byte_range.start as u64..checkpoint.byte_range.end as u64;
-    read_part(file, alloc, range)
-}
-
-// Looks the block of a checkpoint up, for a share of it.
+// Looks the block of a checkpoint up, and gives what the request wants of it.
 #[inline(always)]
 pub(crate) fn look_up<H: FileHandle>(
     file: &mut FileSlice<H>,
     cache: &mut BlockCache,
     alloc: Global,
     checkpoint: &Checkpoint,
-    share: Share,
+    request: BlockRequest,
 ) -> Result<OwnedBytes, StoreError>
     requires order { checkpoint.now.byte_range.start ≤ checkpoint.now.byte_range.end }
     requires within { checkpoint.now.byte_range.end ≤ length file.old.content }
     ensures { (came : Result (List ℕ) StoreErrorOf)
         × LooksUp checkpoint.now file.old cache.old came file.new cache.new
-        × IsShare share came result }
+        × AnswersRequest request came result }
 {
     let key = checkpoint.byte_range.start;
-    if let Some(answer) = cache.look_up(key, share) {
+    if let Some(answer) = cache.look_up(key, request) {
         return answer;
     }
-    let block = read_block(file, alloc, checkpoint)?;
-    let answer = share_of(&block, share);
+    let block = read_part(file, alloc, key as u64..checkpoint.byte_range.end as u64)?;
+    let answer = answer_request(&block, request);
     cache.put(key, block);
     answer
 }

@@ -1,12 +1,12 @@
 //! The reader of a store.
-ghost use Rattle.std.specs.Prelude.{◌≡◌, ◌<◌, ◌≤◌, Err, IsTrue, IfOk, IfErr, IfSome, IsErrOf, MatchResult, ◌⊎◌, ◌↔◌};
+ghost use Rattle.std.specs.Prelude.{◌≡◌, ◌<◌, ◌≤◌, IsTrue, IfOk, IfErr, IfSome, IsErrOf, MatchResult, ◌⊎◌, ◌↔◌};
 ghost use Rattle.std.specs.Prelude.{ℕ, ◌+◌, ◌*◌, ◌-◌, length, slice_get, slice_range, take};
 ghost use Rattle.store_base.specs.Counts.{HasRisen, raised};
 ghost use Rattle.store_reader.specs.GetAnswer.{IsAnswered, AnswersTruly};
 ghost use Rattle.layered_index.specs.Checkpoint.{Covers, first_past};
 ghost use Rattle.store_reader.specs.Documents.{document_version, IsGot, ReadsTruly};
 ghost use Rattle.store_format.specs.Footer.{version_number};
-ghost use Rattle.store_reader.specs.Kept.{last_key};
+ghost use Rattle.store_reader.specs.CachedBlocks.{last_key};
 ghost use Rattle.layered_index.specs.Layers.{digit_count, index_part};
 ghost use Rattle.store_reader.specs.Opening.{IsOpened, IsRefused, RefusesNoStore};
 ghost use Rattle.store_reader.specs.Reading.{IsReadOnce, IsReadWhole, IsSameStore, IsSeen, num_docs, store_of};
@@ -14,13 +14,13 @@ ghost use Rattle.store_format.specs.Slots.{slots};
 ghost use Rattle.store_format.specs.StoreFile.{IsStore};
 ghost use Rattle.store_reader.specs.Walking.{set_of, set_in, IsEntered, IsWalk, LooksAlong};
 
+use crate::block_request::BlockRequest;
 use crate::cache::BlockCache;
 use crate::cache_stats::CacheStats;
-use crate::documents::read_document;
+use crate::document_reading::read_document;
 use crate::iter::{DocIter, Items, RawIter, sets_of};
 use crate::look_up::{Entered, look_up};
 use crate::opening::read_store;
-use crate::share::Share;
 use crate::store_index::StoreIndex;
 use crate::walk::{DocWalk, first_walk};
 use layered_index::{Checkpoint, LayerCursor, Steps};
@@ -169,7 +169,7 @@ impl<H: FileHandle> StoreReader<H> {
             &mut self.cache,
             alloc,
             &checkpoint,
-            Share::Document {
+            BlockRequest::Document {
                 doc_id,
                 doc_pos: doc_id - checkpoint.doc_range.start,
             },
@@ -212,7 +212,7 @@ impl<H: FileHandle> StoreReader<H> {
             &mut self.cache,
             alloc,
             &checkpoint,
-            Share::Block,
+            BlockRequest::Whole,
         );
         Entered {
             first: checkpoint.doc_range.start,
@@ -235,7 +235,7 @@ impl<H: FileHandle> StoreReader<H> {
         ensures next { result.walk.next ≡ 0 }
         ensures walk { IsWalk result.reader.now result.walk }
         ensures first_block { LooksAlong (take 1 self.old.checkpoints)
-            self.old (Err StoreError.Memory) result.reader.now result.walk.block }
+            self.old None result.reader.now result.walk.block }
         ensures same_store { IsSameStore self.old result.reader.now }
         ensures place { result.walk.place ≡ length (take 1 self.old.checkpoints) }
     {
@@ -261,7 +261,7 @@ impl<H: FileHandle> StoreReader<H> {
         ensures next { result.walk.raw.next ≡ 0 }
         ensures walk { IsWalk result.reader.now result.walk.raw }
         ensures first_block { LooksAlong (take 1 self.old.checkpoints)
-            self.old (Err StoreError.Memory) result.reader.now result.walk.raw.block }
+            self.old None result.reader.now result.walk.raw.block }
         ensures same_store { IsSameStore self.old result.reader.now }
         ensures place { result.walk.raw.place ≡ length (take 1 self.old.checkpoints) }
     {
@@ -296,8 +296,8 @@ impl<H: FileHandle> StoreReader<H> {
     /// How many checkpoints a full block of the store's index has, at least 2 and at most 64.
     pub fn period(&self) -> u8
         ensures period { result ≡ self.now.period }
-        ensures two { 2 ≤ result }
-        ensures few { result ≤ 64 }
+        ensures least { 2 ≤ result }
+        ensures most { result ≤ 64 }
     {
         self.index.period()
     }

@@ -12,14 +12,13 @@ ghost use Rattle.store_reader.specs.GetAnswer.{AnswersTruly};
 ghost use Rattle.store_reader.specs.Opening.{IsSomeStore};
 ghost use Rattle.store_reader.specs.SeekingReaders.{IsSeeking, ReadsBlock, RefusesFile, RefusesBlock, RefusesGet};
 
+use crate::opening::index_range;
 use crate::slot::document_in;
 use layered_index::{Checkpoint, IndexHead};
 use std::alloc::Global;
 use std::marker::Model;
 use store_base::{DocId, FileHandle, FileSlice, OwnedBytes, StoreError};
-use store_format::{
-    DocStoreFooter, DocStoreVersion, FOOTER_LEN, OpenError, read_footer, read_part,
-};
+use store_format::{DocStoreFooter, DocStoreVersion, OpenError, read_footer, read_part};
 
 /// A store in a file, of which a call reads what it needs: opening reads the footer and the head of the index, at most
 /// 669 bytes; a get reads one run of each layer of the index, at most 665 bytes each, and then the document's block.
@@ -56,11 +55,8 @@ fn read_head<H: FileHandle>(
     ensures kept { ReadsAtMost 2 669 file.old file.new }
 {
     let footer = read_footer(file, alloc)?;
-    let end = file.len() - FOOTER_LEN;
-    if end < footer.offset {
-        return Err(StoreError::BadOffset);
-    }
-    let index = IndexHead::read(alloc, file, footer.offset, end, footer.period)?;
+    let range = index_range(&footer, file.len())?;
+    let index = IndexHead::read(alloc, file, range.start, range.end, footer.period)?;
     Ok((footer, index))
 }
 
@@ -159,8 +155,8 @@ impl<H: FileHandle> SeekingReader<H> {
     /// How many checkpoints a full run of the store's index has, at least 2 and at most 64.
     pub fn period(&self) -> u8
         ensures period { IsTrue self.now.honest → (s : IsSomeStore self.now.content) → result ≡ s.period }
-        ensures two { 2 ≤ result }
-        ensures few { result ≤ 64 }
+        ensures least { 2 ≤ result }
+        ensures most { result ≤ 64 }
     {
         self.index.period()
     }

@@ -16,7 +16,6 @@ use store_base::{DocId, OwnedBytes, StoreError};
 #[derive(Drop)]
 pub(crate) struct StoreIndex {
     index: SkipIndex,
-    period: u8,
     num_docs: DocId,
     len: u64,
 }
@@ -30,8 +29,7 @@ impl Model for StoreIndex {
 
     ghost view = { λ s. s.index };
 
-    ghost invariant = { λ s. (s.period ≡ s.index.period)
-        × (s.num_docs ≡ docs_end 0 s.index.checkpoints)
+    ghost invariant = { λ s. (s.num_docs ≡ docs_end 0 s.index.checkpoints)
         × (s.len ≡ length (index_part s.index.period s.index.checkpoints)) };
 }
 
@@ -44,8 +42,8 @@ impl StoreIndex {
         period: u8,
         covered: u64,
     ) -> Result<StoreIndex, StoreError>
-        requires two { 2 ≤ period }
-        requires few { period ≤ 64 }
+        requires least { 2 ≤ period }
+        requires most { period ≤ 64 }
         ensures { MatchResult result
             (λ index. (index.period ≡ period) × IsIndexOf period bytes covered index.checkpoints)
             (RefusesOnlyUnless (HasIndexOf period bytes covered)) }
@@ -55,7 +53,6 @@ impl StoreIndex {
         match index.covered_to() {
             Some((num_docs, end)) if end as u64 == covered => Ok(StoreIndex {
                 index,
-                period,
                 num_docs,
                 len,
             }),
@@ -74,7 +71,7 @@ impl StoreIndex {
     pub fn period(&self) -> u8
         ensures { result ≡ self.now.period }
     {
-        self.period
+        self.index.period()
     }
 
     /// How many bytes the index takes in the file.

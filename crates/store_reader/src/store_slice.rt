@@ -19,9 +19,9 @@ ghost use Rattle.store_reader.specs.StoreTails.{HasIndexIn};
 use crate::alive_slice_documents::AliveSliceDocuments;
 use crate::block_slice::BlockSlice;
 use crate::block_slices::BlockSlices;
-use crate::documents::read_bytes;
+use crate::document_reading::read_bytes;
 use crate::slice_documents::SliceDocuments;
-use crate::view_opening::footer_of;
+use crate::opening::{footer_of, index_range};
 use layered_index::{IndexSlice, LayerCursor, Steps};
 use std::alloc::Global;
 use std::marker::Model;
@@ -63,12 +63,9 @@ impl<'a> StoreSlice<'a> {
         ensures index { IfOk result (λ _. HasIndexIn (length file.entry.now) file.entry.now) }
     {
         let footer = footer_of(alloc, file)?;
-        let end = file.len() - FOOTER_LEN as usize;
-        if (end as u64) < footer.offset {
-            return Err(StoreError::BadOffset);
-        }
-        let data_len = footer.offset as usize;
-        let index = IndexSlice::new(part(file, data_len, end), footer.period)?;
+        let range = index_range(&footer, file.len() as u64)?;
+        let data_len = range.start as usize;
+        let index = IndexSlice::new(part(file, data_len, range.end as usize), footer.period)?;
         Ok(StoreSlice {
             file,
             data_len,
@@ -200,8 +197,8 @@ impl<'a> StoreSlice<'a> {
     /// How many checkpoints a full run of the store's index has, at least 2 and at most 64.
     pub fn period(&self) -> u8
         ensures period { (s : IsSomeStore self.now) → result ≡ s.period }
-        ensures two { 2 ≤ result }
-        ensures few { result ≤ 64 }
+        ensures least { 2 ≤ result }
+        ensures most { result ≤ 64 }
     {
         self.index.period()
     }
@@ -286,12 +283,7 @@ impl<'a> StoreSlice<'a> {
         Ok(SliceDocuments {
             blocks: BlockSlices::new(self.file, self.data_len, 0, checkpoints),
             next: 0,
-            block: BlockSlice {
-                first: 0,
-                end: 0,
-                start: 0,
-                bytes: &[],
-            },
+            block: BlockSlice::before_all(),
         })
     }
 

@@ -7,7 +7,7 @@ ghost use Rattle.store_reader.specs.Opening.{IsSomeStore};
 ghost use Rattle.store_reader.specs.StoreTails.{IsTailOf, IsWanted, HasIndexIn, RefusesEnd};
 
 use crate::tail_error::TailError;
-use crate::view_opening::footer_of;
+use crate::opening::{footer_of, index_range};
 use layered_index::{Checkpoint, IndexSlice};
 use std::alloc::Global;
 use std::marker::Model;
@@ -61,10 +61,10 @@ impl<'a> StoreTail<'a> {
             Ok(footer) => footer,
             Err(error) => return Err(TailError::Store(error)),
         };
-        if ((file_len - FOOTER_LEN as usize) as u64) < footer.offset {
-            return Err(TailError::Store(StoreError::BadOffset));
-        }
-        let data_len = footer.offset as usize;
+        let data_len = match index_range(&footer, file_len as u64) {
+            Ok(range) => range.start as usize,
+            Err(error) => return Err(TailError::Store(error)),
+        };
         let wanted = file_len - data_len;
         if tail.len() < wanted {
             return Err(TailError::Short(wanted));

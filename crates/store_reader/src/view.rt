@@ -11,10 +11,10 @@ ghost use Rattle.store_format.specs.StoreFile.{AreBlocks, IsStore, data_of, chec
 ghost use Rattle.store_reader.specs.Viewing.{Finds, IsViewOf, IsAt, IsBlockOf, StandsAt};
 ghost use Rattle.store_reader.specs.Viewing.{slot_of, count_in, document_of, given, placed_in};
 
-use crate::documents::read_bytes;
+use crate::document_reading::read_bytes;
 use crate::store_index::StoreIndex;
-use crate::view_iter::{AliveDocuments, Documents, ViewBlock};
-use crate::view_opening::view_store;
+use crate::documents::{AliveDocuments, Documents, ViewBlock};
+use crate::opening::view_store;
 use layered_index::{LayerCursor, Steps};
 use std::alloc::Global;
 use std::marker::Model;
@@ -205,8 +205,8 @@ impl<'a> StoreView<'a> {
     /// How many checkpoints a full block of the store's index has, at least 2 and at most 64.
     pub fn period(&self) -> u8
         ensures period { result ≡ self.now.period }
-        ensures two { 2 ≤ result }
-        ensures few { result ≤ 64 }
+        ensures least { 2 ≤ result }
+        ensures most { result ≤ 64 }
     {
         self.index.period()
     }

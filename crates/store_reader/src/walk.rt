@@ -1,6 +1,6 @@
 //! Where an iteration stands, and how it goes on.
-ghost use Rattle.std.specs.Prelude.{◌≡◌, ◌≤◌, ◌<◌, ◌+◌, true, Some, length, slice_get, slice_range, take, Err};
-ghost use Rattle.std.specs.Prelude.{MatchOption};
+ghost use Rattle.std.specs.Prelude.{◌≡◌, ◌≤◌, ◌<◌, ◌+◌, true, Some, length, slice_get, slice_range, take};
+ghost use Rattle.std.specs.Prelude.{IsSome, IsSomeAnd, MatchOption};
 ghost use Rattle.layered_index.specs.declared.checkpoint.Checkpoint.{Checkpoint};
 ghost use Rattle.store_reader.specs.Iteration.{is_in};
 ghost use Rattle.store_reader.specs.Reading.{IsSameStore, num_docs};
@@ -12,14 +12,14 @@ use std::alloc::Global;
 use std::marker::PhantomData;
 use store_base::{AliveBitSet, DocId, DocumentDeserialize, FileHandle, OwnedBytes, StoreError};
 
-/// Where an iteration stands: at an id, in the last of the blocks that it looked up.
+/// Where an iteration stands: at an id, in the last of the blocks that it looked up, if it has looked one up.
 #[derive(Drop)]
 pub struct Walk {
     pub(crate) next: DocId,
     pub(crate) place: usize,
     pub(crate) first: DocId,
     pub(crate) end: DocId,
-    pub(crate) block: Result<OwnedBytes, StoreError>,
+    pub(crate) block: Option<Result<OwnedBytes, StoreError>>,
 }
 
 /// The same, where each document is read as a type.
@@ -31,14 +31,14 @@ pub struct DocWalk<D: DocumentDeserialize> {
 
 // Before the first block.
 fn new_walk() -> Walk
-    ensures { result ≡ record { next = 0; place = 0; first = 0; end = 0; block = Err StoreError.Memory } }
+    ensures { result ≡ record { next = 0; place = 0; first = 0; end = 0; block = None } }
 {
     Walk {
         next: 0,
         place: 0,
         first: 0,
         end: 0,
-        block: Err(StoreError::Memory),
+        block: None,
     }
 }
 
@@ -49,7 +49,8 @@ fn enter_next<H: FileHandle>(reader: &mut StoreReader<H>, alloc: Global, walk: &
     requires more { walk.old.next < num_docs reader.old }
     ensures walk { IsWalk reader.new walk.new }
     ensures taken { (c : Checkpoint) × (slice_get reader.old.checkpoints walk.old.place ≡ Some c)
-        × (c.doc_range.start ≡ walk.old.next) × IsTaken reader.old walk.old.next c walk.new.block reader.new }
+        × (c.doc_range.start ≡ walk.old.next)
+        × IsSomeAnd walk.new.block (λ block. IsTaken reader.old walk.old.next c block reader.new) }
     ensures next { walk.new.next ≡ walk.old.next }
     ensures inside { walk.new.next < walk.new.end }
     ensures place { walk.new.place ≡ walk.old.place + 1 }
@@ -58,7 +59,7 @@ fn enter_next<H: FileHandle>(reader: &mut StoreReader<H>, alloc: Global, walk: &
     walk.place += 1;
     walk.first = entered.first;
     walk.end = entered.end;
-    walk.block = entered.block;
+    walk.block = Some(entered.block);
 }
 
 // Into the block of the next document, where the walk is not in it yet.
@@ -84,7 +85,7 @@ pub(crate) fn first_walk<H: FileHandle>(reader: &mut StoreReader<H>, alloc: Glob
     ensures next { result.next ≡ 0 }
     ensures place { result.place ≡ length (take 1 reader.old.checkpoints) }
     ensures looks { LooksAlong (take 1 reader.old.checkpoints)
-        reader.old (Err StoreError.Memory) reader.new result.block }
+        reader.old None reader.new result.block }
 {
     let mut walk = new_walk();
     if reader.num_docs() == 0 {
@@ -119,7 +120,7 @@ pub(crate) fn walk_on<H: FileHandle>(
         × (walk.new.next ≡ num_docs reader.old))
         (λ id. WalksTo (set_in alive.now) reader.old walk.old id reader.new walk.new
         × (id < num_docs reader.old) × (is_in (set_in alive.now) id ≡ true) × (walk.new.next ≡ id + 1)
-        × StandsIn reader.old id walk.new.first walk.new.block) }
+        × IsSomeAnd walk.new.block (StandsIn reader.old id walk.new.first)) }
 {
     for doc_id in walk.next..reader.num_docs() {
         step_in(reader, alloc, walk);
@@ -133,10 +134,11 @@ pub(crate) fn walk_on<H: FileHandle>(
 
 // What a document answers of the block that was taken.
 pub(crate) fn answer_of(walk: &Walk, doc_id: DocId) -> Result<OwnedBytes, StoreError>
-    requires { walk.now.first ≤ doc_id }
+    requires block { IsSome walk.now.block }
+    requires above { walk.now.first ≤ doc_id }
     ensures { AnswersOf doc_id walk.now result }
 {
-    match &walk.block {
+    match walk.block.as_ref().unwrap() {
         Ok(block) => document_in(block, doc_id, doc_id - walk.first),
         Err(error) => Err(*error),
     }

@@ -19,5 +19,5 @@ overflow_sub-texts c =
 pub invariant_of-result : goal.invariant_of-result
 invariant_of-result c =
     head_made _ c.as_slice-bytes.result.now c.in-Some.count c.in-Some.ends.now c.in-Some-pass_numbers.texts.now c.as_slice-bytes.ensures
-    c.requires.two c.requires.few c.requires.within (omega arith)
+    c.requires.least c.requires.most c.requires.within (omega arith)
     (sym c.in-Some.ensures.read) (sym c.in-Some-pass_numbers.ensures)

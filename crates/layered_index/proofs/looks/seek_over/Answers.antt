@@ -1,64 +1,27 @@
-use Rattle.std.proofs.Common.{◌≡◌, ◌+◌, ◌-◌, ◌/◌, List, Some, sym, ap, subst, ◌∙◌, length, arith}
-use Rattle.std.specs.Prelude.{slice_get}
+use Rattle.std.proofs.Common.{◌≡◌, ◌<◌, ◌-◌, List, length, inl, inr, sym, ap, ◌∙◌, arith}
+use Rattle.std.proofs.lemmas.Bool.{cases_lt}
 use Rattle.layered_index.specs.declared.checkpoint.Checkpoint.{Checkpoint}
+use Rattle.layered_index.specs.Layers.{digit_count}
 use Rattle.layered_index.proofs.DigitLemmas.{binary_digits}
-use Rattle.layered_index.specs.Seeking.{EndsPast}
-use Rattle.layered_index.proofs.HalvingLemmas.{first_at, none_up_to, half_left}
+use Rattle.layered_index.proofs.HalvingLemmas.{all_between, none_behind}
 use Rattle.layered_index.proofs.looks.seek_over.Goals as goal
 
-pub loop-low-preserved-then-checkpoint-target : goal.loop-low-preserved-then-checkpoint-target
-loop-low-preserved-then-checkpoint-target g c =
-    let s = g.S.Looks in
-    let l = c.loop-low in
-    let cs = s.list c.args.source.now in
-    let middle = l.low + (l.high - l.low) / 2 in
-    let look = c.look-checkpoint in
-    let given : slice_get cs middle ≡ Some look.result = ap (λ (xs : List Checkpoint). slice_get xs middle) (sym l.invariant.same_list) ∙ look.ensures.given in
-    let fewer = half_left (middle - l.low) (l.high - l.low) (omega arith) (omega arith) in
-    record {
-      same_list = look.ensures.list ∙ l.invariant.same_list;
-      order = omega arith;
-      within = omega (arith, l.invariant.within);
-      before = l.invariant.before;
-      past = subst (EndsPast c.args.target) (sym given) c.if-checkpoint-target.true;
-      found_is = sym given;
-      most = omega (arith, fewer, look.ensures.looks, l.invariant.most);
-      more = omega (arith, look.ensures.looks, look.ensures.fits, l.invariant.more);
-      least = λ _. omega (arith, look.ensures.looks, l.invariant.more);
-    }
-
-pub loop-low-preserved : goal.loop-low-preserved
-loop-low-preserved g c =
-    let s = g.S.Looks in
-    let l = c.loop-low in
-    let cs = s.list c.args.source.now in
-    let middle = l.low + (l.high - l.low) / 2 in
-    let look = c.look-checkpoint in
-    let given : slice_get cs middle ≡ Some look.result = ap (λ (xs : List Checkpoint). slice_get xs middle) (sym l.invariant.same_list) ∙ look.ensures.given in
-    let fewer = half_left (l.high - (middle + 1)) (l.high - l.low) (omega arith) (omega arith) in
-    record {
-      same_list = look.ensures.list ∙ l.invariant.same_list;
-      order = omega arith;
-      within = l.invariant.within;
-      before = none_up_to cs c.args.target middle look.result c.len-high.ensures.in_line given c.if-checkpoint-target.false;
-      past = l.invariant.past;
-      found_is = l.invariant.found_is;
-      most = omega (arith, fewer, look.ensures.looks, l.invariant.most);
-      more = omega (arith, look.ensures.looks, look.ensures.fits, l.invariant.more);
-      least = λ _. omega (arith, look.ensures.looks, l.invariant.more);
-    }
+pub halve-requires-clause-between : goal.halve-requires-clause-between
+halve-requires-clause-between g c = all_between (g.S.Looks.list c.args.source.now) c.args.target _ c.len-len.ensures.len
 
 pub returns-clause-answer : goal.returns-clause-answer
 returns-clause-answer g c =
-    let s = g.S.Looks in
-    let l = c.loop-low in
-    let cs = s.list c.args.source.now in
-    let met : l.low ≡ l.high = omega (arith, l.invariant.order) in
-    l.invariant.found_is ∙ sym (first_at cs c.args.target l.high (λ i d lt e. l.invariant.before i d (omega arith) e) l.invariant.past)
+    let cs = g.S.Looks.list c.args.source.now in
+    let halved = c.halve.result in
+    elim (cases_lt halved.place (length cs)) [
+      | inl below ↦ c.halve.ensures.found (omega (arith, below, c.len-len.ensures.len)) ∙ c.halve.ensures.answer
+      | inr past ↦
+          let last : halved.place ≡ c.len-len.result = omega (arith, past, c.len-len.ensures.len, c.halve.ensures.few) in
+          c.halve.ensures.none last ∙ sym (none_behind cs halved.place (omega (arith, past))) ∙ c.halve.ensures.answer
+    ]
 
 pub returns-clause-most : goal.returns-clause-most
 returns-clause-most g c =
-    let s = g.S.Looks in
-    let l = c.loop-low in
-    let n = length (s.list c.args.source.now) in
-    λ p two. omega (arith, l.invariant.most, binary_digits p n two)
+    let n = length (g.S.Looks.list c.args.source.now) in
+    let all : c.len-len.result - 0 ≡ n = omega (arith, c.len-len.ensures.len) in
+    λ p two. omega (arith, c.halve.ensures.most, binary_digits p n two, ap (digit_count 2) all)

@@ -16,7 +16,7 @@ use Rattle.layered_index.proofs.skip_index.bottom_layer.Goals as goal
 pub returns-in-Err : goal.returns-in-Err
 returns-in-Err c =
     let fits : length c.args.source.now < 2 ^ 64 = omega (arith, ap length c.requires.source) in
-    rw c.in_list.ensures (opens_fail c.args.period c.args.source.now c.in-Err.fault c.requires.two c.requires.few fits c.in-Err.ensures)
+    rw c.in_list.ensures (opens_fail c.args.period c.args.source.now c.in-Err.fault c.requires.least c.requires.most fits c.in-Err.ensures)
 
 pub walk_down-requires : goal.walk_down-requires
 walk_down-requires c =
@@ -29,7 +29,7 @@ returns-in_err-walk_down c =
     let refusal = c.in_err-walk_down.field-0.0 in
     let len : length c.args.bytes.now ≡ length c.args.source.now = ap length c.requires.source in
     let told = subst (λ (n : ℕ). RefusedOnlyUnless (AreLayersBelow c.args.period None c.deref.result.now) (HasFault c.args.period n None c.deref.result.now) refusal) len c.in_err-walk_down.ensures in
-    rw (p.1, p.2) (opens_walked c.args.period c.args.source.now c.in-Ok.layers.items refusal c.requires.two c.requires.few fits c.in-Ok.ensures
+    rw (p.1, p.2) (opens_walked c.args.period c.args.source.now c.in-Ok.layers.items refusal c.requires.least c.requires.most fits c.in-Ok.ensures
     (subst (λ (ts : List (List ℕ)). RefusedOnlyUnless (AreLayersBelow c.args.period None ts) (HasFault c.args.period (length c.args.source.now) None ts) refusal) c.deref.ensures.value told))
 
 -- what is kept in the end, and how many there are
@@ -50,7 +50,7 @@ returns-then-digit_count-len c =
     let digits = counted c.args.period c.len.result c.digit_count.result c.walk_down.new.ends ts ends c.len.ensures c.digit_count.ensures.digits in
     let differ : digit_count c.args.period (length (last_items [] ts)) ≡ length ts → ⊥ = λ same. c.if-digit_count-len.true (omega (arith, digits, same, c.len-2.ensures, c.in-Ok.layers.ok)) in
     let below = subst (AreLayersBelow c.args.period None) c.deref.ensures.value c.in_ok-walk_down.ensures.0 in (
-      opens_refused c.args.period c.args.source.now ts c.requires.two c.requires.few fits c.in-Ok.ensures (λ are. differ are.count),
+      opens_refused c.args.period c.args.source.now ts c.requires.least c.requires.most fits c.in-Ok.ensures (λ are. differ are.count),
       first_of c.args.period c.args.source.now ts fault_of_list c.in-Ok.ensures (inr (below, differ, refl)),
     )
 
@@ -64,5 +64,5 @@ returns c =
       below = subst (AreLayersBelow c.args.period None) c.deref.ensures.value c.in_ok-walk_down.ensures.0;
       count = omega (arith, digits, c.if-digit_count-len.false, c.len-2.ensures, c.in-Ok.layers.ok);
     } in
-    let whole = opens_read c.args.period c.args.source.now ts c.requires.two c.requires.few (subst IsBytes c.requires.source bytes) c.in-Ok.ensures are in
+    let whole = opens_read c.args.period c.args.source.now ts c.requires.least c.requires.most (subst IsBytes c.requires.source bytes) c.in-Ok.ensures are in
     subst (λ (cs : List Checkpoint). IsIndexPart c.args.period c.args.source.now cs × (c.walk_down.new.ends ≡ with_ends no_ends cs)) (sym c.in_ok-bottom_of.ensures) (whole, ends)

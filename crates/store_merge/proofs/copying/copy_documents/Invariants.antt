@@ -1,5 +1,4 @@
-use Rattle.std.proofs.Common.{◌≡◌, ◌≤◌, length, take, Err}
-use Rattle.store_base.specs.declared.error.StoreError.TheVariants.{Memory}
+use Rattle.std.proofs.Common.{◌≡◌, ◌≤◌, length, take, None}
 use Rattle.store_reader.specs.Iteration.{alive}
 use Rattle.store_reader.specs.Reading.{IsSameStore, store_of}
 use Rattle.store_format.specs.Slots.{slots}
@@ -17,7 +16,7 @@ invariant-loop-document g l = record {
   copied : IsCopied l.fn.reader.file.honest (alive (take l.document-iterator.walk.next (slots (store_of l.fn.reader))) (set_of l.alive)) l.fn.writer l.writer;
   below : l.document-iterator.walk.next ≤ length (slots (store_of l.fn.reader));
   failed : HasFailedRead l.fn.reader l.document-iterator.reader.now l.document-iterator.walk.block;
-  looks : LooksAlong (take l.document-iterator.walk.place l.fn.reader.checkpoints) l.fn.reader (Err Memory) l.document-iterator.reader.now l.document-iterator.walk.block;
+  looks : LooksAlong (take l.document-iterator.walk.place l.fn.reader.checkpoints) l.fn.reader None l.document-iterator.reader.now l.document-iterator.walk.block;
   count : l.fn.writer.output.failures ≤ l.writer.output.failures;
   steady : l.writer.output.failures ≡ l.fn.writer.output.failures;
   sound : IsStoreWriter l.writer;

@@ -2,17 +2,17 @@ use Rattle.std.proofs.Common.{refl, ap, ◌∙◌, true, inl}
 use Rattle.std.specs.Prelude.{Ok, Err}
 use Rattle.std.proofs.lemmas.Result.{err_from_is_err_and}
 use Rattle.store_base.specs.declared.error.StoreError.{StoreError}
-use Rattle.store_reader.specs.declared.share.Share.{Share}
-use Rattle.store_reader.specs.declared.share.Share.TheVariants.{Document, Block}
-use Rattle.store_reader.specs.Kept.{with_block}
-use Rattle.store_reader.specs.Sharing.{IsShare}
+use Rattle.store_reader.specs.declared.block_request.BlockRequest.{BlockRequest}
+use Rattle.store_reader.specs.declared.block_request.BlockRequest.TheVariants.{Document, Whole}
+use Rattle.store_reader.specs.CachedBlocks.{with_block}
+use Rattle.store_reader.specs.BlockRequests.{AnswersRequest}
 use Rattle.store_reader.proofs.LookUpLemmas.{look_up_by_hit, look_up_by_miss}
 use Rattle.store_reader.proofs.look_up.look_up.Goals as goal
 
--- where no block came, neither does a share
-no_share : (share : Share) (e : StoreError) → IsShare share (Err e) (Err e)
-no_share (Document doc_id doc_pos) e = refl
-no_share Block e = inl refl
+-- where no block came, no request gets one
+unanswered : (request : BlockRequest) (e : StoreError) → AnswersRequest request (Err e) (Err e)
+unanswered (Document doc_id doc_pos) e = refl
+unanswered Whole e = inl refl
 
 pub returns-in-Some : goal.returns-in-Some
 returns-in-Some g c =
@@ -24,16 +24,16 @@ returns-in_err-block g c =
     let given = err_from_is_err_and c.from_residual.result c.from_residual.ensures.1 in
     rw (given.1, given.2) (
       Err c.in_err-block.field-0.0,
-      look_up_by_miss c.args.checkpoint.now c.args.file.now c.read_block.new.file c.args.cache.now c.look_up.new.self
+      look_up_by_miss c.args.checkpoint.now c.args.file.now c.read_part.new.file c.args.cache.now c.look_up.new.self
           (Err c.in_err-block.field-0.0) true c.in_default.ensures.answer c.in_err-block.ensures (c.in_default.ensures.miss refl),
-      no_share c.args.share c.in_err-block.field-0.0,
+      unanswered c.args.request c.in_err-block.field-0.0,
     )
 
 pub returns : goal.returns
 returns g c =
     let block = c.in_ok-block.block in (
       Ok block,
-      look_up_by_miss c.args.checkpoint.now c.args.file.now c.read_block.new.file c.args.cache.now c.put.new.self (Ok block) c.put.ensures.0 c.in_default.ensures.answer c.in_ok-block.ensures
+      look_up_by_miss c.args.checkpoint.now c.args.file.now c.read_part.new.file c.args.cache.now c.put.new.self (Ok block) c.put.ensures.0 c.in_default.ensures.answer c.in_ok-block.ensures
           (c.put.ensures.1 ∙ ap (with_block c.args.checkpoint.now.byte_range.start block c.put.ensures.0) (c.in_default.ensures.miss refl)),
-      c.share_of-answer.ensures,
+      c.answer_request-answer.ensures,
     )

@@ -1,4 +1,4 @@
-use Rattle.std.proofs.Common.{◌≡◌, ◌+◌, ◌-◌, take, sym, ap, ◌∙◌, arith}
+use Rattle.std.proofs.Common.{◌≡◌, ◌+◌, ◌-◌, take, refl, sym, ap, ◌∙◌, arith}
 use Rattle.layered_index.specs.Checkpoint.{docs_end}
 use Rattle.store_reader.specs.Reading.{Reading}
 use Rattle.store_reader.proofs.SeekLemmas.{docs_grow}
@@ -11,7 +11,7 @@ overflow_add-walk g c =
     let end = c.requires.walk.end in let here = c.requires.here in
     omega arith
 
-next : (g : _) (c : goal.Joined-walk-entered g) → IsNextBlock c.args.reader.now.checkpoints c.args.walk.now.place c.args.walk.now.next c.enter-entered.ensures.entered.checkpoint
+next : (g : _) (c : goal.Joined-walk g) → IsNextBlock c.args.reader.now.checkpoints c.args.walk.now.place c.args.walk.now.next c.enter-entered.ensures.entered.checkpoint
 next g c = next_is _ _ _ _ _ c.enter-entered.ensures.covers (c.requires.here ∙ c.requires.walk.end) c.requires.more c.enter-entered.ensures.entered.looked.looked.seeks
 
 pub returns-clause-walk : goal.returns-clause-walk
@@ -28,7 +28,8 @@ returns-clause-walk g c =
       end = e.end ∙ sym n.end;
       above = omega arith;
       below = omega arith;
-      holds = λ honest some. holds_next c.args.reader.now c.enter-entered.new.self c.args.walk.now.next c.args.walk.now.place
+      some = (λ _. omega arith, λ _. refl);
+      holds = λ honest. holds_next c.args.reader.now c.enter-entered.new.self c.args.walk.now.next c.args.walk.now.place
           ((c.args.walk.now.place + 1) - 1) e.checkpoint c.enter-entered.result.block e.looked n.at place honest;
       only = only_next c.args.reader.now c.enter-entered.new.self c.args.walk.now.next e.checkpoint c.enter-entered.result.block e.looked;
     })

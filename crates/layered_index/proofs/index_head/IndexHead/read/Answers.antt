@@ -18,4 +18,4 @@ returns-clause-bad g c honest bad has =
     let came : c.in_ok-front.front ≡ take longest_head index = c.in_ok-front.ensures.bytes honest
     ∙ front_read content c.args.start c.args.end c.min-len.result longest_head c.requires.order c.min-len.ensures in
     let size : length index < 2 ^ 64 = omega (arith, length-take (c.args.end - c.args.start) (drop c.args.start content)) in
-    no_head c.args.period index c.requires.two c.requires.few size (subst HasNoHead came (bad_head c.in_ok-front.front c.head_in.result c.head_in.ensures.refused bad)) has
+    no_head c.args.period index c.requires.least c.requires.most size (subst HasNoHead came (bad_head c.in_ok-front.front c.head_in.result c.head_in.ensures.refused bad)) has

@@ -1,5 +1,5 @@
 use Rattle.std.proofs.Common.{refl, arith}
-use Rattle.store_reader.proofs.WalkingLemmas.{docs_stay, item_is_true}
+use Rattle.store_reader.proofs.WalkingLemmas.{docs_stay, item_is_true, stands_from}
 use Rattle.store_reader.proofs.iter.ItemsWalkIterator.next.Goals as goal
 
 pub returns-clause-goes : goal.returns-clause-goes
@@ -8,8 +8,11 @@ returns-clause-goes g c =
     let stay = docs_stay _ _ _ _ _ _ found.0 in let on = found.0.on in let below = found.1 in let next = found.3 in
     record { on = λ finite. (c.walk_on.ensures.walk, tt, omega arith); keeps = c.walk_on.ensures.walk; rests = λ finite. tt }
 
-pub answer_of-requires : goal.answer_of-requires
-answer_of-requires g c = c.in_ok-doc_id.ensures.found.4.above
+pub answer_of-requires-clause-above : goal.answer_of-requires-clause-above
+answer_of-requires-clause-above g c = (stands_from _ _ _ _ c.in_ok-doc_id.ensures.found.4).1
+
+pub answer_of-requires-clause-block : goal.answer_of-requires-clause-block
+answer_of-requires-clause-block g c = (stands_from _ _ _ _ c.in_ok-doc_id.ensures.found.4).0
 
 pub returns-clause-steps : goal.returns-clause-steps
 returns-clause-steps g c =
@@ -19,7 +22,7 @@ returns-clause-steps g c =
         walks = found.0;
         walk = c.walk_on.ensures.walk;
         same = c.walk_on.ensures.same;
-        gives = record { below = found.1; is_alive = found.2; next = found.3; above = found.4.above; answers = c.answer_of.ensures; honest = item_is_true _ _ _ _ _ found.4 c.answer_of.ensures };
+        gives = record { below = found.1; is_alive = found.2; next = found.3; above = (stands_from _ _ _ _ found.4).1; answers = c.answer_of.ensures; honest = item_is_true _ _ _ _ _ found.4 c.answer_of.ensures };
       },
       refl,
       refl,

@@ -68,13 +68,13 @@ returns-clause-reads g c honest s =
     reads_stored c.self.inside.file c.args.self.now c.seek.new.file _ _ _ c.self.view_is c.self.invariant honest s c.seek.ensures.reads
 
 pub returns-in_err-checkpoint-clause-kept : goal.returns-in_err-checkpoint-clause-kept
-returns-in_err-checkpoint-clause-kept g c = runs_kept _ c.self.inside.file c.args.self.now c.seek.new.file c.self.view_is c.seek.ensures.few c.seek.ensures.kept
+returns-in_err-checkpoint-clause-kept g c = runs_kept _ c.self.inside.file c.args.self.now c.seek.new.file c.self.view_is c.seek.ensures.most c.seek.ensures.kept
 
 pub returns-in_default-clause-kept : goal.returns-in_default-clause-kept
-returns-in_default-clause-kept g c = runs_kept _ c.self.inside.file c.args.self.now c.seek.new.file c.self.view_is c.seek.ensures.few c.seek.ensures.kept
+returns-in_default-clause-kept g c = runs_kept _ c.self.inside.file c.args.self.now c.seek.new.file c.self.view_is c.seek.ensures.most c.seek.ensures.kept
 
 pub returns-then-doc_id-checkpoint-clause-kept : goal.returns-then-doc_id-checkpoint-clause-kept
-returns-then-doc_id-checkpoint-clause-kept g c = runs_kept _ c.self.inside.file c.args.self.now c.seek.new.file c.self.view_is c.seek.ensures.few c.seek.ensures.kept
+returns-then-doc_id-checkpoint-clause-kept g c = runs_kept _ c.self.inside.file c.args.self.now c.seek.new.file c.self.view_is c.seek.ensures.most c.seek.ensures.kept
 
 pub returns-clause-kept : goal.returns-clause-kept
-returns-clause-kept g c = runs_kept _ c.self.inside.file c.args.self.now c.seek.new.file c.self.view_is c.seek.ensures.few c.seek.ensures.kept
+returns-clause-kept g c = runs_kept _ c.self.inside.file c.args.self.now c.seek.new.file c.self.view_is c.seek.ensures.most c.seek.ensures.kept

@@ -16,4 +16,4 @@ returns-clause-count g c honest s =
     (sought_stored (λ cs. MatchResult result (λ end. end ≡ docs_end 0 cs) RefusesRead) c.self.inside.file c.args.self.now _ _ _ c.self.view_is c.self.invariant honest s c.docs_end.ensures.answer)
 
 pub returns-clause-kept : goal.returns-clause-kept
-returns-clause-kept g c = run_kept _ c.self.inside.file c.args.self.now c.docs_end.new.file c.self.view_is c.docs_end.ensures.few c.docs_end.ensures.once
+returns-clause-kept g c = run_kept _ c.self.inside.file c.args.self.now c.docs_end.new.file c.self.view_is c.docs_end.ensures.most c.docs_end.ensures.once

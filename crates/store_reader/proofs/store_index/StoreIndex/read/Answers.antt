@@ -12,7 +12,6 @@ passed c = covers_by c.in_ok-index.index.checkpoints c.in-Some.num_docs c.in-Som
 pub invariant_of-result : goal.invariant_of-result
 invariant_of-result c =
     let ok = c.in_ok-index.ensures.ok in (
-      sym ok.0,
       sym (passed c).count,
       c.len-len.ensures ∙ ap length ok.1.1 ∙ ap (λ (p : ℕ). length (index_part p c.in_ok-index.index.checkpoints)) (sym ok.0),
     )
@@ -29,7 +28,7 @@ returns-in-Some c =
 
 pub returns-in_default : goal.returns-in_default
 returns-in_default c =
-    let refused = not_covered c.args.period c.args.bytes c.args.covered c.in_ok-index.index.checkpoints c.requires.two c.in_ok-index.ensures.ok.1 in
+    let refused = not_covered c.args.period c.args.bytes c.args.covered c.in_ok-index.index.checkpoints c.requires.least c.in_ok-index.ensures.ok.1 in
     elim c.in_default.branch [
       | in_default-via-in-Some+else-end-covered w ↦ inl (refl, refused (λ docs e. w.if-end-covered.false (some_pair w.in-Some.num_docs w.in-Some.end docs c.args.covered (w.in-Some.ensures ∙ e)).1))
       | in_default-via-in_default w ↦ inl (refl, refused (λ docs e. none_is_some docs c.args.covered (sym w.in_default.is ∙ c.covered_to.ensures ∙ e)))

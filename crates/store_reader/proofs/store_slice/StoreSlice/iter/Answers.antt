@@ -11,7 +11,8 @@ returns-clause-amid c s =
     let laid = inv.laid_out s in
     let e = c.new.ensures in
     let all = c.in_ok-checkpoints.ensures.answer (checkpoints_of s.blocks) (stored_index _ _ _ _ s laid) in
-    amid_first _ s _ _ (left_first _ s c.new.result (e.checkpoints ∙ all) e.next (e.bytes ∙ c.self.view_is) (e.data_len ∙ laid.data_is) e.well) e.next
+    let before = c.before_all.ensures in
+    rw (before.first, before.end) (amid_first _ s _ _ (left_first _ s c.new.result (e.checkpoints ∙ all) e.next (e.bytes ∙ c.self.view_is) (e.data_len ∙ laid.data_is) e.well) e.next)
 
 pub returns-in_err-checkpoints-clause-amid : goal.returns-in_err-checkpoints-clause-amid
 returns-in_err-checkpoints-clause-amid c s =

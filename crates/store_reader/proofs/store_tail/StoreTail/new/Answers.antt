@@ -16,31 +16,37 @@ returns-then-file_len-clause-refused c =
 pub returns-in-Err-clause-refused : goal.returns-in-Err-clause-refused
 returns-in-Err-clause-refused c = bad_footer c.args.file_len c.args.tail.now c.in-Err.error (omega arith) (omega arith) c.in-Err.ensures.found
 
-pub returns-then-file_len-footer-clause-refused : goal.returns-then-file_len-footer-clause-refused
-returns-then-file_len-footer-clause-refused c = bad_offset c.args.file_len c.args.tail.now c.in-Ok.footer (omega arith) (omega arith) c.in-Ok.ensures.found (omega arith)
+pub returns-in-Err-index_range-clause-refused : goal.returns-in-Err-index_range-clause-refused
+returns-in-Err-index_range-clause-refused c =
+    rw c.in-Err-index_range.ensures.cause (bad_offset c.args.file_len c.args.tail.now c.in-Ok.footer (omega arith) (omega arith) c.in-Ok.ensures.found c.in-Err-index_range.ensures.past)
 
 pub returns-then-tail-wanted-clause-refused : goal.returns-then-tail-wanted-clause-refused
 returns-then-tail-wanted-clause-refused c =
-    wanted_index c.args.file_len c.args.tail.now c.in-Ok.footer (omega arith) (omega arith) c.in-Ok.ensures.found (omega arith) (omega arith)
+    let range = c.in-Ok-index_range.ensures in
+    let start = range.start in let order = range.order in
+    rw start (wanted_index c.args.file_len c.args.tail.now c.in-Ok.footer (omega arith) (omega arith) c.in-Ok.ensures.found (omega arith) (omega arith))
 
 pub invariant_of-result : goal.invariant_of-result
 invariant_of-result c =
     let f = c.in-Ok.footer in
     let n = c.args.file_len in
     let tail = c.args.tail.now in
-    let part : c.part-index_bytes.result.now ≡ slice_range tail (length tail - (n - f.offset)) (length tail - 28) = c.part-index_bytes.ensures in
+    let start = c.in-Ok-index_range.ensures.start in let order = c.in-Ok-index_range.ensures.order in
+    let part : c.part-index_bytes.result.now ≡ slice_range tail (length tail - (n - f.offset)) (length tail - 28) = c.part-index_bytes.ensures
+    ∙ (λ i. slice_range tail (length tail - (n - start i)) (length tail - 28)) in
     let is : c.in-Ok-new.index ≡ record { period = f.period; bytes = slice_range tail (length tail - (n - f.offset)) (length tail - 28) } = c.in-Ok-new.ensures.ok
     ∙ (λ i. record { period = f.period; bytes = part i }) in
     let fits : 28 + f.offset ≤ n = omega arith in
     let enough : n - f.offset ≤ length tail = omega arith in
-    record {
+    rw start (record {
       within = omega arith;
       laid_out = λ file t. tail_laid_out file n tail f c.in-Ok-new.index t (omega arith) c.in-Ok.ensures.found fits enough is;
-    }
+    })
 
 pub returns-in-Err-new-clause-refused : goal.returns-in-Err-new-clause-refused
 returns-in-Err-new-clause-refused c =
-    let none = rw c.part-index_bytes.ensures at c.in-Err-new.ensures.refused in
+    let start = c.in-Ok-index_range.ensures.start in let order = c.in-Ok-index_range.ensures.order in
+    let none = rw (c.part-index_bytes.ensures, start) at c.in-Err-new.ensures.refused in
     bad_index c.args.file_len c.args.tail.now c.in-Ok.footer c.in-Err-new.error (omega arith) (omega arith) c.in-Ok.ensures.found (omega arith) (omega arith) none
 
 pub returns-then-file_len-clause-short : goal.returns-then-file_len-clause-short
@@ -60,29 +66,35 @@ returns-in-Err-clause-short c wanted lacks =
     let is = lacks.index (omega arith) in
     absurd (footer_or_refusal c.args.tail.now is.0 c.in-Err.error is.1 c.in-Err.ensures.found)
 
-pub returns-then-file_len-footer-clause-short : goal.returns-then-file_len-footer-clause-short
-returns-then-file_len-footer-clause-short c wanted lacks =
+pub returns-in-Err-index_range-clause-short : goal.returns-in-Err-index_range-clause-short
+returns-in-Err-index_range-clause-short c wanted lacks =
+    let past = c.in-Err-index_range.ensures.past in
     let from = wanted_from c.args.file_len c.args.tail.now c.in-Ok.footer wanted (omega arith) c.in-Ok.ensures.found lacks in
     let short = lacks.short in
     absurd (omega arith)
 
 pub returns-then-tail-wanted-clause-short : goal.returns-then-tail-wanted-clause-short
 returns-then-tail-wanted-clause-short c wanted lacks =
+    let start = c.in-Ok-index_range.ensures.start in let order = c.in-Ok-index_range.ensures.order in
     let from = wanted_from c.args.file_len c.args.tail.now c.in-Ok.footer wanted (omega arith) c.in-Ok.ensures.found lacks in
-    let same : c.args.file_len - c.in-Ok.footer.offset ≡ wanted = omega arith in
+    let same : c.args.file_len - c.in-Ok-index_range.range.start ≡ wanted = omega arith in
     ap (λ (n : ℕ). Err (Short n)) same
 
 pub returns-in-Ok-new-clause-index : goal.returns-in-Ok-new-clause-index
-returns-in-Ok-new-clause-index c = record { footer = c.in-Ok.footer; reads = c.in-Ok.ensures.found; within = omega arith; whole = omega arith }
+returns-in-Ok-new-clause-index c =
+    let start = c.in-Ok-index_range.ensures.start in let order = c.in-Ok-index_range.ensures.order in
+    record { footer = c.in-Ok.footer; reads = c.in-Ok.ensures.found; within = omega arith; whole = omega arith }
 
 pub returns-in-Ok-new-clause-short : goal.returns-in-Ok-new-clause-short
 returns-in-Ok-new-clause-short c wanted lacks =
+    let start = c.in-Ok-index_range.ensures.start in let order = c.in-Ok-index_range.ensures.order in
     let from = wanted_from c.args.file_len c.args.tail.now c.in-Ok.footer wanted (omega arith) c.in-Ok.ensures.found lacks in
     let short = lacks.short in
     absurd (omega arith)
 
 pub returns-in-Err-new-clause-short : goal.returns-in-Err-new-clause-short
 returns-in-Err-new-clause-short c wanted lacks =
+    let start = c.in-Ok-index_range.ensures.start in let order = c.in-Ok-index_range.ensures.order in
     let from = wanted_from c.args.file_len c.args.tail.now c.in-Ok.footer wanted (omega arith) c.in-Ok.ensures.found lacks in
     let short = lacks.short in
     absurd (omega arith)

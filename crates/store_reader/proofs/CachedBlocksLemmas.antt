@@ -9,7 +9,7 @@ use Rattle.std.specs.Option.{option_map_or}
 use Rattle.std.specs.Prelude.{Result, Ok, Err, OnOk, OnErr, is_ok}
 use Rattle.lru.specs.LruCache.{LruCache, lru_cache, put_entries, promoted}
 use Rattle.store_reader.specs.Cache.{CacheState, look_up, to_front, one_more}
-use Rattle.store_reader.specs.Kept.{Blocks, AreKept, block_at, after_hit, after_miss, with_pair, with_block, state_of}
+use Rattle.store_reader.specs.CachedBlocks.{CachedBlocks, AreCached, block_at, after_hit, after_miss, with_pair, with_block, state_of}
 
 eq_sym : (a b : ℕ) → nat_eq a b ≡ nat_eq b a
 eq_sym a b = (elim (nat_eq b a) as (λ y. nat_eq b a ≡ y → nat_eq a b ≡ y) [
@@ -179,8 +179,8 @@ front_found {X} k front x (e ∷ es) at same =
     let key : nat_eq k e.0 ≡ true = eq-eqb k e.0 (sym same ∙ ap (λ (p : ℕ × X). p.0) is) in
     rw key (ap (λ (p : ℕ × X). Some p.1) (sym is), refl)
 
-pub AreKept-promoted : (k capacity : ℕ) (es : List (ℕ × List ℕ)) → AreKept capacity es → AreKept capacity (promoted (nat_eq k) es)
-AreKept-promoted k capacity es a = (elim (lookup (nat_eq k) es) as (λ o. lookup (nat_eq k) es ≡ o → AreKept capacity (promoted (nat_eq k) es)) [
+pub AreCached-promoted : (k capacity : ℕ) (es : List (ℕ × List ℕ)) → AreCached capacity es → AreCached capacity (promoted (nat_eq k) es)
+AreCached-promoted k capacity es a = (elim (lookup (nat_eq k) es) as (λ o. lookup (nat_eq k) es ≡ o → AreCached capacity (promoted (nat_eq k) es)) [
   | Some v ↦ λ h. let some : IsSome (lookup (nat_eq k) es) = rw h refl in record {
     distinct = subst (IsDistinct nat_eq) (sym (keys-promoted k es a.distinct some)) (IsDistinct-to_front k (keys_of es) a.distinct);
     few = omega (arith, length-promoted k es a.distinct some, a.few);
@@ -214,14 +214,14 @@ unfolding room_for
 keys_in zero k block es = refl
 keys_in (suc n) k block es = rw (zero-lt, sub-one) (ap (λ ks. k ∷ ks) (take_keys n es))
 
-pub AreKept-with_pair : (capacity k : ℕ) (block : List ℕ) (is_kept : Bool) (es : List (ℕ × List ℕ)) → lookup (nat_eq k) es ≡ None → AreKept capacity es
-    → AreKept capacity (with_pair capacity k block is_kept es)
+pub AreCached-with_pair : (capacity k : ℕ) (block : List ℕ) (is_kept : Bool) (es : List (ℕ × List ℕ)) → lookup (nat_eq k) es ≡ None → AreCached capacity es
+    → AreCached capacity (with_pair capacity k block is_kept es)
 unfolding room_for
-AreKept-with_pair capacity k block true es none a = record { distinct = distinct_in capacity k block es (apart_from_none k es (ap is_some none)).0 a.distinct; few = few_in capacity k block es a.few }
-AreKept-with_pair capacity k block false es none a = a
+AreCached-with_pair capacity k block true es none a = record { distinct = distinct_in capacity k block es (apart_from_none k es (ap is_some none)).0 a.distinct; few = few_in capacity k block es a.few }
+AreCached-with_pair capacity k block false es none a = a
 
 -- a look-up that finds its key is the definition's, whatever it says of keeping
-pub state-after_hit : (k : ℕ) (is_kept : Bool) (b : Blocks) → IsSome (block_at k b) → AreKept b.capacity b.kept
+pub state-after_hit : (k : ℕ) (is_kept : Bool) (b : CachedBlocks) → IsSome (block_at k b) → AreCached b.capacity b.kept
     → state_of (after_hit k b) ≡ look_up b.capacity (state_of b) (record { key = k; kept = is_kept })
 state-after_hit k is_kept b some a = rw (any_from_some k b.kept some, keys-promoted k b.kept a.distinct some) refl
 
@@ -229,7 +229,7 @@ state : ℕ → ℕ → List ℕ → CacheState
 state hits misses ks = record { keys = ks; hits = hits; misses = misses }
 
 -- and so is one that does not find it, with the block kept or not
-pub state-after_miss : (k : ℕ) (block : List ℕ) (is_kept : Bool) (b : Blocks) → block_at k b ≡ None
+pub state-after_miss : (k : ℕ) (block : List ℕ) (is_kept : Bool) (b : CachedBlocks) → block_at k b ≡ None
     → state_of (with_block k block is_kept (after_miss b)) ≡ look_up b.capacity (state_of b) (record { key = k; kept = is_kept })
 unfolding state room_for
 state-after_miss k block false b none = rw ((apart_from_none k b.kept (ap is_some none)).1) refl

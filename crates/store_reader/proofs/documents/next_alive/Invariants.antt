@@ -1,5 +1,5 @@
 use Rattle.store_reader.specs.Viewing.{AreDead}
-use Rattle.store_reader.proofs.view_iter.next_alive.Given as goal
+use Rattle.store_reader.proofs.documents.next_alive.Given as goal
 
 -- none so far is alive
 abbrev pub invariant-loop-doc_id : goal.invariant-loop-doc_id

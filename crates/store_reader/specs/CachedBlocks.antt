@@ -8,31 +8,31 @@ use Rattle.store_reader.specs.Cache.{CacheState, one_more}
 
 -- how many blocks it may keep; the blocks by their keys, the one that was used last first; how many look-ups found
 -- their key and how many did not
-pub record Blocks : Type 0 where
+pub record CachedBlocks : Type 0 where
   pub capacity : ℕ
   pub kept : List (ℕ × List ℕ)
   pub hits : ℕ
   pub misses : ℕ
 
 -- no key stands twice, and there are no more blocks than the capacity
-pub record AreKept (capacity : ℕ) (kept : List (ℕ × List ℕ)) : Type 0 where
+pub record AreCached (capacity : ℕ) (kept : List (ℕ × List ℕ)) : Type 0 where
   pub distinct : IsDistinct nat_eq (keys_of kept)
   pub few : length kept ≤ capacity
 
 -- nothing kept, and nothing looked up
-abbrev pub no_blocks : ℕ → Blocks
+abbrev pub no_blocks : ℕ → CachedBlocks
 no_blocks capacity = record { capacity = capacity; kept = []; hits = 0; misses = 0 }
 
 -- what a look-up of this key finds
-abbrev pub block_at : ℕ → Blocks → Option (List ℕ)
+abbrev pub block_at : ℕ → CachedBlocks → Option (List ℕ)
 block_at key b = lookup (nat_eq key) b.kept
 
 -- the key of the block that was not used for the longest time
-abbrev pub last_key : Blocks → Option ℕ
+abbrev pub last_key : CachedBlocks → Option ℕ
 last_key b = slice_get (keys_of b.kept) (length b.kept - 1)
 
 -- after a look-up that found its key, and after one that did not
-abbrev pub after_hit : ℕ → Blocks → Blocks
+abbrev pub after_hit : ℕ → CachedBlocks → CachedBlocks
 after_hit key b = record {
   capacity = b.capacity;
   kept = promoted (nat_eq key) b.kept;
@@ -41,7 +41,7 @@ after_hit key b = record {
       b.misses;
 }
 
-abbrev pub after_miss : Blocks → Blocks
+abbrev pub after_miss : CachedBlocks → CachedBlocks
 after_miss b = record { capacity = b.capacity; kept = b.kept; hits = b.hits; misses = one_more b.misses }
 
 -- with this block in front, if memory for it was not refused and the capacity is not 0
@@ -49,7 +49,7 @@ abbrev pub with_pair : ℕ → ℕ → List ℕ → Bool → List (ℕ × List �
 with_pair capacity key block is_kept kept = if is_kept && nat_lt 0 capacity then (key, block)
     ∷ take (capacity - 1) kept else kept
 
-abbrev pub with_block : ℕ → List ℕ → Bool → Blocks → Blocks
+abbrev pub with_block : ℕ → List ℕ → Bool → CachedBlocks → CachedBlocks
 with_block key block is_kept b = record {
   capacity = b.capacity;
   kept =
@@ -59,7 +59,7 @@ with_block key block is_kept b = record {
 }
 
 -- the state as the definition of a look-up has it
-abbrev pub state_of : Blocks → CacheState
+abbrev pub state_of : CachedBlocks → CacheState
 state_of b = record { keys = keys_of b.kept; hits = b.hits; misses = b.misses }
 
 -- what there may be of a cache
