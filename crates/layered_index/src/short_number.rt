@@ -7,10 +7,7 @@ ghost use Rattle.std.specs.Prelude.{◌≡◌, ◌+◌, ◌^◌, ◌<◌, Some, 
 ghost use Rattle.std.specs.Option.{option_map};
 ghost use Rattle.store_base.specs.VInt.{number_at, number_below};
 
-use store_base::first_number;
-
-// What the last byte of a number has added.
-const STOP_BIT: u8 = 128;
+use store_base::{GROUP, STOP_BIT, first_number};
 
 // The number at the front and what follows it, where it has one byte or two of at least two.
 #[inline(always)]
@@ -26,7 +23,7 @@ fn split_pair(bytes: &[u8]) -> Option<(u64, &[u8])>
     if (last as usize) < STOP_BIT as usize + more {
         return None;
     }
-    let high = 128 * u64::from(*second % STOP_BIT);
+    let high = GROUP * u64::from(*second % STOP_BIT);
     let value = u64::from(*first % STOP_BIT) + more as u64 * high;
     Some((value, &bytes[more + 1..]))
 }
@@ -58,7 +55,7 @@ fn split_longer(bytes: &[u8]) -> Option<(u64, &[u8])>
             if high == 0 {
                 return None;
             }
-            Some((u64::from(*first) + 128 * high, rest))
+            Some((u64::from(*first) + GROUP * high, rest))
         }
         _ => None,
     }

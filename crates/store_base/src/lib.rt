@@ -30,7 +30,7 @@ pub use record::RecordDocument;
 pub use schema::{Field, Schema};
 pub use serialize::{BinarySerializable, FixedSize};
 pub use space_usage::StoreSpaceUsage;
-pub use vint::{VInt, first_number, read_u32_vint};
+pub use vint::{GROUP, STOP_BIT, VInt, first_number, read_u32_vint};
 pub use writer::{CountingWriter, TerminatingWrite};
 
 /// The number of a document in its store: the first is 0.

@@ -158,12 +158,8 @@ fn read_field(
 ) -> Result<((Field, Vec<u8>), &[u8]), DocFault>
     ensures { Gives (λ x. ((x.0.0, x.0.1.items), x.1.now)) result (field_at (spelling_of version) bytes.now) }
 {
-    let Some((field_id, rest)) = split_field_id(version, bytes) else {
-        return Err(DocFault::Refused);
-    };
-    let Some((len, rest)) = split_size(version, rest) else {
-        return Err(DocFault::Refused);
-    };
+    let (field_id, rest) = split_field_id(version, bytes).ok_or(DocFault::Refused)?;
+    let (len, rest) = split_size(version, rest).ok_or(DocFault::Refused)?;
     if (rest.len() as u64) < len {
         return Err(DocFault::Refused);
     }
@@ -195,9 +191,7 @@ fn read_fields(
 fn read_record(alloc: Global, version: u32, bytes: &[u8]) -> Result<Vec<(Field, Vec<u8>)>, DocFault>
     ensures { Gives (λ v. fields_seen v.items) result (record_at (spelling_of version) bytes.now) }
 {
-    let Some((count, rest)) = split_size(version, bytes) else {
-        return Err(DocFault::Refused);
-    };
+    let (count, rest) = split_size(version, bytes).ok_or(DocFault::Refused)?;
     let (fields, rest) = read_fields(alloc, version, count, rest)?;
     if !rest.is_empty() {
         return Err(DocFault::Refused);

@@ -17,7 +17,10 @@ use crate::writer::TerminatingWrite;
 use std::alloc::Global;
 
 /// What the last byte of a number has added.
-const STOP_BIT: u8 = 128;
+pub const STOP_BIT: u8 = 128;
+
+/// How many values a group of seven bits has: the bit above them is the one that the last byte has added.
+pub const GROUP: u64 = STOP_BIT as u64;
 
 /// A number below 2^64 whose bytes are its groups of seven bits.
 #[derive(Clone, Copy, Debug, PartialEq, Eq)]
@@ -33,11 +36,11 @@ fn split_short(bytes: &[u8]) -> Option<(u64, &[u8])>
     match bytes {
         [last, rest @ ..] if *last >= STOP_BIT => Some((u64::from(*last - STOP_BIT), rest)),
         [low, last, rest @ ..] if *last > STOP_BIT => {
-            Some((u64::from(*low) + 128 * u64::from(*last - STOP_BIT), rest))
+            Some((u64::from(*low) + GROUP * u64::from(*last - STOP_BIT), rest))
         }
         [low, middle, last, rest @ ..] if *middle < STOP_BIT && *last > STOP_BIT => {
-            let high = u64::from(*middle) + 128 * u64::from(*last - STOP_BIT);
-            Some((u64::from(*low) + 128 * high, rest))
+            let high = u64::from(*middle) + GROUP * u64::from(*last - STOP_BIT);
+            Some((u64::from(*low) + GROUP * high, rest))
         }
         _ => None,
     }
@@ -63,7 +66,7 @@ fn split_number(bytes: &[u8]) -> Option<(u64, &[u8])>
             return None;
         }
         value += u64::from(*b) * scale;
-        scale *= 128;
+        scale *= GROUP;
     }
     None
 }
@@ -109,10 +112,10 @@ fn begins_number(bytes: &[u8], most: u64) -> bool
         [] => true,
         [first, rest @ ..] => {
             let first = u64::from(*first);
-            if first >= 128 || most < first + 128 {
+            if first >= GROUP || most < first + GROUP {
                 return false;
             }
-            begins_number(rest, (most - first) / 128)
+            begins_number(rest, (most - first) / GROUP)
         }
     }
 }
@@ -154,9 +157,9 @@ fn push_groups(n: u64, output: &mut Vec<u8>) -> Result<(), NoMemory>
     ensures capacity { vec_capacity output.old ≤ vec_capacity output.new }
 {
     let mut rest = n;
-    while rest >= 128 {
-        output.push((rest % 128) as u8)?;
-        rest /= 128;
+    while rest >= GROUP {
+        output.push((rest % GROUP) as u8)?;
+        rest /= GROUP;
     }
     output.push(rest as u8 + STOP_BIT)?;
     Ok(())
@@ -170,10 +173,10 @@ fn groups(n: u64) -> ([u8; 10], usize)
     let mut bytes = [0u8; 10];
     let mut len = 0;
     let mut rest = n;
-    while rest >= 128 {
-        bytes[len] = (rest % 128) as u8;
+    while rest >= GROUP {
+        bytes[len] = (rest % GROUP) as u8;
         len += 1;
-        rest /= 128;
+        rest /= GROUP;
     }
     bytes[len] = rest as u8 + STOP_BIT;
     (bytes, len + 1)

@@ -21,7 +21,7 @@ use Rattle.store_commands.proofs.WalkLemmas.{HasCome, has_begun, IsNext, is_next
 
 -- ---- the documents of a block
 
-slots_split : (block : List ℕ) (m n : ℕ) → slots_in block (m + n) ≡ slots_in block m ++ map (slot block) (range_with_len m n)
+pub slots_split : (block : List ℕ) (m n : ℕ) → slots_in block (m + n) ≡ slots_in block m ++ map (slot block) (range_with_len m n)
 slots_split block m n =
     let here : 0 + m ≡ m = omega arith in
     ap (map (slot block)) (range_joined 0 m n) ∙ map-append (slot block) (range_with_len 0 m) (range_with_len (0 + m) n)
@@ -58,6 +58,15 @@ pub record HasGiven {T : Type 0} (takes : T → List ℕ → T → Type 0) (set 
 pub given_first : {T : Type 0} (takes : T → List ℕ → T → Type 0) (set : Option (ℕ → Bool)) (r : Reading) (old : T) → Covers r.checkpoints (length r.file.content) → HasGiven takes set r r 0 old old
 given_first takes set r old covers = record { front = []; come = has_begun r; covers = covers; same = same_itself r; taken = λ _. takes_none takes old }
 
+-- a block that comes is the next one
+pub next_in : {T : Type 0} (takes : T → List ℕ → T → Type 0) (set : Option (ℕ → Bool)) (r now : Reading) (next : ℕ) (old new : T) (part : DataPart) (h : HasGiven takes set r now next old new)
+    → Some (place_of part) ≡ first_past now.checkpoints next
+    → (IsTrue now.file.honest → part.bytes ≡ slice_range now.file.content part.start (part.start + length part.bytes)) → IsNext r h.front next part
+next_in takes set r now next old new part h seeks given =
+    let same = h.same in
+    is_next r h.front next part h.covers h.come (seeks ∙ ap (λ cs. first_past cs next) same.checkpoints)
+    (λ honest. given (subst IsTrue (sym same.honest) honest) ∙ ap (λ (xs : List ℕ). slice_range xs part.start (part.start + length part.bytes)) same.content)
+
 pub given_more : {T : Type 0} (takes : T → List ℕ → T → Type 0) (set : Option (ℕ → Bool)) (r now read : Reading) (next : ℕ) (old middle new : T) (part : DataPart)
     → HasGiven takes set r now next old middle
     → Some (place_of part) ≡ first_past now.checkpoints next
@@ -67,8 +76,7 @@ pub given_more : {T : Type 0} (takes : T → List ℕ → T → Type 0) (set : O
     → HasGiven takes set r read part.ids.end old new
 given_more takes set r now read next old middle new part h seeks given none once block =
     let same = h.same in
-    let n : IsNext r h.front next part = is_next r h.front next part h.covers h.come (seeks ∙ ap (λ cs. first_past cs next) same.checkpoints)
-    (λ honest. given (subst IsTrue (sym same.honest) honest) ∙ ap (λ (xs : List ℕ). slice_range xs part.start (part.start + length part.bytes)) same.content) in
+    let n : IsNext r h.front next part = next_in takes set r now next old middle part h seeks given in
     record {
       front = h.front ++ n.block ∷ [];
       come = has_come_on r h.front next part h.come n;

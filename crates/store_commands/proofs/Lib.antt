@@ -2,10 +2,12 @@ pub mod AliveLemmas
 pub mod BrokenLemmas
 pub mod CheckLemmas
 pub mod CountLemmas
+pub mod EndingLemmas
 pub mod GivingLemmas
 pub mod MergedLemmas
 pub mod PartLemmas
 pub mod RangeWordLemmas
+pub mod SoundLemmas
 pub mod SpanLemmas
 pub mod TailLemmas
 pub mod TakingLemmas

@@ -18,7 +18,7 @@ use Rattle.store_reader.proofs.ReaderStoreLemmas.{store_seen}
 
 -- ---- blocks by their first document
 
-docs_first : (x : StoreBlock) (xs : List StoreBlock) → docs_in (x ∷ xs) ≡ x.count + docs_in xs
+pub docs_first : (x : StoreBlock) (xs : List StoreBlock) → docs_in (x ∷ xs) ≡ x.count + docs_in xs
 docs_first x xs = sum_by-cons (λ (b : StoreBlock). b.count) x xs
 
 pub docs_joined : (xs ys : List StoreBlock) → docs_in (xs ++ ys) ≡ docs_in xs + docs_in ys

@@ -2,7 +2,9 @@ pub mod Blocks
 pub mod BrokenParts
 pub mod Checks
 pub mod Documents
+pub mod Giving
 pub mod IdRanges
+pub mod Laws
 pub mod LeftOut
 pub mod Merging
 pub mod Numbers

@@ -1,12 +1,13 @@
 //! Goes over the documents of a store block by block. Each block is read once, and no document is copied.
 
-ghost use Rattle.std.specs.Prelude.{◌≤◌, ◌-◌, [], ◌∷◌, OnOk, IsTrue};
+ghost use Rattle.std.specs.Prelude.{◌≡◌, ◌≤◌, ◌-◌, [], ◌∷◌, IfErr, OnOk, IsTrue};
 ghost use Rattle.store_reader.specs.Iteration.{alive};
 ghost use Rattle.store_reader.specs.Reading.{IsSameStore, store_of};
 ghost use Rattle.store_format.specs.Block.{slot};
 ghost use Rattle.store_format.specs.Slots.{slots};
 ghost use Rattle.store_commands.specs.Checks.{slots_in};
 ghost use Rattle.store_commands.specs.Documents.{kept_by, alive_from, TakesSlots};
+ghost use Rattle.store_commands.specs.Giving.{RefusesSlot, EndsBlock, EndsGiving, HasTargetFailed};
 ghost use Rattle.store_commands.specs.LeftOut.{AreApartFrom};
 
 use crate::block_documents::document_at;
@@ -17,17 +18,27 @@ use store_base::{DocId, FileHandle};
 
 /// Takes documents, as an output that prints them does.
 pub trait DocumentTarget {
-    ghost use Rattle.std.specs.Prelude.{ℕ, List, OnOk};
+    ghost use Rattle.std.specs.Prelude.{◌≡◌, ℕ, List, OnOk, OnErr};
+    ghost use Rattle.store_base.specs.Counts.{HasRisen};
 
     /// What taking a document does.
     ghost takes: { Self → List ℕ → Self → Type 0 };
+
+    /// What a document leaves that isn't taken.
+    ghost refuses: { Self → List ℕ → Self → Type 0 };
+
+    /// How often it failed. A count at its greatest value is taken to have risen.
+    ghost failures: { Self → ℕ };
 
     /// Why a document isn't taken.
     type Error: Drop;
 
     /// Takes one document more.
     fn take(&mut self, document: &[u8]) -> Result<(), Self::Error>
-        ensures { OnOk result (takes self.old document.now self.new) };
+        ensures taken { OnOk result (takes self.old document.now self.new) }
+        ensures refused { OnErr result (refuses self.old document.now self.new) }
+        ensures fault { OnErr result (HasRisen (failures self.old) (failures self.new)) }
+        ensures steady { OnOk result (failures self.new ≡ failures self.old) };
 }
 
 /// Why the documents of a store were not all given: the store's error, or the target's.
@@ -56,6 +67,9 @@ fn give_document<T: DocumentTarget>(
     position: u32,
 ) -> Result<(), GivingError<T::Error>>
     ensures given { OnOk result (TakesSlots T.takes (slot block.now position ∷ []) target.old target.new) }
+    ensures ended { IfErr result (RefusesSlot T.refuses doc_id (slot block.now position) target.old target.new) }
+    ensures failed { IfErr result (HasTargetFailed (T.failures target.old) (T.failures target.new)) }
+    ensures steady { OnOk result (T.failures target.new ≡ T.failures target.old) }
 {
     let document = document_at(block, doc_id, position)?;
     match target.take(document) {
@@ -75,6 +89,10 @@ fn give_block<T: DocumentTarget>(
     ensures given { OnOk result (TakesSlots T.takes (alive_from block.now.ids.start
         (slots_in block.now.bytes (block.now.ids.end - block.now.ids.start)) (kept_by left_out.now))
         target.old target.new) }
+    ensures ended { IfErr result (EndsBlock T.takes T.refuses (kept_by left_out.now) block.now.ids.start
+        block.now.bytes (block.now.ids.end - block.now.ids.start) target.old target.new) }
+    ensures failed { IfErr result (HasTargetFailed (T.failures target.old) (T.failures target.new)) }
+    ensures steady { OnOk result (T.failures target.new ≡ T.failures target.old) }
 {
     let first = block.ids.start;
     let end = block.ids.end;
@@ -102,6 +120,11 @@ pub fn give_documents<H: FileHandle, T: DocumentTarget>(
     requires { AreApartFrom 0 left_out.now }
     ensures given { IsTrue reader.old.file.honest → OnOk result (TakesSlots T.takes
         (alive (slots (store_of reader.old)) (kept_by left_out.now)) target.old target.new) }
+    ensures ended { IfErr result (EndsGiving T.takes T.refuses (kept_by left_out.now) reader.old reader.new
+        target.old target.new) }
+    ensures failed { IfErr result (HasTargetFailed (T.failures target.old) (T.failures target.new)) }
+    ensures target { OnOk result (T.failures target.new ≡ T.failures target.old) }
+    ensures steady { OnOk result (reader.new.file.failures ≡ reader.old.file.failures) }
     ensures same_store { IsSameStore reader.old reader.new }
 {
     // By its clause the blocks cover the data.

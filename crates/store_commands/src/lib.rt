@@ -7,6 +7,7 @@ pub mod broken_part;
 pub mod checking;
 pub mod id_range;
 pub mod kept_documents;
+pub mod laws;
 pub mod left_out;
 pub mod merging;
 pub mod request_error;

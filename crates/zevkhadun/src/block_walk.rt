@@ -10,11 +10,12 @@ use std::io::Write;
 use store_commands::block_walk::{DocumentTarget, GivingError, give_documents};
 use store_commands::left_out::IdSpan;
 
-// An output in which each document stands in a framing.
+// An output in which each document stands in a framing. It counts the writes that fail.
 #[derive(Drop)]
 struct FramedOutput<'a, W: Write> {
     output: &'a mut W,
     framing: Framing,
+    failures: u64,
 }
 
 impl<'a, W: Write> DocumentTarget for FramedOutput<'a, W> {
@@ -22,10 +23,18 @@ impl<'a, W: Write> DocumentTarget for FramedOutput<'a, W> {
 
     ghost takes = { λ _ _ _. ⊤ };
 
+    ghost refuses = { λ _ _ _. ⊤ };
+
+    ghost failures = { λ output. output.failures };
+
     type Error = FailureCause;
 
     fn take(&mut self, document: &[u8]) -> Result<(), FailureCause> {
-        to_output(self.framing.write(self.output, document))
+        let written = to_output(self.framing.write(self.output, document));
+        if written.is_err() {
+            self.failures = self.failures.saturating_add(1);
+        }
+        written
     }
 }
 
@@ -48,7 +57,11 @@ pub fn write_documents<W: Write>(
 ) -> Result<(), FailureCause>
     requires { AreApartFrom 0 left_out.now }
 {
-    let mut target = FramedOutput { output, framing };
+    let mut target = FramedOutput {
+        output,
+        framing,
+        failures: 0,
+    };
     give_documents(alloc, reader, &mut target, left_out)?;
     Ok(())
 }

@@ -8,10 +8,10 @@ use crate::store_output::{DiskWriter, create, finish, summarize};
 use clap::{Arg, ArgAction, ArgMatches, Command};
 use docstore::DocStoreVersion;
 use std::alloc::{AllocError, Global};
-use store_base::StoreError;
+use store_base::{FileHandle, StoreError};
 use store_commands::StoreShape;
 use store_commands::kept_documents::input_without;
-use store_commands::merging::merge_store;
+use store_commands::merging::{MergeFailure, merge_store};
 
 // How many bytes of a store that is stacked are in memory at a time.
 const PART_BYTES: usize = 1 << 22;
@@ -60,6 +60,15 @@ fn ids_for<'a>(word: &'a str, path: &str) -> Option<&'a str> {
     match word.rsplit_once('=') {
         Some((input, ids)) if input == path => Some(ids),
         _ => None,
+    }
+}
+
+impl<H: FileHandle> From<MergeFailure<H>> for Cause {
+    fn from(failure: MergeFailure<H>) -> Cause {
+        match failure {
+            MergeFailure::Request(error) => Cause::from(error),
+            MergeFailure::Refused { error, .. } => Cause::Store(error),
+        }
     }
 }
 

@@ -1,0 +1,7 @@
+//! What it says of a block that it is called sound. Each function takes nothing and does nothing: its clause is the law.
+ghost use Rattle.store_commands.specs.Laws.{SoundBlocksAreOfDocuments};
+
+/// A block that is called sound is the block of its documents, byte for byte: no other byte is in it.
+pub fn sound_blocks_are_of_documents()
+    ensures { SoundBlocksAreOfDocuments }
+{}
