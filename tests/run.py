@@ -19,7 +19,7 @@ from harness import BUILT
 
 TESTS = Path(__file__).resolve().parent
 SUITES = (
-    "documents", "scripts", "program", "files", "pages", "vectors", "lists", "sessions",
+    "documents", "scripts", "program", "files", "replay", "pages", "vectors", "lists", "sessions",
     "library", "packages", "answers",
 )
 

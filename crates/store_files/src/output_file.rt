@@ -18,6 +18,24 @@ impl LockFile for File {
     }
 }
 
+// The folder that a file of this name is in.
+fn folder_of(path: &str) -> &str {
+    match path.rsplit_once('/') {
+        Some(("", _)) => "/",
+        Some((folder, _)) => folder,
+        None => ".",
+    }
+}
+
+/// Opens the folder of the file of this name.
+pub(crate) fn open_folder<R: Files>(rt: &R, path: &str) -> Result<R::File, CreateError> {
+    match File::open(rt, folder_of(path)) {
+        Ok(folder) => Ok(folder),
+        Err(error) if error.kind() == io::ErrorKind::NotFound => Err(CreateError::System(error)),
+        Err(error) => Err(CreateError::Folder(error)),
+    }
+}
+
 // What the file of this name is, if there is one.
 fn found_at<R: Files>(rt: &R, path: &str) -> io::Result<Option<Metadata>> {
     match rt.symlink_metadata(path) {
@@ -80,7 +98,7 @@ fn copy_access<R: Files>(rt: &R, beside: &str, replaced: &Metadata) -> io::Resul
     rt.set_permissions(beside, Permissions::from_mode(replaced.mode() & 0o777))
 }
 
-// Locks and empties the file beside, and gives it the access that the replaced file has.
+// Locks the file beside, and gives it the access that the replaced file has.
 fn claim<R: Files>(
     rt: &R,
     alloc: Global,
@@ -92,15 +110,14 @@ where
     R::File: LockFile,
 {
     lock(rt, file, beside, alloc)?;
-    file.set_len(0)?;
     if let Some(replaced) = replaced {
         copy_access(rt, beside, replaced)?;
     }
     Ok(())
 }
 
-/// Begins the file beside: locked, empty, and with the access that the replaced file has. What a crash left is taken
-/// over. Where the system refuses a call nothing is left beside.
+/// Opens the file beside: locked, and with the access that the replaced file has. One that a crash left is taken over.
+/// Where the system refuses a call nothing is left beside.
 pub(crate) fn begin<R: Files>(
     rt: &R,
     alloc: Global,

@@ -1,7 +1,7 @@
 //! An output that takes its name only once it is whole.
 
 ghost use Rattle.std.specs.Prelude.{◌≡◌, ◌≢◌, ◌++◌, ◌≤◌, ℕ, List, [], IsTrue, IsSome, IfOk, IfErr, OnOk, OnErr};
-ghost use Rattle.std.specs.Prelude.{IsErr, is_ok, Some, string_bytes, unwrap_or};
+ghost use Rattle.std.specs.Prelude.{IsErr, is_ok, length, Some, string_bytes, unwrap_or};
 ghost use Rattle.std.specs.List.{flat_map};
 ghost use Rattle.store_base.specs.Counts.{HasRisen};
 ghost use Rattle.store_base.specs.Outputs.{never_terminated, terminated_once};
@@ -42,6 +42,7 @@ pub struct Publication<F: Folder> {
     // What was passed to the folder, and the folder as `create` got it. They take no memory: only clauses read them.
     handed_over: Vec<Snapshot<Vec<u8>>>,
     first: Snapshot<F>,
+    num_bytes: u64,
     stage: Stage,
     ends: u64,
     failures: u64,
@@ -51,7 +52,7 @@ pub struct Publication<F: Folder> {
 /// Clauses see what was written, its ends, how often a call failed, the two names, and the folder at first and now.
 impl<F: Folder> Model for Publication<F> {
     ghost use Rattle.store_folder.specs.Publishing.{Published};
-    ghost use Rattle.std.specs.Prelude.{◌≡◌, ◌≢◌, ◌++◌, IsTrue, string_bytes};
+    ghost use Rattle.std.specs.Prelude.{◌≡◌, ◌≢◌, ◌++◌, length, IsTrue, string_bytes};
     ghost use Rattle.std.specs.List.{flat_map};
     ghost use Rattle.store_folder.specs.Moments.{LeavesOnly};
     ghost use Rattle.store_folder.specs.Publishing.{IsUntouched};
@@ -77,7 +78,8 @@ impl<F: Folder> Model for Publication<F> {
         (string_bytes s.beside) (string_bytes s.name) (flat_map (λ part. part.value.items) s.handed_over.items)
         (flat_map (λ part. part.value.items) s.handed_over.items ++ s.buffer.items)) × (IsTrue F.honest → s.ends ≡ 0
         → LeavesOnly F.moment F.left_since s.first.value s.folder
-        (IsUntouched (F.may_leave s.first.value) (string_bytes s.beside))) };
+        (IsUntouched (F.may_leave s.first.value) (string_bytes s.beside)))
+        × (s.num_bytes ≡ length (flat_map (λ part. part.value.items) s.handed_over.items ++ s.buffer.items)) };
 }
 
 // The name, and the name of the file beside.
@@ -100,8 +102,8 @@ fn hand_over<F: Folder>(
     ensures sent { OnOk result (flat_map (λ part. part.value.items) handed_over.new.items
         ≡ flat_map (λ part. part.value.items) handed_over.old.items ++ buffer.old.items) }
     ensures empty { OnOk result (buffer.new.items ≡ []) }
-    ensures kept { OnErr result (flat_map (λ part. part.value.items) handed_over.new.items ++ buffer.new.items
-        ≡ flat_map (λ part. part.value.items) handed_over.old.items ++ buffer.old.items) }
+    ensures content { flat_map (λ part. part.value.items) handed_over.new.items ++ buffer.new.items
+        ≡ flat_map (λ part. part.value.items) handed_over.old.items ++ buffer.old.items }
     ensures file { IsTrue F.honest → OnOk result
         (F.seen folder.new beside.now ≡ Some (unwrap_or (F.seen folder.old beside.now) [] ++ buffer.old.items)) }
     ensures crash { IsTrue F.honest
@@ -148,6 +150,7 @@ impl<F: Folder> Publication<F> {
             buffer: Vec::new(alloc),
             handed_over: Vec::new(alloc),
             first,
+            num_bytes: 0,
             stage: Stage::Open,
             ends: 0,
             failures: 0,
@@ -158,6 +161,13 @@ impl<F: Folder> Publication<F> {
     /// The error of the folder's call that failed.
     pub fn last_error(&self) -> Option<io::Error> {
         self.last_error
+    }
+
+    /// How many bytes were written.
+    pub fn num_bytes(&self) -> u64
+        ensures { result ≡ length self.now.content }
+    {
+        self.num_bytes
     }
 
     /// The folder.
@@ -229,9 +239,13 @@ impl<F: Folder> TerminatingWrite for Publication<F> {
         if self.stage != Stage::Open {
             return self.refuse();
         }
+        let Some(num_bytes) = self.num_bytes.checked_add(bytes.len() as u64) else {
+            return self.fail(io::ErrorKind::FileTooLarge.into());
+        };
         if self.buffer.extend_from_slice(bytes).is_err() {
             return self.fail(io::ErrorKind::OutOfMemory.into());
         }
+        self.num_bytes = num_bytes;
         if self.buffer.len() < BUFFER_SIZE {
             return Ok(());
         }

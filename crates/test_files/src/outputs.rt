@@ -95,7 +95,7 @@ fn eight_calls_of_the_system_write_a_small_file(rt: HostRuntime) -> Result<(), F
     make(&rt, "test_files_calls")?;
     let calls = Cell::new(0);
     let end = write_failing(&rt, "test_files_calls/a.store", &calls, 0)?;
-    // It is opened, locked, cut, written, synced and renamed; its folder is opened and synced.
+    // Its folder is opened; it is opened, locked, cut, written, synced and renamed; its folder is synced.
     assert_eq!(rt; (end, calls.get()), (End::Ended, 8));
     Ok(remove(&rt, "test_files_calls")?)
 }
@@ -107,17 +107,40 @@ fn each_failing_call_leaves_the_old_file_or_the_whole_one(rt: HostRuntime) -> Re
     for failing_call in 1..=8 {
         fs::write(&rt, path, OLD)?;
         let end = write_failing(&rt, path, &Cell::new(0), failing_call)?;
-        let expected = if failing_call <= 3 {
+        let expected = if failing_call <= 4 {
             End::NotBegun
         } else {
             End::NotWritten
         };
         assert_eq!(rt; end, expected, "{failing_call}");
-        let left = if failing_call <= 6 { OLD } else { WHOLE };
+        let left = if failing_call <= 7 { OLD } else { WHOLE };
         assert!(rt; holds(&rt, path, left)?, "{failing_call}");
         assert_eq!(rt; count(&rt, "test_files_failing")?, 1, "{failing_call}");
     }
     Ok(remove(&rt, "test_files_failing")?)
+}
+
+// Why an output can't be begun where the call of this number fails.
+fn refusal(rt: &HostRuntime, path: &str, failing_call: u32) -> Result<String, Fail> {
+    let calls = Cell::new(0);
+    let files = FailingFiles {
+        rt: rt.clone()?,
+        calls: &calls,
+        failing_call,
+    };
+    match DiskSink::create(rt.alloc(), files, path) {
+        Ok(_) => Ok(String::new(rt.alloc())),
+        Err(error) => Ok(format!(in rt.alloc(); "{error}")?),
+    }
+}
+
+#[test]
+fn a_folder_that_cant_be_opened_is_refused_by_name(rt: HostRuntime) -> Result<(), Fail> {
+    make(&rt, "test_files_folder")?;
+    let refusal = refusal(&rt, "test_files_folder/a.store", 1)?;
+    assert_eq!(rt; refusal.as_str(), "its folder can't be opened: no storage space");
+    assert_eq!(rt; count(&rt, "test_files_folder")?, 0);
+    Ok(remove(&rt, "test_files_folder")?)
 }
 
 // Whether this is what the system said to an output; an empty text where it said nothing.
@@ -147,7 +170,7 @@ fn is_said(rt: &HostRuntime, path: &str, failing_call: u32, reason: &str) -> Res
 #[test]
 fn an_output_tells_what_the_system_said(rt: HostRuntime) -> Result<(), Fail> {
     make(&rt, "test_files_reason")?;
-    for (failing_call, reason) in [(4, "no storage space"), (6, "no storage space"), (0, "")] {
+    for (failing_call, reason) in [(5, "no storage space"), (7, "no storage space"), (0, "")] {
         let is_said = is_said(&rt, "test_files_reason/a.store", failing_call, reason);
         assert!(rt; is_said?, "{failing_call}");
     }

@@ -2,6 +2,13 @@
 #![tactic(auto)]
 
 #[cfg(test)]
+mod failing;
+#[cfg(test)]
+mod failing_folder;
+#[cfg(test)]
+mod stores;
+
+#[cfg(test)]
 mod tests {
     use std::alloc::Global;
     use std::test::Fail;

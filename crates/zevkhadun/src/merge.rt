@@ -63,11 +63,11 @@ fn ids_for<'a>(word: &'a str, path: &str) -> Option<&'a str> {
     }
 }
 
-impl<H: FileHandle> From<MergeFailure<H>> for Cause {
-    fn from(failure: MergeFailure<H>) -> Cause {
+impl<H: FileHandle> From<MergeFailure<H>> for FailureCause {
+    fn from(failure: MergeFailure<H>) -> FailureCause {
         match failure {
-            MergeFailure::Request(error) => Cause::from(error),
-            MergeFailure::Refused { error, .. } => Cause::Store(error),
+            MergeFailure::Request(error) => FailureCause::from(error),
+            MergeFailure::Refused { error, .. } => FailureCause::Store(error),
         }
     }
 }

@@ -1,4 +1,4 @@
-use Rattle.std.proofs.Common.{◌≡◌, ◌≢◌, ◌++◌, [], List, ℕ, sym, ◌∙◌, subst, string_bytes, IsTrue}
+use Rattle.std.proofs.Common.{◌≡◌, ◌≢◌, ◌++◌, [], List, ℕ, sym, ◌∙◌, subst, string_bytes, IsTrue, rules}
 use Rattle.std.specs.List.{flat_map}
 use Rattle.store_folder.specs.Moments.{LeavesOnly}
 use Rattle.store_folder.specs.Publishing.{part, IsUntouched}
@@ -36,4 +36,5 @@ invariant_of-result g c =
           subst (λ xs. IsBeside F.seen F.may_leave F.moment F.left_since c.of-first.result.value c.create.new.self beside (flat_map (λ part. part.value.items) xs))
           (sym c.new-2.ensures.items) (begins h),
       λ h none. (begins h).any_moment,
+      search rules,
     )

@@ -1,4 +1,4 @@
-use Rattle.std.proofs.Common.{◌≡◌, ◌++◌, List, ℕ, Some, sym, ◌∙◌, ap, subst, string_bytes, rules, arith}
+use Rattle.std.proofs.Common.{◌≡◌, ◌++◌, List, ℕ, Some, sym, ◌∙◌, ap, subst, string_bytes, rules, arith, length}
 use Rattle.std.proofs.lemmas.List.{append-nil}
 use Rattle.std.specs.List.{flat_map}
 use Rattle.store_folder.specs.Moments.{LeavesOnly}
@@ -43,6 +43,7 @@ invariant_of-self-in-Err-named g c = (
       in
       subst (λ (b : List ℕ). LeavesOnly F.moment F.left_since first new (IsOldOrWhole (F.may_leave first) beside name (Some b))) content_is all,
   λ h none. absurd (omega arith),
+  c.self.invariant.3 ∙ ap length (sym (ap (λ (b : List ℕ). flat_map (λ part. part.value.items) c.hand_over-sent.new.handed_over.items ++ b) c.in_default.ensures.empty ∙ append-nil _ ∙ c.in_default.ensures.sent)),
 )
 
 pub invariant_of-self-2 : goal.invariant_of-self-2
@@ -83,4 +84,5 @@ invariant_of-self-2 g c = (
       in
       subst (λ (b : List ℕ). IsKept F.may_leave F.moment F.left_since first new beside name b) content_is (record { kept = kept_all; any_moment = all }),
   λ h none. absurd (omega arith),
+  c.self.invariant.3 ∙ ap length (sym (ap (λ (b : List ℕ). flat_map (λ part. part.value.items) c.hand_over-sent.new.handed_over.items ++ b) c.in_default.ensures.empty ∙ append-nil _ ∙ c.in_default.ensures.sent)),
 )

@@ -1,0 +1,123 @@
+//! Stores that are published in a folder.
+
+ghost use Rattle.std.specs.Prelude.{◌≡◌, ℕ, List, [], IsTrue, IfOk, IfErr, Some};
+ghost use Rattle.store_base.specs.Outputs.{never_terminated};
+ghost use Rattle.store_format.specs.StoreFile.{file};
+ghost use Rattle.docstore.specs.Writer.{flushed};
+ghost use Rattle.docstore.specs.Run.{IsWritten, AfterRun, told, Told};
+ghost use Rattle.store_folder.specs.Moments.{LeavesOnly};
+ghost use Rattle.store_folder.specs.Folder.{Keeps};
+ghost use Rattle.store_folder.specs.Publishing.{IsOldOrWhole, IsSafe};
+ghost use Rattle.store_folder.specs.Stages.{IsKept};
+ghost use Rattle.store_published.specs.Origin.{IsFrom, LeavesOnlySince};
+
+use crate::origin::Origin;
+use crate::since::Since;
+use docstore::{CloseError, StoreCommand, StoreWriter, write_store};
+use layered_index::CHECKPOINT_PERIOD;
+use std::alloc::Global;
+use std::marker::Brand;
+use store_base::{Document, FileHandle, Schema, StoreError};
+use store_folder::{Folder, Publication};
+
+/// Closes a store that is written to an output in a folder.
+///
+/// After an Ok every crash leaves under the output's name exactly the file of the store. A crash at any moment since the
+/// output began leaves what was there then, or that file. The output that is returned is not named as the one that the
+/// writer was made with: `write_published` says that.
+pub fn close_published<F: Folder>(
+    writer: StoreWriter<Publication<F>>,
+) -> Result<Publication<F>, CloseError<Publication<F>>>
+    requires { writer.output.before ≡ [] }
+    ensures kept { IsTrue F.honest → IfOk result (λ p. IsKept F.may_leave F.moment F.left_since p.first p.folder
+        p.beside p.name (file writer.output.period 3 (flushed writer).output.finished)) }
+    ensures err { IsTrue F.honest → IfErr result (λ e. IsSafe F.may_leave F.moment F.left_since e.output) }
+{
+    match writer.close() {
+        Ok(output) => {
+            let _ = output.folder();
+            Ok(output)
+        }
+        Err(refusal) => {
+            let _ = refusal.output.folder();
+            Err(refusal)
+        }
+    }
+}
+
+/// A folder in which a store was published, and each call's result.
+#[derive(Drop)]
+pub struct Stored<F> {
+    pub folder: F,
+    pub results: Vec<Result<(), StoreError>>,
+}
+
+/// Why a store was not published, and the folder.
+#[derive(Drop)]
+pub struct NotStored<F> {
+    pub error: StoreError,
+    pub folder: F,
+}
+
+// The same for an output of which the origin is named.
+fn write_since<F: Folder, K: Origin, D: Document, H: FileHandle>(
+    alloc: Global,
+    output: Publication<F>,
+    block_size: usize,
+    schema: &Schema,
+    commands: &mut [StoreCommand<D, H>],
+) -> Result<Stored<F>, NotStored<F>>
+    requires fresh { output.content ≡ [] }
+    requires origin { IsTrue F.honest
+        → IsFrom F.may_leave F.moment F.left_since K.began K.before K.past K.beside K.name output }
+    ensures stored { IfOk result (λ r. (content : List ℕ)
+        × IsWritten CHECKPOINT_PERIOD block_size (λ d. D.doc_bytes d schema.now)
+        commands.old commands.new r.results.items [] content
+        × (IsTrue F.honest → Keeps K.name (Some content) (F.may_leave r.folder))
+        × (IsTrue F.honest → LeavesOnlySince F.moment F.left_since K.began K.past r.folder
+        (IsOldOrWhole K.before K.beside K.name (Some content)))) }
+    ensures refused { IfErr result (λ e. (left : Told)
+        × AfterRun block_size (λ d. D.doc_bytes d schema.now) commands.old commands.new
+        (told output.content output.termination output.failures) left e.error
+        × (IsTrue F.honest → LeavesOnlySince F.moment F.left_since K.began K.past e.folder
+        (IsOldOrWhole K.before K.beside K.name (Some left.content)))) }
+{
+    let output = Since::<F, K>::new(output);
+    match write_store(alloc, output, block_size, schema, commands) {
+        Ok(report) => Ok(Stored {
+            folder: report.output.into_folder(),
+            results: report.results,
+        }),
+        Err(refusal) => Err(NotStored {
+            error: refusal.error,
+            folder: refusal.output.into_folder(),
+        }),
+    }
+}
+
+/// Makes the calls in order on a new writer, and closes it, as `write_store` does.
+///
+/// After an Ok every crash leaves under the output's name exactly the file of what the calls brought. A crash at any
+/// moment since the output began leaves what was there then, or that file; after an Err, what was there then, or all
+/// bytes that were written.
+pub fn write_published<F: Folder, D: Document, H: FileHandle>(
+    alloc: Global,
+    output: Publication<F>,
+    block_size: usize,
+    schema: &Schema,
+    commands: &mut [StoreCommand<D, H>],
+) -> Result<Stored<F>, NotStored<F>>
+    requires fresh { output.content ≡ [] }
+    ensures stored { IfOk result (λ r. (content : List ℕ)
+        × IsWritten CHECKPOINT_PERIOD block_size (λ d. D.doc_bytes d schema.now)
+        commands.old commands.new r.results.items [] content
+        × (IsTrue F.honest → IsKept F.may_leave F.moment F.left_since output.first r.folder
+        output.beside output.name content)) }
+    ensures refused { IfErr result (λ e. (left : Told)
+        × AfterRun block_size (λ d. D.doc_bytes d schema.now) commands.old commands.new
+        (told output.content output.termination output.failures) left e.error
+        × (IsTrue F.honest → LeavesOnly F.moment F.left_since output.first e.folder
+        (IsOldOrWhole (F.may_leave output.first) output.beside output.name (Some left.content)))) }
+{
+    write_since::<F, Brand, D, H>(alloc, output, block_size, schema, commands)
+}
