@@ -2,10 +2,12 @@
 ghost use Rattle.std.specs.Prelude.{◌≡◌, ◌≤◌, take, length, IfOk};
 
 use crate::generator::{CHECKPOINTS_SEED, Generator, TARGETS_SEED};
-use docstore::{Checkpoint, CheckpointBlock, SkipIndex, SkipIndexBuilder, StoreError};
+use docstore::{
+    Checkpoint, CheckpointBlock, DocId, MemSink, OwnedBytes, SkipIndex, SkipIndexBuilder,
+    StoreError,
+};
 use std::alloc::{AllocError, Global};
 use std::marker::Model;
-use store_base::{DocId, MemSink, OwnedBytes};
 
 /// Checkpoints of up to 200 documents and some 16400 bytes, from the first id and the first byte on.
 #[derive(Drop)]

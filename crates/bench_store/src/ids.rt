@@ -2,8 +2,8 @@
 ghost use Rattle.std.specs.Prelude.{◌<◌};
 
 use crate::generator::{DELETED_SEED, Generator, IDS_SEED};
+use docstore::DocId;
 use std::alloc::{AllocError, Global};
-use store_base::DocId;
 
 // One of how many ids is asked for from the whole store, and one of how many is deleted.
 const WHOLE_EVERY: u64 = 16;

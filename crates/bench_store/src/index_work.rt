@@ -3,11 +3,10 @@ use crate::checkpoint_list::{CheckpointList, index_part, targets};
 use crate::checks::{chained, hash};
 use crate::measure::{Run, Workload};
 use anyhow::Result;
-use docstore::{SkipIndex, StoreError};
+use docstore::{DocId, OwnedBytes, SkipIndex, StoreError};
 use std::alloc::Global;
 use std::rt::Clock;
 use std::time::Instant;
-use store_base::{DocId, OwnedBytes};
 
 /// Seeks documents in an opened index.
 #[derive(Drop)]

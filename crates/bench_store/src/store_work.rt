@@ -5,11 +5,13 @@ use crate::measure::{Run, Workload};
 use crate::shared_file::SharedFile;
 use crate::stores::{closed, opened, written};
 use anyhow::Result;
-use docstore::{Compressor, StoreError, StoreReader, StoreWriter};
+use docstore::{
+    AliveBitSet, Compressor, DocId, FileHandle, MemSink, OwnedBytes, StoreError, StoreReader,
+    StoreWriter,
+};
 use std::alloc::Global;
 use std::rt::Clock;
 use std::time::Instant;
-use store_base::{AliveBitSet, DocId, FileHandle, MemSink, OwnedBytes};
 
 /// Writes a store: a new output and writer, each document, and the end.
 #[derive(Drop)]

@@ -1,9 +1,10 @@
 //! The stores that are written and opened.
 use crate::documents::Documents;
 use crate::shared_file::SharedFile;
-use docstore::{Compressor, StoreError, StoreReader, StoreWriter};
+use docstore::{
+    Compressor, FileSlice, OwnedBytes, StoreError, StoreReader, StoreWriter, TerminatingWrite,
+};
 use std::alloc::Global;
-use store_base::{FileSlice, OwnedBytes, TerminatingWrite};
 
 /// Closes a writer.
 pub fn closed<W: TerminatingWrite>(writer: StoreWriter<W>) -> Result<W, StoreError> {

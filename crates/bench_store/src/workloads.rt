@@ -12,9 +12,9 @@ use crate::store_work::{Get, Iterate, Open, Source, Stack, Write};
 use crate::stores::written;
 use crate::view_work::{GetView, IterateView, OpenView};
 use anyhow::{Result, bail};
+use docstore::{MemSink, OwnedBytes};
 use std::alloc::Global;
 use std::fs;
-use store_base::{MemSink, OwnedBytes};
 
 /// Where workloads are printed, and in which form.
 #[derive(Drop)]

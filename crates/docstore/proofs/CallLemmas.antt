@@ -8,7 +8,7 @@ use Rattle.store_base.specs.declared.error.StoreError.TheVariants.{ShortFile, Ba
 use Rattle.store_base.specs.declared.error.StoreError.TheVariants.{Unserializable, BlockTooLarge, TooManyDocs, Failed, BadPeriod}
 use Rattle.store_format.specs.StoreFile.{StoreBlock}
 use Rattle.docstore.specs.Trace.{Call, Answer, read_failed, no_memory, refused, store, store_bytes, stack, no_effect, effect_of}
-use Rattle.docstore.specs.Writer.{Writing, flushed, with_failures, AfterFailed, AfterRefusal, AfterDocument, Takes}
+use Rattle.docstore.specs.Writer.{Writing, flushed, with_failures, AfterFailed, AfterRefusal, AfterDocument, StoresDocument}
 use Rattle.store_reader.specs.Reading.{Reading}
 use Rattle.docstore.specs.Stacking.{AreRead, with_store, AfterStack}
 use Rattle.docstore.specs.Run.{answer_of, after_effect}
@@ -67,7 +67,7 @@ document_refused bytes TooManyDocs old new h works = stays (store bytes) refused
 document_refused bytes (Failed cause) old new h works = fails (store bytes) refused old new old.output.failure cause (turned_down bytes) h works
 document_refused bytes (BadPeriod k) old new h works = absurd h
 
-pub document_made : (bytes : Option (List ℕ)) (result : Result (Unit {0}) StoreError) (old new : Writing) → OnOk result (Takes bytes old new)
+pub document_made : (bytes : Option (List ℕ)) (result : Result (Unit {0}) StoreError) (old new : Writing) → OnOk result (StoresDocument bytes old new)
     → IfSome old.output.failure (λ cause. IsErrOf result (Failed cause)) → IfErr result (AfterDocument old new) → new.output.failure ≡ None → Made (store bytes) (answer_of result) old new
 document_made None (Ok x) old new stored failed err works = absurd stored
 document_made (Some bytes) (Ok x) old new stored failed err works = record { works = accepted_works old.output.failure x failed; after = stored }
@@ -93,7 +93,7 @@ bytes_refused bytes TooManyDocs old new h works = stays (store_bytes bytes) refu
 bytes_refused bytes (Failed cause) old new h works = fails (store_bytes bytes) refused old new old.output.failure cause refl h works
 bytes_refused bytes (BadPeriod k) old new h works = absurd h
 
-pub bytes_made : (bytes : List ℕ) (result : Result (Unit {0}) StoreError) (old new : Writing) → OnOk result (Takes (Some bytes) old new)
+pub bytes_made : (bytes : List ℕ) (result : Result (Unit {0}) StoreError) (old new : Writing) → OnOk result (StoresDocument (Some bytes) old new)
     → IfSome old.output.failure (λ cause. IsErrOf result (Failed cause)) → IfErr result (AfterRefusal old new) → new.output.failure ≡ None → Made (store_bytes bytes) (answer_of result) old new
 bytes_made bytes (Ok x) old new stored failed err works = record { works = accepted_works old.output.failure x failed; after = stored }
 bytes_made bytes (Err e) old new stored failed err works = bytes_refused bytes e old new err works

@@ -12,7 +12,7 @@ use Rattle.store_format.specs.declared.version.DocStoreVersion.TheVariants.{V1, 
 use Rattle.store_format.specs.Block.{block}
 use Rattle.store_format.specs.StoreFile.{docs_in}
 use Rattle.docstore.specs.Trace.{Effect, adds, ends, may_end, no_effect, slots_of, weight}
-use Rattle.docstore.specs.Writer.{Writing, num_docs, blocks_of, flushed, HasIdLeft, IsTooLarge, HasTooMuch, IsStoreWriter, AfterFailed, AfterRefusal, AfterDocument, Takes}
+use Rattle.docstore.specs.Writer.{Writing, num_docs, blocks_of, flushed, HasIdLeft, IsTooLarge, HasTooMuch, IsStoreWriter, AfterFailed, AfterRefusal, AfterDocument, StoresDocument}
 use Rattle.store_reader.specs.Reading.{Reading, num_docs as docs_of}
 use Rattle.docstore.specs.Stacking.{IsOld, HasTooMany, AfterStack, with_store}
 use Rattle.docstore.specs.Causes.{stage_after, HasId, HasRoom, BytesGet, DocumentGets, CanStack, StoreGets}
@@ -71,7 +71,7 @@ bytes_get bytes (Err (BadPeriod k)) old new sound worked works too_many too_larg
 -- ---- documents
 
 -- a document that was taken
-document_fits : (bytes : Option (List ℕ)) (x : Unit {0}) (old new : Writing) → HasIdLeft old → Takes bytes old new → (HasTooMuch old bytes → IsErrOf (Ok x) BlockTooLarge ⊎ IsErrOf (Ok x) Memory)
+document_fits : (bytes : Option (List ℕ)) (x : Unit {0}) (old new : Writing) → HasIdLeft old → StoresDocument bytes old new → (HasTooMuch old bytes → IsErrOf (Ok x) BlockTooLarge ⊎ IsErrOf (Ok x) Memory)
     → MatchOption bytes ⊥ (HasRoom (stage_of old))
 document_fits None x old new id stored too_much = absurd stored
 document_fits (Some bytes) x old new id stored too_much = room (Ok x) old bytes id (λ t. elim (too_much t) [
@@ -85,7 +85,7 @@ document_is_large None old h = absurd h
 document_is_large (Some bytes) old h = (h.id.left, h.large)
 
 pub document_gets : (bytes : Option (List ℕ)) (result : Result (Unit {0}) StoreError) (old new : Writing) → IsStoreWriter old → old.output.failure ≡ None → new.output.failure ≡ None
-    → OnOk result (Takes bytes old new)
+    → OnOk result (StoresDocument bytes old new)
     → (IsErrOf result TooManyDocs ↔ ((old.output.failure ≡ None) × (num_docs old ≡ 2 ^ 32 - 1))) → (IsErrOf result Unserializable → HasIdLeft old × (bytes ≡ None))
     → (IsErrOf result BlockTooLarge → HasTooMuch old bytes)
     → (HasTooMuch old bytes → IsErrOf result BlockTooLarge ⊎ IsErrOf result Memory) → IfErr result (AfterDocument old new) → DocumentGets (stage_of old) bytes result

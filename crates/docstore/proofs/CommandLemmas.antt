@@ -18,7 +18,7 @@ use Rattle.store_format.specs.StoreFile.{data_of}
 use Rattle.docstore.specs.Trace.{Step, effect}
 use Rattle.docstore.specs.BlockOutput.{BlockOutput, HasCause, HasNotEnded, AfterFailedClose, AfterClose, HoldsBlocks}
 use Rattle.docstore.specs.Writer.{Writing, AfterFailed, IsStoreWriter, blocks_of}
-use Rattle.docstore.specs.Run.{stage_of, IsStep, IsKept, IsCall, IsTrace, AreKept, Told, AfterRun}
+use Rattle.docstore.specs.Run.{stage_of, IsStep, IsKept, IsCall, IsTrace, AreCommandsKept, Told, AfterRun}
 use Rattle.docstore.proofs.RunSoFarLemmas.{IsRunSoFar, run_step, run_closes}
 use Rattle.docstore.proofs.WriterLemmas.{cause_further}
 
@@ -83,13 +83,13 @@ run_by_more size period held doc_bytes commands left results command after resul
 
 -- ---- what is kept
 
-pub all_kept : {D H : Type 0} (commands : List (StoreCommand D H)) → AreKept commands commands
+pub all_kept : {D H : Type 0} (commands : List (StoreCommand D H)) → AreCommandsKept commands commands
 all_kept [] = tt
 all_kept (Doc d ∷ commands) = (refl, all_kept commands)
 all_kept (Bytes v ∷ commands) = (refl, all_kept commands)
 all_kept (Stack reader ∷ commands) = (inl refl, all_kept commands)
 
-pub kept_more : {D H : Type 0} (olds news : List (StoreCommand D H)) (old new : StoreCommand D H) → AreKept olds news → IsKept old new → AreKept (olds ++ old ∷ []) (news ++ new ∷ [])
+pub kept_more : {D H : Type 0} (olds news : List (StoreCommand D H)) (old new : StoreCommand D H) → AreCommandsKept olds news → IsKept old new → AreCommandsKept (olds ++ old ∷ []) (news ++ new ∷ [])
 kept_more [] [] old new h is = (is, tt)
 kept_more (c ∷ olds) (d ∷ news) old new h is = (h.0, kept_more olds news old new h.1 is)
 kept_more [] (d ∷ news) old new h is = absurd h
@@ -190,15 +190,3 @@ after_run size period doc_bytes commands left results held w TooManyDocs new le 
 after_run size period doc_bytes commands left results held w (BadPeriod k) new le ends sound run was h = absurd h
 
 -- ---- lists that are gone over
-
--- where what is left is the same, so is the next
-next_same : {A : Type 0} (olds news : List A) (i : ℕ) (d : A) → drop i news ≡ drop i olds → get_or news i d ≡ get_or olds i d
-next_same olds news i d rest =
-    let here : i + 0 ≡ i = omega arith in
-    ap (λ (n : ℕ). get_or news n d) (sym here) ∙ sym (get_or-drop i news 0 d) ∙ ap (λ xs. get_or xs 0 d) rest ∙ get_or-drop i olds 0 d ∙ ap (λ (n : ℕ). get_or olds n d) here
-
-pub front_more : {A : Type 0} (olds news : List A) (i : ℕ) (d : A) → drop i news ≡ drop i olds → i < length olds → take (i + 1) olds ≡ take i olds ++ get_or news i d ∷ []
-front_more olds news i d rest lt = take_more olds i d lt ∙ ap (λ x. take i olds ++ x ∷ []) (sym (next_same olds news i d rest))
-
-pub rest_more : {A : Type 0} (olds news : List A) (i : ℕ) (new : A) → drop i news ≡ drop i olds → drop (i + 1) (set news i new) ≡ drop (i + 1) olds
-rest_more olds news i new rest = drop-set-lt (i + 1) news i new (omega arith) ∙ sym (drop-drop 1 i news) ∙ ap (λ xs. drop 1 xs) rest ∙ drop-drop 1 i olds

@@ -4,6 +4,7 @@ use Rattle.std.proofs.lemmas.List.{append-nil, map-append, take-append-le, take_
 use Rattle.std.proofs.lemmas.List.Concat.{flat_map-append}
 use Rattle.std.proofs.lemmas.List.Sums.{sum_by-append}
 use Rattle.std.specs.List.{flat_map, AllByRecursion}
+use Rattle.store_base.proofs.ListLemmas.{all_append, all_take}
 use Rattle.docstore.specs.Trace.{weight, without_last, AreFlushed}
 use Rattle.store_format.specs.StoreFile.{block_of}
 
@@ -20,18 +21,9 @@ without_last-push xs x =
     let len : length (xs ++ x ∷ []) - 1 ≡ length xs = omega (arith, length-append xs (x ∷ [])) in
     ap (λ (n : ℕ). take n (xs ++ x ∷ [])) len ∙ take-append-le (length xs) xs (x ∷ []) (omega arith) ∙ take_all (length xs) xs (omega arith)
 
-pub all_front : {A : Type 0} (P : A → Type 0) (xs ys : List A) → AllByRecursion P xs → AllByRecursion P ys → AllByRecursion P (xs ++ ys)
-all_front P [] ys p q = q
-all_front P (x ∷ xs) ys p q = (p.0, all_front P xs ys p.1 q)
-
 all_weaker : {A : Type 0} (P Q : A → Type 0) (xs : List A) → ((x : A) → P x → Q x) → AllByRecursion P xs → AllByRecursion Q xs
 all_weaker P Q [] f h = tt
 all_weaker P Q (x ∷ xs) f h = (f x h.0, all_weaker P Q xs f h.1)
-
-all_take : {A : Type 0} (P : A → Type 0) (n : ℕ) (xs : List A) → AllByRecursion P xs → AllByRecursion P (take n xs)
-all_take P zero xs h = tt
-all_take P (suc n) [] h = tt
-all_take P (suc n) (x ∷ xs) h = (h.0, all_take P n xs h.1)
 
 -- nothing is pending
 pub flushed_none : (size : ℕ) (gs : List (List (List ℕ))) → AllByRecursion (IsFull size) gs → AreFlushed size (flat_map (λ g. g) gs) (map block_of gs)
@@ -53,8 +45,8 @@ flushed_more size gs pending full some light = record {
   groups = gs ++ pending ∷ [];
   cut = record {
     joined = flat_map-append (λ (g : List (List ℕ)). g) gs (pending ∷ []) ∙ ap (λ (d : List (List ℕ)). flat_map (λ (g : List (List ℕ)). g) gs ++ d) (append-nil pending);
-    some = all_front (λ g. 0 < length g) gs (pending ∷ []) (all_weaker (IsFull size) (λ g. 0 < length g) gs (λ g h. h.some) full) (some, tt);
-    not_late = all_front (λ g. weight (without_last g) ≤ size) gs (pending ∷ []) (all_weaker (IsFull size) (λ g. weight (without_last g) ≤ size) gs (λ g h. h.not_late) full) (light, tt);
+    some = all_append (λ g. 0 < length g) gs (pending ∷ []) (all_weaker (IsFull size) (λ g. 0 < length g) gs (λ g h. h.some) full) (some, tt);
+    not_late = all_append (λ g. weight (without_last g) ≤ size) gs (pending ∷ []) (all_weaker (IsFull size) (λ g. weight (without_last g) ≤ size) gs (λ g h. h.not_late) full) (light, tt);
     not_early = subst (AllByRecursion (λ g. size < weight g)) (sym (without_last-push gs pending)) (all_weaker (IsFull size) (λ g. size < weight g) gs (λ g h. h.not_early) full);
   };
   blocks = sym (map-append block_of gs (pending ∷ []));

@@ -3,7 +3,7 @@ use Rattle.std.proofs.Common.{◌≡◌, ℕ, ◌+◌, ◌^◌, ◌<◌, ◌≤�
 use Rattle.std.proofs.lemmas.Bool.{ltb-false}
 use Rattle.layered_index.specs.declared.checkpoint.Checkpoint.{Checkpoint}
 use Rattle.layered_index.specs.Checkpoint.{byte_len, IsInLineFrom, docs_end, bytes_end, first_past, Covers}
-use Rattle.layered_index.specs.LineLemmas.{in_line-split}
+use Rattle.layered_index.proofs.LineLemmas.{in_line-split}
 use Rattle.store_reader.proofs.SeekLemmas.{bytes_go_on, some_below}
 use Rattle.store_reader.specs.Parts.{front_up_to, rest_from, IsBetween}
 use Rattle.store_reader.proofs.PartLemmas.{IsNextOf, front_and_rest, next_of, is_block_of, is_inside}

@@ -11,7 +11,7 @@ use Rattle.store_base.specs.declared.error.StoreError.TheVariants.{ShortFile, Ba
 use Rattle.store_base.specs.declared.error.StoreError.TheVariants.{Unserializable, BlockTooLarge, TooManyDocs, Failed, BadPeriod}
 use Rattle.layered_index.specs.declared.checkpoint.Checkpoint.{Checkpoint}
 use Rattle.layered_index.specs.Checkpoint.{byte_len, doc_count, docs_end, bytes_end, first_past, Covers}
-use Rattle.layered_index.specs.LineLemmas.{in_line-split}
+use Rattle.layered_index.proofs.LineLemmas.{in_line-split}
 use Rattle.store_format.specs.StoreFile.{StoreBlock, checkpoints_of}
 use Rattle.store_reader.specs.declared.data_part.DataPart.{DataPart}
 use Rattle.store_reader.specs.Parts.{IsPartFrom, IsPartRead}

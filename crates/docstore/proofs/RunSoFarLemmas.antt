@@ -4,6 +4,7 @@ use Rattle.std.proofs.lemmas.List.{append-nil, map-append}
 use Rattle.std.proofs.lemmas.Bool.{cases_lt, lt-ltb, le-ltb}
 use Rattle.std.proofs.lemmas.List.Concat.{flat_map-append}
 use Rattle.std.specs.List.{flat_map, AllByRecursion}
+use Rattle.store_base.proofs.ListLemmas.{all_append}
 use Rattle.store_format.specs.StoreFile.{StoreBlock}
 use Rattle.docstore.specs.Trace.{Step, Effect, adds, ends, may_end, no_effect, effect, weight, AreFlushed, BlocksBy, BlocksFrom, AreJoined, Blocks}
 use Rattle.store_format.specs.StoreFile.{block_of}
@@ -11,7 +12,7 @@ use Rattle.docstore.specs.Writer.{Writing, blocks_of, flushed, with_document, wi
 use Rattle.docstore.specs.Stacking.{with_store}
 use Rattle.docstore.specs.Run.{after_effect}
 use Rattle.docstore.proofs.CallLemmas.{store_of_none}
-use Rattle.docstore.proofs.CutLemmas.{IsFull, without_last-push, all_front, flushed_none, flushed_more, weight-without_last}
+use Rattle.docstore.proofs.CutLemmas.{IsFull, without_last-push, flushed_none, flushed_more, weight-without_last}
 
 abbrev joined : List (List (List ℕ)) → List (List ℕ)
 joined gs = flat_map (λ (g : List (List ℕ)). g) gs
@@ -42,7 +43,7 @@ run_begins size period held w size_is period_is before none finished = record {
   goes_on = λ rest bs h. subst (λ (docs : List (List ℕ)). BlocksFrom size docs rest bs) none h;
 }
 
-blocks_of-some : (docs : List (List ℕ)) → 0 < length docs → blocks_of docs ≡ block_of docs ∷ []
+pub blocks_of-some : (docs : List (List ℕ)) → 0 < length docs → blocks_of docs ≡ block_of docs ∷ []
 blocks_of-some [] some = absurd (omega (arith, some))
 blocks_of-some (d ∷ docs) some = refl
 
@@ -82,7 +83,7 @@ run_takes size period held trace step w d is run =
       before = run.before;
       front = run.front;
       groups = run.groups ++ docs ∷ [];
-      full = all_front (IsFull size) run.groups (docs ∷ []) run.full (
+      full = all_append (IsFull size) run.groups (docs ∷ []) run.full (
         record {
           some = omega (arith, length-append w.pending (d ∷ []));
           not_late =

@@ -7,7 +7,7 @@ use Rattle.store_base.specs.Outputs.{Termination}
 use Rattle.store_base.specs.declared.error.Cause.{Cause}
 use Rattle.layered_index.specs.declared.checkpoint.Checkpoint.{Checkpoint}
 use Rattle.layered_index.specs.Checkpoint.{checkpoint, doc_count, IsWithinLimits, IsInLineFrom, IsInLine, docs_end, Covers}
-use Rattle.layered_index.specs.LineLemmas.{in_line-split, in_line-join, in_line_from}
+use Rattle.layered_index.proofs.LineLemmas.{in_line-split, in_line-join, in_line_from}
 use Rattle.store_format.specs.StoreFile.{StoreBlock, IsStoreBlock, docs_in, data_of, checkpoints_from, checkpoints_of, blocks_at}
 use Rattle.docstore.specs.BlockOutput.{BlockOutput, IsCompressing, compressing}
 use Rattle.docstore.specs.Stacking.{shifted}

@@ -1,5 +1,6 @@
 -- What a refused `close` leaves.
 use Rattle.std.proofs.Common.{◌≡◌, ℕ, ◌<◌, ◌≤◌, List, [], ◌∷◌, ◌++◌, length, Option, None, sym, ◌∙◌, ap, subst, arith, append_assoc, length-append}
+use Rattle.store_base.proofs.ListLemmas.{risen_later}
 use Rattle.store_base.specs.Counts.{HasRisen}
 use Rattle.store_base.specs.Outputs.{Termination}
 use Rattle.store_base.specs.declared.error.Cause.{Cause}
@@ -19,13 +20,10 @@ pub some_flushed : (docs : List (List ℕ)) → 0 < length docs → 0 < length (
 some_flushed [] some = absurd (omega arith)
 some_flushed (doc ∷ docs) some = omega (arith, length-append (block (doc ∷ docs)) [], length-block (doc ∷ docs))
 
-pub risen_further : (a b c : ℕ) → a ≤ b → HasRisen b c → HasRisen a c
-risen_further a b c le h = record { no_lower = omega (arith, h.no_lower); risen = λ lt. omega (arith, h.risen lt) }
-
 -- a cause since later is a cause since before
 pub cause_further : (cause : Cause) (failures risen last : ℕ) (old bytes mid new : List ℕ) → failures ≤ risen → mid ≡ old ++ bytes → HasCause cause risen last mid new
     → HasCause cause failures last old new
-cause_further Write failures risen last old bytes mid new le is h = risen_further failures risen last le h
+cause_further Write failures risen last old bytes mid new le is h = risen_later failures risen last le h
 cause_further OutOfMemory failures risen last old bytes mid new le is h = record {
   more = bytes ++ h.more;
   some = omega (arith, length-append bytes h.more, h.some);

@@ -71,10 +71,10 @@ IsTrace doc_bytes (command ∷ commands) (result ∷ results) (s ∷ trace) = Is
 IsTrace doc_bytes _ _ _ = ⊥
 
 -- Each command is as it was, but for what its reader's file counts.
-abbrev pub AreKept : {D H : Type 0} → List (StoreCommand D H) → List (StoreCommand D H) → Type 0
-AreKept [] [] = Unit {0}
-AreKept (old ∷ commands) (new ∷ others) = IsKept old new × AreKept commands others
-AreKept _ _ = ⊥
+abbrev pub AreCommandsKept : {D H : Type 0} → List (StoreCommand D H) → List (StoreCommand D H) → Type 0
+AreCommandsKept [] [] = Unit {0}
+AreCommandsKept (old ∷ commands) (new ∷ others) = IsKept old new × AreCommandsKept commands others
+AreCommandsKept _ _ = ⊥
 
 -- Behind what it held, the output has the file of the blocks that these calls leave, whose slots are what the calls
 -- brought; and each result has its cause.

@@ -83,9 +83,9 @@ AfterRefusal old new (Failed cause) = AfterFailed old.output.failure cause old n
 AfterRefusal old new _ = ⊥
 
 -- A document with these bytes was taken, and it has some.
-abbrev pub Takes : Option (List ℕ) → Writing → Writing → Type 0
-Takes (Some bytes) old new = new ≡ with_failures new.output.failures (with_document old bytes)
-Takes None old new = ⊥
+abbrev pub StoresDocument : Option (List ℕ) → Writing → Writing → Type 0
+StoresDocument (Some bytes) old new = new ≡ with_failures new.output.failures (with_document old bytes)
+StoresDocument None old new = ⊥
 
 -- The document has bytes, and its block no place.
 abbrev pub HasTooMuch : Writing → Option (List ℕ) → Type 0

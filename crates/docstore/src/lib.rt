@@ -13,8 +13,8 @@ pub mod writer;
 
 pub use close_error::CloseError;
 pub use layered_index::{
-    CHECKPOINT_PERIOD, Checkpoint, CheckpointBlock, IndexHead, IndexSlice, LayerCursor, Looks,
-    SkipIndex, SkipIndexBuilder, Steps, seek_near, seek_over,
+    CHECKPOINT_PERIOD, Checkpoint, CheckpointBlock, IndexFault, IndexHead, IndexSlice, LayerCursor,
+    Looks, SkipIndex, SkipIndexBuilder, Steps, seek_near, seek_over,
 };
 pub use run::{StoreCommand, WriteReport, write_store, write_store_with_period};
 pub use store_base::{
@@ -26,12 +26,12 @@ pub use store_base::{
 pub use store_compressor::BlockCompressor;
 pub use store_format::{
     Compressor, DOC_STORE_VERSION, Decompressor, DocStoreFooter, DocStoreVersion, OpenError,
-    block_read_index,
+    block_read_index, likely_read_index,
 };
 pub use store_reader::{
     AliveDocuments, AliveSliceDocuments, Answer, BlockSlice, BlockSlices, CacheStats,
     DOCSTORE_CACHE_CAPACITY, DataPart, DocIter, DocWalk, Documents, Items, RawIter, ReadCall,
     SeekingReader, SliceDocuments, StoreReader, StoreSlice, StoreTail, StoreView, TailError, Walk,
-    answer_all, any_lacks_memory,
+    answer_all, any_lacks_memory, check_index,
 };
 pub use writer::StoreWriter;

@@ -10,7 +10,7 @@ ghost use Rattle.docstore.specs.BlockOutput.{AfterFailedBlock, AfterClose};
 ghost use Rattle.docstore.specs.Trace.{weight};
 ghost use Rattle.docstore.specs.Writer.{new_writing, num_docs, blocks_of, flushed, flushed_if_full, with_document};
 ghost use Rattle.docstore.specs.Writer.{with_failures, HasIdLeft, HasNoIdLeft, IsTooLarge, HasTooMuch, IsStoreWriter};
-ghost use Rattle.docstore.specs.Writer.{Takes, AfterRefusal, AfterDocument};
+ghost use Rattle.docstore.specs.Writer.{StoresDocument, AfterRefusal, AfterDocument};
 
 mod stacking;
 
@@ -144,7 +144,7 @@ impl<W: TerminatingWrite> StoreWriter<W> {
     /// It is pending as the bytes that it writes, and goes out as in `store_bytes`. A document that is
     /// refused leaves the writer as it was, whatever it had written.
     pub fn store<D: Document>(&mut self, document: &D, schema: &Schema) -> Result<(), StoreError>
-        ensures stored { OnOk result (Takes (D.doc_bytes document.now schema.now) self.old self.new) }
+        ensures stored { OnOk result (StoresDocument (D.doc_bytes document.now schema.now) self.old self.new) }
 
         // Each cause, where none above it holds.
         ensures failed { IfSome self.old.output.failure (λ cause. IsErrOf result (StoreError.Failed cause)) }

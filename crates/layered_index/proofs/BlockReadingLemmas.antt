@@ -7,7 +7,7 @@ use Rattle.std.specs.List.{flat_map}
 use Rattle.store_base.specs.VInt.{number}
 use Rattle.store_base.specs.VInt.{◌>>=◌, number_below}
 use Rattle.store_base.specs.VIntLemmas.{number_some}
-use Rattle.store_base.specs.ReadingLemmas.{bind_some, some_is, below_again, below_takes, Takes, takes_then}
+use Rattle.store_base.specs.ReadingLemmas.{bind_some, some_is, below_again, below_takes, SplitsOff, takes_then}
 use Rattle.store_base.specs.Serialize.{IsBytes}
 use Rattle.layered_index.specs.declared.checkpoint.Checkpoint.{Checkpoint}
 use Rattle.layered_index.specs.Checkpoint.{checkpoint, doc_count, byte_len, IsWithinLimits, IsInLineFrom, IsInLine, step, starts, checkpoint_block}
@@ -38,10 +38,10 @@ pub record IsStep (doc byte : ℕ) (bytes : List ℕ) (c : Checkpoint) (rest : L
   pub doc_start : c.doc_range.start ≡ doc
   pub byte_start : c.byte_range.start ≡ byte
   pub limits : IsWithinLimits c
-  pub takes : Takes bytes (step c) rest
+  pub takes : SplitsOff bytes (step c) rest
 
-step_made : (doc byte docs len : ℕ) (bytes middle rest : List ℕ) → docs < 2 ^ 32 → len < 2 ^ 32 → doc + docs < 2 ^ 32 → byte + len < 2 ^ 64 → Takes bytes (number docs) middle
-    → Takes middle (number len) rest
+step_made : (doc byte docs len : ℕ) (bytes middle rest : List ℕ) → docs < 2 ^ 32 → len < 2 ^ 32 → doc + docs < 2 ^ 32 → byte + len < 2 ^ 64 → SplitsOff bytes (number docs) middle
+    → SplitsOff middle (number len) rest
     → IsStep doc byte bytes (checkpoint doc (doc + docs) byte (byte + len)) rest
 step_made doc byte docs len bytes middle rest a b d e p q =
     let docs_is : docs ≡ doc + docs - doc = omega arith in
@@ -49,8 +49,8 @@ step_made doc byte docs len bytes middle rest a b d e p q =
       doc_start = refl;
       byte_start = refl;
       limits = record { doc_order = omega arith; doc_end = d; byte_order = omega arith; byte_len = omega arith; byte_end = e };
-      takes = subst (λ (m : ℕ). Takes bytes (number m ++ number (byte + len - byte)) rest) docs_is
-          (subst (λ (m : ℕ). Takes bytes (number docs ++ number m) rest) len_is (takes_then bytes (number docs) middle (number len) rest p q));
+      takes = subst (λ (m : ℕ). SplitsOff bytes (number m ++ number (byte + len - byte)) rest) docs_is
+          (subst (λ (m : ℕ). SplitsOff bytes (number docs ++ number m) rest) len_is (takes_then bytes (number docs) middle (number len) rest p q));
     }
 
 pub step_read : (doc byte : ℕ) (bytes : List ℕ) (c : Checkpoint) (rest : List ℕ) → IsBytes bytes → step_at doc byte bytes ≡ Some (c, rest) → IsStep doc byte bytes c rest
@@ -87,7 +87,7 @@ steps_again doc byte (c ∷ cs) rest h =
 pub record AreSteps (count doc byte : ℕ) (bytes : List ℕ) (cs : List Checkpoint) (rest : List ℕ) : Type 0 where
   pub counted : length cs ≡ count
   pub runs : IsInLineFrom doc byte cs
-  pub takes : Takes bytes (flat_map step cs) rest
+  pub takes : SplitsOff bytes (flat_map step cs) rest
 
 pub steps_read : (count doc byte : ℕ) (bytes : List ℕ) (cs : List Checkpoint) (rest : List ℕ) → IsBytes bytes → steps_at count doc byte bytes ≡ Some (cs, rest) → AreSteps count doc byte bytes cs rest
 unfolding steps_at
@@ -151,10 +151,10 @@ block_again (c ∷ cs) rest h few = block_by (c ∷ cs) rest (checkpoint_block (
 pub record IsBlock (bytes : List ℕ) (cs : List Checkpoint) (rest : List ℕ) : Type 0 where
   pub in_line : IsInLine cs
   pub few : length cs < 2 ^ 64
-  pub takes : Takes bytes (checkpoint_block cs) rest
+  pub takes : SplitsOff bytes (checkpoint_block cs) rest
 
-pub some_block : (count doc byte : ℕ) (bytes a b c : List ℕ) (cs : List Checkpoint) (rest : List ℕ) → 0 < count → count < 2 ^ 64 → Takes bytes (number count) a → Takes a (number doc) b
-    → Takes b (number byte) c → AreSteps count doc byte c cs rest → IsBlock bytes cs rest
+pub some_block : (count doc byte : ℕ) (bytes a b c : List ℕ) (cs : List Checkpoint) (rest : List ℕ) → 0 < count → count < 2 ^ 64 → SplitsOff bytes (number count) a → SplitsOff a (number doc) b
+    → SplitsOff b (number byte) c → AreSteps count doc byte c cs rest → IsBlock bytes cs rest
 unfolding checkpoint_block
 some_block count doc byte bytes a b c [] rest some few p q r s = absurd (omega (arith, s.counted))
 some_block count doc byte bytes a b c (x ∷ cs) rest some few p q r s =
@@ -164,7 +164,7 @@ some_block count doc byte bytes a b c (x ∷ cs) rest some few p q r s =
     record {
       in_line = (refl, refl, runs.2, runs.3);
       few = omega (arith, s.counted);
-      takes = subst (λ (t : List ℕ). Takes bytes t rest) (λ i. (number (sym s.counted i) ++ (number (sym runs.0 i) ++ number (sym runs.1 i))) ++ flat_map step (x ∷ cs)) whole;
+      takes = subst (λ (t : List ℕ). SplitsOff bytes t rest) (λ i. (number (sym s.counted i) ++ (number (sym runs.0 i) ++ number (sym runs.1 i))) ++ flat_map step (x ∷ cs)) whole;
     }
 
 -- what a heading is where it was read, if it counts some
@@ -173,14 +173,14 @@ pub record CountsSome (bytes : List ℕ) (h : Heading) (rest : List ℕ) : Type 
   pub few : h.count < 2 ^ 64
   pub behind_count : List ℕ
   pub behind_doc : List ℕ
-  pub takes_count : Takes bytes (number h.count) behind_count
-  pub takes_doc : Takes behind_count (number h.doc) behind_doc
-  pub takes_byte : Takes behind_doc (number h.byte) rest
+  pub takes_count : SplitsOff bytes (number h.count) behind_count
+  pub takes_doc : SplitsOff behind_count (number h.doc) behind_doc
+  pub takes_byte : SplitsOff behind_doc (number h.byte) rest
 
 -- if it counts none
 pub record CountsNone (bytes : List ℕ) (h : Heading) (rest : List ℕ) : Type 0 where
   pub none : h.count ≡ 0
-  pub takes : Takes bytes (number 0) rest
+  pub takes : SplitsOff bytes (number 0) rest
 
 chosen : {A : Type 0} (b : Bool) (x y z : A) → cond b x y ≡ z → ((b ≡ true) × (x ≡ z)) ⊎ ((b ≡ false) × (y ≡ z))
 chosen true x y z e = inl (refl, e)
@@ -189,7 +189,7 @@ chosen false x y z e = inr (refl, e)
 abbrev starts_at : ℕ → List ℕ → Option (Heading × List ℕ)
 starts_at count bytes = number_below (2 ^ 32) bytes >>= λ doc. number_below (2 ^ 64) doc.1 >>= λ byte. Some (record { count = count; doc = doc.0; byte = byte.0 }, byte.1)
 
-starts_read : (count : ℕ) (bytes a : List ℕ) (h : Heading) (rest : List ℕ) → 0 < count → count < 2 ^ 64 → Takes bytes (number count) a → starts_at count a ≡ Some (h, rest) → CountsSome bytes h rest
+starts_read : (count : ℕ) (bytes a : List ℕ) (h : Heading) (rest : List ℕ) → 0 < count → count < 2 ^ 64 → SplitsOff bytes (number count) a → starts_at count a ≡ Some (h, rest) → CountsSome bytes h rest
 starts_read count bytes a h rest some few takes e =
     let p = bind_some (number_below (2 ^ 32) a) (λ doc. number_below (2 ^ 64) doc.1 >>= λ byte. Some (record { count = count; doc = doc.0; byte = byte.0 }, byte.1)) (h, rest) e in
     let q = bind_some (number_below (2 ^ 64) p.0.1) (λ byte. Some (record { count = count; doc = p.0.0; byte = byte.0 }, byte.1)) (h, rest) p.2 in
@@ -210,7 +210,7 @@ heading_read bytes h rest fits e =
       | inl p ↦
           let is_zero : count ≡ 0 = eqb-true count 0 p.0 in
           inl (subst (λ (x : Heading × List ℕ). CountsNone bytes x.0 x.1) (some_is (none, a.0.1) (h, rest) p.1)
-          (record { none = refl; takes = subst (λ (n : ℕ). Takes bytes (number n) a.0.1) is_zero takes.0 }))
+          (record { none = refl; takes = subst (λ (n : ℕ). SplitsOff bytes (number n) a.0.1) is_zero takes.0 }))
       | inr p ↦
           let not_zero = eqb-false count 0 p.0 in
           elim (chosen (ltb (length a.0.1 / 2) count) None (starts_at count a.0.1) (Some (h, rest)) p.1) [
@@ -244,7 +244,7 @@ block_read bytes cs rest fits e =
     elim (heading_read bytes h a.0.1 fits a.1) [
       | inl none ↦
           let nothing = no_steps h.doc h.byte a.0.1 cs rest (ap (λ (n : ℕ). steps_at n h.doc h.byte a.0.1) (sym none.none) ∙ a.2) in
-          let takes : Takes bytes (checkpoint_block []) rest = subst (λ (t : List ℕ). Takes bytes t rest) (sym block_none) (subst (λ (r : List ℕ). Takes bytes (number 0) r) nothing.1 none.takes) in
+          let takes : SplitsOff bytes (checkpoint_block []) rest = subst (λ (t : List ℕ). SplitsOff bytes t rest) (sym block_none) (subst (λ (r : List ℕ). SplitsOff bytes (number 0) r) nothing.1 none.takes) in
           subst (λ (xs : List Checkpoint). IsBlock bytes xs rest) (sym nothing.0) (record { in_line = tt; few = omega arith; takes = takes })
       | inr some ↦ some_block h.count h.doc h.byte bytes some.behind_count some.behind_doc a.0.1 cs rest some.some some.few some.takes_count some.takes_doc some.takes_byte
           (steps_read h.count h.doc h.byte a.0.1 cs rest some.takes_byte.rest_fits a.2)

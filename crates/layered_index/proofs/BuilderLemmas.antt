@@ -10,10 +10,10 @@ use Rattle.layered_index.specs.declared.checkpoint.Checkpoint.{Checkpoint}
 use Rattle.layered_index.specs.Checkpoint.{checkpoint, docs_end, bytes_end, IsInLineFrom, IsInLine, checkpoint_block}
 use Rattle.layered_index.specs.Layers.{groups, layer_text, docs_start, pointers, layer_above, digit_count}
 use Rattle.layered_index.specs.LayerReading.{items}
-use Rattle.layered_index.specs.Building.{Layer, put, pointer_to, flushed, inserted, Takes, block_text, pointer_at, IsLayer, IsBuilt, list_of, IsBuilder}
+use Rattle.layered_index.specs.Building.{Layer, put, pointer_to, flushed, inserted, AcceptsInsert, block_text, pointer_at, IsLayer, IsBuilt, list_of, IsBuilder}
 use Rattle.layered_index.proofs.GroupLemmas.{groups_none}
 use Rattle.layered_index.proofs.GrowthLemmas.{groups_one, groups-append, pointers-append}
-use Rattle.layered_index.specs.LineLemmas.{in_line-split, in_line_somewhere, in_line_from}
+use Rattle.layered_index.proofs.LineLemmas.{in_line-split, in_line_somewhere, in_line_from}
 use Rattle.layered_index.proofs.RunLemmas.{IsRun}
 use Rattle.layered_index.proofs.IndexLemmas.{digit_count_zero, digit_count_more}
 use Rattle.layered_index.proofs.LayerLemmas.{layer_above_is_in_line, length-pointers}
@@ -173,8 +173,8 @@ inserted_built period cs (l ∷ ls) c two built = elim (cases_lt (length (put l 
       )
 ]
 
-takes : (period : ℕ) (cs : List Checkpoint) (ls : List Layer) (c : Checkpoint) → 2 ≤ period → period ≤ 64 → IsBuilt period cs ls → IsInLine (cs ++ c ∷ []) → Takes period ls c
-unfolding Takes
+takes : (period : ℕ) (cs : List Checkpoint) (ls : List Layer) (c : Checkpoint) → 2 ≤ period → period ≤ 64 → IsBuilt period cs ls → IsInLine (cs ++ c ∷ []) → AcceptsInsert period ls c
+unfolding AcceptsInsert
 takes period cs [] c two small none h = subst (λ (xs : List Checkpoint). IsInLine (xs ++ c ∷ [])) none h
 takes period cs (l ∷ ls) c two small built h =
     let few : length (l.rest ++ c ∷ []) ≤ period = omega (arith, length_push l.rest c, built.1.few) in (
@@ -187,7 +187,7 @@ takes period cs (l ∷ ls) c two small built h =
     )
 
 -- an index in the making takes what follows its list
-pub builder_takes : (period : ℕ) (ls : List Layer) (c : Checkpoint) → IsBuilder period ls → IsInLine (list_of ls ++ c ∷ []) → Takes period ls c
+pub builder_takes : (period : ℕ) (ls : List Layer) (c : Checkpoint) → IsBuilder period ls → IsInLine (list_of ls ++ c ∷ []) → AcceptsInsert period ls c
 builder_takes period ls c is h = takes period (list_of ls) ls c is.least is.most is.built h
 
 -- ---- what is seen

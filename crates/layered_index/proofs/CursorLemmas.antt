@@ -13,7 +13,7 @@ use Rattle.layered_index.specs.Layers.{groups, layer_text}
 use Rattle.layered_index.specs.LayerReading.{next_in_block, next_at, items_within, items}
 use Rattle.layered_index.proofs.BlockReadingLemmas.{step_again, heading_again}
 use Rattle.layered_index.proofs.GroupLemmas.{groups_joined}
-use Rattle.layered_index.specs.LineLemmas.{in_line_somewhere}
+use Rattle.layered_index.proofs.LineLemmas.{in_line_somewhere}
 use Rattle.layered_index.proofs.RunLemmas.{IsRun, groups_are_runs}
 
 -- ---- what is read takes bytes

@@ -7,11 +7,11 @@ use Rattle.layered_index.specs.declared.fault.ReadFault.{ReadFault}
 use Rattle.layered_index.specs.declared.fault.ReadFault.TheVariants.{Malformed, OutOfMemory}
 use Rattle.layered_index.specs.Checkpoint.{checkpoint_block}
 use Rattle.layered_index.specs.BlockReading.{checkpoint_block_at, HasBlock, BeginsWithBlock}
-use Rattle.layered_index.specs.Refusal.{FailsOnlyUnless, Gives}
+use Rattle.layered_index.specs.Refusal.{FailsOnlyUnless, AnswersAs}
 use Rattle.layered_index.proofs.BlockReadingLemmas.{block_again, block_read, length-block-ge}
 
 -- What reading the block of a list gives is the block of a list in line.
-pub front_is : {X : Type 0} (view : X → List Checkpoint × List ℕ) (old : List ℕ) (r : Result X ReadFault) → IsBytes old → length old < 2 ^ 64 → Gives view r (checkpoint_block_at old)
+pub front_is : {X : Type 0} (view : X → List Checkpoint × List ℕ) (old : List ℕ) (r : Result X ReadFault) → IsBytes old → length old < 2 ^ 64 → AnswersAs view r (checkpoint_block_at old)
     → MatchResult r (λ x. BeginsWithBlock old (view x)) (FailsOnlyUnless (HasBlock old))
 front_is view old (Ok x) fits few h =
     let block = block_read old (view x).0 (view x).1 fits h in

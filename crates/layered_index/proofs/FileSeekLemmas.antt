@@ -6,6 +6,7 @@ use Rattle.std.proofs.lemmas.List.{length-take, length-drop, drop-drop}
 use Rattle.std.proofs.Common.{eq-eqb}
 use Rattle.std.proofs.lemmas.Nat.{mul-le}
 use Rattle.std.specs.Prelude.{slice_range, is_some, MatchResult, IsTrue}
+use Rattle.store_base.proofs.ListLemmas.{length-slice}
 use Rattle.store_base.proofs.Ranges.{part_of_part}
 use Rattle.store_base.specs.Counts.{HasRisen}
 use Rattle.store_base.specs.Files.{Part, ReadsOnce}
@@ -55,9 +56,6 @@ layer_sought i b old now u v target start end found result kept same honest answ
 pub some_end : (count i : ℕ) (ends rest : List ℕ) → i < count → number_below (2 ^ 64) ends ≡ None → after_numbers (count - i) ends ≡ Some rest → ⊥
 some_end count i ends rest lt none left = none_is_some (after_numbers (count - i) ends) (left ∙ pass_ends count i ends (Some rest) lt none left) left
 
-length-texts : (content : List ℕ) (start end : ℕ) → end ≤ length content → length (slice_range content start end) ≡ end - start
-length-texts content start end within = omega (arith, length-take (end - start) (drop start content), length-drop start content)
-
 next_before : (content back ends : List ℕ) (texts end place n : ℕ) (more : List ℕ) → number_below (2 ^ 64) ends ≡ Some (n, more) → n < place
     → next_layer place (ends ++ back) (drop place (slice_range content texts end)) ≡ None
 unfolding next_layer
@@ -74,7 +72,7 @@ next_behind content back ends texts end place n more within read le here long =
     let all = slice_range content texts end in
     let grown = below_grown (2 ^ 64) ends back n more read in
     let test : ltb n place ≡ false = le-ltb _ _ le in
-    let size : length (drop place all) < n - place = omega (arith, length-drop place all, length-texts content texts end within) in
+    let size : length (drop place all) < n - place = omega (arith, length-drop place all, length-slice content texts end within) in
     let far : ltb (length (drop place all)) (n - place) ≡ true = lt-ltb _ _ size in
     rw (grown, test, far) refl
 
@@ -85,10 +83,10 @@ next_here content back ends texts end place n more within read le fits order =
     let all = slice_range content texts end in
     let grown = below_grown (2 ^ 64) ends back n more read in
     let test : ltb n place ≡ false = le-ltb _ _ le in
-    let size : n - place ≤ length (drop place all) = omega (arith, length-drop place all, length-texts content texts end within) in
+    let size : n - place ≤ length (drop place all) = omega (arith, length-drop place all, length-slice content texts end within) in
     let near : ltb (length (drop place all)) (n - place) ≡ false = le-ltb _ _ size in
     let layer : take (n - place) (drop place all) ≡ slice_range content (texts + place) (texts + n) =
-    sym (part_of_part content all texts end place n refl order within le (omega (arith, length-texts content texts end within))) in
+    sym (part_of_part content all texts end place n refl order within le (omega (arith, length-slice content texts end within))) in
     let sum : place + (n - place) ≡ n = omega arith in
     let behind : drop (n - place) (drop place all) ≡ drop n all = drop-drop (n - place) place all ∙ ap (λ (k : ℕ). drop k all) sum in
     rw (grown, test, near) (λ i. Some (layer i, n, more ++ back, behind i))
@@ -146,7 +144,7 @@ pub bytes_left : (content ends : List ℕ) (head : HeadBytes) (target count i pl
 bytes_left content ends head target count i place texts found le within more so_far =
     let all = slice_range content texts head.end in
     let rest = drop place all in
-    let size : 0 < length rest = omega (arith, length-drop place all, length-texts content texts head.end within) in
+    let size : 0 < length rest = omega (arith, length-drop place all, length-slice content texts head.end within) in
     found_last false head.period target count i place _ rest found (found_of content head target) le so_far
     ∙ cond-false (eqb (length rest) 0) (Some found) None (ne_eqb (length rest) 0 (λ e. omega arith))
 
@@ -155,7 +153,7 @@ pub none_is_left : (content ends : List ℕ) (head : HeadBytes) (target count i 
 none_is_left content ends head target count i place texts found le within all_read so_far =
     let all = slice_range content texts head.end in
     let rest = drop place all in
-    let size : length rest ≡ 0 = omega (arith, length-drop place all, length-texts content texts head.end within) in
+    let size : length rest ≡ 0 = omega (arith, length-drop place all, length-slice content texts head.end within) in
     found_last false head.period target count i place _ rest found (found_of content head target) le so_far ∙ cond-true (eqb (length rest) 0) (Some found) None (eq-eqb (length rest) 0 size)
 
 -- ---- the answer
@@ -215,9 +213,6 @@ runs_fewer period i j old new le r =
 pub runs_shorter : (period most i : ℕ) (old new : Part) → period ≤ most → ReadsRuns period i old new → ReadsRuns most i old new
 runs_shorter period most i old new le r =
     reads_fewer i i (i * longest_run period) (i * longest_run most) old new (omega arith) (mul-le i (longest_run period) i (longest_run most) (omega arith) (omega arith)) r
-
-pub risen_later : (old mid new : ℕ) → old ≤ mid → HasRisen mid new → HasRisen old new
-risen_later old mid new le r = record { no_lower = omega (arith, r.no_lower); risen = λ lt. omega (arith, r.risen lt) }
 
 -- as many as the layers of the list
 pub reads_by_digits : (content : List ℕ) (head : HeadBytes) (count ends texts i : ℕ) (old new : Part) (cs : List Checkpoint) → Heads content head count ends texts → i ≤ count

@@ -2,20 +2,14 @@
 use Rattle.std.proofs.Common.{◌≡◌, ℕ, zero, suc, ◌+◌, ◌/◌, ◌<◌, ◌≤◌, ltb, List, [], ◌∷◌, length, Some, None, refl, ◌∙◌, ap, arith}
 use Rattle.std.proofs.lemmas.Bool.{cond-true, cond-false, lt-ltb, le-ltb}
 use Rattle.std.specs.Prelude.{slice_get}
+use Rattle.layered_index.proofs.PointedLemmas.{past_here, past_later}
 use Rattle.layered_index.specs.declared.checkpoint.Checkpoint.{Checkpoint}
 use Rattle.layered_index.specs.Checkpoint.{IsInLineFrom, IsInLine, first_past}
 use Rattle.layered_index.specs.Layers.{digit_count}
 use Rattle.layered_index.proofs.IndexLemmas.{digit_count-le, digit_count_more}
 use Rattle.layered_index.specs.Seeking.{NoneBelow, EndsPast, LiesBetween}
-use Rattle.layered_index.specs.LineLemmas.{in_line_somewhere}
+use Rattle.layered_index.proofs.LineLemmas.{in_line_somewhere}
 use Rattle.layered_index.proofs.DigitLemmas.{below_digits}
-
--- the answer is the first, if that ends past the target, and else that of the others
-past_here : (c : Checkpoint) (cs : List Checkpoint) (target : ℕ) → target < c.doc_range.end → first_past (c ∷ cs) target ≡ Some c
-past_here c cs target lt = cond-true (ltb target c.doc_range.end) (Some c) (first_past cs target) (lt-ltb target c.doc_range.end lt)
-
-past_later : (c : Checkpoint) (cs : List Checkpoint) (target : ℕ) → c.doc_range.end ≤ target → first_past (c ∷ cs) target ≡ first_past cs target
-past_later c cs target le = cond-false (ltb target c.doc_range.end) (Some c) (first_past cs target) (le-ltb target c.doc_range.end le)
 
 -- none stands behind the last
 pub past_end : (cs : List Checkpoint) (target n : ℕ) → length cs ≤ n → EndsPast target (slice_get cs n)

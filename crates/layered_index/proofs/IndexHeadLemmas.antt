@@ -3,6 +3,7 @@ use Rattle.std.proofs.Common.{◌≡◌, ℕ, suc, ◌+◌, ◌-◌, ◌<◌, �
 use Rattle.std.proofs.lemmas.Bool.{eqb-true, ltb-true}
 use Rattle.std.proofs.lemmas.List.{reverse-reverse}
 use Rattle.std.specs.List.{flat_map, concat, AllByRecursion}
+use Rattle.store_base.proofs.ListLemmas.{pass_none}
 use Rattle.store_base.specs.VInt.{number, ◌>>=◌, number_at, number_below}
 use Rattle.store_base.specs.ReadingLemmas.{bind_some, some_is, pass_some, numbers_are_read}
 use Rattle.layered_index.specs.declared.checkpoint.Checkpoint.{Checkpoint}
@@ -14,10 +15,6 @@ use Rattle.layered_index.proofs.OpenLemmas.{all_reverse, texts_fit, is_joined, o
 use Rattle.layered_index.proofs.SplitLemmas.{joined}
 
 -- ---- the head of an index
-
-pass_none : {A : Type 0} (b : Bool) (x : Option A) (y : A) → cond b None x ≡ Some y → (b ≡ false) × (x ≡ Some y)
-pass_none true x y e = absurd (cc)
-pass_none false x y e = (refl, e)
 
 -- bytes that can be cut have a head
 record IsCut (bytes : List ℕ) (ts : List (List ℕ)) : Type 0 where

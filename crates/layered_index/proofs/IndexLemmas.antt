@@ -3,6 +3,7 @@ use Rattle.std.proofs.Common.{◌≡◌, ℕ, zero, suc, ◌+◌, ◌/◌, ◌^�
 use Rattle.std.proofs.lemmas.List.{length-map, length-reverse, reverse-reverse}
 use Rattle.std.proofs.lemmas.Int.Digits.{length-digits_of_step, length-digits_of-le}
 use Rattle.std.specs.List.{flat_map, concat}
+use Rattle.store_base.specs.NumbersLemmas.{lists_are_apart}
 use Rattle.store_base.specs.VInt.{number}
 use Rattle.store_base.specs.VIntLemmas.{numbers_are_apart}
 use Rattle.layered_index.specs.declared.checkpoint.Checkpoint.{Checkpoint}
@@ -48,16 +49,6 @@ pub length-ends_from : (place : ℕ) (ts : List (List ℕ)) → length (ends_fro
 length-ends_from place [] = refl
 length-ends_from place (t ∷ ts) = ap suc (length-ends_from (place + length t) ts)
 
--- so many numbers one behind the other
-pub number_lists_apart : (ms ns : List ℕ) (r s : List ℕ) → length ms ≡ length ns → flat_map number ms ++ r ≡ flat_map number ns ++ s → (ms ≡ ns) × (r ≡ s)
-number_lists_apart [] [] r s n e = (refl, e)
-number_lists_apart [] (y ∷ ys) r s n e = absurd (omega arith)
-number_lists_apart (x ∷ xs) [] r s n e = absurd (omega arith)
-number_lists_apart (x ∷ xs) (y ∷ ys) r s n e =
-    let first = numbers_are_apart x y (flat_map number xs ++ r) (flat_map number ys ++ s) (sym (append_assoc (number x) (flat_map number xs) r) ∙ e ∙ append_assoc (number y) (flat_map number ys) s) in
-    let others = number_lists_apart xs ys r s (omega arith) first.1 in
-    (λ i. first.0 i ∷ others.0 i, others.1)
-
 -- where texts end tells them apart in what they are joined to
 pub texts_from_ends : (place : ℕ) (ts us : List (List ℕ)) → ends_from place ts ≡ ends_from place us → concat ts ≡ concat us → ts ≡ us
 texts_from_ends place [] [] ends e = refl
@@ -98,6 +89,6 @@ index_parts_are_apart period cs ds two p q e =
     let counts = numbers_are_apart (digit_count period (length cs)) (digit_count period (length ds)) _ _ (sym (index_parts period cs) ∙ e ∙ index_parts period ds) in
     let as_many : length (ends_from 0 (texts_down period cs)) ≡ length (ends_from 0 (texts_down period ds)) =
     length-ends_from 0 (texts_down period cs) ∙ length-texts_down period cs ∙ counts.0 ∙ sym (length-texts_down period ds) ∙ sym (length-ends_from 0 (texts_down period ds)) in
-    let ends = number_lists_apart (ends_from 0 (texts_down period cs)) (ends_from 0 (texts_down period ds)) (concat (texts_down period cs)) (concat (texts_down period ds)) as_many counts.1 in
+    let ends = lists_are_apart (ends_from 0 (texts_down period cs)) (ends_from 0 (texts_down period ds)) (concat (texts_down period cs)) (concat (texts_down period ds)) as_many counts.1 in
     let texts = texts_from_ends 0 (texts_down period cs) (texts_down period ds) ends.0 ends.1 in
     same_lists period (digit_count period (length cs)) (digit_count period (length ds)) cs ds two p q refl refl counts.0 (texts_up period cs ds texts)

@@ -5,7 +5,7 @@ use Rattle.std.proofs.lemmas.List.{take_all, drop_all, take_at, drop_more, take_
 use Rattle.std.proofs.lemmas.List.{length_push}
 use Rattle.layered_index.specs.declared.checkpoint.Checkpoint.{Checkpoint}
 use Rattle.layered_index.specs.Checkpoint.{IsInLine, checkpoint_block}
-use Rattle.layered_index.specs.Building.{Layer, put, text_with, pointer_to, flushed, inserted, Takes}
+use Rattle.layered_index.specs.Building.{Layer, put, text_with, pointer_to, flushed, inserted, AcceptsInsert}
 use Rattle.layered_index.proofs.BuilderLemmas.{inserted_none, inserted_stays, inserted_flushes}
 
 -- a layer with its open block written, and still open
@@ -26,35 +26,30 @@ from_here ls at l here = drop_more ls at l here.within ∙ ap (λ (x : Layer). x
 split : (ls : List Layer) (at : ℕ) (l new : Layer) → IsAt ls at l → set ls at new ≡ take at ls ++ new ∷ drop (at + 1) ls
 split ls at l new here = let next : suc at ≡ at + 1 = omega arith in set_split ls at new here.within ∙ ap (λ (i : ℕ). take at ls ++ new ∷ drop i ls) next
 
--- a call was answered in one way or the other
-pub either : {T E P Q : Type 0} (r : Result T E) → OnOk r P → OnErr r Q → P ⊎ Q
-either (Ok x) p q = inl p
-either (Err e) p q = inr q
-
 -- ---- what is taken
 
-takes_none : (period : ℕ) (c : Checkpoint) → Takes period [] c → IsInLine (c ∷ [])
-unfolding Takes
+takes_none : (period : ℕ) (c : Checkpoint) → AcceptsInsert period [] c → IsInLine (c ∷ [])
+unfolding AcceptsInsert
 takes_none period c h = h
 
-takes_some : (period : ℕ) (l : Layer) (ls : List Layer) (c : Checkpoint) → Takes period (l ∷ ls) c
-    → IsInLine (put l c).rest × (period ≤ length (put l c).rest → length (text_with (put l c)) < 2 ^ 64 → Takes period ls (pointer_to (put l c)))
-unfolding Takes
+takes_some : (period : ℕ) (l : Layer) (ls : List Layer) (c : Checkpoint) → AcceptsInsert period (l ∷ ls) c
+    → IsInLine (put l c).rest × (period ≤ length (put l c).rest → length (text_with (put l c)) < 2 ^ 64 → AcceptsInsert period ls (pointer_to (put l c)))
+unfolding AcceptsInsert
 takes_some period l ls c h = h
 
-pub takes_top : (period : ℕ) (ls : List Layer) (at : ℕ) (c : Checkpoint) → length ls ≤ at → Takes period (drop at ls) c → IsInLine (c ∷ [])
-takes_top period ls at c le h = takes_none period c (subst (λ (xs : List Layer). Takes period xs c) (drop_all at ls le) h)
+pub takes_top : (period : ℕ) (ls : List Layer) (at : ℕ) (c : Checkpoint) → length ls ≤ at → AcceptsInsert period (drop at ls) c → IsInLine (c ∷ [])
+takes_top period ls at c le h = takes_none period c (subst (λ (xs : List Layer). AcceptsInsert period xs c) (drop_all at ls le) h)
 
-pub takes_here : (period : ℕ) (ls : List Layer) (at : ℕ) (l : Layer) (c : Checkpoint) → IsAt ls at l → Takes period (drop at ls) c → IsInLine (put l c).rest
-takes_here period ls at l c here h = (takes_some period l (drop (at + 1) ls) c (subst (λ (xs : List Layer). Takes period xs c) (from_here ls at l here) h)).0
+pub takes_here : (period : ℕ) (ls : List Layer) (at : ℕ) (l : Layer) (c : Checkpoint) → IsAt ls at l → AcceptsInsert period (drop at ls) c → IsInLine (put l c).rest
+takes_here period ls at l c here h = (takes_some period l (drop (at + 1) ls) c (subst (λ (xs : List Layer). AcceptsInsert period xs c) (from_here ls at l here) h)).0
 
-pub takes_above : (period : ℕ) (ls : List Layer) (at : ℕ) (l new : Layer) (c pointer : Checkpoint) → IsAt ls at l → Takes period (drop at ls) c → period ≤ length (put l c).rest
+pub takes_above : (period : ℕ) (ls : List Layer) (at : ℕ) (l new : Layer) (c pointer : Checkpoint) → IsAt ls at l → AcceptsInsert period (drop at ls) c → period ≤ length (put l c).rest
     → length (text_with (put l c)) < 2 ^ 64 → pointer ≡ pointer_to (put l c)
-    → Takes period (drop (at + 1) (set ls at new)) pointer
+    → AcceptsInsert period (drop (at + 1) (set ls at new)) pointer
 takes_above period ls at l new c pointer here h full fits e =
-    let all = takes_some period l (drop (at + 1) ls) c (subst (λ (xs : List Layer). Takes period xs c) (from_here ls at l here) h) in
+    let all = takes_some period l (drop (at + 1) ls) c (subst (λ (xs : List Layer). AcceptsInsert period xs c) (from_here ls at l here) h) in
     let same : drop (at + 1) (set ls at new) ≡ drop (at + 1) ls = drop-set-lt (at + 1) ls at new (omega arith) in
-    subst (λ (xs : List Layer). Takes period xs pointer) (sym same) (subst (Takes period (drop (at + 1) ls)) (sym e) (all.1 full fits))
+    subst (λ (xs : List Layer). AcceptsInsert period xs pointer) (sym same) (subst (AcceptsInsert period (drop (at + 1) ls)) (sym e) (all.1 full fits))
 
 -- ---- what is left
 

@@ -9,7 +9,7 @@ use Rattle.layered_index.specs.Checkpoint.{doc_count, byte_len, docs_end, bytes_
 use Rattle.layered_index.specs.Layers.{groups, layer_text, docs_start, pointers, layer_above, digit_count, layers_from}
 use Rattle.layered_index.specs.Laws.{LayerAboveIsInLine, LayersAreInLine}
 use Rattle.layered_index.proofs.GroupLemmas.{groups_none, groups_more, groups_joined, by_runs}
-use Rattle.layered_index.specs.LineLemmas.{in_line-split, in_line_from, in_line_somewhere}
+use Rattle.layered_index.proofs.LineLemmas.{in_line-split, in_line_from, in_line_somewhere}
 use Rattle.layered_index.proofs.RunLemmas.{IsRun, groups_are_runs}
 use Rattle.layered_index.proofs.IndexLemmas.{length-layers}
 
@@ -55,7 +55,7 @@ pub docs_grow : (doc byte : ℕ) (cs : List Checkpoint) → IsInLineFrom doc byt
 docs_grow doc byte [] h = omega arith
 docs_grow doc byte (c ∷ cs) h = omega (arith, h.0, h.2.doc_order, docs_grow c.doc_range.end c.byte_range.end cs h.3)
 
-docs_fit : (doc byte : ℕ) (cs : List Checkpoint) → doc < 2 ^ 32 → IsInLineFrom doc byte cs → docs_end doc cs < 2 ^ 32
+pub docs_fit : (doc byte : ℕ) (cs : List Checkpoint) → doc < 2 ^ 32 → IsInLineFrom doc byte cs → docs_end doc cs < 2 ^ 32
 docs_fit doc byte [] lt h = lt
 docs_fit doc byte (c ∷ cs) lt h = docs_fit c.doc_range.end c.byte_range.end cs h.2.doc_end h.3
 

@@ -7,7 +7,7 @@ use Rattle.std.specs.Prelude.{IsSome, MatchResult, Result, Ok, Err}
 use Rattle.std.specs.List.{flat_map, AllByRecursion}
 use Rattle.std.specs.Option.{option_map_or}
 use Rattle.store_base.specs.VInt.{◌>>=◌}
-use Rattle.store_base.specs.ReadingLemmas.{bind_some, some_is, Takes}
+use Rattle.store_base.specs.ReadingLemmas.{bind_some, some_is, SplitsOff}
 use Rattle.store_base.specs.Serialize.{IsBytes}
 use Rattle.layered_index.specs.declared.checkpoint.Checkpoint.{Checkpoint}
 use Rattle.layered_index.specs.declared.run_reading.Heading.{Heading}
@@ -27,7 +27,7 @@ use Rattle.layered_index.proofs.BlockReadingLemmas.{heading_again, heading_read,
 use Rattle.layered_index.proofs.CheckpointLemmas.{block_some}
 use Rattle.layered_index.proofs.GroupLemmas.{groups_none, groups_more, by_runs}
 use Rattle.layered_index.proofs.GrowthLemmas.{groups_one, groups-append}
-use Rattle.layered_index.specs.LineLemmas.{in_line-split, in_line-join, in_line_from, in_line_somewhere}
+use Rattle.layered_index.proofs.LineLemmas.{in_line-split, in_line-join, in_line_from, in_line_somewhere}
 use Rattle.layered_index.proofs.RunLemmas.{IsRun, groups_are_runs}
 use Rattle.layered_index.proofs.WalkLemmas.{run_takes, plus, len_then, len_from_none, len_from_some, pointers_behind, pointers_next, pointers_end}
 
@@ -64,7 +64,7 @@ pub record ReadsRun (bytes : List ℕ) (r : Run) (rest : List ℕ) : Type 0 wher
   pub run : List Checkpoint
   pub runs : IsInLineFrom r.doc r.byte run
   pub short : IsInShort r.doc r.byte run r
-  pub takes : Takes bytes (checkpoint_block run) rest
+  pub takes : SplitsOff bytes (checkpoint_block run) rest
 
 pub run_read : (bytes : List ℕ) (r : Run) (rest : List ℕ) → IsBytes bytes → 0 < r.count → run_at bytes ≡ Some (r, rest) → ReadsRun bytes r rest
 unfolding run_at

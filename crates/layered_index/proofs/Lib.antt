@@ -40,3 +40,4 @@ pub mod FoundAnswerLemmas
 pub mod FileSeekLemmas
 pub mod FileTopLemmas
 pub mod OuterLayersLemmas
+pub mod LineLemmas

@@ -2,6 +2,7 @@
 use Rattle.std.proofs.Common.{◌≡◌, ℕ, ◌<◌, ◌≤◌, ◌^◌, List, [], ◌∷◌, ◌++◌, length, map, reverse, Option, Some, None, inl, refl, sym, ◌∙◌, ap, subst, arith, length-append}
 use Rattle.std.proofs.lemmas.List.{length-reverse, reverse-reverse, reverse-append}
 use Rattle.std.specs.List.{flat_map, concat, AllByRecursion}
+use Rattle.store_base.proofs.ListLemmas.{all_append}
 use Rattle.store_base.specs.VInt.{number}
 use Rattle.store_base.specs.ReadingLemmas.{bind_some, some_is}
 use Rattle.store_base.specs.Serialize.{IsBytes}
@@ -22,11 +23,6 @@ use Rattle.layered_index.proofs.IndexLemmas.{index_parts, length-texts_down}
 use Rattle.layered_index.proofs.SplitLemmas.{joined, texts_read, split_read, split_again, texts_are_bytes}
 use Rattle.layered_index.proofs.SplitLoopLemmas.{ends_behind, behind_shorter}
 use Rattle.layered_index.proofs.PassLemmas.{AreLayersAbove, first_items, turned, last_is_first, above_read, above_again, few_layers}
-
--- what holds of each of two lists, or of a list turned round
-all_append : {A : Type 0} (P : A → Type 0) (xs ys : List A) → AllByRecursion P xs → AllByRecursion P ys → AllByRecursion P (xs ++ ys)
-all_append P [] ys p q = q
-all_append P (x ∷ xs) ys p q = (p.0, all_append P xs ys p.1 q)
 
 pub all_reverse : {A : Type 0} (P : A → Type 0) (xs : List A) → AllByRecursion P xs → AllByRecursion P (reverse xs)
 all_reverse P [] p = tt

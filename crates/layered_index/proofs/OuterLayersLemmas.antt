@@ -11,7 +11,7 @@ use Rattle.layered_index.specs.Checkpoint.{docs_end, IsInLine, checkpoint_block,
 use Rattle.layered_index.specs.Layers.{groups, layer_text, docs_start, pointers, layer_above, digit_count, layers_from, layers, texts_down}
 use Rattle.layered_index.specs.IndexReading.{last_items, IsIndexPart}
 use Rattle.layered_index.specs.LayerReading.{items}
-use Rattle.layered_index.specs.LineLemmas.{in_line_somewhere}
+use Rattle.layered_index.proofs.LineLemmas.{in_line_somewhere}
 use Rattle.layered_index.specs.Sought.{sought_at, IsFoundAbove, layers_left, next_layer, IsHeaded}
 use Rattle.layered_index.specs.declared.run_seek.Sought.{Sought}
 use Rattle.layered_index.proofs.SoughtLemmas.{top_sought}

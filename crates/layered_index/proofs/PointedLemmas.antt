@@ -6,11 +6,12 @@ use Rattle.std.proofs.Math.Seq.{drop-append_seam, take-append_seam}
 use Rattle.std.specs.Prelude.{slice_range, nat_lt, IfSome}
 use Rattle.std.specs.Option.{option_or}
 use Rattle.std.specs.List.{flat_map, AllByRecursion}
+use Rattle.store_base.proofs.ListLemmas.{range_at}
 use Rattle.store_base.specs.ReadingLemmas.{some_is}
 use Rattle.layered_index.specs.declared.checkpoint.Checkpoint.{Checkpoint}
 use Rattle.layered_index.specs.Checkpoint.{checkpoint, docs_end, bytes_end, IsInLineFrom, IsInLine, checkpoint_block, first_past}
 use Rattle.layered_index.specs.Layers.{groups, layer_text, docs_start, pointers, layer_above}
-use Rattle.layered_index.specs.LineLemmas.{in_line-split, in_line_somewhere}
+use Rattle.layered_index.proofs.LineLemmas.{in_line-split, in_line_somewhere}
 use Rattle.layered_index.specs.Sought.{IsPast}
 use Rattle.layered_index.proofs.GroupLemmas.{groups_joined}
 use Rattle.layered_index.proofs.LayerLemmas.{docs_grow}
@@ -160,11 +161,6 @@ pub record IsRunPointed (period target : ℕ) (cs : List Checkpoint) (p : Checkp
   pub is_run : IsRun period run
   pub first : first_past cs target ≡ first_past run target
 
-cut_out : (front block back : List ℕ) (start end : ℕ) → start ≡ length front → end ≡ start + length block → slice_range (front ++ (block ++ back)) start end ≡ block
-cut_out front block back start end s e =
-    let size : end - start ≡ length block = omega arith in
-    (λ i. take (size i) (drop (s i) (front ++ (block ++ back)))) ∙ ap (take (length block)) (drop-append_seam front (block ++ back)) ∙ take-append_seam block back
-
 pub run_pointed : (period target : ℕ) (cs : List Checkpoint) (p : Checkpoint) → 1 ≤ period → IsInLine cs → first_past (layer_above period cs) target ≡ Some p → IsRunPointed period target cs p
 run_pointed period target cs p one h e =
     let from = in_line_somewhere cs h in
@@ -177,7 +173,7 @@ run_pointed period target cs p one h e =
       run = is.run;
       order = omega (arith, is.end);
       within = omega (arith, is.end, start, ap length is.text, length-append is.front (checkpoint_block is.run ++ back), length-append (checkpoint_block is.run) back);
-      part = ap (λ (t : List ℕ). slice_range t p.byte_range.start p.byte_range.end) is.text ∙ cut_out is.front (checkpoint_block is.run) back p.byte_range.start p.byte_range.end start is.end;
+      part = ap (λ (t : List ℕ). slice_range t p.byte_range.start p.byte_range.end) is.text ∙ range_at is.front (checkpoint_block is.run) back p.byte_range.start p.byte_range.end start is.end;
       docs_first = is.docs_first;
       docs_last = is.docs_last;
       is_run = is.are_runs.0;

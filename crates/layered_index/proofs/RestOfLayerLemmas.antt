@@ -9,7 +9,7 @@ use Rattle.layered_index.specs.declared.checkpoint.Checkpoint.{Checkpoint}
 use Rattle.layered_index.specs.Checkpoint.{IsInLineFrom, IsInLine, checkpoint_block, first_past}
 use Rattle.layered_index.specs.Layers.{groups, layer_text}
 use Rattle.layered_index.specs.LayerReading.{items}
-use Rattle.layered_index.specs.LineLemmas.{in_line_somewhere}
+use Rattle.layered_index.proofs.LineLemmas.{in_line_somewhere}
 use Rattle.layered_index.specs.Sought.{from_pointer, past_on, IsFoundAbove}
 use Rattle.layered_index.proofs.CursorLemmas.{items_runs, items_layer}
 use Rattle.layered_index.proofs.GroupLemmas.{groups_joined}

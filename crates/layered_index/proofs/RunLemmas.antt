@@ -4,7 +4,7 @@ use Rattle.std.proofs.lemmas.List.{take-append-drop, length-take}
 use Rattle.std.specs.List.{flat_map, AllByRecursion}
 use Rattle.layered_index.specs.declared.checkpoint.Checkpoint.{Checkpoint}
 use Rattle.layered_index.specs.Checkpoint.{IsWithinLimits, IsInLineFrom, IsInLine, checkpoint_block}
-use Rattle.layered_index.specs.LineLemmas.{in_line-split, in_line_from, in_line_somewhere}
+use Rattle.layered_index.proofs.LineLemmas.{in_line-split, in_line_from, in_line_somewhere}
 use Rattle.layered_index.specs.Layers.{groups, layer_text}
 use Rattle.layered_index.proofs.GroupLemmas.{groups_none, groups_more, groups_joined, by_runs}
 use Rattle.layered_index.proofs.CheckpointLemmas.{block_some, checkpoint_blocks_are_apart}

@@ -5,6 +5,7 @@ use Rattle.std.proofs.lemmas.List.{append-nil, take-append-drop}
 use Rattle.std.specs.Prelude.{IfSome, slice_range}
 use Rattle.std.specs.Option.{option_or}
 use Rattle.std.specs.List.{flat_map}
+use Rattle.store_base.proofs.ListLemmas.{pass_none}
 use Rattle.store_base.specs.VInt.{◌>>=◌}
 use Rattle.store_base.specs.ReadingLemmas.{bind_some, some_is, pass_some, bytes_behind}
 use Rattle.store_base.specs.Serialize.{IsBytes}
@@ -82,10 +83,6 @@ block_sought most target (c ∷ cs) some few small h =
     let test : ltb most (length (c ∷ cs)) ≡ false = le-ltb _ _ few in
     let steps : steps_at (length (c ∷ cs)) c.doc_range.start c.byte_range.start (flat_map step (c ∷ cs) ++ []) ≡ Some (c ∷ cs, []) = steps_again c.doc_range.start c.byte_range.start (c ∷ cs) [] h in
     rw (head, test, steps) refl
-
-pass_none : {A : Type 0} (b : Bool) (x : Option A) (y : A) → cond b None x ≡ Some y → (b ≡ false) × (x ≡ Some y)
-pass_none true x y e = absurd (cc)
-pass_none false x y e = (refl, e)
 
 -- what is found in any block is past the target
 pub sought_past : (most target : ℕ) (bytes : List ℕ) (s : Sought) → IsBytes bytes → sought_at most target bytes ≡ Some s → IfSome s.found (IsPast target)

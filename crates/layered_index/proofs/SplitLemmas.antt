@@ -5,24 +5,22 @@ use Rattle.std.proofs.lemmas.Bool.{eqb-true, ltb-false, le-ltb}
 use Rattle.std.proofs.lemmas.List.{take-append-drop, length-take, nil_from_length}
 use Rattle.std.proofs.Math.Seq.{drop-append_seam, take-append_seam}
 use Rattle.std.specs.List.{flat_map, concat, AllByRecursion}
+use Rattle.store_base.specs.NumbersLemmas.{length-numbers}
+use Rattle.store_base.proofs.ListLemmas.{pass_none}
 use Rattle.store_base.specs.VInt.{number}
 use Rattle.store_base.specs.VInt.{◌>>=◌, number_below}
 use Rattle.store_base.specs.VIntLemmas.{number_some}
-use Rattle.store_base.specs.ReadingLemmas.{bind_some, some_is, pass_some, below_again, below_takes, bytes_behind, Takes, takes_then}
+use Rattle.store_base.specs.ReadingLemmas.{bind_some, some_is, pass_some, below_again, below_takes, bytes_behind, SplitsOff, takes_then}
 use Rattle.store_base.specs.Serialize.{IsBytes}
 use Rattle.layered_index.specs.Layers.{ends_from}
 use Rattle.layered_index.specs.IndexReading.{numbers_at, texts_at, ends_at, split_at}
 use Rattle.layered_index.proofs.IndexLemmas.{length-ends_from}
 
-pass_none : {A : Type 0} (b : Bool) (x : Option A) (y : A) → cond b None x ≡ Some y → (b ≡ false) × (x ≡ Some y)
-pass_none true x y e = absurd (cc)
-pass_none false x y e = (refl, e)
-
 -- ---- numbers
 
 pub record AreNumbers (count : ℕ) (bytes ns rest : List ℕ) : Type 0 where
   pub counted : length ns ≡ count
-  pub takes : Takes bytes (flat_map number ns) rest
+  pub takes : SplitsOff bytes (flat_map number ns) rest
 
 pub numbers_read : (count : ℕ) (bytes ns rest : List ℕ) → IsBytes bytes → numbers_at count bytes ≡ Some (ns, rest) → AreNumbers count bytes ns rest
 unfolding numbers_at
@@ -42,11 +40,6 @@ numbers_again [] rest all = refl
 numbers_again (n ∷ ns) rest all =
     ap (numbers_at (suc (length ns))) (append_assoc (number n) (flat_map number ns) rest)
     ∙ rw (below_again (2 ^ 64) n (flat_map number ns ++ rest) all.0, numbers_again ns rest all.1) refl
-
--- each number takes a byte
-pub length-numbers-ge : (ns : List ℕ) → length ns ≤ length (flat_map number ns)
-length-numbers-ge [] = omega arith
-length-numbers-ge (n ∷ ns) = omega (arith, length-append (number n) (flat_map number ns), number_some n, length-numbers-ge ns)
 
 -- ---- texts
 
@@ -113,7 +106,7 @@ split_again ts few fits =
     let many : length ends ≡ length ts = length-ends_from 0 ts in
     let sizes = length-append (number (length ts)) (flat_map number ends ++ texts) in
     let inner = length-append (flat_map number ends) texts in
-    let ge = length-numbers-ge ends in
+    let ge = length-numbers ends in
     let first : number_below 65 (joined ts) ≡ Some (length ts, flat_map number ends ++ texts) = below_again 65 (length ts) (flat_map number ends ++ texts) (omega arith) in
     let enough : ltb (length (flat_map number ends ++ texts)) (length ts) ≡ false = le-ltb _ _ (omega arith) in
     let second : numbers_at (length ts) (flat_map number ends ++ texts) ≡ Some (ends, texts) = ap (λ (n : ℕ). numbers_at n (flat_map number ends ++ texts)) (sym many)

@@ -37,11 +37,11 @@ inserted period (l ∷ ls) c =
     ∷ inserted period ls (pointer_to (put l c))
 
 -- The first layer takes this checkpoint, and so on upward, if the texts can be addressed.
-unfoldable pub Takes : ℕ → List Layer → Checkpoint → Type 0
-Takes period [] c = IsInLine (c ∷ [])
-Takes period (l ∷ ls) c =
+unfoldable pub AcceptsInsert : ℕ → List Layer → Checkpoint → Type 0
+AcceptsInsert period [] c = IsInLine (c ∷ [])
+AcceptsInsert period (l ∷ ls) c =
     IsInLine (put l c).rest × (period ≤ length (put l c).rest → length (text_with (put l c)) < 2 ^ 64
-    → Takes period ls (pointer_to (put l c)))
+    → AcceptsInsert period ls (pointer_to (put l c)))
 
 -- What a layer is after an insertion that gave this pointer. A full block is written, and still open.
 abbrev pub TookOne : ℕ → Layer → Checkpoint → Layer → Option Checkpoint → Type 0

@@ -1,5 +1,4 @@
 pub mod Checkpoint
-pub mod LineLemmas
 pub mod Layers
 pub mod BlockReading
 pub mod LayerReading

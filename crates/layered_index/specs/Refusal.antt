@@ -30,9 +30,9 @@ abbrev pub Fails : {Y : Type 0} → ReadFault → Option Y → Type 0
 Fails Malformed read = read ≡ None
 Fails OutOfMemory read = Unit {0}
 
-abbrev pub Gives : {X Y : Type 0} → (X → Y) → Result X ReadFault → Option Y → Type 0
-Gives view (Ok x) read = read ≡ Some (view x)
-Gives view (Err e) read = Fails e read
+abbrev pub AnswersAs : {X Y : Type 0} → (X → Y) → Result X ReadFault → Option Y → Type 0
+AnswersAs view (Ok x) read = read ≡ Some (view x)
+AnswersAs view (Err e) read = Fails e read
 
 -- a fault of a run that begins at this byte of its layer, and one of the list of layers
 abbrev pub at_byte : ReadFault → ℕ → LayerFault

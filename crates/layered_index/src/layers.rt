@@ -10,13 +10,13 @@ ghost use Rattle.layered_index.specs.LayerReading.{items, may_stand, len_from, p
 ghost use Rattle.layered_index.specs.Tables.{no_ends, with_ends};
 ghost use Rattle.layered_index.specs.IndexReading.{AreLayersBelow, last_ends};
 ghost use Rattle.layered_index.specs.Faults.{standing_from, PassedTo, BreaksAt, HasFault};
-ghost use Rattle.layered_index.specs.Refusal.{Gives, BreaksOnlyUnless, RefusedOnlyUnless};
+ghost use Rattle.layered_index.specs.Refusal.{AnswersAs, BreaksOnlyUnless, RefusedOnlyUnless};
 
 use crate::checkpoint::Checkpoint;
-use crate::run_reading::{Heading, heading_front, step_front};
 use crate::fault::{LayerFault, ReadFault, Refusal};
 use crate::index_fault::fault_in;
 use crate::layer_cursor::LayerCursor;
+use crate::run_reading::{Heading, heading_front, step_front};
 use crate::tables::Ends;
 use store_base::OwnedBytes;
 
@@ -79,7 +79,7 @@ fn keep_steps<'a>(
     bytes: &'a [u8],
     ends: &mut Ends,
 ) -> Result<(u32, usize, &'a [u8]), ReadFault>
-    ensures read { Gives (λ x. (x.0, x.1, x.2.now)) result (ends_of heading.doc heading.byte
+    ensures read { AnswersAs (λ x. (x.0, x.1, x.2.now)) result (ends_of heading.doc heading.byte
         (steps_at heading.count heading.doc heading.byte bytes.now)) }
     ensures kept { IfOk result (λ x. with_ends ends.new (items 0 0 0 x.2.now)
         ≡ with_ends ends.old (items heading.count heading.doc heading.byte bytes.now)) }
@@ -106,7 +106,7 @@ fn run_front<'a>(
     bytes: &'a [u8],
     ends: &mut Ends,
 ) -> Result<(Run, &'a [u8]), ReadFault>
-    ensures read { Gives (λ x. (x.0, x.1.now)) result (run_at bytes.now) }
+    ensures read { AnswersAs (λ x. (x.0, x.1.now)) result (run_at bytes.now) }
     ensures kept { IfOk result (λ x. 0 < x.0.count → with_ends ends.new (items 0 0 0 x.1.now)
         ≡ with_ends ends.old (items 0 0 0 bytes.now)) }
 {

@@ -4,7 +4,7 @@ ghost use Rattle.std.specs.Option.{option_map};
 ghost use Rattle.layered_index.specs.Checkpoint.{IsInLine, checkpoint_block};
 ghost use Rattle.layered_index.specs.BlockReading.{step_at, steps_at, heading_at, checkpoint_block_at, HasBlock};
 ghost use Rattle.layered_index.specs.BlockReading.{BeginsWithBlock};
-ghost use Rattle.layered_index.specs.Refusal.{Gives, RefusesOnlyUnless, FailsOnlyUnless};
+ghost use Rattle.layered_index.specs.Refusal.{AnswersAs, RefusesOnlyUnless, FailsOnlyUnless};
 
 use crate::checkpoint::Checkpoint;
 use crate::checkpoint_block::CheckpointBlock;
@@ -81,7 +81,7 @@ fn steps_front(
     heading: Heading,
     bytes: &[u8],
 ) -> Result<(Vec<Checkpoint>, &[u8]), ReadFault>
-    ensures { Gives (λ x. (x.0.items, x.1.now)) result
+    ensures { AnswersAs (λ x. (x.0.items, x.1.now)) result
         (steps_at heading.count heading.doc heading.byte bytes.now) }
 {
     let mut checkpoints = Vec::with_capacity(alloc, heading.count)?;
@@ -102,7 +102,7 @@ fn steps_front(
 
 #[tactic(auto, unfolding(crate::specs::BlockReading::checkpoint_block_at))]
 fn block_front(alloc: Global, bytes: &[u8]) -> Result<(Vec<Checkpoint>, &[u8]), ReadFault>
-    ensures { Gives (λ x. (x.0.items, x.1.now)) result (checkpoint_block_at bytes.now) }
+    ensures { AnswersAs (λ x. (x.0.items, x.1.now)) result (checkpoint_block_at bytes.now) }
 {
     let Some((heading, rest)) = heading_front(bytes) else {
         return Err(ReadFault::Malformed);

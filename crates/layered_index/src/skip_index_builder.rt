@@ -8,10 +8,10 @@ ghost use Rattle.store_base.specs.VInt.{number};
 ghost use Rattle.layered_index.specs.Checkpoint.{IsInLine};
 ghost use Rattle.layered_index.specs.Layers.{ends_from, index_part};
 ghost use Rattle.layered_index.specs.Building.{put, put_some, closed_text, last_pointer};
-ghost use Rattle.layered_index.specs.Building.{TookOne, Takes, inserted, Closes, closed, texts_of};
+ghost use Rattle.layered_index.specs.Building.{TookOne, AcceptsInsert, inserted, Closes, closed, texts_of};
 
-use crate::checkpoint_block::CheckpointBlock;
 use crate::checkpoint::{CHECKPOINT_PERIOD, Checkpoint, USUAL_PERIOD};
+use crate::checkpoint_block::CheckpointBlock;
 use std::alloc::Global;
 use std::marker::Model;
 use store_base::{Cause, StoreError, TerminatingWrite, VInt, WriteFault};
@@ -113,7 +113,7 @@ impl LayerBuilder {
         written
     }
 
-    // Takes the pointer from the layer below, if there is one, and writes the open block.
+    // AcceptsInsert the pointer from the layer below, if there is one, and writes the open block.
     // Answers the pointer to it.
     fn close(&mut self, below: Option<Checkpoint>) -> Result<Option<Checkpoint>, StoreError>
         requires { IsInLine (put_some self.old below).rest }
@@ -129,7 +129,7 @@ impl LayerBuilder {
         self.write_block()
     }
 
-    // Takes back the last checkpoint, and the bytes from this place on.
+    // AcceptsInsert back the last checkpoint, and the bytes from this place on.
     fn take_back(&mut self, start: usize)
         ensures { self.new ≡ record {
           bytes = take start self.old.bytes;
@@ -176,7 +176,7 @@ fn insert_at(
     checkpoint: Checkpoint,
 ) -> Result<(), StoreError>
     requires index { at ≤ length layers.old.items }
-    requires takes { Takes period (drop at layers.old.items) checkpoint }
+    requires takes { AcceptsInsert period (drop at layers.old.items) checkpoint }
     ensures ok { OnOk result (layers.new.items ≡
         take at layers.old.items ++ inserted period (drop at layers.old.items) checkpoint) }
     ensures err { OnErr result (layers.new.items ≡ layers.old.items) }

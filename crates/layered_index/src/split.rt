@@ -1,7 +1,7 @@
 //! Cutting an index into the texts of its layers.
 ghost use Rattle.std.specs.Prelude.{◌≡◌, ◌≤◌, length, drop};
 ghost use Rattle.layered_index.specs.IndexReading.{numbers_at, ends_at, texts_at, split_at};
-ghost use Rattle.layered_index.specs.Refusal.{Gives};
+ghost use Rattle.layered_index.specs.Refusal.{AnswersAs};
 
 use crate::fault::ReadFault;
 use std::alloc::Global;
@@ -15,7 +15,7 @@ fn numbers_front(
     count: usize,
     bytes: &[u8],
 ) -> Result<(Vec<usize>, &[u8]), ReadFault>
-    ensures { Gives (λ x. (x.0.items, x.1.now)) result (numbers_at count bytes.now) }
+    ensures { AnswersAs (λ x. (x.0.items, x.1.now)) result (numbers_at count bytes.now) }
 {
     let mut numbers = Vec::with_capacity(alloc, count)?;
     let mut rest = bytes;
@@ -32,7 +32,7 @@ fn numbers_front(
 // Where the layers end, and the layers. An end takes a byte, so no more are claimed than could follow.
 #[tactic(auto, unfolding(crate::specs::IndexReading::ends_at))]
 fn ends_front(alloc: Global, bytes: &[u8]) -> Result<(Vec<usize>, &[u8]), ReadFault>
-    ensures { Gives (λ x. (x.0.items, x.1.now)) result (ends_at bytes.now) }
+    ensures { AnswersAs (λ x. (x.0.items, x.1.now)) result (ends_at bytes.now) }
 {
     let Some((count, rest)) = first_number(bytes, MOST_LAYERS) else {
         return Err(ReadFault::Malformed);
@@ -52,7 +52,7 @@ fn texts(
     ends: &[usize],
 ) -> Result<Vec<OwnedBytes>, ReadFault>
     requires { base ≤ length source.now }
-    ensures { Gives (λ v. v.items) result (texts_at 0 ends.now (drop base source.now)) }
+    ensures { AnswersAs (λ v. v.items) result (texts_at 0 ends.now (drop base source.now)) }
 {
     let len = source.as_slice().len() - base;
     let mut layers = Vec::with_capacity(alloc, ends.len())?;
@@ -77,7 +77,7 @@ pub(crate) fn split(
     bytes: &[u8],
 ) -> Result<Vec<OwnedBytes>, ReadFault>
     requires { bytes.now ≡ source.now }
-    ensures { Gives (λ v. v.items) result (split_at source.now) }
+    ensures { AnswersAs (λ v. v.items) result (split_at source.now) }
 {
     let (ends, rest) = ends_front(alloc, bytes)?;
     let base = bytes.len() - rest.len();

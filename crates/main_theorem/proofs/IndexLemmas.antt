@@ -6,7 +6,7 @@ use Rattle.std.proofs.lemmas.Option.{slice_get_within, get_or_from_slice_get}
 use Rattle.layered_index.specs.declared.checkpoint.Checkpoint.{Checkpoint}
 use Rattle.layered_index.specs.Checkpoint.{IsInLineFrom, IsInLine}
 use Rattle.layered_index.specs.Layers.{Index}
-use Rattle.layered_index.specs.LineLemmas.{in_line-split, in_line_from, in_line_somewhere, in_line_take}
+use Rattle.layered_index.proofs.LineLemmas.{in_line-split, in_line_from, in_line_somewhere, in_line_take}
 
 -- a front of a list in line is in line
 front_in_line : (xs ys all : List Checkpoint) → xs ++ ys ≡ all → IsInLine all → IsInLine xs

@@ -7,12 +7,12 @@ ghost use Rattle.layered_index.specs.Refusal.{RefusesOnlyUnless};
 ghost use Rattle.main_theorem.specs.Index.{AreLooks, IsIndexAnswer};
 ghost use Rattle.main_theorem.specs.Want.{IsWant};
 
-use layered_index::{
-    Checkpoint, CheckpointBlock, LayerCursor, Looks, SkipIndex, SkipIndexBuilder, Steps, laws,
-    seek_near,
+use docstore::{
+    Checkpoint, CheckpointBlock, DocId, LayerCursor, Looks, MemSink, OwnedBytes, SkipIndex,
+    SkipIndexBuilder, Steps, StoreError, seek_near,
 };
+use layered_index::laws;
 use std::alloc::Global;
-use store_base::{DocId, MemSink, OwnedBytes, StoreError};
 
 /// What the index of some bytes answers, and what writing its checkpoints again gives.
 #[derive(Drop)]

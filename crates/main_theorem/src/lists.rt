@@ -10,12 +10,11 @@ ghost use Rattle.main_theorem.specs.Want.{IsWant};
 
 use crate::opening::opened;
 use docstore::{
-    Answer, ReadCall, StoreCommand, StoreError, StoreReader, WriteReport, answer_all,
-    any_lacks_memory, laws, write_store_with_period,
+    Answer, Document, FileHandle, MemFile, MemSink, ReadCall, Schema, StoreCommand, StoreError,
+    StoreReader, WriteReport, answer_all, any_lacks_memory, laws, write_store_with_period,
 };
 use std::alloc::Global;
 use std::snapshot::Snapshot;
-use store_base::{Document, FileHandle, MemFile, MemSink, Schema};
 
 /// What a reader returned to a list of reading calls.
 #[derive(Drop)]

@@ -6,9 +6,8 @@ ghost use Rattle.store_reader.specs.Opening.{IsSomeStore};
 ghost use Rattle.store_reader.specs.Reading.{IsSeen, store_of};
 ghost use Rattle.store_format.specs.StoreFile.{IsStore};
 
-use docstore::{StoreError, StoreReader};
+use docstore::{FileSlice, MemFile, StoreError, StoreReader};
 use std::alloc::Global;
-use store_base::{FileSlice, MemFile};
 
 // Opens the file of these bytes.
 pub(crate) fn opened(

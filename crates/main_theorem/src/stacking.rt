@@ -7,9 +7,8 @@ ghost use Rattle.main_theorem.specs.Stacking.{IsNewStore};
 ghost use Rattle.main_theorem.specs.Want.{IsWant};
 
 use crate::opening::opened;
-use docstore::{Compressor, StoreError, StoreWriter, laws};
+use docstore::{Compressor, MemSink, StoreError, StoreWriter, laws};
 use std::alloc::Global;
-use store_base::MemSink;
 
 // Puts the store of a file behind what the writer has.
 fn stack_file(

@@ -8,3 +8,4 @@ pub mod BitsetLemmas
 pub mod RecordLoops
 pub mod RecordTexts
 pub mod Steady
+pub mod ListLemmas

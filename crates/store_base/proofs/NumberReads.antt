@@ -7,14 +7,8 @@ use Rattle.store_base.specs.declared.fault.DecodeFault.TheVariants.{Short, Malfo
 use Rattle.store_base.specs.VInt.{number, number_below}
 use Rattle.store_base.specs.Serialize.{IsBytes}
 use Rattle.store_base.specs.Reading.{IsBelow, HasFront, IsCutShort, Reads}
-use Rattle.store_base.specs.VIntLemmas.{number_small, number_large, number_some, numbers_are_apart}
+use Rattle.store_base.specs.VIntLemmas.{number_small, number_large, number_some, numbers_are_apart, heads, tails}
 use Rattle.store_base.specs.ReadingLemmas.{below_again, below_takes}
-
-heads : (x y : ℕ) (r s : List ℕ) → x ∷ r ≡ y ∷ s → x ≡ y
-heads x y r s e = cc
-
-tails : (x y : ℕ) (r s : List ℕ) → x ∷ r ≡ y ∷ s → r ≡ s
-tails x y r s e = cc
 
 -- no bytes begin any number
 pub cut_none : (most : ℕ) → IsCutShort (IsBelow (most + 1)) number []

@@ -9,7 +9,7 @@ use Rattle.store_base.specs.VInt.{number, ◌>>=◌}
 use Rattle.store_base.specs.Serialize.{IsBytes, fixed, fixed_at}
 use Rattle.store_base.specs.Record.{Record, field_bytes_in, record_bytes_in, Spelling, spelling_of, bytes_at, field_at, fields_at, record_at}
 use Rattle.store_base.specs.Laws.{OldRecordsAreRead, RecordsReadAreSpelled}
-use Rattle.store_base.specs.ReadingLemmas.{bind_some, some_is, guard_some, pass_some, below_takes, Takes, takes_from, takes_then}
+use Rattle.store_base.specs.ReadingLemmas.{bind_some, some_is, guard_some, pass_some, below_takes, SplitsOff, takes_from, takes_then}
 use Rattle.store_base.specs.SerializeLemmas.{length-fixed}
 use Rattle.store_base.specs.RecordLemmas.{Spells, record_again}
 use Rattle.store_base.proofs.FixedReads.{AreOctets, wide32}
@@ -35,7 +35,7 @@ four_again n rest lt =
     let long : ltb (length (fixed 4 n ++ rest)) 4 ≡ false = le-ltb _ _ (omega (arith, length-append (fixed 4 n) rest, length-fixed 4 n)) in
     rw (long, take_at (fixed 4 n) rest 4 (length-fixed 4 n), drop_at (fixed 4 n) rest 4 (length-fixed 4 n), four_back n lt) refl
 
-four_takes : (bytes : List ℕ) (n : ℕ) (rest : List ℕ) → IsBytes bytes → fixed_at w32 bytes ≡ Some (n, rest) → Takes bytes (fixed 4 n) rest
+four_takes : (bytes : List ℕ) (n : ℕ) (rest : List ℕ) → IsBytes bytes → fixed_at w32 bytes ≡ Some (n, rest) → SplitsOff bytes (fixed 4 n) rest
 four_takes bytes n rest fits e =
     let passed = guard_some (ltb (length bytes) 4) (from_le_bytes w32 (take 4 bytes), drop 4 bytes) (n, rest) e in
     let long : 4 ≤ length bytes = ltb-false (length bytes) 4 passed.0 in
@@ -53,18 +53,18 @@ old_records_are_read fields few all = record_again (fixed 4) (2 ^ 32) (2 ^ 32) (
 
 -- what is read is what text spells
 record IsSpelling (text : ℕ → List ℕ) (s : Spelling) : Type 0 where
-  field : (bytes : List ℕ) (n : ℕ) (rest : List ℕ) → IsBytes bytes → s.field bytes ≡ Some (n, rest) → Takes bytes (text n) rest
-  size : (bytes : List ℕ) (n : ℕ) (rest : List ℕ) → IsBytes bytes → s.size bytes ≡ Some (n, rest) → Takes bytes (text n) rest
+  field : (bytes : List ℕ) (n : ℕ) (rest : List ℕ) → IsBytes bytes → s.field bytes ≡ Some (n, rest) → SplitsOff bytes (text n) rest
+  size : (bytes : List ℕ) (n : ℕ) (rest : List ℕ) → IsBytes bytes → s.size bytes ≡ Some (n, rest) → SplitsOff bytes (text n) rest
 
-bytes_take : (count : ℕ) (bytes : List ℕ) (x : List ℕ × List ℕ) → IsBytes bytes → bytes_at count bytes ≡ Some x → Takes bytes x.0 x.1 × (length x.0 ≡ count)
+bytes_take : (count : ℕ) (bytes : List ℕ) (x : List ℕ × List ℕ) → IsBytes bytes → bytes_at count bytes ≡ Some x → SplitsOff bytes x.0 x.1 × (length x.0 ≡ count)
 bytes_take count bytes x fits e =
     let passed = guard_some (ltb (length bytes) count) (take count bytes, drop count bytes) x e in
     let long : count ≤ length bytes = ltb-false (length bytes) count passed.0 in
-    subst (λ (y : List ℕ × List ℕ). Takes bytes y.0 y.1 × (length y.0 ≡ count)) passed.1
+    subst (λ (y : List ℕ × List ℕ). SplitsOff bytes y.0 y.1 × (length y.0 ≡ count)) passed.1
     (takes_from bytes (take count bytes) (drop count bytes) fits (sym (take-append-drop count bytes)), omega (arith, length-take count bytes))
 
 field_takes : (text : ℕ → List ℕ) (s : Spelling) → IsSpelling text s → (bytes : List ℕ) (x : (ℕ × List ℕ) × List ℕ) → IsBytes bytes → field_at s bytes ≡ Some x
-    → Takes bytes (field_bytes_in text x.0) x.1
+    → SplitsOff bytes (field_bytes_in text x.0) x.1
 unfolding field_at
 field_takes text s is bytes x fits e =
     let a = bind_some (s.field bytes) (λ field. s.size field.1 >>= λ size. bytes_at size.0 size.1 >>= λ t. Some ((field.0, t.0), t.1)) x e in
@@ -76,14 +76,14 @@ field_takes text s is bytes x fits e =
     let made : (ℕ × List ℕ) × List ℕ = ((a.0.0, c.0.0), c.0.1) in
     let size : text b.0.0 ≡ text (length c.0.0) = ap text (sym third.1) in
     let all = takes_then bytes (text a.0.0 ++ text b.0.0) b.0.1 c.0.0 c.0.1 (takes_then bytes (text a.0.0) a.0.1 (text b.0.0) b.0.1 first second) third.0 in
-    let whole : Takes bytes (field_bytes_in text (a.0.0, c.0.0)) c.0.1 = subst (λ (t : List ℕ). Takes bytes ((text a.0.0 ++ t) ++ c.0.0) c.0.1) size all in
-    subst (λ (y : (ℕ × List ℕ) × List ℕ). Takes bytes (field_bytes_in text y.0) y.1) (some_is made x c.2) whole
+    let whole : SplitsOff bytes (field_bytes_in text (a.0.0, c.0.0)) c.0.1 = subst (λ (t : List ℕ). SplitsOff bytes ((text a.0.0 ++ t) ++ c.0.0) c.0.1) size all in
+    subst (λ (y : (ℕ × List ℕ) × List ℕ). SplitsOff bytes (field_bytes_in text y.0) y.1) (some_is made x c.2) whole
 
 fields_take : (text : ℕ → List ℕ) (s : Spelling) → IsSpelling text s → (n : ℕ) (bytes : List ℕ) (x : Record × List ℕ) → IsBytes bytes → fields_at s n bytes ≡ Some x
-    → Takes bytes (flat_map (field_bytes_in text) x.0) x.1 × (length x.0 ≡ n)
+    → SplitsOff bytes (flat_map (field_bytes_in text) x.0) x.1 × (length x.0 ≡ n)
 unfolding fields_at
 fields_take text s is zero bytes x fits e =
-    subst (λ (y : Record × List ℕ). Takes bytes (flat_map (field_bytes_in text) y.0) y.1 × (length y.0 ≡ 0)) (some_is ([], bytes) x e) (record { parts = refl; rest_fits = fits }, refl)
+    subst (λ (y : Record × List ℕ). SplitsOff bytes (flat_map (field_bytes_in text) y.0) y.1 × (length y.0 ≡ 0)) (some_is ([], bytes) x e) (record { parts = refl; rest_fits = fits }, refl)
 fields_take text s is (suc n) bytes x fits e =
     let a = bind_some (field_at s bytes) (λ first. fields_at s n first.1 >>= λ others. Some (first.0 ∷ others.0, others.1)) x e in
     let first = field_takes text s is bytes a.0 fits a.1 in
@@ -91,7 +91,7 @@ fields_take text s is (suc n) bytes x fits e =
     let others = fields_take text s is n a.0.1 b.0 first.rest_fits b.1 in
     let made : Record × List ℕ = (a.0.0 ∷ b.0.0, b.0.1) in
     let all = takes_then bytes (field_bytes_in text a.0.0) a.0.1 (flat_map (field_bytes_in text) b.0.0) b.0.1 first others.0 in
-    subst (λ (y : Record × List ℕ). Takes bytes (flat_map (field_bytes_in text) y.0) y.1 × (length y.0 ≡ suc n)) (some_is made x b.2) (all, ap suc others.1)
+    subst (λ (y : Record × List ℕ). SplitsOff bytes (flat_map (field_bytes_in text) y.0) y.1 × (length y.0 ≡ suc n)) (some_is made x b.2) (all, ap suc others.1)
 
 record_takes : (text : ℕ → List ℕ) (s : Spelling) → IsSpelling text s → (bytes : List ℕ) (fields : Record) → IsBytes bytes → record_at s bytes ≡ Some fields → bytes ≡ record_bytes_in text fields
 unfolding record_at

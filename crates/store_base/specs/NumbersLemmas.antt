@@ -32,7 +32,7 @@ both_cons : (n m : ℕ) (ns ms : List ℕ) → n ≡ m → ns ≡ ms → n ∷ n
 both_cons n m ns ms p q = cc
 
 -- as many numbers, joined, are the same numbers
-lists_are_apart : (ns ms : List ℕ) (r s : List ℕ) → length ns ≡ length ms
+pub lists_are_apart : (ns ms : List ℕ) (r s : List ℕ) → length ns ≡ length ms
     → flat_map number ns ++ r ≡ flat_map number ms ++ s → (ns ≡ ms) × (r ≡ s)
 lists_are_apart [] [] r s len e = (refl, e)
 lists_are_apart [] (m ∷ ms) r s len e = absurd (omega (arith, len))
@@ -44,7 +44,7 @@ lists_are_apart (n ∷ ns) (m ∷ ms) r s len e =
     (both_cons n m ns ms first.0 others.0, others.1)
 
 -- each number has a byte at least
-length-numbers : (ns : List ℕ) → length ns ≤ length (flat_map number ns)
+pub length-numbers : (ns : List ℕ) → length ns ≤ length (flat_map number ns)
 length-numbers [] = omega arith
 length-numbers (n ∷ ns) = omega (arith, length-numbers ns, number_some n, length-append (number n) (flat_map number ns))
 

@@ -120,18 +120,18 @@ bytes_behind [] ys h = h
 bytes_behind (x ∷ xs) ys h = bytes_behind xs ys h.1
 
 -- what a field took from the front: its text, and the rest is still bytes
-pub record Takes (bytes text rest : List ℕ) : Type 0 where
+pub record SplitsOff (bytes text rest : List ℕ) : Type 0 where
   pub parts : bytes ≡ text ++ rest
   pub rest_fits : IsBytes rest
 
-pub takes_from : (bytes text rest : List ℕ) → IsBytes bytes → bytes ≡ text ++ rest → Takes bytes text rest
+pub takes_from : (bytes text rest : List ℕ) → IsBytes bytes → bytes ≡ text ++ rest → SplitsOff bytes text rest
 takes_from bytes text rest fits parts = record {
   parts = parts;
   rest_fits =
       bytes_behind text rest (subst IsBytes parts fits);
 }
 
-pub takes_then : (a x b y c : List ℕ) → Takes a x b → Takes b y c → Takes a (x ++ y) c
+pub takes_then : (a x b y c : List ℕ) → SplitsOff a x b → SplitsOff b y c → SplitsOff a (x ++ y) c
 takes_then a x b y c p q = record {
   parts = p.parts ∙ ap (λ (t : List ℕ). x ++ t) q.parts
       ∙ sym (append_assoc x y c);
@@ -139,7 +139,7 @@ takes_then a x b y c p q = record {
 }
 
 pub below_takes : (limit : ℕ) (bytes : List ℕ) (n : ℕ) (rest : List ℕ) → IsBytes bytes
-    → number_below limit bytes ≡ Some (n, rest) → Takes bytes (number n) rest × (n < limit)
+    → number_below limit bytes ≡ Some (n, rest) → SplitsOff bytes (number n) rest × (n < limit)
 below_takes limit bytes n rest fits e =
     let a = bind_some (number_at bytes) (λ m. cond (ltb m.0 limit) (Some m) None) (n, rest) e in
     let passed = pass_some (ltb a.0.0 limit) a.0 (n, rest) a.2 in

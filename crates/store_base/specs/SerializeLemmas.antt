@@ -3,6 +3,7 @@ use Rattle.std.proofs.Common.{◌≡◌, ℕ, zero, suc, ◌*◌, ◌/◌, ◌%�
 use Rattle.std.proofs.Common.{arith}
 use Rattle.std.proofs.Math.Nat.{pow-suc, pow-succ', div-div-eq-div-mul}
 use Rattle.std.specs.Int.{bytes_low_first, byte_at}
+use Rattle.store_base.specs.VIntLemmas.{heads, tails}
 use Rattle.store_base.specs.Serialize.{fixed}
 use Rattle.store_base.specs.Laws.{FixedNumbersAreApart}
 
@@ -28,12 +29,6 @@ fixed_none n = refl
 pub length-fixed : (k n : ℕ) → length (fixed k n) ≡ k
 length-fixed zero n = ap length (fixed_none n)
 length-fixed (suc k) n = ap length (fixed_more k n) ∙ ap suc (length-fixed k (n / 256))
-
-heads : (x y : ℕ) (r s : List ℕ) → x ∷ r ≡ y ∷ s → x ≡ y
-heads x y r s e = cc
-
-tails : (x y : ℕ) (r s : List ℕ) → x ∷ r ≡ y ∷ s → r ≡ s
-tails x y r s e = cc
 
 pub fixed_numbers_are_apart : FixedNumbersAreApart
 fixed_numbers_are_apart zero m n r s a b e = (

@@ -54,10 +54,10 @@ push_number_more bytes n le = append_assoc bytes ((n % 128) ∷ []) (number (n /
 pub push_number_last : (bytes : List ℕ) (n : ℕ) → n < 128 → bytes ++ (n + 128) ∷ [] ≡ bytes ++ number n
 push_number_last bytes n lt = ap (λ (rest : List ℕ). bytes ++ rest) (sym (number_small n lt))
 
-heads : (x y : ℕ) (r s : List ℕ) → x ∷ r ≡ y ∷ s → x ≡ y
+pub heads : (x y : ℕ) (r s : List ℕ) → x ∷ r ≡ y ∷ s → x ≡ y
 heads x y r s e = cc
 
-tails : (x y : ℕ) (r s : List ℕ) → x ∷ r ≡ y ∷ s → r ≡ s
+pub tails : (x y : ℕ) (r s : List ℕ) → x ∷ r ≡ y ∷ s → r ≡ s
 tails x y r s e = cc
 
 both_small : (m n : ℕ) (r s : List ℕ) → m < 128 → n < 128 → number m ++ r ≡ number n ++ s → (m ≡ n) × (r ≡ s)

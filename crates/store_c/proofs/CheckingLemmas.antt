@@ -4,7 +4,7 @@ use Rattle.std.proofs.lemmas.Bool.{ltb-true, ltb-false}
 use Rattle.store_format.specs.Block.{damaged}
 use Rattle.store_reader.specs.Viewing.{Viewing, IsViewOf, slot_of}
 use Rattle.store_c.specs.declared.fault.Fault.{Fault}
-use Rattle.store_c.specs.Checking.{AreWholeTo, IsSound, IsFirstDamaged}
+use Rattle.store_c.specs.Checking.{AreWholeTo, IsSoundFile, IsFirstDamaged}
 use Rattle.store_c.proofs.FirstRefusalLemmas.{same_view}
 
 module _ (file : List ℕ) (view : Viewing) (of : IsViewOf file view) where
@@ -13,7 +13,7 @@ module _ (file : List ℕ) (view : Viewing) (of : IsViewOf file view) where
   none_damaged none at first = none at.doc_id (ap (λ (v : Viewing). slot_of v at.doc_id) (same_view file view first.view of first.of) ∙ first.is)
 
   -- a file with a damaged document is not sound
-  pub not_sound : (id : ℕ) → slot_of view id ≡ Some damaged → IsSound file → ⊥
+  pub not_sound : (id : ℕ) → slot_of view id ≡ Some damaged → IsSoundFile file → ⊥
   not_sound id is sound = sound.whole id (ap (λ (v : Viewing). slot_of v id) (same_view file sound.view view sound.of of) ∙ is)
 
   -- there is one first

@@ -3,7 +3,7 @@ use Rattle.std.proofs.Common.{◌≡◌, ℕ, ◌+◌, ◌<◌, List, [], ◌∷
 use Rattle.std.proofs.lemmas.List.{get_or-map, length-map, map-append, take_more, take-append-drop}
 use Rattle.layered_index.specs.declared.checkpoint.Checkpoint.{Checkpoint}
 use Rattle.layered_index.specs.Checkpoint.{bytes_end, docs_end, IsInLineFrom, IsWithinLimits, EndsAt}
-use Rattle.layered_index.specs.LineLemmas.{ends_put}
+use Rattle.layered_index.proofs.LineLemmas.{ends_put}
 use Rattle.layered_index.proofs.CheckpointLemmas.{same_checkpoint}
 use Rattle.store_c.specs.declared.block.Block.{Block}
 use Rattle.store_c.specs.declared.block.BlockEnd.{BlockEnd}

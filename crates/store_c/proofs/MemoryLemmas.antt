@@ -6,6 +6,7 @@ use Rattle.std.proofs.lemmas.List.{append-nil, length-map, map-append, map-set, 
 use Rattle.std.proofs.lemmas.Grind.{flat_map-append}
 use Rattle.std.specs.List.{flat_map, concat}
 use Rattle.std.specs.Prelude.{min}
+use Rattle.docstore.proofs.RunSoFarLemmas.{blocks_of-some}
 use Rattle.store_base.specs.Serialize.{fixed}
 use Rattle.store_format.specs.Block.{block, starts_from}
 use Rattle.store_format.specs.StoreFile.{StoreBlock, AreBlocks, block_of, data_of, docs_in, checkpoints_of, checkpoints_from}
@@ -18,7 +19,7 @@ use Rattle.store_c.specs.declared.block.BlockEnd.{BlockEnd}
 use Rattle.store_c.specs.declared.writer.Writer.{Writer}
 use Rattle.store_c.specs.Calls.{end_of, row_of, ends_in, ends_of, start_in}
 use Rattle.store_c.proofs.TableLemmas.{zero_block}
-use Rattle.store_c.specs.Writing.{Memory, memory, Holds, bytes_of, Begins, PutsDocument, EndsBlock, EndsAt}
+use Rattle.store_c.specs.Writing.{Memory, memory, Holds, bytes_of, Begins, PutsDocument, EndsBlock, EndsBlockAt}
 
 pub same_block : (a b : BlockEnd) → a.end_doc ≡ b.end_doc → a.end_byte ≡ b.end_byte → a ≡ b
 same_block a b docs bytes = λ i. record { end_doc = docs i; end_byte = bytes i }
@@ -55,11 +56,6 @@ open_at m w h = ap (start_in zero_block (ends_in m.table)) h.blocks ∙ last_end
 
 -- ---- a block that is ended
 
--- the block of some documents
-pub blocks_of_some : (docs : List (List ℕ)) → 0 < length docs → blocks_of docs ≡ block_of docs ∷ []
-blocks_of_some [] some = absurd (omega arith)
-blocks_of_some (d ∷ docs) some = refl
-
 -- the block of these documents can stand behind the finished ones
 pub blocks_with : (m : Memory) (w : Writing) (docs : List (List ℕ)) → HasFinished m w → 0 < length docs → length (block docs) < 2 ^ 32 → docs_in w.output.finished + length docs < 2 ^ 32
     → AreBlocks (w.output.finished ++ block_of docs ∷ [])
@@ -76,7 +72,7 @@ with_block w docs = record w { pending = []; output = with_blocks w.output (bloc
 
 module _ (m : Memory) (w : Writing) (docs : List (List ℕ)) (end : BlockEnd) (h : HasFinished m w) (some : 0 < length docs)
     (starts : take (length docs) m.starts ≡ starts_from 0 docs) (room : length docs < length m.starts) (rows : m.writer.blocks < length m.table)
-    (ends : EndsAt (start_in zero_block (ends_in m.table) m.writer.blocks) (length docs) (length (concat docs)) end) where
+    (ends : EndsBlockAt (start_in zero_block (ends_in m.table) m.writer.blocks) (length docs) (length (concat docs)) end) where
   abbrev bs : List StoreBlock
   bs = w.output.finished
 
@@ -159,20 +155,20 @@ module _ (m : Memory) (w : Writing) (docs : List (List ℕ)) (end : BlockEnd) (h
 -- ---- a document that is put
 
 -- an end that was found by a sum that stops at the greatest of its type
-pub exact_sum : (m : Memory) (len sum : ℕ) (start end : BlockEnd) → sum ≡ min (m.writer.bytes + len) 18446744073709551615 → EndsAt start (m.writer.docs + 1) sum end → sum ≡ m.writer.bytes + len
+pub exact_sum : (m : Memory) (len sum : ℕ) (start end : BlockEnd) → sum ≡ min (m.writer.bytes + len) 18446744073709551615 → EndsBlockAt start (m.writer.docs + 1) sum end → sum ≡ m.writer.bytes + len
 exact_sum m len sum start end is ends = let few = ends.few_bytes in omega arith
 
 pub exact_end : (m : Memory) (len sum : ℕ) (start end : BlockEnd) → sum ≡ m.writer.bytes + len → start ≡ start_in zero_block (ends_in m.table) m.writer.blocks
-    → EndsAt start (m.writer.docs + 1) sum end → EndsAt (start_in zero_block (ends_in m.table) m.writer.blocks) (m.writer.docs + 1) (m.writer.bytes + len) end
+    → EndsBlockAt start (m.writer.docs + 1) sum end → EndsBlockAt (start_in zero_block (ends_in m.table) m.writer.blocks) (m.writer.docs + 1) (m.writer.bytes + len) end
 exact_end m len sum start end is from ends =
-    subst (λ (n : ℕ). EndsAt (start_in zero_block (ends_in m.table) m.writer.blocks) (m.writer.docs + 1) n end) is (subst (λ (b : BlockEnd). EndsAt b (m.writer.docs + 1) sum end) from ends)
+    subst (λ (n : ℕ). EndsBlockAt (start_in zero_block (ends_in m.table) m.writer.blocks) (m.writer.docs + 1) n end) is (subst (λ (b : BlockEnd). EndsBlockAt b (m.writer.docs + 1) sum end) from ends)
 
 -- the numbers with one more document of this length
 abbrev pub with_length : Writer → ℕ → Writer
 with_length writer len = record { block_size = writer.block_size; blocks = writer.blocks; docs = writer.docs + 1; bytes = writer.bytes + len }
 
 module _ (old : Memory) (len : ℕ) (end : BlockEnd) (room : old.writer.docs + 2 ≤ length old.starts) (rows : old.writer.blocks < length old.table)
-    (ends : EndsAt (start_in zero_block (ends_in old.table) old.writer.blocks) (old.writer.docs + 1) (old.writer.bytes + len) end) where
+    (ends : EndsBlockAt (start_in zero_block (ends_in old.table) old.writer.blocks) (old.writer.docs + 1) (old.writer.bytes + len) end) where
   abbrev mid : Memory
   mid = memory (with_length old.writer len) (set old.starts old.writer.docs old.writer.bytes) old.table
 
@@ -239,10 +235,10 @@ module _ (old : Memory) (len : ℕ) (end : BlockEnd) (room : old.writer.docs + 2
       let some : 0 < length more = omega (arith, g.docs) in
       let on : with_document w d ≡ with_block w more =
       rw (lt-ltb w.block_size (weight more) (omega (arith, g.heavy, h.block_size)))
-      (ap (λ (bs : List StoreBlock). record w { pending = []; output = with_blocks w.output bs }) (blocks_of_some more some)) in
-      let ends' : EndsAt (start_in zero_block (ends_in old.table) old.writer.blocks) (length more) (length (concat more)) end =
-      subst (λ (n : ℕ). EndsAt (start_in zero_block (ends_in old.table) old.writer.blocks) n (length (concat more)) end) (sym g.docs)
-      (subst (λ (n : ℕ). EndsAt (start_in zero_block (ends_in old.table) old.writer.blocks) (old.writer.docs + 1) n end) (sym g.bytes) ends) in
+      (ap (λ (bs : List StoreBlock). record w { pending = []; output = with_blocks w.output bs }) (blocks_of-some more some)) in
+      let ends' : EndsBlockAt (start_in zero_block (ends_in old.table) old.writer.blocks) (length more) (length (concat more)) end =
+      subst (λ (n : ℕ). EndsBlockAt (start_in zero_block (ends_in old.table) old.writer.blocks) n (length (concat more)) end) (sym g.docs)
+      (subst (λ (n : ℕ). EndsBlockAt (start_in zero_block (ends_in old.table) old.writer.blocks) (old.writer.docs + 1) n end) (sym g.bytes) ends) in
       let holds = block_ended mid w more end g.finished some g.starts (omega (arith, g.docs, long)) rows ends' (text ++ d) g.text_is in
       let count : length more + 1 ≡ old.writer.docs + 2 = omega (arith, g.docs) in
       subst (Holds (memory (without_open mid.writer) tail (set old.table old.writer.blocks (row_of end))) ((text ++ d) ++ bytes_of (old.writer.docs + 2) tail)) (sym on)
@@ -253,16 +249,16 @@ module _ (old : Memory) (len : ℕ) (end : BlockEnd) (room : old.writer.docs + 2
 -- ---- the open block is ended
 
 pub ended : (old : Memory) (end : BlockEnd) → 0 < old.writer.docs → old.writer.docs < length old.starts → old.writer.blocks < length old.table
-    → EndsAt (start_in zero_block (ends_in old.table) old.writer.blocks) old.writer.docs old.writer.bytes end
+    → EndsBlockAt (start_in zero_block (ends_in old.table) old.writer.blocks) old.writer.docs old.writer.bytes end
     → EndsBlock (old.writer.docs + 1) old (memory (without_open old.writer) (set old.starts old.writer.docs old.writer.docs) (set old.table old.writer.blocks (row_of end)))
 ended old end some room rows ends text w h =
     let docs = w.pending in
     let after = set old.table old.writer.blocks (row_of end) in
-    let ends' : EndsAt (start_in zero_block (ends_in old.table) old.writer.blocks) (length docs) (length (concat docs)) end =
-    subst (λ (n : ℕ). EndsAt (start_in zero_block (ends_in old.table) old.writer.blocks) n (length (concat docs)) end) h.docs
-    (subst (λ (n : ℕ). EndsAt (start_in zero_block (ends_in old.table) old.writer.blocks) old.writer.docs n end) h.bytes ends) in
+    let ends' : EndsBlockAt (start_in zero_block (ends_in old.table) old.writer.blocks) (length docs) (length (concat docs)) end =
+    subst (λ (n : ℕ). EndsBlockAt (start_in zero_block (ends_in old.table) old.writer.blocks) n (length (concat docs)) end) h.docs
+    (subst (λ (n : ℕ). EndsBlockAt (start_in zero_block (ends_in old.table) old.writer.blocks) old.writer.docs n end) h.bytes ends) in
     let holds = block_ended old w docs end (has_finished old text w h) (omega (arith, h.docs)) h.starts (omega (arith, h.docs)) rows ends' text h.written in
-    let on : flushed w ≡ with_block w docs = ap (λ (bs : List StoreBlock). record w { pending = []; output = with_blocks w.output bs }) (blocks_of_some docs (omega (arith, h.docs))) in
+    let on : flushed w ≡ with_block w docs = ap (λ (bs : List StoreBlock). record w { pending = []; output = with_blocks w.output bs }) (blocks_of-some docs (omega (arith, h.docs))) in
     subst (λ (n : ℕ). Holds (memory (without_open old.writer) (set old.starts n n) after) (text ++ bytes_of (n + 1) (set old.starts n n)) (flushed w)) (sym h.docs)
     (subst (Holds (memory (without_open old.writer) (set old.starts (length docs) (length docs)) after)
     (text ++ bytes_of (length docs + 1) (set old.starts (length docs) (length docs)))) (sym on) holds)

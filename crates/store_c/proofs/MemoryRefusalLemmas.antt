@@ -11,7 +11,7 @@ use Rattle.docstore.specs.Writer.{Writing}
 use Rattle.store_c.specs.declared.block.BlockEnd.{BlockEnd}
 use Rattle.store_c.specs.declared.writer_refusal.WriterRefusal.{WriterRefusal}
 use Rattle.store_c.specs.declared.writer_refusal.WriterRefusal.TheVariants.{NoMemory, OldVersion, BlockTooLarge, TooManyDocs, BadPeriod, NoRoom, OpenBlock, OtherWriter}
-use Rattle.store_c.specs.Writing.{Memory, memory, Holds, EndsAt, RefusesEnd, LacksRoom, HasRoom, HasNoEnd, open_start, RefusesLength, TakesLength, IsOther}
+use Rattle.store_c.specs.Writing.{Memory, memory, Holds, EndsBlockAt, RefusesEnd, LacksRoom, HasRoom, HasNoEnd, open_start, RefusesLength, TakesLength, IsOther}
 use Rattle.store_c.proofs.MemoryLemmas.{has_finished, open_at, blocks_with}
 
 -- a block that has its place in 32 bits has it in the file
@@ -70,7 +70,7 @@ put_refused m len sum NoRoom room is r = absurd r
 put_refused m len sum OpenBlock room is r = absurd r
 put_refused m len sum OtherWriter room is r = absurd r
 
-pub put_takes : (m : Memory) (len : ℕ) (end : BlockEnd) → HasRoom 2 m → EndsAt (open_start m) (m.writer.docs + 1) (m.writer.bytes + len) end → TakesLength len m
+pub put_takes : (m : Memory) (len : ℕ) (end : BlockEnd) → HasRoom 2 m → EndsBlockAt (open_start m) (m.writer.docs + 1) (m.writer.bytes + len) end → TakesLength len m
 put_takes m len end room ends = record {
   room = room;
   number = λ text w h.

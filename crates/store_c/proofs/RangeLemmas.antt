@@ -3,6 +3,7 @@ use Rattle.std.proofs.Common.{◌≡◌, ℕ, ◌+◌, ◌-◌, ◌^◌, ◌<◌
 use Rattle.std.proofs.lemmas.Bool.{ltb-true, ltb-false}
 use Rattle.std.proofs.lemmas.List.{length-replicate}
 use Rattle.std.specs.Prelude.{slice_range, replicate, Ok, Err}
+use Rattle.store_base.proofs.ListLemmas.{length-slice}
 use Rattle.store_base.specs.Outcome.{number_of}
 use Rattle.store_base.specs.declared.error.StoreError.{StoreError}
 use Rattle.store_base.specs.declared.error.StoreError.TheVariants.{BadIndex, InvalidArgument, ShortFile, Memory}
@@ -12,7 +13,6 @@ use Rattle.store_format.specs.StoreFile.{checkpoints_of}
 use Rattle.store_reader.specs.Opening.{IsSomeStore}
 use Rattle.store_reader.specs.StoreTails.{TailBytes, IsTailOf, IsWanted, HasIndexIn, RefusesTail}
 use Rattle.store_reader.proofs.AlikeLemmas.{footer_or_refusal, one_footer, refused_once}
-use Rattle.store_reader.proofs.ReaderStoreLemmas.{length-slice}
 use Rattle.store_reader.proofs.StoreSliceLemmas.{block_stored, refused_is, finds_footer}
 use Rattle.store_reader.proofs.StoreTailLemmas.{tail_footer}
 use Rattle.store_c.specs.declared.block_place.BlockPlace.{BlockPlace}

@@ -7,7 +7,7 @@ use Rattle.std.proofs.lemmas.List.{length-map, length-take-le, map-append, take-
 use Rattle.std.proofs.lemmas.Slice.{drop-append-drop}
 use Rattle.layered_index.specs.declared.checkpoint.Checkpoint.{Checkpoint}
 use Rattle.layered_index.specs.Checkpoint.{checkpoint, IsInLineFrom, IsWithinLimits, IsFilled, docs_end}
-use Rattle.layered_index.specs.LineLemmas.{in_line-split}
+use Rattle.layered_index.proofs.LineLemmas.{in_line-split}
 use Rattle.docstore.specs.Stacking.{shifted}
 use Rattle.layered_index.proofs.CheckpointLemmas.{same_checkpoint}
 use Rattle.store_c.specs.declared.block.Block.{Block}

@@ -5,7 +5,7 @@ use Rattle.std.proofs.lemmas.Bool.{lt-ltb, le-ltb}
 use Rattle.std.proofs.lemmas.List.{length-map}
 use Rattle.layered_index.specs.declared.checkpoint.Checkpoint.{Checkpoint}
 use Rattle.layered_index.specs.Checkpoint.{IsInLineFrom, first_past}
-use Rattle.layered_index.specs.LineLemmas.{in_line_from}
+use Rattle.layered_index.proofs.LineLemmas.{in_line_from}
 use Rattle.layered_index.specs.Seeking.{EndsPast, LiesBetween}
 use Rattle.layered_index.proofs.HalvingLemmas.{first_at, none_up_to, past_end}
 use Rattle.store_c.specs.declared.block.Block.{Block}

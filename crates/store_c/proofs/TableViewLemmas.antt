@@ -3,6 +3,7 @@ use Rattle.std.proofs.Common.{◌≡◌, ℕ, ◌+◌, ◌-◌, ◌≤◌, List,
 use Rattle.std.specs.Prelude.{slice_get, slice_range}
 use Rattle.std.proofs.lemmas.Option.{slice_get_past}
 use Rattle.std.proofs.Math.Seq.{take-append_seam}
+use Rattle.store_base.proofs.ListLemmas.{length-slice}
 use Rattle.layered_index.specs.declared.checkpoint.Checkpoint.{Checkpoint}
 use Rattle.layered_index.specs.Checkpoint.{checkpoint, Covers, IsInLineFrom, bytes_end, docs_end, first_past}
 use Rattle.layered_index.specs.Layers.{index_part}
@@ -13,7 +14,6 @@ use Rattle.store_format.specs.Slots.{slots}
 use Rattle.store_format.specs.StoreFile.{StoreBlock, IsStore, blocks_at, data_of, checkpoints_of}
 use Rattle.store_format.proofs.StoreLemmas.{blocks_from, checkpoints_cover}
 use Rattle.store_reader.specs.Viewing.{Viewing, IsView, IsViewOf, count_in, data_in}
-use Rattle.store_reader.proofs.ReaderStoreLemmas.{length-slice}
 use Rattle.store_reader.proofs.SeekLemmas.{IsWithin, within}
 use Rattle.store_reader.proofs.ViewLemmas.{count_is, seek_stays, slot_none, slot_placed}
 use Rattle.store_c.specs.declared.block.Block.{Block}

@@ -11,7 +11,7 @@ abbrev pub AreWholeTo : Viewing → ℕ → Type 0
 AreWholeTo view end = (id : ℕ) → id < end → slot_of view id ≡ Some damaged → ⊥
 
 -- These bytes are the file of a store, and no document of it is damaged.
-pub record IsSound (file : List ℕ) : Type 0 where
+pub record IsSoundFile (file : List ℕ) : Type 0 where
   pub view : Viewing
   pub of : IsViewOf file view
   pub whole : (id : ℕ) → slot_of view id ≡ Some damaged → ⊥
@@ -26,14 +26,14 @@ pub record IsFirstDamaged (file : List ℕ) (at : Fault) : Type 0 where
   pub no_layer : at.layer ≡ 0
 
 -- the number of a layer
-abbrev pub IsLayer : Option ℕ → ℕ → Type 0
-IsLayer None number = number ≡ 2 ^ 32 - 1
-IsLayer (Some layer) number = layer < 2 ^ 32 → number ≡ layer
+abbrev pub IsLayerNumber : Option ℕ → ℕ → Type 0
+IsLayerNumber None number = number ≡ 2 ^ 32 - 1
+IsLayerNumber (Some layer) number = layer < 2 ^ 32 → number ≡ layer
 
 -- the place of a fault in an index that begins there, or of one that has none
 abbrev pub IsPlaceOf : ℕ → Option IndexFault → Fault → Type 0
 IsPlaceOf start None at = (at.byte ≡ start) × (at.layer ≡ 2 ^ 32 - 2)
-IsPlaceOf start (Some fault) at = (start + fault.byte < 2 ^ 64 → at.byte ≡ start + fault.byte) × IsLayer fault.layer at.layer
+IsPlaceOf start (Some fault) at = (start + fault.byte < 2 ^ 64 → at.byte ≡ start + fault.byte) × IsLayerNumber fault.layer at.layer
 
 -- Where the index of this file first breaks a rule; or its start, where it is the index of a list in line. No document
 -- is told.

@@ -159,7 +159,7 @@ HasTooManyWith view writer table =
     → 2 ^ 32 ≤ num_docs w + count_in view
 
 -- A block that begins here and has so many documents of so many bytes ends here, and has its place in 32 bits.
-pub record EndsAt (start : BlockEnd) (docs bytes : ℕ) (end : BlockEnd) : Type 0 where
+pub record EndsBlockAt (start : BlockEnd) (docs bytes : ℕ) (end : BlockEnd) : Type 0 where
   pub doc : end.end_doc ≡ start.end_doc + docs
   pub byte : end.end_byte ≡ start.end_byte + (bytes + 4 * docs + 4)
   pub few_docs : start.end_doc + docs < 2 ^ 32
@@ -172,7 +172,7 @@ open_start m = start_in (record { end_doc = 0; end_byte = 0 }) (ends_in m.table)
 
 -- The open block ends nowhere.
 abbrev pub HasNoEnd : Memory → Type 0
-HasNoEnd m = (end : BlockEnd) → EndsAt (open_start m) m.writer.docs m.writer.bytes end → ⊥
+HasNoEnd m = (end : BlockEnd) → EndsBlockAt (open_start m) m.writer.docs m.writer.bytes end → ⊥
 
 -- There is no room for this many more starts, or for one more row.
 abbrev pub LacksRoom : ℕ → Memory → Type 0
@@ -205,7 +205,7 @@ RefusesBlock m _ = ⊥
 -- There is no open block; or there is room for its table and one more row, and a place at which it ends.
 abbrev pub TakesBlock : Memory → Type 0
 TakesBlock m = (m.writer.docs ≡ 0)
-    ⊎ (HasRoom 1 m × ((end : BlockEnd) × EndsAt (open_start m) m.writer.docs m.writer.bytes end))
+    ⊎ (HasRoom 1 m × ((end : BlockEnd) × EndsBlockAt (open_start m) m.writer.docs m.writer.bytes end))
 
 -- These bytes are the file of a store, and this is so of it.
 pub record RefusesStore (bytes : List ℕ) (Why : Viewing → Type 0) : Type 0 where
@@ -259,7 +259,7 @@ abbrev pub between : BlockEnd → BlockEnd → Checkpoint
 between start end = checkpoint start.end_doc end.end_doc start.end_byte end.end_byte
 
 -- the index of blocks that end so
-pub record IsIndexOf (period : ℕ) (ends : List BlockEnd) (index : Index) : Type 0 where
+pub record IndexesEnds (period : ℕ) (ends : List BlockEnd) (index : Index) : Type 0 where
   pub period_is : index.period ≡ period
   pub ends_are : map ends_of index.checkpoints ≡ ends
   pub in_line : IsInLineFrom 0 0 index.checkpoints

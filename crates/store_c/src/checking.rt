@@ -3,13 +3,12 @@ ghost use Rattle.std.specs.Prelude.{◌≡◌, ◌≢◌, ◌↔◌, ◌<◌, �
 ghost use Rattle.store_format.specs.Block.{damaged};
 ghost use Rattle.store_reader.specs.Viewing.{slot_of};
 ghost use Rattle.store_c.specs.Calls.{RefusesFile};
-ghost use Rattle.store_c.specs.Checking.{AreWholeTo, IsSound, IsFirstDamaged, IsIndexFault};
+ghost use Rattle.store_c.specs.Checking.{AreWholeTo, IsSoundFile, IsFirstDamaged, IsIndexFault};
 ghost use Rattle.store_c.specs.declared.fault.Fault.{Fault as FaultOf};
 
 use crate::fault::{Fault, LAYER_COVER, LAYER_LIST};
+use docstore::{DocId, StoreError, StoreView, check_index};
 use std::alloc::Global;
-use store_base::{DocId, StoreError};
-use store_reader::{StoreView, check_index};
 
 const DONE: u32 = 0;
 
@@ -65,7 +64,7 @@ fn index_fault(alloc: Global, file: &[u8]) -> Result<Fault, StoreError>
 /// runs out. The other numbers of a fault that is set are 0. Any other error leaves `fault`.
 #[unsafe(no_mangle)]
 pub extern "C" fn zevk_check(alloc: Global, file: &[u8], fault: &mut Fault) -> u32
-    ensures done { result ≢ 10 → result ≡ 0 ↔ IsSound file.now }
+    ensures done { result ≢ 10 → result ≡ 0 ↔ IsSoundFile file.now }
 
     // Each refusal.
     ensures index { result ≡ 5 → IsIndexFault file.now fault.new }

@@ -2,15 +2,16 @@
 ghost use Rattle.std.specs.Prelude.{◌≡◌, ◌≤◌, IfOk, IfErr, MatchOption};
 ghost use Rattle.layered_index.specs.Checkpoint.{IsWithinLimits};
 ghost use Rattle.store_c.specs.Calls.{ends_in};
-ghost use Rattle.store_c.specs.Writing.{between, IsIndexOf, IsEndOf, RefusesIndex};
+ghost use Rattle.store_c.specs.Writing.{between, IndexesEnds, IsEndOf, RefusesIndex};
 
 use crate::block::{Block, BlockEnd};
 use crate::table::start_of;
 use crate::writer_refusal::WriterRefusal;
-use layered_index::{Checkpoint, SkipIndexBuilder};
+use docstore::{
+    BinarySerializable, Checkpoint, DOC_STORE_VERSION, Decompressor, DocStoreFooter, MemSink,
+    SkipIndexBuilder,
+};
 use std::alloc::Global;
-use store_base::{BinarySerializable, MemSink};
-use store_format::{DOC_STORE_VERSION, Decompressor, DocStoreFooter};
 
 // A block is shorter than this.
 const BLOCK_LIMIT: usize = 0x1_0000_0000;
@@ -36,7 +37,7 @@ fn checkpoint_between(start: BlockEnd, end: BlockEnd) -> Option<Checkpoint>
 fn index_of(alloc: Global, ends: &[Block], period: u8) -> Result<SkipIndexBuilder, WriterRefusal>
     requires least { 2 ≤ period }
     requires most { period ≤ 64 }
-    ensures index { IfOk result (IsIndexOf period (ends_in ends.now)) }
+    ensures index { IfOk result (IndexesEnds period (ends_in ends.now)) }
     ensures refused { IfErr result (RefusesIndex (ends_in ends.now)) }
 {
     let mut index = SkipIndexBuilder::with_period(alloc, period);

@@ -6,7 +6,7 @@ ghost use Rattle.store_c.specs.Calls.{ends_in, ends_of, ends_behind, with_front}
 
 use crate::block::{Block, BlockEnd};
 use crate::guiding::write_guides;
-use layered_index::LayerCursor;
+use docstore::LayerCursor;
 
 // Where the first block begins.
 const FIRST: BlockEnd = BlockEnd {

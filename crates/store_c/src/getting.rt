@@ -9,9 +9,8 @@ ghost use Rattle.store_c.specs.Getting.{IsPlaceIn, ArePlacesIn, RefusesGet, HasB
 ghost use Rattle.store_c.specs.Getting.{RefusesUnopened, RefusesHead};
 
 use crate::place::Place;
+use docstore::{BlockSlice, DocId, StoreError, StoreSlice};
 use std::alloc::Global;
-use store_base::{DocId, StoreError};
-use store_reader::{BlockSlice, StoreSlice};
 
 const DONE: u32 = 0;
 

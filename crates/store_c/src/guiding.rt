@@ -4,7 +4,7 @@ ghost use Rattle.store_c.specs.Calls.{ends_in};
 
 use crate::block::Block;
 use crate::table::num_docs;
-use store_base::DocId;
+use docstore::DocId;
 
 // How many rows a guess looks at. A stretch has fewer blocks on the average, or as many.
 const FEW: usize = 4;

@@ -10,9 +10,8 @@ use crate::place::Place;
 use crate::refusal::Refusal;
 use crate::seeking::seek;
 use crate::table::num_docs;
-use layered_index::Checkpoint;
-use store_base::DocId;
-use store_format::{likely_read_index, part};
+use docstore::{Checkpoint, DocId, likely_read_index};
+use store_format::part;
 
 // The block that has a document, by the table.
 fn block_of(file: &[u8], table: &[Block], doc_id: DocId) -> Result<Checkpoint, Refusal>

@@ -1,7 +1,7 @@
 //! The open block of a store that is written.
 ghost use Rattle.std.specs.Prelude.{◌≡◌, ◌+◌, ◌*◌, ◌<◌, ◌≤◌, ◌^◌, ◌⊎◌, length, set, IfOk, IfErr, OnOk, OnErr};
 ghost use Rattle.store_c.specs.Calls.{row_of};
-ghost use Rattle.store_c.specs.Writing.{memory, EndsAt, RefusesEnd, PutsDocument, EndsBlock};
+ghost use Rattle.store_c.specs.Writing.{memory, EndsBlockAt, RefusesEnd, PutsDocument, EndsBlock};
 ghost use Rattle.store_c.specs.Writing.{RefusesLength, TakesLength, RefusesBlock, TakesBlock};
 
 use crate::block::{Block, BlockEnd};
@@ -15,7 +15,7 @@ const BLOCK_LIMIT: usize = 0x1_0000_0000;
 /// Where a block ends that begins here and has so many documents of so many bytes.
 pub(crate) fn end_of(start: BlockEnd, docs: usize, bytes: usize) -> Result<BlockEnd, WriterRefusal>
     requires few { docs < 2 ^ 61 }
-    ensures end { IfOk result (EndsAt start docs bytes) }
+    ensures end { IfOk result (EndsBlockAt start docs bytes) }
     ensures refused { IfErr result (RefusesEnd start docs bytes) }
 {
     let end_doc = start.end_doc as usize + docs;

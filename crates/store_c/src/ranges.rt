@@ -11,8 +11,8 @@ ghost use Rattle.store_c.specs.Ranges.{HasBlockAt, IsBlockPlace, RefusesTail, Is
 use crate::block_place::BlockPlace;
 use crate::place::Place;
 use crate::refusal::Refusal;
+use docstore::{BlockSlice, StoreTail, TailError};
 use std::alloc::Global;
-use store_reader::{BlockSlice, StoreTail, TailError};
 
 const DONE: u32 = 0;
 

@@ -9,8 +9,8 @@ use crate::filling::fill_table;
 use crate::locating;
 use crate::place::Place;
 use crate::refusal::Refusal;
+use docstore::StoreView;
 use std::alloc::Global;
-use store_reader::StoreView;
 
 const DONE: u32 = 0;
 

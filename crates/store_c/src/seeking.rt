@@ -9,8 +9,7 @@ ghost use Rattle.store_c.specs.Calls.{ends_of, ends_in};
 use crate::block::Block;
 use crate::guiding::guess;
 use crate::table::start_of;
-use layered_index::Checkpoint;
-use store_base::DocId;
+use docstore::{Checkpoint, DocId};
 
 // Where the first block whose documents end past a target lies, and how many rows were looked at to tell it.
 #[derive(Clone, Copy)]

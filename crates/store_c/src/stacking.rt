@@ -9,8 +9,7 @@ use crate::filling::fill;
 use crate::table::start_of;
 use crate::writer::Writer;
 use crate::writer_refusal::WriterRefusal;
-use store_format::DocStoreVersion;
-use store_reader::StoreView;
+use docstore::{DocStoreVersion, StoreView};
 
 /// Puts a store's blocks behind those that were ended, and tells how many they are. A refusal for want of room tells it
 /// too, and leaves anything in the rows behind those that were ended.

@@ -5,7 +5,7 @@ ghost use Rattle.layered_index.specs.Checkpoint.{docs_end};
 ghost use Rattle.store_c.specs.Calls.{ends_of, ends_in, start_in};
 
 use crate::block::{Block, BlockEnd};
-use store_base::DocId;
+use docstore::DocId;
 
 /// Where the block at a position of a table begins.
 pub(crate) fn start_of(table: &[Block], at: usize) -> BlockEnd

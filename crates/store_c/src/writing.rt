@@ -15,8 +15,8 @@ use crate::ending::end_of_file;
 use crate::writer::Writer;
 use crate::writer_refusal::WriterRefusal;
 use crate::{open_block, stacking};
+use docstore::StoreView;
 use std::alloc::Global;
-use store_reader::StoreView;
 
 const DONE: u32 = 0;
 

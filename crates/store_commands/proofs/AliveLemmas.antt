@@ -3,21 +3,16 @@ use Rattle.std.proofs.Common.{◌≡◌, ℕ, ◌+◌, ◌<◌, ◌≤◌, Bool,
 use Rattle.std.specs.List.{filter, enumerate_from}
 use Rattle.std.proofs.lemmas.List.{map-append}
 use Rattle.std.proofs.lemmas.List.Elements.{filter-append}
+use Rattle.store_base.proofs.ListLemmas.{enumerate_append}
 use Rattle.store_format.specs.Block.{Slot}
 use Rattle.store_reader.specs.Iteration.{is_in, alive}
 use Rattle.store_commands.specs.Documents.{alive_from}
-
-enumerated : (n : ℕ) (xs ys : List Slot) → enumerate_from n (xs ++ ys) ≡ enumerate_from n xs ++ enumerate_from (n + length xs) ys
-enumerated n [] ys = let here : n ≡ n + 0 = omega arith in ap (λ (k : ℕ). enumerate_from k ys) here
-enumerated n (x ∷ xs) ys =
-    let here : (n + 1) + length xs ≡ n + length (x ∷ xs) = omega arith in
-    ap (λ (zs : List (ℕ × Slot)). (n, x) ∷ zs) (enumerated (n + 1) xs ys ∙ ap (λ (k : ℕ). enumerate_from (n + 1) xs ++ enumerate_from k ys) here)
 
 pub alive_joined : (n : ℕ) (xs ys : List Slot) (set : Option (ℕ → Bool)) → alive_from n (xs ++ ys) set ≡ alive_from n xs set ++ alive_from (n + length xs) ys set
 alive_joined n xs ys set =
     let p : ℕ × Slot → Bool = λ x. is_in set x.0 in
     let second : ℕ × Slot → Slot = λ x. x.1 in
-    ap (λ (zs : List (ℕ × Slot)). map second (filter p zs)) (enumerated n xs ys)
+    ap (λ (zs : List (ℕ × Slot)). map second (filter p zs)) (enumerate_append n xs ys)
     ∙ ap (map second) (filter-append p (enumerate_from n xs) (enumerate_from (n + length xs) ys))
     ∙ map-append second (filter p (enumerate_from n xs)) (filter p (enumerate_from (n + length xs) ys))
 

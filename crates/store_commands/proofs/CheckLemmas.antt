@@ -1,6 +1,7 @@
 -- How far a check has come.
 use Rattle.std.proofs.Common.{◌≡◌, ℕ, ◌+◌, ◌-◌, ◌<◌, ◌≤◌, List, [], ◌∷◌, ◌++◌, length, Some, sym, ap, ◌∙◌, subst, arith}
 use Rattle.std.specs.Prelude.{IsTrue, slice_range}
+use Rattle.store_reader.proofs.RecentLemmas.{same_as_it_is}
 use Rattle.layered_index.specs.Checkpoint.{Covers, docs_end, first_past}
 use Rattle.store_format.specs.StoreFile.{StoreBlock, docs_in, data_of}
 use Rattle.store_reader.specs.declared.data_part.DataPart.{DataPart}
@@ -9,7 +10,7 @@ use Rattle.store_reader.specs.Reading.{Reading, IsSameStore, num_docs, store_of}
 use Rattle.store_commands.specs.declared.checking.Verdict.{Verdict}
 use Rattle.store_commands.specs.Checks.{Judges}
 use Rattle.store_commands.proofs.CountLemmas.{TakesBlock, judges_more}
-use Rattle.store_commands.proofs.WalkLemmas.{HasCome, has_begun, IsNext, is_next, has_come_on, has_ended, same_itself, same_read}
+use Rattle.store_commands.proofs.WalkLemmas.{HasCome, has_begun, IsNext, is_next, has_come_on, has_ended, same_read}
 
 -- some blocks were judged
 pub record HasChecked (r now : Reading) (next : ℕ) (verdict : Verdict) : Type 0 where
@@ -21,7 +22,7 @@ pub record HasChecked (r now : Reading) (next : ℕ) (verdict : Verdict) : Type 
   pub judged : IsTrue r.file.honest → Judges front verdict
 
 pub checked_first : (r : Reading) (v : Verdict) → Covers r.checkpoints (length r.file.content) → v.documents ≡ num_docs r → Judges [] v → HasChecked r r 0 v
-checked_first r v covers documents judged = record { front = []; come = has_begun r; covers = covers; same = same_itself r; documents = documents; judged = λ _. judged }
+checked_first r v covers documents judged = record { front = []; come = has_begun r; covers = covers; same = same_as_it_is r; documents = documents; judged = λ _. judged }
 
 -- one block more
 pub checked_more : (r now new : Reading) (next : ℕ) (v w : Verdict) (part : DataPart) → HasChecked r now next v

@@ -9,6 +9,7 @@ use Rattle.std.proofs.lemmas.Option.{IfSome_then}
 use Rattle.std.proofs.lemmas.List.Concat.{flat_map-append}
 use Rattle.std.proofs.lemmas.List.FromFn.{length-map-range_with_len}
 use Rattle.std.proofs.lemmas.List.Sums.{sum_by-cons, sum_by-append, count_by-le-length}
+use Rattle.docstore.proofs.TakenLemmas.{length-slots}
 use Rattle.store_base.specs.Counts.{raised}
 use Rattle.store_format.specs.Block.{Slot, slot, doc, damaged}
 use Rattle.store_format.specs.Slots.{slots}
@@ -122,15 +123,6 @@ slots_joined front b =
     flat_map-append (λ (x : StoreBlock). map (slot x.bytes) (range_with_len 0 x.count)) front (b ∷ [])
     ∙ ap (λ (xs : List Slot). slots front ++ xs) (append-nil (slots_in b.bytes b.count))
 
-pub slots_len : (bs : List StoreBlock) → length (slots bs) ≡ docs_in bs
-slots_len [] = refl
-slots_len (x ∷ xs) =
-    let cons = sum_by-cons (λ (b : StoreBlock). b.count) x xs in
-    let joined = length-append (map (slot x.bytes) (range_with_len 0 x.count)) (slots xs) in
-    let size = length-map-range_with_len (slot x.bytes) 0 x.count in
-    let on = slots_len xs in
-    omega arith
-
 list_all_push : {X : Type 0} (p : X → Bool) (xs : List X) (y : X) → list_all p (xs ++ y ∷ []) ≡ (list_all p xs && p y)
 list_all_push p [] y = and_true (p y)
   where
@@ -170,7 +162,7 @@ judges_more front b old new few docs j t =
     let size = length-append front (b ∷ []) in
     let count : count_by is_damaged (slots (front ++ b ∷ [])) ≡ count_by is_damaged (slots front) + damaged_count b.bytes b.count =
     ap (count_by is_damaged) (slots_joined front b) ∙ sum_by-append (λ (s : Slot). cond (is_damaged s) 1 0) (slots front) (slots_in b.bytes b.count) in
-    let first_few = count_by-le-length is_damaged (slots front) in let len = slots_len front in let more_few = damaged_few b.bytes b.count in
+    let first_few = count_by-le-length is_damaged (slots front) in let len = length-slots front in let more_few = damaged_few b.bytes b.count in
     let broken : count_by (λ x. not (is_sound_block x)) (front ++ b ∷ []) ≡ count_by (λ x. not (is_sound_block x)) front + count_by (λ x. not (is_sound_block x)) (b ∷ []) =
     sum_by-append (λ (x : StoreBlock). cond (not (is_sound_block x)) 1 0) front (b ∷ []) in
     let this = turned (is_sound_block b) in

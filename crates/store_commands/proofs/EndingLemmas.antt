@@ -8,6 +8,8 @@ use Rattle.std.proofs.lemmas.Option.{slice_get-get_or}
 use Rattle.std.proofs.Math.Seq.{get_or-append_seam}
 use Rattle.std.proofs.lemmas.List.FromFn.{length-map-range_with_len}
 use Rattle.std.proofs.lemmas.Bool.{ltb-true, ltb-false}
+use Rattle.docstore.proofs.TakenLemmas.{length-slots}
+use Rattle.store_format.proofs.StoreLemmas.{docs_in-cons, docs_in-append}
 use Rattle.layered_index.specs.declared.checkpoint.Checkpoint.{Checkpoint}
 use Rattle.layered_index.specs.Checkpoint.{docs_end, first_past}
 use Rattle.store_base.specs.Counts.{HasRisen}
@@ -26,10 +28,9 @@ use Rattle.store_commands.specs.Checks.{slots_in}
 use Rattle.store_commands.specs.Documents.{alive_from, TakesSlots}
 use Rattle.store_commands.specs.Giving.{RefusesSlot, EndsBlock, HasTakenTo, EndsAtBlock, EndsByStore, EndsGiving}
 use Rattle.store_commands.proofs.AliveLemmas.{alive_joined}
-use Rattle.store_commands.proofs.CountLemmas.{slots_len}
 use Rattle.store_commands.proofs.GivingLemmas.{HasGiven, next_in, slots_split}
 use Rattle.store_commands.proofs.TakingLemmas.{takes_more}
-use Rattle.store_commands.proofs.WalkLemmas.{HasCome, IsNext, docs_first, docs_joined, docs_of_all}
+use Rattle.store_commands.proofs.WalkLemmas.{HasCome, IsNext, docs_of_all}
 
 -- ---- the slots below an id
 
@@ -38,7 +39,7 @@ slots_front front rest = flat_map-append (λ (x : StoreBlock). map (slot x.bytes
 
 below_block : (front rest : List StoreBlock) (id : ℕ) → id ≡ docs_in front → take id (slots (front ++ rest)) ≡ slots front
 below_block front rest id e =
-    let size : length (slots front) ≡ id = omega (arith, slots_len front, e) in
+    let size : length (slots front) ≡ id = omega (arith, length-slots front, e) in
     ap (take id) (slots_front front rest) ∙ take_at (slots front) (slots rest) id size
 
 -- the slots from a position of a block on
@@ -69,19 +70,22 @@ slot_behind xs ys s id e =
 -- the set's documents of the blocks that were given, and no more
 pub ends_at_block : {T : Type 0} (takes : T → List ℕ → T → Type 0) (set : Option (ℕ → Bool)) (r now : Reading) (next : ℕ) (old new : T) → HasGiven takes set r now next old new → next < num_docs r
     → EndsAtBlock takes set r old new
-ends_at_block takes set r now next old new h lt = (next, record {
-  below = lt;
-  given = λ honest.
-      let all : take next (slots (store_of r)) ≡ slots h.front = ap (λ (bs : List StoreBlock). take next (slots bs)) h.come.parts ∙ below_block h.front h.come.rest next h.come.next_is in
-      subst (λ (xs : List Slot). TakesSlots takes (alive xs set) old new) (sym all) (h.taken honest);
-})
+ends_at_block takes set r now next old new h lt = (
+  next,
+  record {
+    below = lt;
+    given = λ honest.
+        let all : take next (slots (store_of r)) ≡ slots h.front = ap (λ (bs : List StoreBlock). take next (slots bs)) h.come.parts ∙ below_block h.front h.come.rest next h.come.next_is in
+        subst (λ (xs : List Slot). TakesSlots takes (alive xs set) old new) (sym all) (h.taken honest);
+  },
+)
 
 -- and those of the next block before a position
 id_in : {T : Type 0} (takes : T → List ℕ → T → Type 0) (set : Option (ℕ → Bool)) (r now : Reading) (next position : ℕ) (old middle : T) (part : DataPart) (h : HasGiven takes set r now next old middle)
     (n : IsNext r h.front next part) → part.ids.start + position ≡ length (slots h.front ++ slots_in n.block.bytes position)
 id_in takes set r now next position old middle part h n =
     let size = length-append (slots h.front) (slots_in n.block.bytes position) in
-    omega (arith, size, slots_len h.front, length-map-range_with_len (slot n.block.bytes) 0 position, n.first, h.come.next_is)
+    omega (arith, size, length-slots h.front, length-map-range_with_len (slot n.block.bytes) 0 position, n.first, h.come.next_is)
 
 cut_store : {T : Type 0} (takes : T → List ℕ → T → Type 0) (set : Option (ℕ → Bool)) (r now : Reading) (next position : ℕ) (old middle : T) (part : DataPart) (h : HasGiven takes set r now next old middle)
     (n : IsNext r h.front next part) → position < n.block.count
@@ -100,13 +104,13 @@ given_to : {T : Type 0} (takes : T → List ℕ → T → Type 0) (set : Option 
     (n : IsNext r h.front next part) → position < n.block.count → TakesSlots takes (alive_from part.ids.start (slots_in part.bytes position) set) middle new
     → HasTakenTo takes set r (part.ids.start + position) old new
 given_to takes set r now next position old middle new part h n lt taken = record {
-  below = omega (arith, docs_of_all r h.covers, ap docs_in n.parts, docs_joined h.front (n.block ∷ n.rest), docs_first n.block n.rest, n.first, h.come.next_is);
+  below = omega (arith, docs_of_all r h.covers, ap docs_in n.parts, docs_in-append h.front (n.block ∷ n.rest), docs_in-cons n.block n.rest, n.first, h.come.next_is);
   given = λ honest.
       let front = slots h.front ++ slots_in n.block.bytes position in
       let all : take (part.ids.start + position) (slots (store_of r)) ≡ front =
       ap (take (part.ids.start + position)) (cut_store takes set r now next position old middle part h n lt)
       ∙ take_at front (slot n.block.bytes position ∷ slots_after n.block n.rest position) (part.ids.start + position) (sym (id_in takes set r now next position old middle part h n)) in
-      let id : part.ids.start ≡ 0 + length (slots h.front) = omega (arith, n.first, h.come.next_is, slots_len h.front) in
+      let id : part.ids.start ≡ 0 + length (slots h.front) = omega (arith, n.first, h.come.next_is, length-slots h.front) in
       let some : alive_from part.ids.start (slots_in part.bytes position) set ≡ alive_from (0 + length (slots h.front)) (slots_in n.block.bytes position) set =
       ap (λ (k : ℕ). alive_from k (slots_in part.bytes position) set) id
       ∙ ap (λ (xs : List ℕ). alive_from (0 + length (slots h.front)) (slots_in xs position) set) (n.bytes honest) in
@@ -132,21 +136,26 @@ ends_in_block {T} {E} takes refuses set r now read next old middle new part e h 
     lt = omega (arith, b.below, n.count)
 
     by : (e : GivingError E) → RefusesSlot refuses (part.ids.start + b.position) (slot part.bytes b.position) b.before new e → EndsGiving takes refuses set r read old new e
-    by (Store s) c = subst (EndsByStore takes set r read old new) (sym c.0)
-        (record {
-          before = subst (HasTakenTo takes set r (part.ids.start + b.position) old) (sym c.2) (given_to takes set r now next b.position old middle b.before part h n lt b.given);
-          kept = b.kept;
-          is = λ honest. slot_at takes set r now next b.position old middle part h n lt honest ∙ ap (λ (x : Slot). Some x) c.1;
-        }, steady)
-    by (Target t) c = (record {
-      id = part.ids.start + b.position;
-      middle = b.before;
-      before = given_to takes set r now next b.position old middle b.before part h n lt b.given;
-      kept = b.kept;
-      bytes = c.0;
-      is = λ honest. slot_at takes set r now next b.position old middle part h n lt honest ∙ ap (λ (x : Slot). Some x) c.1;
-      refused = c.2;
-    }, steady)
+    by (Store s) c = subst (EndsByStore takes set r read old new) (sym c.0) (
+      record {
+        before = subst (HasTakenTo takes set r (part.ids.start + b.position) old) (sym c.2) (given_to takes set r now next b.position old middle b.before part h n lt b.given);
+        kept = b.kept;
+        is = λ honest. slot_at takes set r now next b.position old middle part h n lt honest ∙ ap (λ (x : Slot). Some x) c.1;
+      },
+      steady,
+    )
+    by (Target t) c = (
+      record {
+        id = part.ids.start + b.position;
+        middle = b.before;
+        before = given_to takes set r now next b.position old middle b.before part h n lt b.given;
+        kept = b.kept;
+        bytes = c.0;
+        is = λ honest. slot_at takes set r now next b.position old middle part h n lt honest ∙ ap (λ (x : Slot). Some x) c.1;
+        refused = c.2;
+      },
+      steady,
+    )
 
 -- what an Ok says of the count of failures
 pub steady_of : {A P : Type 0} (x : A) → (let came : Result A StoreError = Ok x in IsErrOf came Read ⊎ P) → P

@@ -5,6 +5,8 @@ use Rattle.layered_index.specs.Checkpoint.{Covers, docs_end, first_past}
 use Rattle.std.specs.List.{range_with_len}
 use Rattle.std.proofs.lemmas.List.{append-nil, map-append}
 use Rattle.std.proofs.lemmas.List.FromFn.{length-map-range_with_len}
+use Rattle.docstore.proofs.TakenLemmas.{length-slots}
+use Rattle.store_reader.proofs.RecentLemmas.{same_as_it_is}
 use Rattle.store_format.specs.Block.{Slot, slot}
 use Rattle.store_format.specs.Slots.{slots}
 use Rattle.store_format.specs.StoreFile.{StoreBlock}
@@ -15,9 +17,9 @@ use Rattle.store_reader.specs.Reading.{Reading, IsSameStore, num_docs, store_of}
 use Rattle.store_commands.specs.Checks.{slots_in}
 use Rattle.store_commands.specs.Documents.{alive_from, TakesSlots}
 use Rattle.store_commands.proofs.AliveLemmas.{alive_joined, none_alive, one_alive}
-use Rattle.store_commands.proofs.CountLemmas.{range_joined, slots_joined, slots_len}
+use Rattle.store_commands.proofs.CountLemmas.{range_joined, slots_joined}
 use Rattle.store_commands.proofs.TakingLemmas.{takes_none, takes_more}
-use Rattle.store_commands.proofs.WalkLemmas.{HasCome, has_begun, IsNext, is_next, has_come_on, has_ended, same_itself, same_read}
+use Rattle.store_commands.proofs.WalkLemmas.{HasCome, has_begun, IsNext, is_next, has_come_on, has_ended, same_read}
 
 -- ---- the documents of a block
 
@@ -56,7 +58,7 @@ pub record HasGiven {T : Type 0} (takes : T → List ℕ → T → Type 0) (set 
   pub taken : IsTrue r.file.honest → TakesSlots takes (alive_from 0 (slots front) set) old new
 
 pub given_first : {T : Type 0} (takes : T → List ℕ → T → Type 0) (set : Option (ℕ → Bool)) (r : Reading) (old : T) → Covers r.checkpoints (length r.file.content) → HasGiven takes set r r 0 old old
-given_first takes set r old covers = record { front = []; come = has_begun r; covers = covers; same = same_itself r; taken = λ _. takes_none takes old }
+given_first takes set r old covers = record { front = []; come = has_begun r; covers = covers; same = same_as_it_is r; taken = λ _. takes_none takes old }
 
 -- a block that comes is the next one
 pub next_in : {T : Type 0} (takes : T → List ℕ → T → Type 0) (set : Option (ℕ → Bool)) (r now : Reading) (next : ℕ) (old new : T) (part : DataPart) (h : HasGiven takes set r now next old new)
@@ -83,7 +85,7 @@ given_more takes set r now read next old middle new part h seeks given none once
       covers = h.covers;
       same = same_read r now read next same none once;
       taken = λ honest.
-          let id : part.ids.start ≡ 0 + length (slots h.front) = omega (arith, n.first, h.come.next_is, slots_len h.front) in
+          let id : part.ids.start ≡ 0 + length (slots h.front) = omega (arith, n.first, h.come.next_is, length-slots h.front) in
           let some : alive_from part.ids.start (slots_in part.bytes (part.ids.end - part.ids.start)) set ≡ alive_from (0 + length (slots h.front)) (slots_in n.block.bytes n.block.count) set =
           ap (λ (k : ℕ). alive_from k (slots_in part.bytes (part.ids.end - part.ids.start)) set) id
           ∙ ap (λ (xs : List ℕ). alive_from (0 + length (slots h.front)) (slots_in xs (part.ids.end - part.ids.start)) set) (n.bytes honest)

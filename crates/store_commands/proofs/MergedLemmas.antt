@@ -15,21 +15,21 @@ use Rattle.store_reader.specs.Iteration.{alive}
 use Rattle.store_reader.specs.Reading.{Reading, IsSameStore, num_docs, store_of}
 use Rattle.store_merge.specs.declared.input.MergeInput.{MergeInput}
 use Rattle.store_merge.specs.declared.merge_error.MergeError.{MergeError}
-use Rattle.store_merge.specs.Choice.{set_of, alive_of, alive_slots, first_old}
+use Rattle.store_merge.specs.Choice.{flags_of, alive_of, alive_slots, first_old}
 use Rattle.store_merge.specs.Inputs.{IsInputKept, AreInputsKept, IsAskedOnce}
 use Rattle.store_merge.specs.Merge.{IsEnded, IsFailed}
 use Rattle.store_commands.specs.Merging.{is_kept, KeepsDocuments, kept_slots, IsMergedReader, input_of, EndsStore}
 use Rattle.store_commands.proofs.AliveLemmas.{alive_agreed}
 
-of_set : (words : List (Bor (List ℕ))) (all : List Slot) (set : Option (List Bool)) → KeepsDocuments words (length all) set → alive all (set_of set) ≡ alive all (Some (is_kept words))
+of_set : (words : List (Bor (List ℕ))) (all : List Slot) (set : Option (List Bool)) → KeepsDocuments words (length all) set → alive all (flags_of set) ≡ alive all (Some (is_kept words))
 of_set words all None none = alive_agreed all None (Some (is_kept words)) (λ id lt. sym (ap (λ (ws : List (Bor (List ℕ))). is_kept ws id) none))
-of_set words all (Some set) h = alive_agreed all (set_of (Some set)) (Some (is_kept words)) h.2
+of_set words all (Some set) h = alive_agreed all (flags_of (Some set)) (Some (is_kept words)) h.2
 
 -- the slots of the one input are those that the words keep
 pub kept_alone : {H : Type 0} (words : List (Bor (List ℕ))) (reader : Reading) (x : MergeInput H) → x.reader ≡ reader → KeepsDocuments words (length (slots (store_of reader))) x.alive
     → flat_map alive_slots (x ∷ []) ≡ kept_slots words reader
 kept_alone words reader x same kept =
-    append-nil (alive_slots x) ∙ ap (λ (r : Reading). alive_of r (set_of x.alive)) same ∙ of_set words (slots (store_of reader)) x.alive kept
+    append-nil (alive_slots x) ∙ ap (λ (r : Reading). alive_of r (flags_of x.alive)) same ∙ of_set words (slots (store_of reader)) x.alive kept
 
 -- ---- what is left of the one input
 
@@ -98,21 +98,24 @@ pub ends_alone : {H : Type 0} (words : List (Bor (List ℕ))) (reader : Reading)
     → (first_old xs ≡ None → IsEnded BeginsStack xs left old new e) → IsFailed e.error ⊎ (new.output.failure ≡ old.output.failure)
     → EndsStore H words reader r old new e.error × IsMergedReader reader r
 unfolding error_of
-ends_alone {H} words reader x xs left r old new result e alone same keeps kept readers is old_one ended works = (record {
-  set = x.alive;
-  kept = keeps;
-  old_version = λ first.
-      let h = at_first (first_old_alone x (ap (λ (s : Reading). s.version) same ∙ first)) in
-      (ap error_of (sym is ∙ h.0), h.1, left_same (h.2));
-  ended = λ not.
-      let h : IsEnded BeginsStack (x ∷ []) left old new e = ended_one (none_old_alone x (λ first. not (ap (λ (s : Reading). s.version) (sym same) ∙ first))) in
-      let place : e.input ≡ 0 = only_place x h.named e.input h.is_named in
-      let at : IsEnded BeginsStack (x ∷ []) left old new (record { error = e.error; input = 0 }) = subst (λ (n : ℕ). IsEnded BeginsStack (x ∷ []) left old new (record { error = e.error; input = n })) place h in
-      let one : x ∷ [] ≡ input_of H reader x.alive ∷ [] = (λ i. input_of H (same i) x.alive ∷ []) in
-      subst (λ (ys : List (MergeInput H)). IsEnded BeginsStack ys (input_of H r x.alive ∷ []) old new (record { error = e.error; input = 0 })) one
-      (subst (λ (ys : List (MergeInput H)). IsEnded BeginsStack (x ∷ []) ys old new (record { error = e.error; input = 0 })) here.is at);
-  works = works;
-}, merged_reader reader x left r same here)
+ends_alone {H} words reader x xs left r old new result e alone same keeps kept readers is old_one ended works = (
+  record {
+    set = x.alive;
+    kept = keeps;
+    old_version = λ first.
+        let h = at_first (first_old_alone x (ap (λ (s : Reading). s.version) same ∙ first)) in
+        (ap error_of (sym is ∙ h.0), h.1, left_same (h.2));
+    ended = λ not.
+        let h : IsEnded BeginsStack (x ∷ []) left old new e = ended_one (none_old_alone x (λ first. not (ap (λ (s : Reading). s.version) (sym same) ∙ first))) in
+        let place : e.input ≡ 0 = only_place x h.named e.input h.is_named in
+        let at : IsEnded BeginsStack (x ∷ []) left old new (record { error = e.error; input = 0 }) = subst (λ (n : ℕ). IsEnded BeginsStack (x ∷ []) left old new (record { error = e.error; input = n })) place h in
+        let one : x ∷ [] ≡ input_of H reader x.alive ∷ [] = (λ i. input_of H (same i) x.alive ∷ []) in
+        subst (λ (ys : List (MergeInput H)). IsEnded BeginsStack ys (input_of H r x.alive ∷ []) old new (record { error = e.error; input = 0 })) one
+        (subst (λ (ys : List (MergeInput H)). IsEnded BeginsStack (x ∷ []) ys old new (record { error = e.error; input = 0 })) here.is at);
+    works = works;
+  },
+  merged_reader reader x left r same here,
+)
   where
     here : IsLeft x left r
     here = left_alone x left r (subst (λ (ys : List (MergeInput H)). AreInputsKept ys left) alone kept) readers

@@ -5,11 +5,12 @@ use Rattle.std.specs.List.{concat, flat_map, list_any, AllByRecursion}
 use Rattle.std.proofs.lemmas.Bool.{lt-ltb, le-ltb, leb-true}
 use Rattle.std.proofs.lemmas.Bool.Decides.{nat_tests}
 use Rattle.std.specs.Int.{w32, from_le_bytes}
+use Rattle.store_base.proofs.ListLemmas.{length-slice}
 use Rattle.store_base.specs.Serialize.{IsBytes, fixed}
 use Rattle.store_base.proofs.FixedReads.{AreOctets, wide32}
 use Rattle.store_format.specs.Block.{Slot, slot, damaged, block, starts_from, u32_at, count_of, table_of, start_of, end_of, is_sound as is_slot_sound}
 use Rattle.store_format.specs.StoreFile.{StoreBlock}
-use Rattle.store_reader.proofs.ReaderStoreLemmas.{slices_joined, length-slice, all_of}
+use Rattle.store_reader.proofs.ReaderStoreLemmas.{slices_joined, all_of}
 use Rattle.store_commands.specs.Checks.{is_damaged, slots_in, has_table, is_sound, is_sound_block}
 use Rattle.store_commands.specs.Laws.{IsOfDocuments, SoundBlocksAreOfDocuments}
 use Rattle.store_commands.proofs.CountLemmas.{one_damaged}

@@ -7,6 +7,9 @@ use Rattle.std.proofs.lemmas.Bool.{lt-ltb, le-ltb, ltb-true, ltb-false}
 use Rattle.std.proofs.lemmas.List.{append-nil, take_at, drop_at}
 use Rattle.std.proofs.lemmas.List.Concat.{flat_map-append}
 use Rattle.std.proofs.lemmas.List.Sums.{sum_by-cons, sum_by-append}
+use Rattle.docstore.proofs.StackLawLemmas.{checkpoints_end}
+use Rattle.store_format.proofs.StoreLemmas.{docs_in-cons, docs_in-append}
+use Rattle.store_base.proofs.ListLemmas.{all_behind, range_at}
 use Rattle.store_base.specs.Counts.{HasRisen}
 use Rattle.layered_index.specs.declared.checkpoint.Checkpoint.{Checkpoint}
 use Rattle.layered_index.specs.Checkpoint.{byte_len, Covers, checkpoint, docs_end, first_past}
@@ -18,12 +21,6 @@ use Rattle.store_reader.proofs.ReaderStoreLemmas.{store_seen}
 
 -- ---- blocks by their first document
 
-pub docs_first : (x : StoreBlock) (xs : List StoreBlock) → docs_in (x ∷ xs) ≡ x.count + docs_in xs
-docs_first x xs = sum_by-cons (λ (b : StoreBlock). b.count) x xs
-
-pub docs_joined : (xs ys : List StoreBlock) → docs_in (xs ++ ys) ≡ docs_in xs + docs_in ys
-docs_joined xs ys = sum_by-append (λ (b : StoreBlock). b.count) xs ys
-
 -- a seek for the first document behind some blocks finds the next block
 found : (id byte : ℕ) (front : List StoreBlock) (b : StoreBlock) (rest : List StoreBlock) (target place : ℕ) → 0 < b.count → target ≡ id + docs_in front → place ≡ byte + length (data_of front)
     → first_past (checkpoints_from id byte (front ++ b ∷ rest)) target ≡ Some (checkpoint target (target + b.count) place (place + length b.bytes))
@@ -31,7 +28,7 @@ found id byte [] b rest target place some t p =
     let here : target ≡ id = omega (arith, t) in let there : place ≡ byte = omega (arith, p) in
     rw (here, there, lt-ltb id (id + b.count) (omega arith)) refl
 found id byte (x ∷ xs) b rest target place some t p =
-    let docs : target ≡ (id + x.count) + docs_in xs = omega (arith, t, docs_first x xs) in
+    let docs : target ≡ (id + x.count) + docs_in xs = omega (arith, t, docs_in-cons x xs) in
     let bytes : place ≡ (byte + length x.bytes) + length (data_of xs) = omega (arith, p, length-append x.bytes (data_of xs)) in
     rw (le-ltb target (id + x.count) (omega (arith, docs))) (found (id + x.count) (byte + length x.bytes) xs b rest target place some docs bytes)
 
@@ -39,17 +36,13 @@ found id byte (x ∷ xs) b rest target place some t p =
 none_found : (id byte : ℕ) (bs : List StoreBlock) (target : ℕ) → id + docs_in bs ≤ target → first_past (checkpoints_from id byte bs) target ≡ None
 none_found id byte [] target le = refl
 none_found id byte (x ∷ xs) target le =
-    let cons = docs_first x xs in
+    let cons = docs_in-cons x xs in
     rw (le-ltb target (id + x.count) (omega arith)) (none_found (id + x.count) (byte + length x.bytes) xs target (omega arith))
-
-all_behind : {A : Type 0} (P : A → Type 0) (xs ys : List A) → AllByRecursion P (xs ++ ys) → AllByRecursion P ys
-all_behind P [] ys h = h
-all_behind P (x ∷ xs) ys h = all_behind P xs ys h.1
 
 -- each block has a document
 some_each : (xs ys : List StoreBlock) → AllByRecursion IsStoreBlock (xs ++ ys) → length xs ≤ docs_in xs
 some_each [] ys h = omega arith
-some_each (x ∷ xs) ys h = omega (arith, h.0.some_docs, some_each xs ys h.1, docs_first x xs)
+some_each (x ∷ xs) ys h = omega (arith, h.0.some_docs, some_each xs ys h.1, docs_in-cons x xs)
 
 -- ---- a reading
 
@@ -75,11 +68,6 @@ pub record IsNext (r : Reading) (front : List StoreBlock) (next : ℕ) (part : D
   pub bytes : IsTrue r.file.honest → part.bytes ≡ block.bytes
   pub few : next + block.count < 2 ^ 32
   pub number : length front ≤ next
-
-range_at : (xs ys zs : List ℕ) (from to : ℕ) → from ≡ length xs → to ≡ from + length ys → slice_range (xs ++ (ys ++ zs)) from to ≡ ys
-range_at xs ys zs from to f t =
-    let size : length ys ≡ to - from = omega arith in
-    ap (take (to - from)) (drop_at xs (ys ++ zs) from (sym f)) ∙ take_at ys zs (to - from) size
 
 pub is_next : (r : Reading) (front : List StoreBlock) (next : ℕ) (part : DataPart) → Covers r.checkpoints (length r.file.content) → HasCome r front next
     → Some (place_of part) ≡ first_past r.checkpoints next
@@ -119,19 +107,15 @@ is_next r front next part covers come seeks given = by come.rest come.parts
           byte = byte;
           bytes = λ honest. given honest ∙ ap (λ (xs : List ℕ). slice_range xs part.start (part.start + length part.bytes)) content_is
               ∙ range_at (data_of front) b.bytes (data_of rest) part.start (part.start + length part.bytes) byte (omega (arith, byte, last));
-          few = let joined = docs_joined front (b ∷ rest) in let cons = docs_first b rest in omega (arith, ap docs_in parts, joined, cons, come.next_is, seen.blocks.few_docs);
+          few = let joined = docs_in-append front (b ∷ rest) in let cons = docs_in-cons b rest in omega (arith, ap docs_in parts, joined, cons, come.next_is, seen.blocks.few_docs);
           number = omega (arith, come.next_is, some_each front (b ∷ rest) (subst (AllByRecursion IsStoreBlock) parts seen.blocks.each));
         }
-
-docs_ended : (id byte : ℕ) (bs : List StoreBlock) → docs_end id (checkpoints_from id byte bs) ≡ id + docs_in bs
-docs_ended id byte [] = omega arith
-docs_ended id byte (x ∷ xs) = let on = docs_ended (id + x.count) (byte + length x.bytes) xs in let cons = docs_first x xs in omega arith
 
 pub docs_of_all : (r : Reading) → Covers r.checkpoints (length r.file.content) → num_docs r ≡ docs_in (store_of r)
 docs_of_all r covers =
     let seen = store_seen r.file.content r.checkpoints covers in
     let zero : 0 + docs_in (store_of r) ≡ docs_in (store_of r) = omega arith in
-    ap (docs_end 0) (sym seen.checkpoints_are) ∙ docs_ended 0 0 (store_of r) ∙ zero
+    ap (docs_end 0) (sym seen.checkpoints_are) ∙ checkpoints_end 0 0 (store_of r) ∙ zero
 
 -- what is known of a block that was found
 pub seeks_some : (found : Option DataPart) (part : DataPart) (sought : Option Checkpoint) → found ≡ Some part → option_map place_of found ≡ sought → Some (place_of part) ≡ sought
@@ -150,7 +134,7 @@ pub has_come_on : (r : Reading) (front : List StoreBlock) (next : ℕ) (part : D
 has_come_on r front next part come n = record {
   rest = n.rest;
   parts = n.parts ∙ sym (append_assoc front (n.block ∷ []) n.rest);
-  next_is = let joined = docs_joined front (n.block ∷ []) in let cons = docs_first n.block [] in omega (arith, n.end, come.next_is, joined, cons);
+  next_is = let joined = docs_in-append front (n.block ∷ []) in let cons = docs_in-cons n.block [] in omega (arith, n.end, come.next_is, joined, cons);
 }
 
 -- behind the last document it has come to the end
@@ -162,13 +146,10 @@ has_ended r front next covers come le = by come.rest come.parts
     by (b ∷ rest) parts =
         let seen = store_seen r.file.content r.checkpoints covers in
         let each : AllByRecursion IsStoreBlock (b ∷ rest) = all_behind IsStoreBlock front (b ∷ rest) (subst (AllByRecursion IsStoreBlock) parts seen.blocks.each) in
-        let joined = docs_joined front (b ∷ rest) in let cons = docs_first b rest in
+        let joined = docs_in-append front (b ∷ rest) in let cons = docs_in-cons b rest in
         absurd (omega (arith, each.0.some_docs, ap docs_in parts, joined, cons, come.next_is, le, docs_of_all r covers))
 
 -- ---- reads leave the store
-
-pub same_itself : (r : Reading) → IsSameStore r r
-same_itself r = record { content = refl; honest = refl; failures = omega arith; checkpoints = refl; period = refl; version = refl; decompressor = refl; capacity = refl }
 
 same_once : (len : ℕ) (first old new : Reading) → IsSameStore first old → IsReadOnce len old new → IsSameStore first new
 same_once len first old new same read = record {
@@ -188,7 +169,3 @@ same_read first old new id same none once = (elim (nat_lt id (num_docs old)) as 
   | true ↦ λ t. let read = once (ltb-true id (num_docs old) t) in same_once (byte_len read.block) first old new same read.once
   | false ↦ λ t. subst (IsSameStore first) (sym (none (ltb-false id (num_docs old) t))) same
 ]) refl
-
--- failures before don't matter
-pub risen_since : (first old new : ℕ) → first ≤ old → HasRisen old new → HasRisen first new
-risen_since first old new le h = record { no_lower = omega (arith, h.no_lower); risen = λ lt. omega (arith, h.risen lt) }

@@ -5,8 +5,7 @@ ghost use Rattle.store_format.specs.Block.{slot, damaged};
 ghost use Rattle.store_reader.specs.CallAnswers.{exact_result};
 ghost use Rattle.store_reader.specs.Viewing.{given};
 
-use docstore::block_read_index;
-use store_base::{DocId, StoreError};
+use docstore::{DocId, StoreError, block_read_index};
 
 /// The document at a position of a block, or its refusal where it is damaged.
 #[inline(always)]

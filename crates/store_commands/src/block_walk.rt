@@ -12,9 +12,8 @@ ghost use Rattle.store_commands.specs.LeftOut.{AreApartFrom};
 
 use crate::block_documents::document_at;
 use crate::left_out::{IdSpan, span_with};
-use docstore::{DataPart, StoreError, StoreReader};
+use docstore::{DataPart, DocId, FileHandle, StoreError, StoreReader};
 use std::alloc::Global;
-use store_base::{DocId, FileHandle};
 
 /// Takes documents, as an output that prints them does.
 pub trait DocumentTarget {

@@ -4,11 +4,9 @@ ghost use Rattle.std.specs.Prelude.{◌≡◌, ◌⊎◌, Ok, Err, IsTrue, IfOk,
 ghost use Rattle.store_commands.specs.BrokenParts.{BreaksBody, BreaksFile, IsOfFooter};
 
 use crate::store_part::part_of;
-use docstore::{DocStoreFooter, SkipIndex, StoreError};
-use layered_index::IndexFault;
+use docstore::{DocStoreFooter, FileHandle, FileSlice, IndexFault, SkipIndex, StoreError};
 use std::alloc::Global;
 use std::fmt;
-use store_base::{FileHandle, FileSlice};
 
 /// Which part of a file keeps it from being opened.
 #[derive(Clone, Copy)]

@@ -10,10 +10,9 @@ ghost use Rattle.store_commands.specs.Blocks.{AreWhole, documents_of};
 ghost use Rattle.store_commands.specs.Checks.{damaged_count, has_table, is_sound, HasTableFault, HasFault, Judges};
 
 use crate::block_documents::documents_with_room;
-use docstore::{DataPart, StoreError, StoreReader, block_read_index};
+use docstore::{DataPart, DocId, FileHandle, StoreError, StoreReader, block_read_index};
 use std::alloc::Global;
 use std::fmt;
-use store_base::{DocId, FileHandle};
 
 /// Why the table of a block isn't the one that its index promises.
 #[derive(Clone, Copy)]

@@ -6,10 +6,10 @@ ghost use Rattle.store_commands.specs.IdRanges.{names, is_within, IsFirstMissing
 ghost use Rattle.store_commands.specs.IdRanges.{number_named, around_dots, start_named, end_named, range_named};
 
 use crate::request_error::RequestError;
+use docstore::DocId;
 use std::alloc::Global;
 use std::marker::Model;
 use std::ops::Range;
-use store_base::DocId;
 
 /// A range of documents by their ids. Without an end it reaches to the last one.
 #[derive(Clone, Copy)]

@@ -8,9 +8,8 @@ ghost use Rattle.store_commands.specs.Merging.{KeepsDocuments, RefusesSet, bytes
 
 use crate::left_out::{alive_without, left_out};
 use crate::request_error::RequestError;
-use docstore::StoreReader;
+use docstore::{AliveBitSet, DocId, FileHandle, StoreReader};
 use std::alloc::Global;
-use store_base::{AliveBitSet, DocId, FileHandle};
 use store_merge::MergeInput;
 
 /// The documents that are kept where words leave some out, in a store of `num_docs` documents whose blocks and index

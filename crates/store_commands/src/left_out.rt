@@ -10,9 +10,9 @@ ghost use Rattle.store_commands.specs.LeftOut.{HasId, part_names, RefusesOnePart
 
 use crate::id_range::range_of;
 use crate::request_error::RequestError;
+use docstore::{AliveBitSet, DocId, NoMemory};
 use std::alloc::{AllocError, Global};
 use std::ops::Range;
-use store_base::{AliveBitSet, DocId, NoMemory};
 
 /// The ids from `start` up to `end`, which is excluded.
 #[derive(Clone, Copy)]

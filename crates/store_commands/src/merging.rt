@@ -12,9 +12,8 @@ ghost use Rattle.store_commands.specs.Merging.{IsMergedReader, EndsMerge, IsOfOu
 
 use crate::kept_documents::input_without;
 use crate::request_error::RequestError;
-use docstore::{StoreError, StoreReader, StoreWriter};
+use docstore::{FileHandle, StoreError, StoreReader, StoreWriter, TerminatingWrite};
 use std::alloc::Global;
-use store_base::{FileHandle, TerminatingWrite};
 use store_merge::{MergeInput, merge_in_parts};
 
 /// Why a store was not merged.

@@ -1,7 +1,7 @@
 //! Errors of requests to a store.
 
+use docstore::{DocId, NoMemory, ReadFault, StoreError};
 use std::alloc::{AllocError, AllocFailed};
-use store_base::{DocId, NoMemory, ReadFault, StoreError};
 use thiserror::Error;
 
 /// Why a request to a store failed.

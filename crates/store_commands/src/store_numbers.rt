@@ -5,9 +5,8 @@ ghost use Rattle.layered_index.specs.Layers.{digit_count};
 ghost use Rattle.store_format.specs.Footer.{version_number};
 ghost use Rattle.store_commands.specs.Numbers.{sizes_of, AreNumbersOf};
 
-use docstore::{DocStoreVersion, StoreReader};
+use docstore::{DocId, DocStoreVersion, FileHandle, StoreError, StoreReader};
 use std::alloc::Global;
-use store_base::{DocId, FileHandle, StoreError};
 
 /// What a store has, as numbers.
 #[derive(Clone, Copy)]

@@ -5,9 +5,8 @@ ghost use Rattle.store_format.specs.FileReading.{Comes};
 ghost use Rattle.store_commands.specs.Tails.{IsNoRange, tail_of, IsCutOff, RefusesTail};
 
 use crate::request_error::RequestError;
-use docstore::OwnedBytes;
+use docstore::{BinarySerializable, FileHandle, FileSlice, OwnedBytes, StoreError};
 use std::alloc::Global;
-use store_base::{BinarySerializable, FileHandle, FileSlice, StoreError};
 
 // How many bytes stand behind the JSON text of tantivy's directory, and what the last four of them say.
 const TANTIVY_TAIL_LEN: u64 = 8;

@@ -6,8 +6,9 @@ use Rattle.std.proofs.lemmas.List.{take-append-le, take_all, take_more}
 use Rattle.std.proofs.lemmas.Cmp.{nat_list_eq_equiv}
 use Rattle.std.proofs.lemmas.Bool.{cases_lt}
 use Rattle.std.specs.Cmp.Lexicographic.{same_text}
+use Rattle.store_base.proofs.ListLemmas.{either}
 use lib.Pointwise.{pointwise}
-use Rattle.store_folder.specs.Moments.{Follows, Elapses}
+use Rattle.store_folder.specs.Moments.{ComesFrom, Elapses}
 use Rattle.store_folder.specs.Folder.{Look, Elsewhere, ElsewhereOfBoth, FilesElsewhere, Renamed}
 use Rattle.store_folder.specs.Changes.{bytes_of, after, changed, nothing, look_of, Is, WasSince}
 use Rattle.store_folder.specs.declared.memory.Change.{Change}
@@ -32,11 +33,6 @@ step_is xs i e n lt is =
     ap (λ (ys : List Change). look_of ys n) (take_more xs i e lt)
     ∙ ap (λ (x : Change). look_of (take i xs ++ x ∷ []) n) (sym is)
     ∙ changed-append (take i xs) e nothing n
-
--- a call that went either way
-pub either : {T E P Q : Type 0} (r : Result T E) → OnOk r P → OnErr r Q → P ⊎ Q
-either (Ok x) ok err = inl ok
-either (Err x) ok err = inr err
 
 module _ (e : Change) (old : Look) where
   after_name : after e old (string_bytes e.name) ≡ bytes_of e.bytes
@@ -106,11 +102,11 @@ elapses_same old new same =
 pub files_elsewhere : (name : List ℕ) (old new : Look) → Elsewhere name old new → FilesElsewhere name (λ n bytes. old n ≡ Some bytes) (λ n bytes. new n ≡ Some bytes)
 files_elsewhere name old new e n bytes ne holds = sym (e n ne) ∙ holds
 
-pub crash_elsewhere : (name : List ℕ) (old new : Look) → Elsewhere name old new → Follows (Elsewhere name) (Is old) (Is new)
+pub crash_elsewhere : (name : List ℕ) (old new : Look) → Elsewhere name old new → ComesFrom (Elsewhere name) (Is old) (Is new)
 crash_elsewhere name old new e c is = (old, λ n. refl, λ n ne. is n ∙ e n ne)
 
 pub crash_renamed : (from to : List ℕ) (old new : Look) → ElsewhereOfBoth from to old new → IsSome (old from) → (new to ≡ old from) ⊎ (new to ≡ old to)
-    → Follows (Renamed from to (λ bytes. old from ≡ Some bytes)) (Is old) (Is new)
+    → ComesFrom (Renamed from to (λ bytes. old from ≡ Some bytes)) (Is old) (Is new)
 crash_renamed from to old new e there either c is = (
   old,
   λ n. refl,

@@ -1,13 +1,13 @@
 -- What is known of an output's folder, as the output goes from stage to stage.
 use Rattle.std.proofs.Common.{◌≡◌, ◌≢◌, ◌⊎◌, inl, refl, ℕ, List, [], ◌++◌, Option, Some, unwrap_or, sym, ◌∙◌, ap, subst, length, arith, length-append}
-use Rattle.store_folder.specs.Moments.{Follows, Elapses, LeavesOnly}
+use Rattle.store_folder.specs.Moments.{ComesFrom, Elapses, LeavesOnly}
 use Rattle.store_folder.specs.Folder.{Look, Elsewhere, Keeps}
 use Rattle.store_folder.specs.Publishing.{part, IsUntouched, IsOldOrWhole}
 use Rattle.store_folder.specs.Stages.{IsBeside}
 use Rattle.store_folder.proofs.Steps.{started, goes_on, weaker, joined}
 
 -- two calls that touch one name
-pub again : (name : List ℕ) (first mid after : Look → Type 0) → Follows (Elsewhere name) first mid → Follows (Elsewhere name) mid after → Follows (Elsewhere name) first after
+pub again : (name : List ℕ) (first mid after : Look → Type 0) → ComesFrom (Elsewhere name) first mid → ComesFrom (Elsewhere name) mid after → ComesFrom (Elsewhere name) first after
 again name first mid after one two c left =
     let from = two c left in
     let earlier = one from.0 from.1 in (earlier.0, earlier.1, λ n ne. from.2 n ne ∙ earlier.2 n ne)
@@ -23,7 +23,7 @@ module _ (beside name : List ℕ) (apart : beside ≢ name) where
   }
 
   -- a publication after it
-  pub since_first : (first mid : Look → Type 0) (whole : Option (List ℕ)) (c : Look) → Follows (Elsewhere beside) first mid
+  pub since_first : (first mid : Look → Type 0) (whole : Option (List ℕ)) (c : Look) → ComesFrom (Elsewhere beside) first mid
       → IsOldOrWhole mid beside name whole c → IsOldOrWhole first beside name whole c
   since_first first mid whole c follows o =
       let from = follows o.old o.was in
@@ -40,7 +40,7 @@ module _ {F : Type 0} (seen : F → Look) (may_leave : F → Look → Type 0) (m
   ElapsesTo old new = Elapses (moment old) (moment new) (left_since old) (left_since new) (may_leave new)
 
   -- the file beside was just made
-  pub begun : (first now : F) → ((c : Look) → left_since first (moment first) c → may_leave first c) → Follows (Elsewhere beside) (may_leave first) (may_leave now) → ElapsesTo first now
+  pub begun : (first now : F) → ((c : Look) → left_since first (moment first) c → may_leave first c) → ComesFrom (Elsewhere beside) (may_leave first) (may_leave now) → ElapsesTo first now
       → seen now beside ≡ Some [] → IsBeside seen may_leave moment left_since first now beside []
   begun first now only follows time file = record {
     file = file;
@@ -50,7 +50,7 @@ module _ {F : Type 0} (seen : F → Look) (may_leave : F → Look → Type 0) (m
   }
 
   -- the same where it was not
-  pub not_begun : (first now : F) → ((c : Look) → left_since first (moment first) c → may_leave first c) → Follows (Elsewhere beside) (may_leave first) (may_leave now) → ElapsesTo first now
+  pub not_begun : (first now : F) → ((c : Look) → left_since first (moment first) c → may_leave first c) → ComesFrom (Elsewhere beside) (may_leave first) (may_leave now) → ElapsesTo first now
       → LeavesOnly moment left_since first now (IsUntouched (may_leave first) beside)
   not_begun first now only follows time =
       goes_on moment left_since first first now (IsUntouched (may_leave first) beside) (may_leave now)
@@ -58,13 +58,13 @@ module _ {F : Type 0} (seen : F → Look) (may_leave : F → Look → Type 0) (m
 
   module _ (first old : F) (sent : List ℕ) (at : IsBeside seen may_leave moment left_since first old beside sent) where
     -- a call that touches the file beside
-    pub touched : (new : F) → Follows (Elsewhere beside) (may_leave old) (may_leave new) → ElapsesTo old new → LeavesOnly moment left_since first new (IsUntouched (may_leave first) beside)
+    pub touched : (new : F) → ComesFrom (Elsewhere beside) (may_leave old) (may_leave new) → ElapsesTo old new → LeavesOnly moment left_since first new (IsUntouched (may_leave first) beside)
     touched new follows time =
         goes_on moment left_since first old new (IsUntouched (may_leave first) beside) (may_leave new) at.any_moment time
         (again beside (may_leave first) (may_leave old) (may_leave new) at.outcomes follows)
 
     -- bytes went to it
-    pub appended : (new : F) (bytes : List ℕ) → Follows (Elsewhere beside) (may_leave old) (may_leave new) → ElapsesTo old new
+    pub appended : (new : F) (bytes : List ℕ) → ComesFrom (Elsewhere beside) (may_leave old) (may_leave new) → ElapsesTo old new
         → seen new beside ≡ Some (unwrap_or (seen old beside) [] ++ bytes) → IsBeside seen may_leave moment left_since first new beside (sent ++ bytes)
     appended new bytes follows time file = record {
       file = file ∙ ap (λ (o : Option (List ℕ)). Some (unwrap_or o [] ++ bytes)) at.file;
@@ -78,7 +78,7 @@ module _ {F : Type 0} (seen : F → Look) (may_leave : F → Look → Type 0) (m
 
   module _ (first old : F) (sent : List ℕ) (at : IsBeside seen may_leave moment left_since first old beside sent) where
     -- a call that touched the file beside failed
-    pub append_failed : (new : F) (whole : Option (List ℕ)) → Follows (Elsewhere beside) (may_leave old) (may_leave new)
+    pub append_failed : (new : F) (whole : Option (List ℕ)) → ComesFrom (Elsewhere beside) (may_leave old) (may_leave new)
         → Elapses (moment old) (moment new) (left_since old) (left_since new) (may_leave new) → Run first new whole
     append_failed new whole follows time =
         weaker moment left_since first new _ _ (untouched_old beside name apart (may_leave first) whole)

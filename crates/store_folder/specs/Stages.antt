@@ -1,6 +1,6 @@
 -- What is known of the folder at each stage of an output.
 use Rattle.std.specs.Prelude.{◌≡◌, ℕ, List, length, Option, Some, None}
-use Rattle.store_folder.specs.Moments.{Follows, LeavesOnly}
+use Rattle.store_folder.specs.Moments.{ComesFrom, LeavesOnly}
 use Rattle.store_folder.specs.Folder.{Look, Elsewhere, Keeps}
 use Rattle.store_folder.specs.Publishing.{IsUntouched, IsOldOrWhole}
 use Rattle.store_folder.specs.declared.publication.Stage.{Stage}
@@ -14,7 +14,7 @@ end_of _ content = None
 -- The file beside has what was sent, and no other name was touched.
 pub record IsBeside {F : Type 0} (seen : F → Look) (may_leave : F → Look → Type 0) (moment : F → ℕ) (left_since : F → ℕ → Look → Type 0) (first now : F) (beside sent : List ℕ) : Type 0 where
   pub file : seen now beside ≡ Some sent
-  pub outcomes : Follows (Elsewhere beside) (may_leave first) (may_leave now)
+  pub outcomes : ComesFrom (Elsewhere beside) (may_leave first) (may_leave now)
   pub any_moment : LeavesOnly moment left_since first now (IsUntouched (may_leave first) beside)
 
 -- The name has the whole content, on the disk.

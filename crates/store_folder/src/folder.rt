@@ -3,7 +3,7 @@
 ghost use Rattle.std.specs.Prelude.{◌≡◌, ◌≢◌, ◌++◌, ◌≤◌, ℕ, List, [], Bool, Option, IsTrue, IsSome};
 ghost use Rattle.std.specs.Prelude.{OnOk, OnErr, unwrap_or};
 ghost use Rattle.store_base.specs.Counts.{HasRisen};
-ghost use Rattle.store_folder.specs.Moments.{Follows, NoMore, Elapses};
+ghost use Rattle.store_folder.specs.Moments.{ComesFrom, NoMore, Elapses};
 ghost use Rattle.store_folder.specs.Folder.{Elsewhere, ElsewhereOfBoth, FilesElsewhere, FilesElsewhereOfBoth};
 ghost use Rattle.store_folder.specs.Folder.{Renamed, EntriesAreKept};
 
@@ -44,7 +44,7 @@ pub trait Folder: Drop {
         ensures created { IsTrue honest → OnOk result (seen self.new name.now ≡ Some []) }
         ensures elsewhere { IsTrue honest → Elsewhere name.now (seen self.old) (seen self.new) }
         ensures files { IsTrue honest → FilesElsewhere name.now (may_hold self.old) (may_hold self.new) }
-        ensures crash { IsTrue honest → Follows (Elsewhere name.now) (may_leave self.old) (may_leave self.new) }
+        ensures crash { IsTrue honest → ComesFrom (Elsewhere name.now) (may_leave self.old) (may_leave self.new) }
         ensures time { IsTrue honest → Elapses (moment self.old) (moment self.new)
             (left_since self.old) (left_since self.new) (may_leave self.new) }
         ensures count { failures self.old ≤ failures self.new }
@@ -57,7 +57,7 @@ pub trait Folder: Drop {
             (seen self.new name.now ≡ Some (unwrap_or (seen self.old name.now) [] ++ bytes.now)) }
         ensures elsewhere { IsTrue honest → Elsewhere name.now (seen self.old) (seen self.new) }
         ensures files { IsTrue honest → FilesElsewhere name.now (may_hold self.old) (may_hold self.new) }
-        ensures crash { IsTrue honest → Follows (Elsewhere name.now) (may_leave self.old) (may_leave self.new) }
+        ensures crash { IsTrue honest → ComesFrom (Elsewhere name.now) (may_leave self.old) (may_leave self.new) }
         ensures time { IsTrue honest → Elapses (moment self.old) (moment self.new)
             (left_since self.old) (left_since self.new) (may_leave self.new) }
         ensures count { failures self.old ≤ failures self.new }
@@ -87,7 +87,7 @@ pub trait Folder: Drop {
         ensures file { IsTrue honest → OnOk result
             ((bytes : List ℕ) → may_hold self.new to.now bytes → may_hold self.old from.now bytes) }
         ensures files { IsTrue honest → FilesElsewhereOfBoth from.now to.now (may_hold self.old) (may_hold self.new) }
-        ensures crash { IsTrue honest → Follows (Renamed from.now to.now (may_hold self.old from.now))
+        ensures crash { IsTrue honest → ComesFrom (Renamed from.now to.now (may_hold self.old from.now))
             (may_leave self.old) (may_leave self.new) }
         ensures time { IsTrue honest → Elapses (moment self.old) (moment self.new)
             (left_since self.old) (left_since self.new) (may_leave self.new) }
@@ -99,7 +99,7 @@ pub trait Folder: Drop {
         ensures removed { IsTrue honest → OnOk result (seen self.new name.now ≡ None) }
         ensures elsewhere { IsTrue honest → Elsewhere name.now (seen self.old) (seen self.new) }
         ensures files { IsTrue honest → FilesElsewhere name.now (may_hold self.old) (may_hold self.new) }
-        ensures crash { IsTrue honest → Follows (Elsewhere name.now) (may_leave self.old) (may_leave self.new) }
+        ensures crash { IsTrue honest → ComesFrom (Elsewhere name.now) (may_leave self.old) (may_leave self.new) }
         ensures time { IsTrue honest → Elapses (moment self.old) (moment self.new)
             (left_since self.old) (left_since self.new) (may_leave self.new) }
         ensures count { failures self.old ≤ failures self.new }

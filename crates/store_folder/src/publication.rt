@@ -5,7 +5,7 @@ ghost use Rattle.std.specs.Prelude.{IsErr, is_ok, length, Some, string_bytes, un
 ghost use Rattle.std.specs.List.{flat_map};
 ghost use Rattle.store_base.specs.Counts.{HasRisen};
 ghost use Rattle.store_base.specs.Outputs.{never_terminated, terminated_once};
-ghost use Rattle.store_folder.specs.Moments.{Follows, Elapses, LeavesOnly};
+ghost use Rattle.store_folder.specs.Moments.{ComesFrom, Elapses, LeavesOnly};
 ghost use Rattle.store_folder.specs.Folder.{Elsewhere};
 ghost use Rattle.store_folder.specs.Publishing.{part, IsUntouched, IsSafe, IsSameOutput};
 
@@ -107,7 +107,7 @@ fn hand_over<F: Folder>(
     ensures file { IsTrue F.honest → OnOk result
         (F.seen folder.new beside.now ≡ Some (unwrap_or (F.seen folder.old beside.now) [] ++ buffer.old.items)) }
     ensures crash { IsTrue F.honest
-        → Follows (Elsewhere beside.now) (F.may_leave folder.old) (F.may_leave folder.new) }
+        → ComesFrom (Elsewhere beside.now) (F.may_leave folder.old) (F.may_leave folder.new) }
     ensures time { IsTrue F.honest → Elapses (F.moment folder.old) (F.moment folder.new)
         (F.left_since folder.old) (F.left_since folder.new) (F.may_leave folder.new) }
 {

@@ -2,7 +2,7 @@
 
 ghost use Rattle.std.specs.Prelude.{◌≡◌, ◌≢◌, ◌≤◌, IsTrue, IsSome, OnOk, OnErr, Some};
 ghost use Rattle.store_base.specs.Counts.{HasRisen};
-ghost use Rattle.store_folder.specs.Moments.{Follows, LeavesOnly};
+ghost use Rattle.store_folder.specs.Moments.{ComesFrom, LeavesOnly};
 ghost use Rattle.store_folder.specs.Folder.{ElsewhereOfBoth, Keeps};
 ghost use Rattle.store_folder.specs.Publishing.{IsOldOrWhole};
 
@@ -28,7 +28,7 @@ pub fn publish<F: Folder>(folder: &mut F, beside: &str, name: &str) -> io::Resul
     ensures elsewhere { IsTrue F.honest
         → ElsewhereOfBoth beside.now name.now (F.seen folder.old) (F.seen folder.new) }
     ensures crash { IsTrue F.honest
-        → Follows (ElsewhereOfBoth beside.now name.now) (F.may_leave folder.old) (F.may_leave folder.new) }
+        → ComesFrom (ElsewhereOfBoth beside.now name.now) (F.may_leave folder.old) (F.may_leave folder.new) }
 
     // It fails only where a call of the folder failed.
     ensures count { F.failures folder.old ≤ F.failures folder.new }
@@ -53,7 +53,7 @@ pub fn replace<F: Folder>(folder: &mut F, beside: &str, name: &str, bytes: &[u8]
     ensures elsewhere { IsTrue F.honest
         → ElsewhereOfBoth beside.now name.now (F.seen folder.old) (F.seen folder.new) }
     ensures crash { IsTrue F.honest
-        → Follows (ElsewhereOfBoth beside.now name.now) (F.may_leave folder.old) (F.may_leave folder.new) }
+        → ComesFrom (ElsewhereOfBoth beside.now name.now) (F.may_leave folder.old) (F.may_leave folder.new) }
     ensures count { F.failures folder.old ≤ F.failures folder.new }
     ensures fault { OnErr result (HasRisen (F.failures folder.old) (F.failures folder.new)) }
 {

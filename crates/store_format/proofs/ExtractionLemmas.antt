@@ -2,6 +2,7 @@
 use Rattle.std.proofs.Common.{◌≡◌, ℕ, List, [], ◌∷◌, ◌++◌, length, ap, subst, arith, length-append, inl, inr}
 use Rattle.std.specs.Prelude.{Ok}
 use Rattle.std.proofs.lemmas.List.{nil_from_length}
+use Rattle.store_format.specs.FooterLemmas.{form_reserved}
 use Rattle.store_base.specs.Serialize.{fixed}
 use Rattle.store_base.specs.SerializeLemmas.{length-fixed}
 use Rattle.store_format.specs.declared.footer.DocStoreFooter.{DocStoreFooter}
@@ -10,12 +11,6 @@ use Rattle.store_format.specs.StoreFile.{HasForm}
 use Rattle.store_format.specs.FooterReading.{ReadsFooter}
 
 -- ---- sizes
-
-pub length-reserved : (period version : ℕ) (reserved : List ℕ) → HasForm period version reserved → length reserved ≡ 15
-length-reserved period version reserved form = elim form [
-  | inl old ↦ old.2
-  | inr new ↦ omega (arith, ap length new.3.1, new.3.2)
-]
 
 pub length-footer : (version offset kind : ℕ) (reserved : List ℕ) → length reserved ≡ 15 → length (footer version offset kind reserved) ≡ 28
 length-footer version offset kind reserved size =
@@ -26,6 +21,6 @@ pub whole_footer : (bytes : List ℕ) (f : DocStoreFooter) (rest : List ℕ) →
 whole_footer bytes f rest size h =
     let v = version_number f.doc_store_version in
     let text = footer v f.offset (kind_of f.decompressor) h.0 in
-    let len : length text ≡ 28 = length-footer v f.offset (kind_of f.decompressor) h.0 (length-reserved f.period v h.0 h.2) in
+    let len : length text ≡ 28 = length-footer v f.offset (kind_of f.decompressor) h.0 (form_reserved f.period v h.0 h.2) in
     let none : rest ≡ [] = nil_from_length rest (omega (arith, ap length h.3, length-append text rest)) in
     subst (λ (x : List ℕ). ReadsFooter bytes (Ok f) x) none h

@@ -2,6 +2,7 @@
 use Rattle.std.proofs.Common.{◌≡◌, ℕ, ◌+◌, ◌-◌, ◌<◌, ◌≤◌, ◌^◌, List, ◌∷◌, ◌++◌, length, take, drop, sym, ap, ◌∙◌, arith, append_assoc, inl, inr}
 use Rattle.std.specs.Prelude.{slice_range}
 use Rattle.std.proofs.Math.Seq.{drop-append_seam, take-append_seam}
+use Rattle.store_base.specs.VIntLemmas.{heads}
 use Rattle.store_base.specs.Serialize.{fixed}
 use Rattle.store_base.specs.SerializeLemmas.{fixed_numbers_are_apart}
 use Rattle.store_format.specs.StoreFile.{HasForm}
@@ -29,12 +30,6 @@ known_version period version reserved form = elim form [
 
 pub known_period : (period version : ℕ) (reserved : List ℕ) → HasForm period version reserved → 2 ≤ period
 known_period period version reserved form = elim form [ inl old ↦ omega (arith, old.1) | inr new ↦ new.1 ]
-
-pub heads : (x y : ℕ) (r s : List ℕ) → x ∷ r ≡ y ∷ s → x ≡ y
-heads x y r s e = cc
-
-pub tails : (x y : ℕ) (r s : List ℕ) → x ∷ r ≡ y ∷ s → r ≡ s
-tails x y r s e = cc
 
 -- the version and the reserved bytes tell the period
 pub one_period : (p q v w : ℕ) (r s : List ℕ) → HasForm p v r → HasForm q w s → v ≡ w → r ≡ s → p ≡ q

@@ -3,6 +3,7 @@ use Rattle.std.proofs.Common.{◌≡◌, ℕ, ◌-◌, ◌<◌, ◌≤◌, ◌^�
 use Rattle.std.specs.Prelude.{Ok, Err}
 use Rattle.std.proofs.Math.ListN.{get_or}
 use Rattle.std.proofs.lemmas.List.{take-append-drop, take_all, length-take, length-drop}
+use Rattle.store_format.specs.FooterLemmas.{version_below}
 use Rattle.store_base.specs.declared.fault.DecodeFault.{DecodeFault}
 use Rattle.store_base.specs.declared.fault.DecodeFault.TheVariants.{Kind, Period}
 use Rattle.store_base.specs.Serialize.{fixed}
@@ -14,11 +15,6 @@ use Rattle.store_format.specs.declared.version.DocStoreVersion.TheVariants.{V1, 
 use Rattle.store_format.specs.Footer.{kind_of, version_number}
 use Rattle.store_format.specs.FooterReading.{version_bytes, Begins, ReadsFooter, IsPeriodOf}
 
-known : (v : DocStoreVersion) → (1 ≤ version_number v) × (version_number v ≤ 3)
-known V1 = (omega arith, omega arith)
-known V2 = (omega arith, omega arith)
-known V3 = (omega arith, omega arith)
-
 -- the first two, and the rest
 two_fronts : (last : List ℕ) → 2 ≤ length last → last ≡ get_or last 0 0 ∷ get_or last 1 0 ∷ drop 2 last
 two_fronts [] le = absurd (omega (arith, le))
@@ -28,7 +24,7 @@ two_fronts (a ∷ b ∷ rest) le = refl
 joined : (front back old mid last : List ℕ) → old ≡ front ++ mid → mid ≡ back ++ last → old ≡ front ++ back ++ last
 joined front back old mid last p q = p ∙ ap (λ (x : List ℕ). front ++ x) q ∙ sym (append_assoc front back last)
 
--- what is known once the version and the offset were read
+-- what is version_below once the version and the offset were read
 pub record AreRead (v : DocStoreVersion) (offset : ℕ) (old mid last : List ℕ) : Type 0 where
   pub long : 28 ≤ length old
   pub few : offset < 2 ^ 64
@@ -39,12 +35,12 @@ pub record AreRead (v : DocStoreVersion) (offset : ℕ) (old mid last : List ℕ
 begins : (v : DocStoreVersion) (offset : ℕ) (old mid last : List ℕ) → AreRead v offset old mid last → Begins old (version_number v) offset last
 begins v offset old mid last h = record {
   long = h.long;
-  known = known v;
+  version_below = version_below v;
   few = h.few;
   parts = joined (version_bytes v) (fixed 8 offset) old mid last h.first h.second;
 }
 
--- a kind that is not known
+-- a kind that is not version_below
 pub kind_fault : (v : DocStoreVersion) (offset : ℕ) (old mid last : List ℕ) (fault : DecodeFault) → AreRead v offset old mid last → fault ≡ Kind (get_or last 0 0) → (get_or last 0 0 ≡ 0 → ⊥)
     → ReadsFooter old (Err fault) old
 kind_fault v offset old mid last fault h is wrong =

@@ -6,7 +6,7 @@ use Rattle.std.proofs.Math.Seq.{drop-append_seam, take-append_seam}
 use Rattle.std.specs.List.{sum_by, AllByRecursion}
 use Rattle.layered_index.specs.declared.checkpoint.Checkpoint.{Checkpoint}
 use Rattle.layered_index.specs.Checkpoint.{checkpoint, doc_count, byte_len, IsInLineFrom, IsInLine, IsFilled, bytes_end, Covers}
-use Rattle.layered_index.specs.LineLemmas.{in_line_from}
+use Rattle.layered_index.proofs.LineLemmas.{in_line_from}
 use Rattle.store_format.specs.StoreFile.{StoreBlock, IsStoreBlock, docs_in, AreBlocks, data_of, checkpoints_from, checkpoints_of, blocks_at}
 
 -- ---- sizes

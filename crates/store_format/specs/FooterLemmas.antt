@@ -2,6 +2,7 @@
 use Rattle.std.proofs.Common.{◌≡◌, ℕ, ◌<◌, ◌≤◌, ◌^◌, List, [], ◌∷◌, ◌++◌, suc, length, replicate, refl, sym, ◌∙◌, ap}
 use Rattle.std.proofs.Common.{subst, arith, append_assoc, length-append, inl, inr}
 use Rattle.std.specs.Prelude.{Result, Ok, Err}
+use Rattle.store_base.specs.VIntLemmas.{heads, tails}
 use Rattle.store_base.specs.declared.fault.DecodeFault.{DecodeFault}
 use Rattle.store_base.specs.declared.fault.DecodeFault.TheVariants.{Short, Malformed, Version, Kind, Memory, Period}
 use Rattle.store_base.specs.Reading.{IsReadBack}
@@ -22,7 +23,7 @@ use Rattle.store_format.specs.FooterReading.{version_bytes, ReadsVersion, footer
 abbrev pub IsVersion : DocStoreVersion → Type 0
 IsVersion v = Unit {0}
 
-version_below : (v : DocStoreVersion) → (1 ≤ version_number v) × (version_number v ≤ 3)
+pub version_below : (v : DocStoreVersion) → (1 ≤ version_number v) × (version_number v ≤ 3)
 version_below V1 = (omega arith, omega arith)
 version_below V2 = (omega arith, omega arith)
 version_below V3 = (omega arith, omega arith)
@@ -83,12 +84,6 @@ same_begin v w o q r s a b c d e =
     let second = fixed_numbers_are_apart 8 o q r s (omega (arith, c)) (omega (arith, d)) first.1 in
     (first.0, second.0, second.1)
 
-heads : (x y : ℕ) (r s : List ℕ) → x ∷ r ≡ y ∷ s → x ≡ y
-heads x y r s e = cc
-
-tails : (x y : ℕ) (r s : List ℕ) → x ∷ r ≡ y ∷ s → r ≡ s
-tails x y r s e = cc
-
 -- the same number of front bytes was cut from equal lists
 same_back : (r s x y : List ℕ) → length r ≡ length s → r ++ x ≡ s ++ y → (r ≡ s) × (x ≡ y)
 same_back [] [] x y size e = (refl, e)
@@ -99,7 +94,7 @@ same_back (a ∷ r) (b ∷ s) x y size e =
     let others = same_back r s x y (omega (arith, size)) (tails a b (r ++ x) (s ++ y) e) in
     (λ i. first i ∷ others.0 i, others.1)
 
-kind_zero : (d : Decompressor) → kind_of d ≡ 0
+pub kind_zero : (d : Decompressor) → kind_of d ≡ 0
 kind_zero Packed.None = refl
 
 -- the written footer, what follows the offset set apart
@@ -108,7 +103,7 @@ written_is : (f : DocStoreFooter) (rest : List ℕ) → footer_bytes f ++ rest
 written_is f rest = append_assoc (fixed 4 3 ++ fixed 8 f.offset)
     (kind_of f.decompressor ∷ f.period ∷ replicate 14 0) rest
 
-form_reserved : (period version : ℕ) (reserved : List ℕ) → HasForm period version reserved → length reserved ≡ 15
+pub form_reserved : (period version : ℕ) (reserved : List ℕ) → HasForm period version reserved → length reserved ≡ 15
 form_reserved period version reserved (inl old) = old.2
 form_reserved period version reserved (inr new) = ap length new.3.1 ∙ ap suc new.3.2
 

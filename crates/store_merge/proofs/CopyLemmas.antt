@@ -7,6 +7,8 @@ use Rattle.std.proofs.lemmas.List.Sums.{fold-append}
 use Rattle.std.proofs.lemmas.Option.{get_or_from_slice_get}
 use Rattle.std.specs.Prelude.{slice_get, IsTrue, IfErr, IfSome, IsSomeAnd, nat_lt}
 use Rattle.std.specs.List.{filter, enumerate_from}
+use Rattle.store_reader.proofs.ItemsSoFarLemmas.{same_slots, same_count}
+use Rattle.store_base.proofs.ListLemmas.{enumerate_append}
 use Rattle.store_base.specs.Counts.{HasRisen}
 use Rattle.store_base.specs.Files.{Part}
 use Rattle.layered_index.specs.Checkpoint.{docs_end}
@@ -18,25 +20,18 @@ use Rattle.store_format.specs.StoreFile.{blocks_at}
 use Rattle.store_format.specs.Block.{Slot, doc, damaged}
 use Rattle.store_reader.specs.declared.walk.Walk.{Walk}
 use Rattle.store_reader.specs.Iteration.{is_in, alive}
-use Rattle.store_reader.specs.LookingUp.{LooksUp, Takes}
+use Rattle.store_reader.specs.LookingUp.{LooksUp, IsShared}
 use Rattle.store_reader.specs.Reading.{Reading, IsSameStore, num_docs, store_of}
 use Rattle.store_format.specs.Slots.{slots}
 use Rattle.docstore.specs.Trace.{weight}
-use Rattle.store_reader.specs.Walking.{GivesNext, IsTaken as IsBlockTaken, IsWalk, LooksAlong}
+use Rattle.store_reader.specs.Walking.{GivesNext, IsBlockTaken, IsWalk, LooksAlong}
 use Rattle.docstore.specs.Writer.{Writing, flushed, with_document, with_failures}
 use Rattle.docstore.specs.Laws.{taken}
 use Rattle.store_merge.specs.Bringing.{IsCopied, with_documents}
-use Rattle.store_merge.specs.Copying.{IsTaken, IsRefused}
+use Rattle.store_merge.specs.Copying.{IsItemStored, IsRefused}
 use Rattle.store_merge.specs.Refusals.{RefusesItem, StopsAt}
 
 -- ---- slots that are alive
-
--- joined lists
-enumerate_append : (n : ℕ) (xs ys : List Slot) → enumerate_from n (xs ++ ys) ≡ enumerate_from n xs ++ enumerate_from (n + length xs) ys
-enumerate_append n [] ys = let here : n ≡ n + 0 = omega arith in ap (λ (k : ℕ). enumerate_from k ys) here
-enumerate_append n (x ∷ xs) ys =
-    let here : (n + 1) + length xs ≡ n + length (x ∷ xs) = omega arith in
-    ap (λ (zs : List (ℕ × Slot)). (n, x) ∷ zs) (enumerate_append (n + 1) xs ys ∙ ap (λ (k : ℕ). enumerate_from (n + 1) xs ++ enumerate_from k ys) here)
 
 -- the slots of the set, of those that are behind so many others
 abbrev pub alive_behind : ℕ → List Slot → Option (ℕ → Bool) → List Slot
@@ -132,7 +127,7 @@ module _ (honest : Bool) (old : Writing) where
   copied_as xs ys w is h = subst (λ (zs : List Slot). IsCopied honest zs old w) is h
 
   -- one more document
-  copied_more : (some : List Slot) (s : Slot) (w new : Writing) (item : Result (List ℕ) StoreError) (t : IsTaken item w new) → (IsTrue honest → doc t.bytes ≡ s) → IsCopied honest some old w
+  copied_more : (some : List Slot) (s : Slot) (w new : Writing) (item : Result (List ℕ) StoreError) (t : IsItemStored item w new) → (IsTrue honest → doc t.bytes ≡ s) → IsCopied honest some old w
       → IsCopied honest (some ++ s ∷ []) old new
   copied_more some s w new item t is h =
       let docs = h.docs ++ t.bytes ∷ [] in
@@ -171,7 +166,7 @@ failed_once first r id c block mid le t is = by block t.taken (cc)
       | inr miss ↦ let risen = miss.read.failed is in record { no_lower = omega (arith, risen.no_lower); risen = λ few. omega (arith, risen.risen few) }
     ]
 
-    by : (b : Result (List ℕ) StoreError) → Takes t.came b → b ≡ Err Read → HasRisen first.file.failures mid.file.failures
+    by : (b : Result (List ℕ) StoreError) → IsShared t.came b → b ≡ Err Read → HasRisen first.file.failures mid.file.failures
     by (Ok bytes) took is = absurd cc
     by (Err e) took is = elim took [
       | inl same ↦ came_failed (same ∙ is)
@@ -195,12 +190,6 @@ failed_along (c ∷ cs) first r b r' b' le h l =
     failed_along cs first mid (Some l.1) r' b' (omega (arith, le, on)) (failed_once first r c.doc_range.start c l.1 mid le l.2) l.3
 
 -- ---- by what an iterator gives
-
-same_slots : (first old : Reading) → IsSameStore first old → slots (store_of old) ≡ slots (store_of first)
-same_slots first old same = λ i. slots (blocks_at (same.checkpoints i) (same.content i))
-
-same_count : (first old : Reading) → IsSameStore first old → num_docs old ≡ num_docs first
-same_count first old same = ap (docs_end 0) same.checkpoints
 
 -- a damaged document of an honest file
 truly_damaged : (id : ℕ) (s : Option Slot) → AnswersTruly id s (Err (DamagedDocument id)) → s ≡ Some damaged
@@ -253,7 +242,7 @@ module _ (first old new : Reading) (set : Option (ℕ → Bool)) (from to : Walk
         (sym (alive_to set (slots (store_of first)) from.next gives.last gives.walks.on (omega (arith, last_below)) gives.walks.dead)) copied
 
     -- one more document
-    pub copied_next : (after : Writing) → IsTaken item w after → IsCopied first.file.honest (alive (take to.next (slots (store_of first))) set) start after
+    pub copied_next : (after : Writing) → IsItemStored item w after → IsCopied first.file.honest (alive (take to.next (slots (store_of first))) set) start after
     copied_next after t =
         let all = slots (store_of first) in
         let last = gives.last in

@@ -4,6 +4,7 @@ use Rattle.std.proofs.lemmas.Bool.{cases_lt}
 use Rattle.std.proofs.lemmas.Option.{get_or_from_slice_get, slice_get_past}
 use Rattle.std.specs.Prelude.{IfSome, slice_get}
 use Rattle.std.specs.List.{AllByRecursion}
+use Rattle.store_base.proofs.ListLemmas.{all_take}
 use Rattle.store_base.specs.declared.error.StoreError.{StoreError}
 use Rattle.store_base.specs.declared.error.StoreError.TheVariants.{ShortFile, BadVersion, BadBlockKind, BadOffset, BadIndex, InvalidArgument, DamagedDocument, BadDocument, Read, Memory, OldVersion}
 use Rattle.store_base.specs.declared.error.StoreError.TheVariants.{Unserializable, BlockTooLarge, TooManyDocs, Failed, BadPeriod}
@@ -16,7 +17,7 @@ use Rattle.store_merge.specs.declared.merge_error.MergeError.{MergeError}
 use Rattle.store_merge.specs.declared.stacking.Stacking.{Stacking}
 use Rattle.store_merge.specs.declared.stacking.Stacking.TheVariants.{Whole, InParts}
 use Rattle.store_merge.specs.Stacking.{Leaves}
-use Rattle.store_merge.specs.Choice.{set_of, alive_slots}
+use Rattle.store_merge.specs.Choice.{flags_of, alive_slots}
 use Rattle.store_merge.specs.Refusals.{RefusesBytes, RefusesStore, RefusesInput, StopsAt}
 use Rattle.store_merge.specs.Merge.{IsHonest, IsEnded, IsFailed, HasBegun}
 use Rattle.store_merge.proofs.CopyLemmas.{same_failure}
@@ -85,7 +86,7 @@ unfailed_stop set reader read old new e s =
 unfailed_input : {H : Type 0} (stacking : Stacking) (x left : MergeInput H) (old new : Writing) (e : StoreError) → RefusesInput (Leaves stacking) x left old new e → IsUnfailed e old new
 unfailed_input stacking x left old new e h = elim h [
   | inl s ↦ unfailed_store stacking x.reader left.reader old new e s.1
-  | inr s ↦ unfailed_stop (set_of x.alive) x.reader left.reader old new e s.1
+  | inr s ↦ unfailed_stop (flags_of x.alive) x.reader left.reader old new e s.1
 ]
 
 pub unfailed_end : {H : Type 0} (stacking : Stacking) (inputs left : List (MergeInput H)) (old new : Writing) (e : MergeError) → IsEnded (Leaves stacking) inputs left old new e
@@ -96,11 +97,6 @@ unfailed_end stacking inputs left old new e h = elim (unfailed_input stacking h.
 ]
 
 -- ---- what has come of honest files
-
-all_take : {A : Type 0} (P : A → Type 0) (n : ℕ) (xs : List A) → AllByRecursion P xs → AllByRecursion P (take n xs)
-all_take P zero xs h = tt
-all_take P (suc n) [] h = tt
-all_take P (suc n) (x ∷ xs) h = (h.0, all_take P n xs h.1)
 
 all_get : {A : Type 0} (P : A → Type 0) (xs : List A) (i : ℕ) (x : A) → slice_get xs i ≡ Some x → AllByRecursion P xs → P x
 all_get P xs i x is h = elim (cases_lt i (length xs)) [

@@ -4,6 +4,7 @@ use Rattle.std.proofs.Common.{refl, sym, ◌∙◌, ap, subst, arith}
 use Rattle.std.proofs.lemmas.Bool.{cases_lt, lt-ltb}
 use Rattle.std.proofs.lemmas.List.Sums.{fails_before_first}
 use Rattle.std.specs.List.{AllByRecursion, filter, enumerate_from, flat_map, list_all, position, position_or_len, range_with_len}
+use Rattle.store_base.proofs.ListLemmas.{both}
 use Rattle.store_format.specs.Block.{Slot}
 use Rattle.store_reader.specs.Iteration.{is_in}
 use Rattle.docstore.specs.Laws.{StackedSlotsAreCounted}
@@ -11,8 +12,8 @@ use Rattle.store_reader.specs.Reading.{num_docs, store_of}
 use Rattle.store_format.specs.Slots.{slots}
 use Rattle.store_format.specs.StoreFile.{StoreBlock}
 use Rattle.store_merge.specs.declared.input.MergeInput.{MergeInput}
-use Rattle.store_merge.specs.Bringing.{Brought, stacked, copied, slots_of, IsBrought, AreBrought}
-use Rattle.store_merge.specs.Choice.{set_of, is_first_version, first_old, alive_slots}
+use Rattle.store_merge.specs.Bringing.{Brought, stacked, copied, slots_brought, IsBrought, AreBrought}
+use Rattle.store_merge.specs.Choice.{flags_of, is_first_version, first_old, alive_slots}
 use Rattle.store_merge.specs.Inputs.{HasWholeSet, CanBeTaken}
 use Rattle.store_merge.specs.Merge.{IsHonest}
 use Rattle.store_merge.proofs.CopyLemmas.{alive_behind}
@@ -40,11 +41,6 @@ can_be_taken {H} xs h none =
 
 -- ---- slots
 
-pub both : (a b : Bool) → (a && b) ≡ true → (a ≡ true) × (b ≡ true)
-both true true is = (refl, refl)
-both true false is = absurd cc
-both false b is = absurd cc
-
 -- where each id is in the set, so is each slot
 pub all_alive : (set : Option (ℕ → Bool)) (n : ℕ) (xs : List Slot) → list_all (is_in set) (range_with_len n (length xs)) ≡ true → alive_behind n xs set ≡ xs
 all_alive set n [] is = refl
@@ -55,16 +51,16 @@ all_alive set n (x ∷ xs) is =
     ∙ ap (λ (ys : List Slot). x ∷ ys) (all_alive set (n + 1) xs h.1)
 
 module _ (law : StackedSlotsAreCounted) where
-  brought_slots : {H : Type 0} (x : MergeInput H) (part : Brought) → IsHonest x → IsBrought x part → slots_of part ≡ alive_slots x
+  brought_slots : {H : Type 0} (x : MergeInput H) (part : Brought) → IsHonest x → IsBrought x part → slots_brought part ≡ alive_slots x
   brought_slots x (stacked bs) honest h =
-      let set = set_of x.alive in
+      let set = flags_of x.alive in
       let same : bs ≡ store_of x.reader = h.1.honest honest in
       let count : num_docs x.reader ≡ length (slots (store_of x.reader)) = sym (law x.reader bs h.1) ∙ ap (λ (b : List StoreBlock). length (slots b)) same in
       let all : list_all (is_in set) (range_with_len 0 (num_docs x.reader)) ≡ true = (both _ (list_all (is_in set) (range_with_len 0 (num_docs x.reader))) h.0).1 in
       ap slots same ∙ sym (all_alive set 0 (slots (store_of x.reader)) (subst (λ (n : ℕ). list_all (is_in set) (range_with_len 0 n) ≡ true) count all))
   brought_slots x (copied docs) honest h = h.1.truly honest
 
-  pub all_slots : {H : Type 0} (xs : List (MergeInput H)) (parts : List Brought) → AllByRecursion IsHonest xs → AreBrought xs parts → flat_map slots_of parts ≡ flat_map alive_slots xs
+  pub all_slots : {H : Type 0} (xs : List (MergeInput H)) (parts : List Brought) → AllByRecursion IsHonest xs → AreBrought xs parts → flat_map slots_brought parts ≡ flat_map alive_slots xs
   all_slots [] [] honest h = refl
   all_slots (x ∷ xs) (part ∷ parts) honest h = λ i. brought_slots x part honest.0 h.0 i ++ all_slots xs parts honest.1 h.1 i
   all_slots [] (part ∷ parts) honest h = absurd h

@@ -7,12 +7,13 @@ use Rattle.std.proofs.lemmas.List.Sums.{fold-append}
 use Rattle.std.proofs.lemmas.Option.{slice_get-get_or}
 use Rattle.std.specs.Prelude.{slice_get}
 use Rattle.std.specs.List.{AllByRecursion, flat_map}
+use Rattle.store_base.proofs.ListLemmas.{front_more, next_same}
 use Rattle.store_format.specs.Block.{Slot}
 use Rattle.docstore.specs.Laws.{taken}
 use Rattle.docstore.specs.Stacking.{with_store}
 use Rattle.docstore.specs.Writer.{Writing, with_document, with_failures}
 use Rattle.store_merge.specs.declared.input.MergeInput.{MergeInput}
-use Rattle.store_merge.specs.Bringing.{Brought, stacked, copied, with_documents, with_brought, merged, slots_of, IsBrought, AreBrought}
+use Rattle.store_merge.specs.Bringing.{Brought, stacked, copied, with_documents, with_brought, merged, slots_brought, IsBrought, AreBrought}
 use Rattle.store_merge.specs.Inputs.{AreEach, AreInputsKept, IsInputTaken}
 use Rattle.store_merge.specs.Merge.{IsMerged}
 use Rattle.store_merge.proofs.CopyLemmas.{counted_document, same_failure}
@@ -24,18 +25,6 @@ pub all_at : {A : Type 0} (P : A → Type 0) (xs : List A) (i : ℕ) (d : A) →
 all_at P [] i d h lt = absurd (omega (arith, lt))
 all_at P (x ∷ xs) zero d h lt = h.0
 all_at P (x ∷ xs) (suc i) d h lt = all_at P xs i d h.1 (omega (arith, lt))
-
--- where what is left is the same, so is the next
-pub next_same : {A : Type 0} (olds news : List A) (i : ℕ) (d : A) → drop i news ≡ drop i olds → get_or news i d ≡ get_or olds i d
-next_same olds news i d rest =
-    let here : i + 0 ≡ i = omega arith in
-    ap (λ (n : ℕ). get_or news n d) (sym here) ∙ sym (get_or-drop i news 0 d) ∙ ap (λ xs. get_or xs 0 d) rest ∙ get_or-drop i olds 0 d ∙ ap (λ (n : ℕ). get_or olds n d) here
-
-front_more : {A : Type 0} (olds news : List A) (i : ℕ) (d : A) → drop i news ≡ drop i olds → i < length olds → take (i + 1) olds ≡ take i olds ++ get_or news i d ∷ []
-front_more olds news i d rest lt = take_more olds i d lt ∙ ap (λ x. take i olds ++ x ∷ []) (sym (next_same olds news i d rest))
-
-pub rest_more : {A : Type 0} (olds news : List A) (i : ℕ) (new : A) → drop i news ≡ drop i olds → drop (i + 1) (set news i new) ≡ drop (i + 1) olds
-rest_more olds news i new rest = drop-set-lt (i + 1) news i new (omega arith) ∙ sym (drop-drop 1 i news) ∙ ap (λ xs. drop 1 xs) rest ∙ drop-drop 1 i olds
 
 -- the next one, before and after it is written
 pub named_is : {A : Type 0} (olds news : List A) (i : ℕ) (d : A) → drop i news ≡ drop i olds → i < length olds → slice_get olds i ≡ Some (get_or news i d)
@@ -125,9 +114,9 @@ merged_push xs x start old new h t =
           | inr before ↦ inr (idle ∙ before)
         ]
       ];
-      grown = t.grown ∙ ap (λ (ss : List Slot). ss ++ slots_of t.part) h.grown ∙ append_assoc (taken start) (flat_map slots_of h.parts) (slots_of t.part)
-          ∙ ap (λ (ss : List Slot). taken start ++ ss) (ap (λ (ss : List Slot). flat_map slots_of h.parts ++ ss) (sym (append-nil (slots_of t.part)))
-          ∙ sym (flat_map-append slots_of h.parts (t.part ∷ [])));
+      grown = t.grown ∙ ap (λ (ss : List Slot). ss ++ slots_brought t.part) h.grown ∙ append_assoc (taken start) (flat_map slots_brought h.parts) (slots_brought t.part)
+          ∙ ap (λ (ss : List Slot). taken start ++ ss) (ap (λ (ss : List Slot). flat_map slots_brought h.parts ++ ss) (sym (append-nil (slots_brought t.part)))
+          ∙ sym (flat_map-append slots_brought h.parts (t.part ∷ [])));
     }
 
 pub merged_more : {H : Type 0} (olds news : List (MergeInput H)) (i : ℕ) (d : MergeInput H) (start old new : Writing) → i < length olds → drop i news ≡ drop i olds

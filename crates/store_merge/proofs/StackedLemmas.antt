@@ -3,6 +3,7 @@ use Rattle.std.proofs.Common.{◌≡◌, ℕ, true, List, [], ◌++◌, length, 
 use Rattle.std.proofs.lemmas.List.{append-nil, take-append-drop}
 use Rattle.std.proofs.lemmas.List.Concat.{flat_map-append}
 use Rattle.std.specs.List.{list_all, range_with_len}
+use Rattle.store_base.proofs.ListLemmas.{both}
 use Rattle.store_base.specs.declared.error.StoreError.{StoreError}
 use Rattle.store_base.specs.declared.error.StoreError.TheVariants.{ShortFile, BadVersion, BadBlockKind, BadOffset, BadIndex, InvalidArgument, DamagedDocument, BadDocument, Read, Memory, OldVersion}
 use Rattle.store_base.specs.declared.error.StoreError.TheVariants.{Unserializable, BlockTooLarge, TooManyDocs, Failed, BadPeriod}
@@ -16,10 +17,10 @@ use Rattle.docstore.specs.Stacking.{with_store}
 use Rattle.docstore.specs.StackingInParts.{BeginsStack, AfterStackInParts}
 use Rattle.docstore.specs.Writer.{Writing, IsStoreWriter}
 use Rattle.store_merge.specs.declared.input.MergeInput.{MergeInput}
-use Rattle.store_merge.specs.Choice.{set_of, is_stacked, alive_slots}
+use Rattle.store_merge.specs.Choice.{flags_of, is_stacked, alive_slots}
 use Rattle.store_merge.specs.Refusals.{HasGrown}
 use Rattle.store_merge.specs.Stacking.{BeginsSlots}
-use Rattle.store_merge.proofs.HonestLemmas.{all_alive, both}
+use Rattle.store_merge.proofs.HonestLemmas.{all_alive}
 use Rattle.store_merge.proofs.TakeLemmas.{unfailed}
 
 nothing_begun : (reader : Reading) (old new : Writing) → taken new ≡ taken old → BeginsSlots reader old new
@@ -70,7 +71,7 @@ refused_begun law reader read old new (BadPeriod k) sound h same = absurd h
 pub begun_grown : {H : Type 0} (x : MergeInput H) (old new : Writing) → is_stacked x ≡ true → num_docs x.reader ≡ length (slots (store_of x.reader)) → BeginsSlots x.reader old new
     → HasGrown x old new
 begun_grown x old new is count h =
-    let set = set_of x.alive in
+    let set = flags_of x.alive in
     let all : list_all (is_in set) (range_with_len 0 (num_docs x.reader)) ≡ true = (both _ (list_all (is_in set) (range_with_len 0 (num_docs x.reader))) is).1 in
     let alive : alive_slots x ≡ slots (store_of x.reader) =
     all_alive set 0 (slots (store_of x.reader)) (subst (λ (n : ℕ). list_all (is_in set) (range_with_len 0 n) ≡ true) count all) in

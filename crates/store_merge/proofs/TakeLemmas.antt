@@ -16,7 +16,7 @@ use Rattle.store_reader.specs.Walking.{set_of as set_of_lent}
 use Rattle.docstore.specs.Writer.{Writing, AfterFailed}
 use Rattle.store_merge.specs.declared.input.MergeInput.{MergeInput}
 use Rattle.store_merge.specs.Bringing.{stacked, copied, IsCopied}
-use Rattle.store_merge.specs.Choice.{set_of, is_stacked, alive_of, alive_slots}
+use Rattle.store_merge.specs.Choice.{flags_of, is_stacked, alive_of, alive_slots}
 use Rattle.store_merge.specs.Inputs.{IsStacked, IsInputTaken}
 use Rattle.store_merge.specs.Refusals.{RefusesBytes, StopsAt, HasGrown}
 use Rattle.store_merge.proofs.CopyLemmas.{alive_append, alive_behind, same_failure}
@@ -30,17 +30,17 @@ err_then P Q (Ok x) on h = h
 err_then P Q (Err e) on h = on e h
 
 -- a set that is lent, or none
-pub lent : (o : Option (Bor (List Bool))) (alive : Option (List Bool)) → option_copied o ≡ alive → set_of_lent o ≡ set_of alive
-lent None alive is = ap set_of is
-lent (Some set) alive is = ap set_of is
+pub lent : (o : Option (Bor (List Bool))) (alive : Option (List Bool)) → option_copied o ≡ alive → set_of_lent o ≡ flags_of alive
+lent None alive is = ap flags_of is
+lent (Some set) alive is = ap flags_of is
 
 pub stacked_taken : {H : Type 0} (x : MergeInput H) (old new : Writing) → is_stacked x ≡ true → IsStacked x.reader old new → IsInputTaken x old new
 stacked_taken x old new is s = record { part = stacked s.blocks; came = (is, s.came); after = s.after; works = inl s.works; grown = s.grown }
 
-pub copied_taken : {H : Type 0} (x : MergeInput H) (set : Option (ℕ → Bool)) (old new : Writing) → is_stacked x ≡ false → set ≡ set_of x.alive
+pub copied_taken : {H : Type 0} (x : MergeInput H) (set : Option (ℕ → Bool)) (old new : Writing) → is_stacked x ≡ false → set ≡ flags_of x.alive
     → IsCopied x.reader.file.honest (alive_of x.reader set) old new → IsInputTaken x old new
 copied_taken x set old new is same h =
-    let k : IsCopied x.reader.file.honest (alive_of x.reader (set_of x.alive)) old new = subst (λ (s : Option (ℕ → Bool)). IsCopied x.reader.file.honest (alive_of x.reader s) old new) same h in
+    let k : IsCopied x.reader.file.honest (alive_of x.reader (flags_of x.alive)) old new = subst (λ (s : Option (ℕ → Bool)). IsCopied x.reader.file.honest (alive_of x.reader s) old new) same h in
     record { part = copied k.docs; came = (is, k.came); after = k.after; works = k.works; grown = k.grown }
 
 -- ---- a copying that stops
@@ -70,7 +70,7 @@ refused_bytes bytes old new Unserializable same h = absurd h
 refused_bytes bytes old new (BadPeriod k) same h = absurd h
 
 -- what a copying that stops has put behind
-pub stopped_grown : {H : Type 0} (x : MergeInput H) (set : Option (ℕ → Bool)) (read : Reading) (old new : Writing) (e : StoreError) → set ≡ set_of x.alive
+pub stopped_grown : {H : Type 0} (x : MergeInput H) (set : Option (ℕ → Bool)) (read : Reading) (old new : Writing) (e : StoreError) → set ≡ flags_of x.alive
     → StopsAt set x.reader read old new e
     → new.output.failure ≡ old.output.failure → HasGrown x old new
 stopped_grown x set read old new e same s unchanged =

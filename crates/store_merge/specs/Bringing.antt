@@ -29,9 +29,9 @@ abbrev pub merged : Writing → List Brought → Writing
 merged w parts = fold with_brought w parts
 
 -- the slots that came of an input
-abbrev pub slots_of : Brought → List Slot
-slots_of (stacked bs) = slots bs
-slots_of (copied docs) = map doc docs
+abbrev pub slots_brought : Brought → List Slot
+slots_brought (stacked bs) = slots bs
+slots_brought (copied docs) = map doc docs
 
 -- There is a document for each of these slots, and where the file is honest, it is the slot's.
 pub record AreDocuments (honest : Bool) (some : List Slot) (docs : List (List ℕ)) : Type 0 where

@@ -11,13 +11,13 @@ use Rattle.store_format.specs.Slots.{slots}
 use Rattle.store_merge.specs.declared.input.MergeInput.{MergeInput}
 
 -- the set of the ids that are alive
-abbrev pub set_of : Option (List Bool) → Option (ℕ → Bool)
-set_of None = None
-set_of (Some alive) = Some (is_alive_at alive)
+abbrev pub flags_of : Option (List Bool) → Option (ℕ → Bool)
+flags_of None = None
+flags_of (Some alive) = Some (is_alive_at alive)
 
 -- whether an input is stacked: it has at least six blocks, and each id below its count is alive
 abbrev pub is_stacked : {H : Type 0} → MergeInput H → Bool
-is_stacked x = nat_le 6 (length x.reader.checkpoints) && list_all (is_in (set_of x.alive))
+is_stacked x = nat_le 6 (length x.reader.checkpoints) && list_all (is_in (flags_of x.alive))
     (range_with_len 0 (num_docs x.reader))
 
 -- the slots of a store that are alive
@@ -26,7 +26,7 @@ alive_of reader set = alive (slots (store_of reader)) set
 
 -- the slots of an input that are alive
 abbrev pub alive_slots : {H : Type 0} → MergeInput H → List Slot
-alive_slots x = alive_of x.reader (set_of x.alive)
+alive_slots x = alive_of x.reader (flags_of x.alive)
 
 -- whether a version is the first
 abbrev pub is_first_version : DocStoreVersion → Bool

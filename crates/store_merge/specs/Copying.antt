@@ -7,7 +7,7 @@ use Rattle.docstore.specs.Writer.{Writing, with_document, with_failures}
 use Rattle.store_merge.specs.Refusals.{RefusesBytes}
 
 -- An item was a document, and it was taken.
-pub record IsTaken (item : Result (List ℕ) StoreError) (old new : Writing) : Type 0 where
+pub record IsItemStored (item : Result (List ℕ) StoreError) (old new : Writing) : Type 0 where
   pub bytes : List ℕ
   pub is : item ≡ Ok bytes
   pub works : old.output.failure ≡ None

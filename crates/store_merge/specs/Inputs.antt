@@ -9,7 +9,7 @@ use Rattle.store_format.specs.StoreFile.{StoreBlock}
 use Rattle.docstore.specs.Writer.{Writing, with_failures}
 use Rattle.store_merge.specs.declared.input.MergeInput.{MergeInput}
 use Rattle.store_merge.specs.Stacking.{IsStackedBy}
-use Rattle.store_merge.specs.Bringing.{Brought, IsBrought, with_brought, slots_of, WorkedOrIdle}
+use Rattle.store_merge.specs.Bringing.{Brought, IsBrought, with_brought, slots_brought, WorkedOrIdle}
 
 -- An input's set, if it has one, tells of each of its documents.
 abbrev pub HasWholeSet : {H : Type 0} → MergeInput H → Type 0
@@ -62,4 +62,4 @@ pub record IsInputTaken {H : Type 0} (x : MergeInput H) (old new : Writing) : Ty
   pub came : IsBrought x part
   pub after : new ≡ with_failures new.output.failures (with_brought old part)
   pub works : WorkedOrIdle old new
-  pub grown : taken new ≡ taken old ++ slots_of part
+  pub grown : taken new ≡ taken old ++ slots_brought part

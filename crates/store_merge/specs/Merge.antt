@@ -10,7 +10,7 @@ use Rattle.store_reader.specs.Reading.{Reading}
 use Rattle.docstore.specs.Writer.{Writing, with_failures}
 use Rattle.store_merge.specs.declared.input.MergeInput.{MergeInput}
 use Rattle.store_merge.specs.declared.merge_error.MergeError.{MergeError}
-use Rattle.store_merge.specs.Bringing.{Brought, merged, slots_of, AreBrought, WorkedOrIdle}
+use Rattle.store_merge.specs.Bringing.{Brought, merged, slots_brought, AreBrought, WorkedOrIdle}
 use Rattle.store_merge.specs.Choice.{alive_slots}
 use Rattle.store_merge.specs.Refusals.{RefusesInput, HasGrown}
 
@@ -24,7 +24,7 @@ pub record IsMerged {H : Type 0} (inputs : List (MergeInput H)) (old new : Writi
   pub came : AreBrought inputs parts
   pub after : new ≡ with_failures new.output.failures (merged old parts)
   pub works : WorkedOrIdle old new
-  pub grown : taken new ≡ taken old ++ flat_map slots_of parts
+  pub grown : taken new ≡ taken old ++ flat_map slots_brought parts
 
 -- The writer has failed.
 abbrev pub IsFailed : StoreError → Type 0

@@ -14,7 +14,7 @@ use Rattle.store_format.specs.Slots.{slots}
 use Rattle.docstore.specs.Stacking.{HasTooMany}
 use Rattle.docstore.specs.Writer.{Writing, num_docs, IsTooLarge, AfterFailed}
 use Rattle.store_merge.specs.declared.input.MergeInput.{MergeInput}
-use Rattle.store_merge.specs.Choice.{set_of, is_stacked, alive_slots}
+use Rattle.store_merge.specs.Choice.{flags_of, is_stacked, alive_slots}
 use Rattle.store_merge.specs.Bringing.{IsCopied}
 
 -- Why the bytes of a document were refused, and what that leaves of the writer.
@@ -66,7 +66,7 @@ abbrev pub RefusesInput : {H : Type 0} → (Reading → Writing → Writing → 
     → Writing → StoreError → Type 0
 RefusesInput Left x left old new e =
     ((is_stacked x ≡ true) × RefusesStore Left x.reader left.reader old new e)
-    ⊎ ((is_stacked x ≡ false) × StopsAt (set_of x.alive) x.reader left.reader old new e)
+    ⊎ ((is_stacked x ≡ false) × StopsAt (flags_of x.alive) x.reader left.reader old new e)
 
 -- A beginning of the alive slots of an input is behind what was taken before.
 pub record HasGrown {H : Type 0} (x : MergeInput H) (old new : Writing) : Type 0 where

@@ -8,8 +8,7 @@ ghost use Rattle.store_reader.specs.Walking.{set_of};
 ghost use Rattle.store_merge.specs.Choice.{is_stacked, first_old};
 
 use crate::input::MergeInput;
-use docstore::DocStoreVersion;
-use store_base::{AliveBitSet, DocId, FileHandle};
+use docstore::{AliveBitSet, DocId, DocStoreVersion, FileHandle};
 
 /// How many blocks a store has at least that is stacked. A smaller one would leave small blocks behind.
 pub const LEAST_STACKED_BLOCKS: usize = 6;

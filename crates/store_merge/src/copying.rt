@@ -6,13 +6,15 @@ ghost use Rattle.store_reader.specs.Walking.{set_of};
 ghost use Rattle.docstore.specs.Writer.{IsStoreWriter};
 ghost use Rattle.store_merge.specs.Bringing.{IsCopied};
 ghost use Rattle.store_merge.specs.Choice.{alive_of};
-ghost use Rattle.store_merge.specs.Copying.{IsTaken, IsRefused};
+ghost use Rattle.store_merge.specs.Copying.{IsItemStored, IsRefused};
 ghost use Rattle.store_merge.specs.Inputs.{IsAskedOnce};
 ghost use Rattle.store_merge.specs.Refusals.{StopsAt};
 
-use docstore::{StoreError, StoreReader, StoreWriter, laws};
+use docstore::{
+    AliveBitSet, Cause, FileHandle, OwnedBytes, StoreError, StoreReader, StoreWriter,
+    TerminatingWrite, laws,
+};
 use std::alloc::Global;
-use store_base::{AliveBitSet, Cause, FileHandle, OwnedBytes, TerminatingWrite};
 
 // Takes one document of an iteration, or answers why it did not come.
 fn take_document<W: TerminatingWrite>(
@@ -20,7 +22,7 @@ fn take_document<W: TerminatingWrite>(
     document: Result<OwnedBytes, StoreError>,
 ) -> Result<(), StoreError>
     requires sound { IsStoreWriter writer.old }
-    ensures taken { OnOk result (IsTaken document writer.old writer.new) }
+    ensures taken { OnOk result (IsItemStored document writer.old writer.new) }
     ensures err { IfErr result (IsRefused document writer.old writer.new) }
     ensures count { writer.old.output.failures ≤ writer.new.output.failures }
     ensures steady { IsErrOf result (StoreError.Failed Cause.Write)

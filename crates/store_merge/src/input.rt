@@ -1,7 +1,6 @@
 //! The inputs of a merge.
 
-use docstore::StoreReader;
-use store_base::{AliveBitSet, FileHandle};
+use docstore::{AliveBitSet, FileHandle, StoreReader};
 
 /// A store that is merged, and which of its documents are alive. Without a set each is.
 #[derive(Drop)]

@@ -15,9 +15,8 @@ use crate::input::MergeInput;
 use crate::merge_error::MergeError;
 use crate::stacking::Stacking;
 use crate::taking::take_input;
-use docstore::{StoreError, StoreWriter, laws};
+use docstore::{Cause, FileHandle, StoreError, StoreWriter, TerminatingWrite, laws};
 use std::alloc::Global;
-use store_base::{Cause, FileHandle, TerminatingWrite};
 
 // Takes the inputs in order, up to the first that is refused.
 fn take_inputs<W: TerminatingWrite, H: FileHandle>(

@@ -11,9 +11,11 @@ use crate::choosing::is_stacked;
 use crate::copying::copy_documents;
 use crate::input::MergeInput;
 use crate::stacking::Stacking;
-use docstore::{DocStoreVersion, StoreError, StoreReader, StoreWriter, laws};
+use docstore::{
+    Cause, DocStoreVersion, FileHandle, StoreError, StoreReader, StoreWriter, TerminatingWrite,
+    laws,
+};
 use std::alloc::Global;
-use store_base::{Cause, FileHandle, TerminatingWrite};
 
 // Puts a store behind what the writer has taken.
 fn stack_store<W: TerminatingWrite, H: FileHandle>(

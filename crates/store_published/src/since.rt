@@ -7,8 +7,8 @@ ghost use Rattle.store_folder.specs.Publishing.{IsOldOrWhole};
 ghost use Rattle.store_published.specs.Origin.{IsFrom, LeavesOnlySince};
 
 use crate::origin::Origin;
+use docstore::{TerminatingWrite, WriteFault};
 use std::marker::{Model, PhantomData};
-use store_base::{TerminatingWrite, WriteFault};
 use store_folder::{Folder, Publication};
 
 /// An output that is published, of which the type says where it began.

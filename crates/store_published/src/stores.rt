@@ -13,11 +13,12 @@ ghost use Rattle.store_published.specs.Origin.{IsFrom, LeavesOnlySince};
 
 use crate::origin::Origin;
 use crate::since::Since;
-use docstore::{CloseError, StoreCommand, StoreWriter, write_store};
-use layered_index::CHECKPOINT_PERIOD;
+use docstore::{
+    CHECKPOINT_PERIOD, CloseError, Document, FileHandle, Schema, StoreCommand, StoreError,
+    StoreWriter, write_store,
+};
 use std::alloc::Global;
 use std::marker::Brand;
-use store_base::{Document, FileHandle, Schema, StoreError};
 use store_folder::{Folder, Publication};
 
 /// Closes a store that is written to an output in a folder.

@@ -3,6 +3,9 @@ use Rattle.std.proofs.Common.{◌≡◌, ◌⊎◌, inl, inr, ℕ, ◌-◌, ◌<
 use Rattle.std.specs.Prelude.{Result, Ok, Err, IsTrue, slice_range, slice_get}
 use Rattle.std.proofs.lemmas.Bool.{ltb-true, ltb-false}
 use Rattle.std.proofs.lemmas.List.{append-nil}
+use Rattle.store_reader.proofs.StoreSliceLemmas.{same_version}
+use Rattle.store_format.specs.FooterLemmas.{kind_zero}
+use Rattle.store_base.specs.VIntLemmas.{heads, tails}
 use Rattle.store_base.specs.Files.{Part}
 use Rattle.store_base.specs.Serialize.{fixed}
 use Rattle.store_base.specs.SerializeLemmas.{fixed_numbers_are_apart}
@@ -27,8 +30,8 @@ use Rattle.store_reader.specs.Viewing.{FindsFooter, FindsIndex, FindsFrom, Finds
 use Rattle.store_reader.specs.ViewLaws.{OpenAlike, ViewsOpenAsReaders, ViewsAnswerAsReaders, ViewsReadAsReaders}
 use Rattle.store_format.proofs.ApartLemmas.{stores_are_apart}
 use Rattle.store_reader.proofs.FoundLemmas.{view_refused}
-use Rattle.store_reader.proofs.OpenedLemmas.{kind_zero, tail_of, opened_is_store}
-use Rattle.store_format.proofs.FileLemmas.{beginnings_apart, known_version, heads, tails}
+use Rattle.store_reader.proofs.OpenedLemmas.{tail_of, opened_is_store}
+use Rattle.store_format.proofs.FileLemmas.{beginnings_apart, known_version}
 use Rattle.store_reader.proofs.RefusedLemmas.{not_refused, refused_is_none}
 
 -- ---- what an honest file gives is what is found in its bytes
@@ -174,17 +177,6 @@ refused_once b e d p q = go p.footer q.footer p.reads q.reads p.goes_on q.goes_o
 
 -- ---- laws
 
-one_version : (v w : DocStoreVersion) → version_number v ≡ version_number w → v ≡ w
-one_version V1 V1 e = refl
-one_version V2 V2 e = refl
-one_version V3 V3 e = refl
-one_version V1 V2 e = absurd (omega arith)
-one_version V1 V3 e = absurd (omega arith)
-one_version V2 V1 e = absurd (omega arith)
-one_version V2 V3 e = absurd (omega arith)
-one_version V3 V1 e = absurd (omega arith)
-one_version V3 V2 e = absurd (omega arith)
-
 both_refused : (file back : Part) (e d : StoreError) → IsTrue file.honest → Opens file (Err e) back → Finds file.content (Err d) → OpenAlike (Err e) (Err d)
 both_refused file back e d honest opens finds = elim (refusal_found file back e honest opens) [
   | inr failure ↦ elim failure [ inl read ↦ inr (inl read) | inr memory ↦ inr (inr (inl memory)) ]
@@ -198,7 +190,7 @@ pub views_open_as_readers : ViewsOpenAsReaders
 views_open_as_readers file capacity (Ok r) (Ok v) honest opened viewed =
     let read = opened_is_store file capacity r honest opened in
     let same = stores_are_apart r.period v.period file.content (version_number r.version) (version_number v.version) (store_of r) v.store read viewed.store in
-    record { store = same.2; period = same.0; version = one_version r.version v.version same.1 }
+    record { store = same.2; period = same.0; version = same_version r.version v.version same.1 }
 views_open_as_readers file capacity (Ok r) (Err d) honest opened viewed = elim (view_refused file.content d viewed) [
   | inl memory ↦ memory
   | inr none ↦ absurd (none (record { period = r.period; version = version_number r.version; blocks = store_of r; store = opened_is_store file capacity r honest opened }))

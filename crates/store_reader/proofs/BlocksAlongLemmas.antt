@@ -3,6 +3,7 @@ use Rattle.std.proofs.Common.{◌≡◌, ℕ, zero, suc, ◌+◌, ◌-◌, ◌<�
 use Rattle.std.specs.List.{AllByRecursion, count_by, range_with_len}
 use Rattle.std.proofs.lemmas.Bool.{le-leb, lt-leb}
 use Rattle.std.proofs.lemmas.List.Sums.{sum_by-cons}
+use Rattle.layered_index.proofs.LayerLemmas.{docs_grow}
 use Rattle.layered_index.specs.declared.checkpoint.Checkpoint.{Checkpoint}
 use Rattle.store_reader.specs.declared.walk.Walk.{Walk}
 use Rattle.layered_index.specs.Checkpoint.{IsInLineFrom, IsFilled, Covers, docs_end, doc_count}
@@ -10,7 +11,6 @@ use Rattle.store_reader.specs.Iteration.{is_in, alive_count, alive_below, looked
 use Rattle.store_reader.specs.Reading.{Reading, num_docs}
 use Rattle.store_reader.specs.Walking.{IsWalk}
 use Rattle.store_reader.specs.LookLaws.{WalksLookUp}
-use Rattle.store_reader.proofs.SeekLemmas.{docs_go_on}
 
 module _ (set : Option (ℕ → Bool)) where
   -- how many of so many ids, from this one on, are in the set
@@ -79,7 +79,7 @@ module _ (set : Option (ℕ → Bool)) where
   looked_all doc byte [] count r lt = refl
   looked_all doc byte (c ∷ cs) count r lt =
       let start = r.0 in let order = r.2.doc_order in
-      let more = docs_go_on c.doc_range.end c.byte_range.end cs r.3 in
+      let more = docs_grow c.doc_range.end c.byte_range.end cs r.3 in
       let size : doc_count c + (docs_end c.doc_range.end cs - c.doc_range.end) ≡ docs_end c.doc_range.end cs - doc = omega arith in
       let at : doc + doc_count c ≡ c.doc_range.end = omega arith in
       let split = alive-split doc (doc_count c) (docs_end c.doc_range.end cs - c.doc_range.end) in
@@ -92,7 +92,7 @@ module _ (set : Option (ℕ → Bool)) where
 take_whole : (doc byte : ℕ) (cs : List Checkpoint) (p : ℕ) → IsInLineFrom doc byte cs → AllByRecursion IsFilled cs → docs_end doc cs ≤ docs_end doc (take p cs) → take p cs ≡ cs
 take_whole doc byte [] zero r f le = refl
 take_whole doc byte [] (suc p) r f le = refl
-take_whole doc byte (c ∷ cs) zero r f le = absurd (let more = docs_go_on c.doc_range.end c.byte_range.end cs r.3 in let some = f.0.0 in let start = r.0 in omega arith)
+take_whole doc byte (c ∷ cs) zero r f le = absurd (let more = docs_grow c.doc_range.end c.byte_range.end cs r.3 in let some = f.0.0 in let start = r.0 in omega arith)
 take_whole doc byte (c ∷ cs) (suc p) r f le = ap (λ (ys : List Checkpoint). c ∷ ys) (take_whole c.doc_range.end c.byte_range.end cs p r.3 f.1 le)
 
 looked_none : (set : Option (ℕ → Bool)) (cs : List Checkpoint) → keys_along (take 1 cs) ≡ looked_along cs set 0

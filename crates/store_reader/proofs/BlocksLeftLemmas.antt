@@ -4,11 +4,12 @@ use Rattle.std.specs.Prelude.{Result, Ok, Err, slice_range}
 use Rattle.std.specs.List.{AllByRecursion}
 use Rattle.std.proofs.lemmas.Bool.{lt-ltb, le-ltb}
 use Rattle.std.proofs.lemmas.List.{append-nil}
+use Rattle.store_base.proofs.ListLemmas.{all_behind}
 use Rattle.store_base.specs.declared.error.StoreError.{StoreError}
 use Rattle.store_base.specs.declared.error.StoreError.TheVariants.{BadIndex}
 use Rattle.layered_index.specs.declared.checkpoint.Checkpoint.{Checkpoint}
 use Rattle.layered_index.specs.Checkpoint.{IsInLineFrom, IsFilled, docs_end, bytes_end, first_past}
-use Rattle.layered_index.specs.LineLemmas.{in_line-split}
+use Rattle.layered_index.proofs.LineLemmas.{in_line-split}
 use Rattle.layered_index.specs.Sought.{past_on}
 use Rattle.layered_index.proofs.LayerLemmas.{docs_grow}
 use Rattle.layered_index.proofs.OuterLayersLemmas.{docs_end-append}
@@ -17,7 +18,7 @@ use Rattle.store_format.specs.StoreFile.{checkpoints_of, data_of}
 use Rattle.store_format.proofs.StoreLemmas.{checkpoints_cover}
 use Rattle.store_reader.specs.declared.block_slice.BlockSlice.{BlockSlice}
 use Rattle.store_reader.specs.Opening.{IsSomeStore}
-use Rattle.store_reader.specs.StoreSlices.{count_of_store, IsBlockSlice, BlocksLeft, Follows, IsBlockAt, IsPartFrom, GivesPart, AreLeft, GivesBlock}
+use Rattle.store_reader.specs.StoreSlices.{count_of_store, IsBlockSlice, BlocksLeft, ContinuesAt, IsBlockAt, IsSliceFrom, GivesPart, AreLeft, GivesBlock}
 use Rattle.store_reader.proofs.StoreSliceLemmas.{count_stored, block_within}
 use Rattle.store_reader.proofs.ViewLemmas.{seek_stays}
 
@@ -30,10 +31,6 @@ first_here doc byte (x ∷ xs) c rest h lt =
     let grow = docs_grow x.doc_range.end x.byte_range.end xs both.0 in
     let start = both.1.0 in
     rw (le-ltb c.doc_range.start x.doc_range.end (omega arith)) (first_here x.doc_range.end x.byte_range.end xs c rest h.3 lt)
-
-all_behind : {A : Type 0} (P : A → Type 0) (xs ys : List A) → AllByRecursion P (xs ++ ys) → AllByRecursion P ys
-all_behind P [] ys h = h
-all_behind P (x ∷ xs) ys h = all_behind P xs ys h.1
 
 -- what is known of the next checkpoint
 record IsNext (bytes : List ℕ) (s : IsSomeStore bytes) (before : List Checkpoint) (c : Checkpoint) : Type 0 where
@@ -108,7 +105,7 @@ next_of file s left c rest are is = is_next file s are.before c rest (are.parts 
 
 -- the next checkpoint follows
 pub left_follows : (file : List ℕ) (s : IsSomeStore file) (left : BlocksLeft) (c : Checkpoint) (rest : List Checkpoint) → AreLeft file s left → left.checkpoints ≡ c ∷ rest
-    → Follows left.next left.data_len c
+    → ContinuesAt left.next left.data_len c
 left_follows file s left c rest are is =
     let n = next_of file s left c rest are is in
     let start : c.doc_range.start ≡ left.next = n.start ∙ are.ended in
@@ -116,7 +113,7 @@ left_follows file s left c rest are is =
 
 -- its block is that of its documents
 pub left_block : (file : List ℕ) (s : IsSomeStore file) (left : BlocksLeft) (c : Checkpoint) (rest : List Checkpoint) (b : BlockSlice) → AreLeft file s left → left.checkpoints ≡ c ∷ rest
-    → IsBlockAt c b → IsPartFrom left.bytes left.next b → (id : ℕ) → b.first ≤ id → id < b.end → IsBlockSlice file s id b.first b.end b.start b.bytes.now
+    → IsBlockAt c b → IsSliceFrom left.bytes left.next b → (id : ℕ) → b.first ≤ id → id < b.end → IsBlockSlice file s id b.first b.end b.start b.bytes.now
 left_block file s left c rest b are is at part id from to =
     let n = next_of file s left c rest are is in
     let covers = checkpoints_cover s.blocks s.store.blocks in
@@ -153,7 +150,7 @@ steps_end left rest none =
     let same : ◌≡◌ {A = BlocksLeft} (record left { checkpoints = rest }) left = ap (λ (cs : List Checkpoint). record left { checkpoints = cs }) (none.1 ∙ sym none.0) in
     ((inr none.0, same), λ file s are. (left_ends file s left are none.0, subst (AreLeft file s) (sym same) are))
 
-pub steps_on : (left : BlocksLeft) (c : Checkpoint) (rest : List Checkpoint) (b : BlockSlice) → left.checkpoints ≡ c ∷ rest → left.failed ≡ false → IsPartFrom left.bytes left.next b → IsBlockAt c b
+pub steps_on : (left : BlocksLeft) (c : Checkpoint) (rest : List Checkpoint) (b : BlockSlice) → left.checkpoints ≡ c ∷ rest → left.failed ≡ false → IsSliceFrom left.bytes left.next b → IsBlockAt c b
     → Steps left (Some (Ok b)) (record left { next = b.end; checkpoints = rest })
 steps_on left c rest b is well part at = (
   (part, well, (c, is, at), refl),
@@ -161,6 +158,6 @@ steps_on left c rest b is well part at = (
 )
 
 -- the index of a store is never found damaged
-pub steps_fail : (left : BlocksLeft) (c : Checkpoint) (rest : List Checkpoint) → left.checkpoints ≡ c ∷ rest → left.failed ≡ false → (Follows left.next left.data_len c → ⊥)
+pub steps_fail : (left : BlocksLeft) (c : Checkpoint) (rest : List Checkpoint) → left.checkpoints ≡ c ∷ rest → left.failed ≡ false → (ContinuesAt left.next left.data_len c → ⊥)
     → Steps left (Some (Err BadIndex)) (record left { failed = true; checkpoints = rest })
 steps_fail left c rest is well none = ((refl, well, (c, is, none), refl), λ file s are. absurd (none (left_follows file s left c rest are is)))

@@ -4,7 +4,7 @@ use Rattle.std.specs.List.{AllByRecursion}
 use Rattle.store_base.specs.ReadingLemmas.{some_is}
 use Rattle.layered_index.specs.declared.checkpoint.Checkpoint.{Checkpoint}
 use Rattle.layered_index.specs.Checkpoint.{IsInLineFrom, IsInLine, IsFilled, Covers, docs_end, bytes_end}
-use Rattle.layered_index.specs.LineLemmas.{in_line_from, in_line_somewhere}
+use Rattle.layered_index.proofs.LineLemmas.{in_line_from, in_line_somewhere}
 use Rattle.layered_index.specs.IndexReading.{IsIndexPart}
 use Rattle.layered_index.specs.Covering.{goes_on, covered_to}
 use Rattle.layered_index.proofs.CoveredLemmas.{goes_on-true, true-goes_on}

@@ -5,6 +5,7 @@ use Rattle.std.proofs.lemmas.Grind.{flat_map-append}
 use Rattle.std.proofs.lemmas.List.{append-nil, take_more}
 use Rattle.std.specs.List.{AllByRecursion, Contains, flat_map}
 use Rattle.std.specs.Prelude.{IsSomeAnd, Result, Ok, Err}
+use Rattle.store_base.proofs.ListLemmas.{risen_later}
 use Rattle.store_base.specs.Counts.{HasRisen}
 use Rattle.store_base.specs.declared.error.StoreError.{StoreError}
 use Rattle.store_base.specs.declared.error.StoreError.TheVariants.{Read, Memory}
@@ -14,25 +15,21 @@ use Rattle.store_reader.specs.declared.answers.ReadCall.{ReadCall}
 use Rattle.store_reader.specs.declared.walk.Walk.{Walk}
 use Rattle.store_reader.specs.GetAnswer.{IsLookedUp, AnswersFrom}
 use Rattle.store_reader.specs.CallAnswers.{IsGet, HasRefusal, results_of}
-use Rattle.store_reader.specs.LookingUp.{Takes}
+use Rattle.store_reader.specs.LookingUp.{IsShared}
 use Rattle.store_reader.specs.Reading.{Reading, IsSameStore}
-use Rattle.store_reader.specs.Walking.{IsTaken, LooksAlong, GivesNext}
+use Rattle.store_reader.specs.Walking.{IsBlockTaken, LooksAlong, GivesNext}
 use Rattle.store_reader.proofs.GetAnswerLemmas.{has_failed}
 use Rattle.store_reader.proofs.IterationLookUpLemmas.{IsListedTo}
 use Rattle.store_reader.proofs.RecentLemmas.{same_store, same_along}
-
--- a count that has risen since later has since before
-risen_before : (a b c : ℕ) → a ≤ b → HasRisen b c → HasRisen a c
-risen_before a b c le h = record { no_lower = omega (arith, h.no_lower); risen = λ few. omega (arith, h.risen few) }
 
 -- and where it goes on
 risen_on : (a b c : ℕ) → HasRisen a b → b ≤ c → HasRisen a c
 risen_on a b c h le = record { no_lower = omega (arith, h.no_lower); risen = λ few. omega (arith, h.risen (omega (arith, few))) }
 
-failed_once : (r : Reading) (id : ℕ) (c : Checkpoint) (block : Result (List ℕ) StoreError) (mid : Reading) → IsTaken r id c block mid → block ≡ Err Read → HasRisen r.file.failures mid.file.failures
-failed_once r id c block mid t is = came (subst (λ (b : Result (List ℕ) StoreError). Takes t.came b) is t.taken)
+failed_once : (r : Reading) (id : ℕ) (c : Checkpoint) (block : Result (List ℕ) StoreError) (mid : Reading) → IsBlockTaken r id c block mid → block ≡ Err Read → HasRisen r.file.failures mid.file.failures
+failed_once r id c block mid t is = came (subst (λ (b : Result (List ℕ) StoreError). IsShared t.came b) is t.taken)
   where
-    came : Takes t.came (Err Read) → HasRisen r.file.failures mid.file.failures
+    came : IsShared t.came (Err Read) → HasRisen r.file.failures mid.file.failures
     came (inl same) = has_failed r mid id c (subst (λ (x : Result (List ℕ) StoreError). IsLookedUp r id c x mid) same t.looked)
     came (inr memory) = absurd cc
 
@@ -42,7 +39,7 @@ failed_along : (cs : List Checkpoint) (r : Reading) (b : Option (Result (List �
 failed_along [] r b r' b' l is = inl (sym l.1 ∙ is)
 failed_along (c ∷ cs) r b r' b' l is = inr (elim (failed_along cs l.0 (Some l.1) r' b' l.3 is) [
   | inl here ↦ risen_on r.file.failures l.0.file.failures r'.file.failures (failed_once r c.doc_range.start c l.1 l.0 l.2 (cc)) (same_along cs l.0 (Some l.1) r' b' l.3).failures
-  | inr later ↦ risen_before r.file.failures l.0.file.failures r'.file.failures (same_store r c.doc_range.start c l.2.came l.0 l.2.looked).failures later
+  | inr later ↦ risen_later r.file.failures l.0.file.failures r'.file.failures (same_store r c.doc_range.start c l.2.came l.0 l.2.looked).failures later
 ])
 
 -- a document is answered by a failed read only where its block is
@@ -77,7 +74,7 @@ answer_failed first old new answers answer before after so_far here some =
     flat_map-append results_of answers (answer ∷ []) ∙ ap (λ (xs : List (Result (List ℕ) StoreError)). flat_map results_of answers ++ xs) (append-nil (results_of answer)) in
     elim (Contains-append_cases (flat_map results_of answers) (results_of answer) (Err Read) (subst (λ (xs : List (Result (List ℕ) StoreError)). Contains xs (Err Read)) joined some)) [
       | inl earlier ↦ risen_on first.file.failures old.file.failures new.file.failures (so_far earlier) after.failures
-      | inr now ↦ risen_before first.file.failures old.file.failures new.file.failures before.failures (here now)
+      | inr now ↦ risen_later first.file.failures old.file.failures new.file.failures before.failures (here now)
     ]
 
 -- ---- where it stays

@@ -2,6 +2,7 @@
 use Rattle.std.proofs.Common.{◌≡◌, ℕ, ◌-◌, ◌≤◌, true, false, List, length, nat_lt, refl, sym, ap, ◌∙◌, subst, arith, inl, inr, ◌⊎◌}
 use Rattle.std.specs.Prelude.{MatchResult, Result, Ok, Err, slice_range, ◌≢◌}
 use Rattle.std.proofs.lemmas.Bool.{ltb-true, ltb-false}
+use Rattle.store_base.proofs.ListLemmas.{length-slice}
 use Rattle.store_base.specs.Counts.{raised}
 use Rattle.store_base.specs.Files.{Part}
 use Rattle.store_base.specs.declared.error.StoreError.{StoreError}
@@ -21,7 +22,6 @@ use Rattle.store_format.specs.StoreFile.{IsStore}
 use Rattle.store_reader.specs.Viewing.{IsView, FindsFooter, FindsIndex, FindsFrom, Finds, data_in}
 use Rattle.store_reader.proofs.OpenedLemmas.{tail_of, IsMiddle, middle_of, whole_file}
 use Rattle.store_reader.proofs.RefusedLemmas.{refused_is_none}
-use Rattle.store_reader.proofs.ReaderStoreLemmas.{length-slice}
 
 -- ---- opening
 

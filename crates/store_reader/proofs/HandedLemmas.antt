@@ -2,6 +2,7 @@
 use Rattle.std.proofs.Common.{◌≡◌, ◌⊎◌, ◌<◌, ◌≤◌, ◌+◌, ℕ, ◌-◌, true, false, List, length, nat_lt, refl, sym, ap, ◌∙◌, subst, arith, inl, inr}
 use Rattle.std.specs.Prelude.{Result, Ok, Err, slice_range}
 use Rattle.std.proofs.lemmas.Bool.{cases_lt, ltb-true, ltb-false}
+use Rattle.store_base.proofs.ListLemmas.{length-slice}
 use Rattle.store_base.specs.Counts.{HasRisen, raised}
 use Rattle.store_base.specs.Files.{Part}
 use Rattle.store_base.specs.declared.error.StoreError.{StoreError}
@@ -12,7 +13,6 @@ use Rattle.store_format.specs.FileReading.{Comes}
 use Rattle.layered_index.specs.Layers.{Index}
 use Rattle.store_reader.specs.Opening.{IndexFrom, ReadsIndex, Opens, OpensFrom}
 use Rattle.store_format.proofs.FooterHandedLemmas.{IsSameFile, same_part, extracts_same, footer_failed, footer_steady}
-use Rattle.store_reader.proofs.ReaderStoreLemmas.{length-slice}
 
 reads_same : (mid new : Part) (f : DocStoreFooter) (found : Result Index StoreError) → ReadsIndex mid f found new → IsSameFile mid new
 reads_same mid new f found r = (elim (nat_lt (length mid.content - 28) f.offset) as (λ y. nat_lt (length mid.content - 28) f.offset ≡ y → IsSameFile mid new) [

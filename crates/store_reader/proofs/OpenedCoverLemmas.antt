@@ -2,6 +2,7 @@
 use Rattle.std.proofs.Common.{◌≡◌, ℕ, ◌-◌, ◌≤◌, true, false, List, length, nat_lt, refl, ap, ◌∙◌, sym, subst, arith}
 use Rattle.std.specs.Prelude.{Result, Ok, Err}
 use Rattle.std.proofs.lemmas.Bool.{ltb-true, ltb-false}
+use Rattle.store_base.proofs.ListLemmas.{length-slice}
 use Rattle.store_base.specs.Files.{Part}
 use Rattle.store_base.specs.declared.error.StoreError.{StoreError}
 use Rattle.layered_index.specs.Checkpoint.{Covers}
@@ -10,7 +11,6 @@ use Rattle.store_format.specs.declared.footer.DocStoreFooter.{DocStoreFooter}
 use Rattle.store_format.specs.FileReading.{Comes}
 use Rattle.store_reader.specs.Opening.{IndexFrom, ReadsIndex, OpensFrom, IsOpened, index_of}
 use Rattle.store_reader.specs.Reading.{Reading}
-use Rattle.store_reader.proofs.ReaderStoreLemmas.{length-slice}
 
 record IsCovered (new : Part) (f : DocStoreFooter) (index : Index) : Type 0 where
   within : f.offset ≤ length new.content - 28

@@ -3,6 +3,8 @@ use Rattle.std.proofs.Common.{◌≡◌, ℕ, ◌-◌, ◌<◌, ◌≤◌, ◌^�
 use Rattle.std.specs.Prelude.{Result, Ok, Err, IsTrue, slice_range}
 use Rattle.std.proofs.lemmas.Bool.{ltb-true, ltb-false}
 use Rattle.std.proofs.lemmas.List.{append-nil}
+use Rattle.store_format.specs.FooterLemmas.{kind_zero}
+use Rattle.store_base.proofs.ListLemmas.{length-slice}
 use Rattle.store_base.specs.Files.{Part}
 use Rattle.store_format.specs.declared.kinds.Decompressor.{Decompressor}
 use Rattle.store_format.specs.declared.kinds.Decompressor.TheVariants as unpacked
@@ -18,10 +20,7 @@ use Rattle.layered_index.specs.Layers.{Index, index_part}
 use Rattle.store_reader.specs.Opening.{IndexFrom, ReadsIndex, OpensFrom, IsOpened}
 use Rattle.store_reader.specs.Reading.{Reading, store_of}
 use Rattle.store_format.specs.StoreFile.{data_of, checkpoints_of, HasForm, IsStore}
-use Rattle.store_reader.proofs.ReaderStoreLemmas.{length-slice, slices_joined, all_of, store_seen}
-
-pub kind_zero : (d : Decompressor) → kind_of d ≡ 0
-kind_zero unpacked.None = refl
+use Rattle.store_reader.proofs.ReaderStoreLemmas.{slices_joined, all_of, store_seen}
 
 -- ---- what was opened
 

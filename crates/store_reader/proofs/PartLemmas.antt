@@ -3,10 +3,12 @@ use Rattle.std.proofs.Common.{◌≡◌, ℕ, ◌+◌, ◌<◌, ◌≤◌, true,
 use Rattle.std.proofs.Common.{◌∙◌, ap, subst, arith}
 use Rattle.std.specs.List.{AllByRecursion}
 use Rattle.std.proofs.lemmas.Bool.{ltb-false, lt-ltb, le-ltb, lt-leb, le-leb}
+use Rattle.layered_index.proofs.OuterLayersLemmas.{docs_end-append}
+use Rattle.layered_index.proofs.LayerLemmas.{docs_grow}
 use Rattle.layered_index.specs.declared.checkpoint.Checkpoint.{Checkpoint}
 use Rattle.layered_index.specs.Checkpoint.{IsWithinLimits, IsInLineFrom, IsFilled, docs_end, bytes_end, first_past, Covers}
-use Rattle.layered_index.specs.LineLemmas.{in_line-split, docs_end-put, bytes_end-put}
-use Rattle.store_reader.proofs.SeekLemmas.{within, docs_go_on, bytes_go_on}
+use Rattle.layered_index.proofs.LineLemmas.{in_line-split, docs_end-put, bytes_end-put}
+use Rattle.store_reader.proofs.SeekLemmas.{within, bytes_go_on}
 use Rattle.store_reader.specs.Parts.{parts_beyond, number_of_parts, front_up_to, rest_from, IsBetween, IsBlockOf}
 
 -- ---- the blocks up to an id, and those from it on
@@ -126,10 +128,6 @@ found_block cs total id c covers e =
 
 -- ---- no place is past the data
 
-docs_end-append : (doc : ℕ) (xs ys : List Checkpoint) → docs_end doc (xs ++ ys) ≡ docs_end (docs_end doc xs) ys
-docs_end-append doc [] ys = refl
-docs_end-append doc (x ∷ xs) ys = docs_end-append x.doc_range.end xs ys
-
 bytes_end-append : (byte : ℕ) (xs ys : List Checkpoint) → bytes_end byte (xs ++ ys) ≡ bytes_end (bytes_end byte xs) ys
 bytes_end-append byte [] ys = refl
 bytes_end-append byte (x ∷ xs) ys = bytes_end-append x.byte_range.end xs ys
@@ -151,7 +149,7 @@ is_inside cs total id byte covers at =
     let bytes : bytes_end 0 cs ≡ bytes_end byte (rest_from id cs) = ap (bytes_end 0) (sym whole) ∙ bytes_end-append 0 (front_up_to id cs) (rest_from id cs)
     ∙ ap (λ (k : ℕ). bytes_end k (rest_from id cs)) at.bytes in
     record {
-      docs = omega (arith, docs, docs_go_on id byte (rest_from id cs) rest);
+      docs = omega (arith, docs, docs_grow id byte (rest_from id cs) rest);
       bytes = omega (arith, bytes, bytes_go_on id byte (rest_from id cs) rest, covers.end);
       front = parts.0;
       rest = rest;

@@ -4,6 +4,8 @@ use Rattle.std.specs.Prelude.{slice_range}
 use Rattle.std.specs.List.{AllByRecursion}
 use Rattle.std.proofs.lemmas.List.{take_all, length-take-le, length-drop, drop-drop}
 use Rattle.std.proofs.Math.Seq.{take-add}
+use Rattle.layered_index.proofs.LayerLemmas.{docs_fit}
+use Rattle.store_base.proofs.ListLemmas.{length-slice}
 use Rattle.layered_index.specs.declared.checkpoint.Checkpoint.{Checkpoint}
 use Rattle.layered_index.specs.Checkpoint.{IsInLineFrom, docs_end, bytes_end, doc_count, IsFilled, Covers}
 use Rattle.store_format.specs.StoreFile.{StoreBlock, IsStoreBlock, AreBlocks, docs_in, data_of, checkpoints_from, checkpoints_of, blocks_at}
@@ -14,9 +16,6 @@ use Rattle.store_format.proofs.StoreLemmas.{docs_in-cons, blocks_from}
 -- the blocks that checkpoints have in data, by their ranges
 abbrev pub blocks_of : List ℕ → List Checkpoint → List StoreBlock
 blocks_of content cs = map (λ c. record { count = doc_count c; bytes = part_of content c }) cs
-
-pub length-slice : (content : List ℕ) (from to : ℕ) → to ≤ length content → length (slice_range content from to) ≡ to - from
-length-slice content from to within = length-take-le (to - from) (drop from content) (omega (arith, length-drop from content))
 
 -- a range is its two parts
 pub slices_joined : (content : List ℕ) (from middle to : ℕ) → from ≤ middle → middle ≤ to → slice_range content from to ≡ slice_range content from middle ++ slice_range content middle to
@@ -63,10 +62,6 @@ docs_again content doc byte (c ∷ cs) r =
     let cons = docs_in-cons (record { count = doc_count c; bytes = part_of content c }) (blocks_of content cs) in
     let docs = r.2.doc_order in let d = r.0 in
     omega arith
-
-docs_fit : (doc byte : ℕ) (cs : List Checkpoint) → doc < 2 ^ 32 → IsInLineFrom doc byte cs → docs_end doc cs < 2 ^ 32
-docs_fit doc byte [] lt r = lt
-docs_fit doc byte (c ∷ cs) lt r = docs_fit c.doc_range.end c.byte_range.end cs r.2.doc_end r.3
 
 pub all_of : (xs : List ℕ) (n : ℕ) → n ≡ length xs → slice_range xs 0 n ≡ xs
 all_of xs n e = take_all (n - 0) xs (omega arith)

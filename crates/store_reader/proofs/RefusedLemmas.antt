@@ -3,6 +3,8 @@ use Rattle.std.proofs.Common.{◌≡◌, ℕ, ◌+◌, ◌-◌, ◌<◌, ◌≤�
 use Rattle.std.specs.Prelude.{Result, Ok, Err, IsTrue, slice_range}
 use Rattle.std.proofs.lemmas.Bool.{ltb-true, ltb-false}
 use Rattle.std.proofs.lemmas.List.{append-nil}
+use Rattle.store_format.specs.FooterLemmas.{form_reserved}
+use Rattle.store_base.specs.VIntLemmas.{heads, tails}
 use Rattle.store_base.specs.Files.{Part}
 use Rattle.store_base.specs.Serialize.{fixed}
 use Rattle.store_base.specs.SerializeLemmas.{fixed_numbers_are_apart}
@@ -16,10 +18,10 @@ use Rattle.store_format.specs.Footer.{footer, version_number}
 use Rattle.layered_index.specs.Layers.{index_part}
 use Rattle.store_reader.specs.Opening.{IndexFrom, ReadsIndex, Opens, OpensFrom, IsSomeStore, RefusesNoStore}
 use Rattle.store_format.specs.StoreFile.{data_of, checkpoints_of, HasForm}
-use Rattle.store_format.proofs.ExtractionLemmas.{length-reserved, length-footer}
+use Rattle.store_format.proofs.ExtractionLemmas.{length-footer}
 use Rattle.store_reader.proofs.OpenedLemmas.{IsTail, tail_of}
 use Rattle.store_format.proofs.StoreLemmas.{data_fits}
-use Rattle.store_format.proofs.FileLemmas.{slice_between, beginnings_apart, known_version, heads, tails, one_period}
+use Rattle.store_format.proofs.FileLemmas.{slice_between, beginnings_apart, known_version, one_period}
 use Rattle.store_format.proofs.StoreLemmas.{checkpoints_cover}
 
 -- ---- the parts of a file
@@ -36,7 +38,7 @@ parts_of content s =
     let data_bytes = data_of s.blocks in
     let index = index_part s.period (checkpoints_of s.blocks) in
     let foot = footer s.version (length data_bytes) 0 s.store.reserved in
-    let foot_len : length foot ≡ 28 = length-footer s.version (length data_bytes) 0 s.store.reserved (length-reserved s.period s.version s.store.reserved s.store.form) in
+    let foot_len : length foot ≡ 28 = length-footer s.version (length data_bytes) 0 s.store.reserved (form_reserved s.period s.version s.store.reserved s.store.form) in
     let whole : length content ≡ length data_bytes + length index + 28 = omega (arith, ap length s.store.parts, length-append (data_bytes ++ index) foot, length-append data_bytes index) in
     let right : content ≡ data_bytes ++ (index ++ foot) = s.store.parts ∙ append_assoc data_bytes index foot in
     let last : content ≡ (data_bytes ++ index) ++ (foot ++ []) = s.store.parts ∙ ap (λ (x : List ℕ). (data_bytes ++ index) ++ x) (sym (append-nil foot)) in

@@ -3,6 +3,7 @@ use Rattle.std.proofs.Common.{◌≡◌, ℕ, zero, suc, ◌+◌, ◌<◌, ◌�
 use Rattle.std.specs.Prelude.{slice_get}
 use Rattle.std.specs.List.{AllByRecursion}
 use Rattle.std.proofs.lemmas.Bool.{ltb-true, ltb-false, lt-ltb, le-ltb}
+use Rattle.layered_index.proofs.LayerLemmas.{docs_grow}
 use Rattle.layered_index.specs.declared.checkpoint.Checkpoint.{Checkpoint}
 use Rattle.layered_index.specs.Checkpoint.{IsInLineFrom, IsFilled, docs_end, bytes_end, first_past}
 
@@ -14,10 +15,6 @@ pub record IsWithin (doc byte : ℕ) (cs : List Checkpoint) (target : ℕ) (c : 
   pub order : c.byte_range.start ≤ c.byte_range.end
   pub end : c.byte_range.end ≤ bytes_end byte cs
 
-pub docs_go_on : (doc byte : ℕ) (cs : List Checkpoint) → IsInLineFrom doc byte cs → doc ≤ docs_end doc cs
-docs_go_on doc byte [] r = omega arith
-docs_go_on doc byte (c ∷ cs) r = omega (arith, docs_go_on c.doc_range.end c.byte_range.end cs r.3, r.2.doc_order, r.0)
-
 pub bytes_go_on : (doc byte : ℕ) (cs : List Checkpoint) → IsInLineFrom doc byte cs → byte ≤ bytes_end byte cs
 bytes_go_on doc byte [] r = omega arith
 bytes_go_on doc byte (c ∷ cs) r = omega (arith, bytes_go_on c.doc_range.end c.byte_range.end cs r.3, r.2.byte_order, r.1)
@@ -26,7 +23,7 @@ pub within : (doc byte : ℕ) (cs : List Checkpoint) (target : ℕ) (c : Checkpo
 within doc byte [] target c le r e = absurd cc
 within doc byte (x ∷ cs) target c le r e = (elim (nat_lt target x.doc_range.end) as (λ y. nat_lt target x.doc_range.end ≡ y → IsWithin doc byte (x ∷ cs) target c) [
   | true ↦ λ t. let e' = rw t at e in let same : x ≡ c = cc in
-      let past = ltb-true _ _ t in let d = docs_go_on x.doc_range.end x.byte_range.end cs r.3 in let b = bytes_go_on x.doc_range.end x.byte_range.end cs r.3 in
+      let past = ltb-true _ _ t in let d = docs_grow x.doc_range.end x.byte_range.end cs r.3 in let b = bytes_go_on x.doc_range.end x.byte_range.end cs r.3 in
       subst (IsWithin doc byte (x ∷ cs) target) same (record { from = omega (arith, r.0); to = past; last = d; order = r.2.byte_order; end = b })
   | false ↦ λ t. let on = within x.doc_range.end x.byte_range.end cs target c (ltb-false _ _ t) r.3 (rw t at e) in
       record { from = on.from; to = on.to; last = on.last; order = on.order; end = on.end }

@@ -23,7 +23,7 @@ use Rattle.store_format.specs.Slots.{slots}
 use Rattle.store_format.specs.StoreFile.{checkpoints_of}
 use Rattle.store_reader.specs.GetAnswer.{Answers, AnswersTruly}
 use Rattle.store_reader.specs.Opening.{IsSomeStore}
-use Rattle.store_reader.specs.SeekingReaders.{IsSeeking, ReadsBlock, RefusesFile}
+use Rattle.store_reader.specs.SeekingReaders.{IsSeeking, ReadsBlock, RefusesOpening}
 use Rattle.store_reader.specs.StoreSlices.{IsLaidOut}
 use Rattle.store_reader.specs.Viewing.{FindsFooter}
 use Rattle.store_reader.proofs.AlikeLemmas.{footer_found}
@@ -93,7 +93,7 @@ seeking_made old mid new f index r order made =
     }
 
 -- no footer
-pub refused_footer : (old mid : Part) (e : StoreError) → ExtractsFooter old (Err e) mid → RefusesFile old e
+pub refused_footer : (old mid : Part) (e : StoreError) → ExtractsFooter old (Err e) mid → RefusesOpening old e
 refused_footer old mid e r = record {
   finds = λ honest. elim (footer_found old mid (Err e) honest r) [ inl found ↦ inl (finds_footer old.content e found) | inr failed ↦ inr (same failed) ];
   no_store = λ honest. elim (footer_found old mid (Err e) honest r) [ inl found ↦ inl (footer_no_store old.content e found) | inr failed ↦ inr (same failed) ];
@@ -103,7 +103,7 @@ refused_footer old mid e r = record {
     same failed = let is : failed.0 ≡ e = (let given = failed.1 in cc) in subst RefusesRead is failed.2
 
 -- the index would begin behind the footer's first byte
-pub refused_offset : (old mid : Part) (f : DocStoreFooter) → ExtractsFooter old (Ok f) mid → length mid.content - 28 < f.offset → RefusesFile old BadOffset
+pub refused_offset : (old mid : Part) (f : DocStoreFooter) → ExtractsFooter old (Ok f) mid → length mid.content - 28 < f.offset → RefusesOpening old BadOffset
 refused_offset old mid f r past =
     let before = footer_read old mid (Ok f) r in
     let late : length old.content - 28 < f.offset = omega (arith, ap length before.content) in
@@ -114,7 +114,7 @@ refused_offset old mid f r past =
 
 -- no head
 pub refused_head : (old mid : Part) (f : DocStoreFooter) (e : StoreError) → ExtractsFooter old (Ok f) mid → f.offset ≤ length mid.content - 28 → RefusesSeek e
-    → (IsTrue mid.honest → e ≡ BadIndex → HasIndex f.period (slice_range mid.content f.offset (length mid.content - 28)) → ⊥) → RefusesFile old e
+    → (IsTrue mid.honest → e ≡ BadIndex → HasIndex f.period (slice_range mid.content f.offset (length mid.content - 28)) → ⊥) → RefusesOpening old e
 refused_head old mid f e r order (inr failed) bad = record { finds = λ honest. inr failed; no_store = λ honest. inr failed }
 refused_head old mid f e r order (inl is) bad =
     let before = footer_read old mid (Ok f) r in

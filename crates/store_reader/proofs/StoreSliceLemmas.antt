@@ -3,11 +3,12 @@ use Rattle.std.proofs.Common.{◌≡◌, ℕ, ◌+◌, ◌*◌, ◌-◌, ◌<◌
 use Rattle.std.specs.Prelude.{Result, Ok, Err, slice_range, slice_get}
 use Rattle.std.proofs.lemmas.List.{append-nil}
 use Rattle.std.proofs.lemmas.Option.{slice_get_past}
+use Rattle.store_format.specs.FooterLemmas.{kind_zero}
 use Rattle.store_base.specs.declared.error.StoreError.{StoreError}
 use Rattle.store_base.specs.declared.error.StoreError.TheVariants.{BadIndex, BadOffset, InvalidArgument, DamagedDocument}
 use Rattle.layered_index.specs.declared.checkpoint.Checkpoint.{Checkpoint}
 use Rattle.layered_index.specs.Checkpoint.{Covers, docs_end, first_past}
-use Rattle.layered_index.specs.LineLemmas.{in_line_from}
+use Rattle.layered_index.proofs.LineLemmas.{in_line_from}
 use Rattle.layered_index.specs.Layers.{digit_count, index_part}
 use Rattle.layered_index.specs.IndexReading.{IsIndexPart, HasIndex}
 use Rattle.layered_index.specs.Sought.{IndexBytes}
@@ -24,7 +25,7 @@ use Rattle.store_reader.specs.GetAnswer.{AnswersTruly}
 use Rattle.store_reader.specs.Opening.{IsSomeStore}
 use Rattle.store_reader.specs.Viewing.{Viewing, IsView, FindsFooter, Finds, data_in}
 use Rattle.store_reader.specs.StoreSlices.{IsLaidOut, IsStoreSlice, IsBlockSlice, document_in, count_of_store}
-use Rattle.store_reader.proofs.OpenedLemmas.{IsTail, kind_zero}
+use Rattle.store_reader.proofs.OpenedLemmas.{IsTail}
 use Rattle.store_reader.proofs.RefusedLemmas.{parts_of, footer_of, not_refused}
 use Rattle.store_reader.proofs.SeekLemmas.{within}
 use Rattle.store_reader.proofs.ViewLemmas.{seek_stays, block_placed as block_seen, block_none, IsPlaced, placed, doc_placed, slot_placed, slot_none, count_is}

@@ -2,6 +2,7 @@
 use Rattle.std.proofs.Common.{◌≡◌, ℕ, zero, suc, ◌+◌, ◌*◌, ◌-◌, ◌<◌, ◌≤◌, true, false, List, [], ◌∷◌, ◌++◌, length, length-append, take, nat_lt, Some, None, refl, sym, ap, ◌∙◌, subst, arith}
 use Rattle.std.specs.Prelude.{slice_range, slice_get}
 use Rattle.std.proofs.lemmas.Bool.{lt-ltb, le-ltb}
+use Rattle.store_format.specs.FooterLemmas.{form_reserved}
 use Rattle.store_base.specs.Counts.{raised}
 use Rattle.store_base.proofs.Ranges.{part_of_part}
 use Rattle.layered_index.specs.declared.checkpoint.Checkpoint.{Checkpoint}
@@ -13,8 +14,8 @@ use Rattle.store_format.specs.Footer.{footer, version_number}
 use Rattle.store_reader.specs.Reading.{part_of}
 use Rattle.store_format.specs.Slots.{slots}
 use Rattle.store_format.specs.StoreFile.{StoreBlock, blocks_at, data_of, checkpoints_of}
-use Rattle.store_reader.specs.Viewing.{Viewing, IsView, IsBlockOf, StandsAt, count_in, data_in}
-use Rattle.store_format.proofs.ExtractionLemmas.{length-reserved, length-footer}
+use Rattle.store_reader.specs.Viewing.{Viewing, IsView, IsBlockWith, StandsAt, count_in, data_in}
+use Rattle.store_format.proofs.ExtractionLemmas.{length-footer}
 use Rattle.store_reader.proofs.ReaderStoreLemmas.{blocks_of, store_is, store_seen}
 use Rattle.store_reader.proofs.SeekLemmas.{within, none_past}
 use Rattle.store_reader.proofs.StoreSlotLemmas.{slot_sought, slot_past, length-slots_of}
@@ -110,7 +111,7 @@ seek_stays first byte (x ∷ cs) id k c r e from to = (elim (nat_lt id x.doc_ran
 ]) refl
 
 pub block_placed : (v : Viewing) (cs : List Checkpoint) (id : ℕ) (c : Checkpoint) → v.store ≡ blocks_at cs (data_in v.file cs) → IsView v.file cs v.period v.version → first_past cs id ≡ Some c
-    → IsBlockOf v id c.doc_range.start c.doc_range.end (slice_range v.file c.byte_range.start c.byte_range.end)
+    → IsBlockWith v id c.doc_range.start c.doc_range.end (slice_range v.file c.byte_range.start c.byte_range.end)
 block_placed v cs id c is view e =
     let w = within 0 0 cs id c (omega arith) view.covers.in_line e in
     let count = count_is v.file cs v.period v.version view in
@@ -169,7 +170,7 @@ sizes_are file cs period version v =
     let index = index_part period (checkpoints_of bs) in
     let n = version_number version in
     let foot = footer n (length text) 0 v.store.reserved in
-    let size = length-footer n (length text) 0 v.store.reserved (length-reserved period n v.store.reserved v.store.form) in
+    let size = length-footer n (length text) 0 v.store.reserved (form_reserved period n v.store.reserved v.store.form) in
     let same = ap (λ (xs : List Checkpoint). length (index_part period xs)) (checkpoints_are file cs period version v) in
     omega (arith, ap length v.store.parts, length-append (text ++ index) foot, length-append text index, size, same)
 

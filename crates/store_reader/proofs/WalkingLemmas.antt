@@ -4,6 +4,7 @@ use Rattle.std.proofs.lemmas.Bool.{ltb-true, ltb-false, lt-ltb, le-ltb}
 use Rattle.std.proofs.lemmas.List.{drop-drop}
 use Rattle.std.proofs.Math.Seq.{take-add}
 use Rattle.std.specs.Prelude.{nat_lt, IsTrue, IfOk, IfErr, IfSome, IsSome, IsSomeAnd, Result, Ok, Err, slice_get, slice_range}
+use Rattle.layered_index.proofs.LayerLemmas.{docs_grow}
 use Rattle.layered_index.specs.declared.checkpoint.Checkpoint.{Checkpoint}
 use Rattle.store_base.specs.declared.error.StoreError.{StoreError}
 use Rattle.store_reader.specs.declared.walk.Walk.{Walk}
@@ -13,13 +14,13 @@ use Rattle.store_format.specs.Block.{Slot, slot}
 use Rattle.layered_index.specs.Checkpoint.{IsInLineFrom, Covers, docs_end, first_past}
 use Rattle.store_reader.specs.Documents.{ReadsFrom, ReadsTruly}
 use Rattle.store_reader.specs.Iteration.{is_in}
-use Rattle.store_reader.specs.LookingUp.{Takes}
+use Rattle.store_reader.specs.LookingUp.{IsShared}
 use Rattle.store_reader.specs.Reading.{Reading, part_of, num_docs, store_of}
 use Rattle.store_format.specs.Slots.{slots}
-use Rattle.store_reader.specs.Walking.{IsTaken, HoldsPart, StandsIn, IsWalk, LooksAlong, WalksTo}
+use Rattle.store_reader.specs.Walking.{IsBlockTaken, HoldsPart, StandsIn, IsWalk, LooksAlong, WalksTo}
 use Rattle.store_reader.proofs.GetAnswerLemmas.{why_none, slot_at}
 use Rattle.store_reader.proofs.LookUpLemmas.{same_file}
-use Rattle.store_reader.proofs.SeekLemmas.{within, next_block, docs_end-take_more, not_all, docs_go_on}
+use Rattle.store_reader.proofs.SeekLemmas.{within, next_block, docs_end-take_more, not_all}
 
 -- the next block of a list, which begins at this document
 pub record IsNextBlock (cs : List Checkpoint) (n target : ℕ) (c : Checkpoint) : Type 0 where
@@ -51,8 +52,8 @@ checkpoints_along (c ∷ cs) r b r' b' l = checkpoints_along cs l.0 (Some l.1) r
 -- one block more
 pub looks_more : (cs : List Checkpoint) (r : Reading) (b : Option (Result (List ℕ) StoreError)) (mid : Reading) (b1 : Option (Result (List ℕ) StoreError)) (c : Checkpoint) (r' : Reading)
     (b' : Result (List ℕ) StoreError)
-    → LooksAlong cs r b mid b1 → IsTaken mid c.doc_range.start c b' r' → LooksAlong (cs ++ c ∷ []) r b r' (Some b')
-looks_more [] r b mid b1 c r' b' l t = (r', b', subst (λ (x : Reading). IsTaken x c.doc_range.start c b' r') l.0 t, (refl, refl))
+    → LooksAlong cs r b mid b1 → IsBlockTaken mid c.doc_range.start c b' r' → LooksAlong (cs ++ c ∷ []) r b r' (Some b')
+looks_more [] r b mid b1 c r' b' l t = (r', b', subst (λ (x : Reading). IsBlockTaken x c.doc_range.start c b' r') l.0 t, (refl, refl))
 looks_more (d ∷ cs) r b mid b1 c r' b' l t = (l.0, l.1, l.2, looks_more cs l.0 (Some l.1) mid b1 c r' b' l.3 t)
 
 take_one_more : (cs : List Checkpoint) (n : ℕ) (c : Checkpoint) → slice_get cs n ≡ Some c → take (n + 1) cs ≡ take n cs ++ c ∷ []
@@ -123,14 +124,14 @@ walks_start set old from = record {
 
 -- the documents of some blocks are no more than those of all
 pub docs_of_some : (doc byte : ℕ) (cs : List Checkpoint) (n : ℕ) → IsInLineFrom doc byte cs → docs_end doc (take n cs) ≤ docs_end doc cs
-docs_of_some doc byte cs zero r = docs_go_on doc byte cs r
+docs_of_some doc byte cs zero r = docs_grow doc byte cs r
 docs_of_some doc byte [] (suc n) r = omega arith
 docs_of_some doc byte (c ∷ cs) (suc n) r = docs_of_some c.doc_range.end c.byte_range.end cs n r.3
 
 -- no document, no block
 pub no_block : (cs : List Checkpoint) (bytes : ℕ) → Covers cs bytes → docs_end 0 cs ≤ 0 → cs ≡ []
 no_block [] bytes covers le = refl
-no_block (c ∷ cs) bytes covers le = absurd (let on = docs_go_on c.doc_range.end c.byte_range.end cs covers.in_line.3 in let f = covers.filled.0.0 in omega arith)
+no_block (c ∷ cs) bytes covers le = absurd (let on = docs_grow c.doc_range.end c.byte_range.end cs covers.in_line.3 in let f = covers.filled.0.0 in omega arith)
 
 -- the same, if only the next document is another
 pub walks_same : (set : Option (ℕ → Bool)) (old : Reading) (from : Walk) (id : ℕ) (new : Reading) (to to' : Walk) → WalksTo set old from id new to → to'.place ≡ to.place → to'.block ≡ to.block
@@ -139,13 +140,13 @@ walks_same set old from id new to to' w place block = record { on = w.on; dead =
 
 -- one block
 pub looks_one : (r : Reading) (b : Option (Result (List ℕ) StoreError)) (r' : Reading) (b' : Option (Result (List ℕ) StoreError)) (p q next : ℕ) (c : Checkpoint)
-    → slice_get r.checkpoints p ≡ Some c → c.doc_range.start ≡ next → IsSomeAnd b' (λ t. IsTaken r next c t r') → q ≡ p + 1 → LooksAlong (slice_range r.checkpoints p q) r b r' b'
+    → slice_get r.checkpoints p ≡ Some c → c.doc_range.start ≡ next → IsSomeAnd b' (λ t. IsBlockTaken r next c t r') → q ≡ p + 1 → LooksAlong (slice_range r.checkpoints p q) r b r' b'
 looks_one r b r' None p q next c at start taken place = absurd taken
 looks_one r b r' (Some b') p q next c at start taken place =
     let none : p - p ≡ 0 = omega arith in
     let range : slice_range r.checkpoints p q ≡ c ∷ [] = ap (slice_range r.checkpoints p) place ∙ range_more r.checkpoints p p c (omega arith) at
     ∙ ap (λ n. take n (drop p r.checkpoints) ++ c ∷ []) none in
-    rw range (r', b', subst (λ n. IsTaken r n c b' r') (sym start) taken, (refl, refl))
+    rw range (r', b', subst (λ n. IsBlockTaken r n c b' r') (sym start) taken, (refl, refl))
 
 -- as many documents after as before
 pub docs_stay : (set : Option (ℕ → Bool)) (old : Reading) (from : Walk) (id : ℕ) (new : Reading) (to : Walk) → WalksTo set old from id new to → num_docs new ≡ num_docs old
@@ -197,7 +198,7 @@ is_in_block cs bytes (suc n) first id covers few start lo hi =
     )
 
 -- a look-up changes neither the bytes of the data nor whether reads give them
-file_after : (old new : Reading) (id : ℕ) (c : Checkpoint) (block : Result (List ℕ) StoreError) → IsTaken old id c block new
+file_after : (old new : Reading) (id : ℕ) (c : Checkpoint) (block : Result (List ℕ) StoreError) → IsBlockTaken old id c block new
     → (new.file.content ≡ old.file.content) × (new.file.honest ≡ old.file.honest)
 file_after old new id c block t = same_file c old.file new.file old.cache new.cache t.came t.looked.looks_up
 
@@ -210,19 +211,19 @@ file_along (c ∷ cs) r b r' b' l =
     (on.0 ∙ one.0, on.1 ∙ one.1)
 
 -- what was taken is the data's
-taken_part : (old : Reading) (c : Checkpoint) (came block : Result (List ℕ) StoreError) → Takes came block → IfOk came (λ b. b ≡ part_of old.file.content c) → HoldsPart old.file.content block c
+taken_part : (old : Reading) (c : Checkpoint) (came block : Result (List ℕ) StoreError) → IsShared came block → IfOk came (λ b. b ≡ part_of old.file.content c) → HoldsPart old.file.content block c
 taken_part old c (Ok bytes) (Ok b) t part = let same : bytes ≡ b = cc in sym same ∙ part
 taken_part old c (Err e) (Ok b) t part = absurd cc
 taken_part old c came (Err e) t part = tt
 
-pub holds_next : (old new : Reading) (id n k : ℕ) (c : Checkpoint) (block : Result (List ℕ) StoreError) → IsTaken old id c block new → slice_get old.checkpoints n ≡ Some c → k ≡ n
+pub holds_next : (old new : Reading) (id n k : ℕ) (c : Checkpoint) (block : Result (List ℕ) StoreError) → IsBlockTaken old id c block new → slice_get old.checkpoints n ≡ Some c → k ≡ n
     → IsTrue new.file.honest → IfSome (slice_get old.checkpoints k) (HoldsPart new.file.content block)
 holds_next old new id n k c block t at same honest =
     let file = file_after old new id c block t in
     let part = taken_part old c t.came block t.taken (t.looked.honest (subst IsTrue file.1 honest)) in
     rw (same, at) (subst (λ (bytes : List ℕ). HoldsPart bytes block c) (sym file.0) part)
 
-pub only_next : (old new : Reading) (id : ℕ) (c : Checkpoint) (block : Result (List ℕ) StoreError) → IsTaken old id c block new → IfErr block (λ e. (e ≡ Read) ⊎ (e ≡ Memory))
+pub only_next : (old new : Reading) (id : ℕ) (c : Checkpoint) (block : Result (List ℕ) StoreError) → IsBlockTaken old id c block new → IfErr block (λ e. (e ≡ Read) ⊎ (e ≡ Memory))
 only_next old new id c (Ok b) t = tt
 only_next old new id c (Err e) t = elim t.taken [ inl same ↦ why_none old new id c e (subst (λ r. IsLookedUp old id c r new) same t.looked) | inr memory ↦ inr memory ]
 

@@ -40,6 +40,6 @@ pub record LooksUp (c : Checkpoint) (file : Part) (cache : CachedBlocks) (came :
       (record { key = c.byte_range.start; kept = is_kept })
 
 -- what came, or no memory for a share of it
-abbrev pub Takes : Result (List ℕ) StoreError → Result (List ℕ) StoreError → Type 0
-Takes came (Ok block) = came ≡ Ok block
-Takes came (Err e) = (came ≡ Err e) ⊎ (e ≡ Memory)
+abbrev pub IsShared : Result (List ℕ) StoreError → Result (List ℕ) StoreError → Type 0
+IsShared came (Ok block) = came ≡ Ok block
+IsShared came (Err e) = (came ≡ Err e) ⊎ (e ≡ Memory)

@@ -26,7 +26,7 @@ ReadsBlock period runs len old new = ReadsAtMost (runs + 1) (runs * longest_run 
 
 -- The file is refused as the file of no store is, for the first fault of its footer or of the head of its index; or a
 -- read failed or memory ran out.
-pub record RefusesFile (file : Part) (e : StoreError) : Type 0 where
+pub record RefusesOpening (file : Part) (e : StoreError) : Type 0 where
   pub finds : IsTrue file.honest → Finds file.content (Err e) ⊎ RefusesRead e
   pub no_store : IsTrue file.honest → (IsSomeStore file.content → ⊥) ⊎ RefusesRead e
 

@@ -73,7 +73,7 @@ pub record BlocksLeft : Type 0 where
   pub failed : Bool
 
 -- The block is a part of these bytes. It begins with this document, and has at least one.
-pub record IsPartFrom (bytes : List ℕ) (next : ℕ) (b : BlockSlice) : Type 0 where
+pub record IsSliceFrom (bytes : List ℕ) (next : ℕ) (b : BlockSlice) : Type 0 where
   pub first_is : b.first ≡ next
   pub some : b.first < b.end
   pub within : b.start + length b.bytes.now ≤ length bytes
@@ -81,7 +81,7 @@ pub record IsPartFrom (bytes : List ℕ) (next : ℕ) (b : BlockSlice) : Type 0 
   pub part_is : b.bytes.now ≡ slice_range bytes b.start (b.start + length b.bytes.now)
 
 -- The checkpoint is that of a block in the data, which begins with this document and has at least one.
-pub record Follows (next data_len : ℕ) (c : Checkpoint) : Type 0 where
+pub record ContinuesAt (next data_len : ℕ) (c : Checkpoint) : Type 0 where
   pub docs_start : c.doc_range.start ≡ next
   pub some : next < c.doc_range.end
   pub order : c.byte_range.start ≤ c.byte_range.end
@@ -99,12 +99,12 @@ pub record IsBlockAt (c : Checkpoint) (b : BlockSlice) : Type 0 where
 abbrev pub GivesPart : BlocksLeft → Option (Result BlockSlice StoreError) → BlocksLeft → Type 0
 GivesPart left None left' = ((left.failed ≡ true) ⊎ (left.checkpoints ≡ [])) × (left' ≡ left)
 GivesPart left (Some (Ok b)) left' =
-    IsPartFrom left.bytes left.next b × (left.failed ≡ false)
+    IsSliceFrom left.bytes left.next b × (left.failed ≡ false)
     × ((c : Checkpoint) × (left.checkpoints ≡ c ∷ left'.checkpoints) × IsBlockAt c b)
     × (left' ≡ record left { next = b.end; checkpoints = left'.checkpoints })
 GivesPart left (Some (Err e)) left' =
     (e ≡ BadIndex) × (left.failed ≡ false)
-    × ((c : Checkpoint) × (left.checkpoints ≡ c ∷ left'.checkpoints) × (Follows left.next left.data_len c → ⊥))
+    × ((c : Checkpoint) × (left.checkpoints ≡ c ∷ left'.checkpoints) × (ContinuesAt left.next left.data_len c → ⊥))
     × (left' ≡ record left { failed = true; checkpoints = left'.checkpoints })
 
 -- The iteration stands between two blocks of the store, and has those of the checkpoints that are left.

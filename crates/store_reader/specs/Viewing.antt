@@ -105,7 +105,7 @@ abbrev pub GoesOn : Viewing → ℕ → ℕ → ℕ → List ℕ → Type 0
 GoesOn v next first end block = (id : ℕ) → next ≤ id → id < end → slot_of v id ≡ Some (slot block (id - first))
 
 -- These ids are those of a block, whose bytes have their places, and one of them is this.
-pub record IsBlockOf (v : Viewing) (id first end : ℕ) (block : List ℕ) : Type 0 where
+pub record IsBlockWith (v : Viewing) (id first end : ℕ) (block : List ℕ) : Type 0 where
   pub from : first ≤ id
   pub to : id < end
   pub few : end ≤ count_in v

@@ -14,7 +14,7 @@ use Rattle.store_format.specs.Block.{slot}
 use Rattle.layered_index.specs.Checkpoint.{docs_end, first_past}
 use Rattle.store_reader.specs.Documents.{ReadsFrom, ReadsTruly}
 use Rattle.store_reader.specs.Iteration.{is_in}
-use Rattle.store_reader.specs.LookingUp.{Takes}
+use Rattle.store_reader.specs.LookingUp.{IsShared}
 use Rattle.store_reader.specs.Reading.{Reading, IsSameStore, num_docs, part_of, store_of}
 use Rattle.store_format.specs.Slots.{slots}
 
@@ -29,16 +29,16 @@ set_in [] = None
 set_in (alive ∷ others) = Some (is_alive_at alive)
 
 -- One look-up of the block that has this document: what is taken of it for all of its documents.
-pub record IsTaken (old : Reading) (id : ℕ) (checkpoint : Checkpoint) (block : Result (List ℕ) StoreError)
+pub record IsBlockTaken (old : Reading) (id : ℕ) (checkpoint : Checkpoint) (block : Result (List ℕ) StoreError)
     (new : Reading) : Type 0 where
   pub came : Result (List ℕ) StoreError
   pub looked : IsLookedUp old id checkpoint came new
-  pub taken : Takes came block
+  pub taken : IsShared came block
 
 -- The block that has a document is looked up once: its ids, and what is taken of it.
 pub record IsEntered (old : Reading) (id : ℕ) (entered : Entered) (new : Reading) : Type 0 where
   pub checkpoint : Checkpoint
-  pub looked : IsTaken old id checkpoint entered.block new
+  pub looked : IsBlockTaken old id checkpoint entered.block new
   pub first : entered.first ≡ checkpoint.doc_range.start
   pub end : entered.end ≡ checkpoint.doc_range.end
 
@@ -76,7 +76,7 @@ abbrev pub LooksAlong : List Checkpoint → Reading → Option (Result (List ℕ
     → Option (Result (List ℕ) StoreError) → Type 0
 LooksAlong [] r block r' block' = (r' ≡ r) × (block' ≡ block)
 LooksAlong (c ∷ cs) r block r' block' = (mid : Reading) × (taken : Result (List ℕ) StoreError)
-    × IsTaken r c.doc_range.start c taken mid × LooksAlong cs mid (Some taken) r' block'
+    × IsBlockTaken r c.doc_range.start c taken mid × LooksAlong cs mid (Some taken) r' block'
 
 -- The walk goes on to an id, past none that is alive, and looks up the blocks on the way.
 pub record WalksTo (set : Option (ℕ → Bool)) (old : Reading) (from : Walk) (id : ℕ) (new : Reading)

@@ -2,7 +2,7 @@
 
 ghost use Rattle.std.specs.Prelude.{Ok};
 ghost use Rattle.store_reader.specs.BlockRequests.{AnswersRequest};
-ghost use Rattle.store_reader.specs.LookingUp.{Takes};
+ghost use Rattle.store_reader.specs.LookingUp.{IsShared};
 
 use crate::slot::document_in;
 use store_base::{DocId, OwnedBytes, StoreError};
@@ -16,7 +16,7 @@ pub(crate) enum BlockRequest {
 
 // The whole block. It shares the block's bytes.
 fn whole_block(block: &OwnedBytes) -> Result<OwnedBytes, StoreError>
-    ensures { Takes (Ok block.now) result }
+    ensures { IsShared (Ok block.now) result }
 {
     match block.clone() {
         Ok(copy) => Ok(copy),

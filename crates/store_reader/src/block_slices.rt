@@ -1,6 +1,6 @@
 //! Iterations over the blocks of a store in a slice of bytes.
 ghost use Rattle.std.specs.Prelude.{◌≡◌, ◌≤◌, length, IfSome, IsSome, false};
-ghost use Rattle.store_reader.specs.StoreSlices.{Follows, IsBlockAt, IsPartFrom};
+ghost use Rattle.store_reader.specs.StoreSlices.{ContinuesAt, IsBlockAt, IsSliceFrom};
 
 use crate::block_slice::BlockSlice;
 use layered_index::{Checkpoint, LayerCursor};
@@ -47,9 +47,9 @@ fn block_at<'a>(
     checkpoint: &Checkpoint,
 ) -> Option<BlockSlice<'a>>
     requires within { data_len ≤ length file.now }
-    ensures part { IfSome result (IsPartFrom file.now doc_id) }
+    ensures part { IfSome result (IsSliceFrom file.now doc_id) }
     ensures block { IfSome result (IsBlockAt checkpoint.now) }
-    ensures taken { Follows doc_id data_len checkpoint.now → IsSome result }
+    ensures taken { ContinuesAt doc_id data_len checkpoint.now → IsSome result }
 {
     let docs = &checkpoint.doc_range;
     let bytes = &checkpoint.byte_range;

@@ -10,7 +10,7 @@ ghost use Rattle.store_format.specs.Slots.{slots};
 ghost use Rattle.store_format.specs.StoreFile.{checkpoints_of};
 ghost use Rattle.store_reader.specs.GetAnswer.{AnswersTruly};
 ghost use Rattle.store_reader.specs.Opening.{IsSomeStore};
-ghost use Rattle.store_reader.specs.SeekingReaders.{IsSeeking, ReadsBlock, RefusesFile, RefusesBlock, RefusesGet};
+ghost use Rattle.store_reader.specs.SeekingReaders.{IsSeeking, ReadsBlock, RefusesOpening, RefusesBlock, RefusesGet};
 
 use crate::opening::index_range;
 use crate::slot::document_in;
@@ -49,7 +49,7 @@ fn read_head<H: FileHandle>(
     alloc: Global,
 ) -> Result<(DocStoreFooter, IndexHead), StoreError>
     ensures head { IfOk result (λ r. IsSeeking file.new r.0.offset r.1 r.0.doc_store_version) }
-    ensures refused { IfErr result (RefusesFile file.old) }
+    ensures refused { IfErr result (RefusesOpening file.old) }
     ensures device { IsErrOf result StoreError.Read → HasRisen file.old.failures file.new.failures }
     ensures steady { IsErrOf result StoreError.Read ⊎ (file.new.failures ≡ file.old.failures) }
     ensures kept { ReadsAtMost 2 669 file.old file.new }
@@ -66,7 +66,7 @@ impl<H: FileHandle> SeekingReader<H> {
     /// and `Memory`. An error hands the file back.
     pub fn open(alloc: Global, mut file: FileSlice<H>) -> Result<SeekingReader<H>, OpenError<H>>
         ensures opened { IfOk result (λ store. ReadsAtMost 2 669 file store) }
-        ensures refused { IfErr result (λ e. RefusesFile file e.error) }
+        ensures refused { IfErr result (λ e. RefusesOpening file e.error) }
         ensures handed_back { IfErr result (λ e. ReadsAtMost 2 669 file e.file) }
         ensures failed { IfErr result (λ e. e.error ≡ StoreError.Read → HasRisen file.failures e.file.failures) }
         ensures steady { MatchResult result (λ store. store.failures ≡ file.failures)

@@ -8,13 +8,13 @@ ghost use Rattle.store_reader.specs.Documents.{document_version, ReadsFrom, Read
 ghost use Rattle.store_format.specs.Footer.{version_number};
 ghost use Rattle.store_reader.specs.Opening.{IsSomeStore};
 ghost use Rattle.store_format.specs.StoreFile.{AreBlocks, IsStore, data_of, checkpoints_of};
-ghost use Rattle.store_reader.specs.Viewing.{Finds, IsViewOf, IsAt, IsBlockOf, StandsAt};
+ghost use Rattle.store_reader.specs.Viewing.{Finds, IsViewOf, IsAt, IsBlockWith, StandsAt};
 ghost use Rattle.store_reader.specs.Viewing.{slot_of, count_in, document_of, given, placed_in};
 
 use crate::document_reading::read_bytes;
-use crate::store_index::StoreIndex;
 use crate::documents::{AliveDocuments, Documents, ViewBlock};
 use crate::opening::view_store;
+use crate::store_index::StoreIndex;
 use layered_index::{LayerCursor, Steps};
 use std::alloc::Global;
 use std::marker::Model;
@@ -149,7 +149,7 @@ impl<'a> StoreView<'a> {
     // The block that has a document.
     pub(crate) fn block_of(&self, doc_id: DocId) -> Option<ViewBlock<'a>>
         ensures { MatchOption result (count_in self.now ≤ doc_id)
-            (λ b. IsBlockOf self.now doc_id b.first b.end b.bytes.now) }
+            (λ b. IsBlockWith self.now doc_id b.first b.end b.bytes.now) }
     {
         let checkpoint = self.index.seek(doc_id)?;
         Some(ViewBlock {

@@ -1,9 +1,8 @@
 //! What is printed of documents and refusals.
 use crate::fault::ToolFault;
-use docstore::{StoreError, StoreReader};
+use docstore::{FileHandle, OwnedBytes, RecordDocument, StoreError, StoreReader};
 use std::alloc::Global;
 use std::io::Write;
-use store_base::{FileHandle, OwnedBytes, RecordDocument};
 
 // Bytes as hexadecimal digits, `-` for none.
 fn write_digits<W: Write>(alloc: Global, output: &mut W, bytes: &[u8]) -> Result<(), ToolFault> {

@@ -4,10 +4,9 @@
 //! Bytes are a positive even number of hexadecimal digits of either case, or `-` for none.
 ghost use Rattle.std.specs.Prelude.{◌≤◌};
 
-use docstore::CHECKPOINT_PERIOD;
+use docstore::{CHECKPOINT_PERIOD, DocId, Field, NoMemory, RecordDocument};
 use hex::FromHexError;
 use std::alloc::{AllocFailed, Global};
-use store_base::{DocId, Field, NoMemory, RecordDocument};
 
 /// How many checkpoints a full block of an index has.
 #[derive(Clone, Copy)]

@@ -1,7 +1,7 @@
 //! Why a run ended early.
+use docstore::NoMemory;
 use std::alloc::AllocError;
 use std::io;
-use store_base::NoMemory;
 use thiserror::Error;
 
 /// Why a run ended before its input did. What a store refuses is an answer, and ends nothing.

@@ -5,9 +5,8 @@ ghost use Rattle.store_merge.specs.Inputs.{HasWholeSet};
 
 use crate::fault::ToolFault;
 use crate::store::Store;
-use docstore::{Compressor, StoreError, StoreWriter};
+use docstore::{Compressor, MemFile, MemSink, StoreError, StoreWriter};
 use std::alloc::Global;
-use store_base::{MemFile, MemSink};
 use store_merge::{MergeInput, merge};
 
 // The named stores opened anew, with nothing deleted. A number that names none is passed over.

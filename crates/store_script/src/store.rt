@@ -4,10 +4,9 @@ ghost use Rattle.std.specs.Prelude.{◌≤◌};
 use crate::answer::{write_bytes, write_document, write_documents, write_error, write_record};
 use crate::command::Question;
 use crate::fault::ToolFault;
-use docstore::{StoreError, StoreReader};
+use docstore::{AliveBitSet, DocId, FileSlice, MemFile, RecordDocument, StoreError, StoreReader};
 use std::alloc::Global;
 use std::io::Write;
-use store_base::{AliveBitSet, DocId, FileSlice, MemFile, RecordDocument};
 
 /// An opened store, and its file.
 #[derive(Drop)]

@@ -4,10 +4,9 @@ use crate::command::{Command, LineFault, Period, parse};
 use crate::fault::ToolFault;
 use crate::merging::merged;
 use crate::store::Store;
-use docstore::{Compressor, StoreError, StoreWriter};
+use docstore::{Compressor, MemSink, RecordDocument, Schema, StoreError, StoreWriter};
 use std::alloc::Global;
 use std::io::Write;
-use store_base::{MemSink, RecordDocument, Schema};
 
 // How many fields records may have.
 const FIELDS: u32 = 4;

@@ -2,11 +2,10 @@
 ghost use Rattle.std.specs.List.{AllByRecursion};
 ghost use Rattle.store_merge.specs.Inputs.{HasWholeSet};
 
-use docstore::{Cause, Compressor, StoreError, StoreWriter};
+use docstore::{Cause, Compressor, FileHandle, MemSink, StoreError, StoreWriter};
 use std::alloc::Global;
 use std::process::Abort;
 use std::test::Fail;
-use store_base::{FileHandle, MemSink};
 use store_merge::{MergeError, MergeInput, merge, merge_in_parts};
 use test_support::FailingSink;
 use test_support::making::written;

@@ -1,11 +1,10 @@
 //! A store whose reads fail in turn: those of the footer and the index, of each block for a get and for an iteration,
 //! and of the data for a stacking. Each call that fails is made again, with the right answer.
 
-use docstore::{Compressor, StoreError, StoreReader, StoreWriter};
+use docstore::{Compressor, FileSlice, MemSink, StoreError, StoreReader, StoreWriter};
 use std::alloc::Global;
 use std::process::Abort;
 use std::test::Fail;
-use store_base::{FileSlice, MemSink};
 use test_support::FailingFile;
 use test_support::making::{closed, is_found, listed, opened, opened_with_cache, written};
 use test_support::merge_inputs::six_blocks;

@@ -1,11 +1,10 @@
 //! A store that is sought in a file, whose reads fail in turn: those of the footer and of the head of the index, of a
 //! run of each layer, and of the block. The call that fails is made again, with the right answer.
 
-use docstore::{SeekingReader, StoreError};
+use docstore::{FileSlice, SeekingReader, StoreError};
 use std::alloc::Global;
 use std::process::Abort;
 use std::test::Fail;
-use store_base::FileSlice;
 use test_support::FailingFile;
 use test_support::making::written;
 

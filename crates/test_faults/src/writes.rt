@@ -1,10 +1,9 @@
 //! A document, a stacked store and another document, on an output whose writes and whose end fail in turn.
 
-use docstore::{Cause, Compressor, StoreError, StoreReader, StoreWriter};
+use docstore::{Cause, Compressor, MemFile, StoreError, StoreReader, StoreWriter};
 use std::alloc::Global;
 use std::process::Abort;
 use std::test::Fail;
-use store_base::MemFile;
 use test_support::FailingSink;
 use test_support::making::{is_found, opened_bytes, written};
 

@@ -2,12 +2,12 @@
 
 use crate::failing_files::FailingFiles;
 use crate::folder::{count, holds, make, remove};
+use docstore::TerminatingWrite;
 use std::alloc::Global;
 use std::cell::Cell;
 use std::fs;
 use std::fs::Files;
 use std::test::Fail;
-use store_base::TerminatingWrite;
 use store_files::{DiskSink, LockFile};
 
 const OLD: &[u8] = b"old";
@@ -138,7 +138,10 @@ fn refusal(rt: &HostRuntime, path: &str, failing_call: u32) -> Result<String, Fa
 fn a_folder_that_cant_be_opened_is_refused_by_name(rt: HostRuntime) -> Result<(), Fail> {
     make(&rt, "test_files_folder")?;
     let refusal = refusal(&rt, "test_files_folder/a.store", 1)?;
-    assert_eq!(rt; refusal.as_str(), "its folder can't be opened: no storage space");
+    assert_eq!(rt;
+        refusal.as_str(),
+        "its folder can't be opened: no storage space"
+    );
     assert_eq!(rt; count(&rt, "test_files_folder")?, 0);
     Ok(remove(&rt, "test_files_folder")?)
 }

@@ -1,9 +1,9 @@
 //! Files on disk that are read in parts.
 
 use crate::folder::{make, remove};
+use docstore::{FileHandle, ReadFault};
 use std::fs;
 use std::test::Fail;
-use store_base::{FileHandle, ReadFault};
 use store_files::{DiskFile, OsFile};
 
 type File = DiskFile<OsFile>;

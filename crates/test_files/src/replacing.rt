@@ -1,11 +1,11 @@
 //! What an output may replace, and what it keeps of that.
 
 use crate::folder::{count, holds, make, remove};
+use docstore::TerminatingWrite;
 use std::fs;
 use std::fs::Permissions;
 use std::os::unix::fs::{MetadataExt, PermissionsExt};
 use std::test::Fail;
-use store_base::TerminatingWrite;
 use store_files::DiskSink;
 
 // Whether an output of this name can't be begun, for this reason.

@@ -1,10 +1,9 @@
 //! Stores that are written and read by path.
 
 use crate::folder::{make, remove};
-use docstore::{Compressor, StoreError, StoreReader, StoreView, StoreWriter};
+use docstore::{Compressor, FileSlice, StoreError, StoreReader, StoreView, StoreWriter};
 use std::fs;
 use std::test::Fail;
-use store_base::FileSlice;
 use store_files::{DiskFile, DiskSink, OsFile, load};
 
 type Reader = StoreReader<DiskFile<OsFile>>;

@@ -19,7 +19,11 @@ fn is_given_up(output: &mut Publication<FailingFolder>) -> bool {
 }
 
 // Publishes a file where the call of this number fails, and returns what is left.
-fn left_by(alloc: Global, failing_call: u32, fails_late: bool) -> Result<(FailingFolder, bool), Fail> {
+fn left_by(
+    alloc: Global,
+    failing_call: u32,
+    fails_late: bool,
+) -> Result<(FailingFolder, bool), Fail> {
     let folder = FailingFolder::with_file(alloc, "a", OLD, failing_call, fails_late)?;
     match Publication::create(alloc, folder, "a") {
         Ok(mut output) => {
@@ -49,8 +53,15 @@ fn each_failing_call_leaves_the_old_file_or_the_whole_one_and_is_not_tried_again
         (6, false, WHOLE),
     ] {
         let (folder, is_given_up) = left_by(rt.alloc(), failing_call, fails_late)?;
-        assert!(rt; is_given_up && folder.holds("a", expected), "{failing_call} {fails_late}");
-        assert_eq!(rt; folder.calls(), failing_call.min(5), "{failing_call} {fails_late}");
+        assert!(rt;
+            is_given_up && folder.holds("a", expected),
+            "{failing_call} {fails_late}"
+        );
+        assert_eq!(rt;
+            folder.calls(),
+            failing_call.min(5),
+            "{failing_call} {fails_late}"
+        );
     }
     Ok(())
 }

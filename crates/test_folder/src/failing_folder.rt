@@ -64,9 +64,7 @@ impl FailingFolder {
 
     /// Whether the file of this name has these bytes.
     pub fn holds(&self, name: &str, bytes: &[u8]) -> bool {
-        self.files
-            .iter()
-            .any(|file| file.name.as_str() == name && file.bytes.as_slice() == bytes)
+        self.files.iter().any(|file| file.name.as_str() == name && file.bytes.as_slice() == bytes)
     }
 
     // Puts a file of these bytes in the place of one of this name.
@@ -152,12 +150,20 @@ impl Folder for FailingFolder {
     ghost seen_may_be_left = { λ f h. Prim.search rules };
 
     fn create(&mut self, name: &str) -> io::Result<()> {
-        let outcome = if self.begin() { self.put(name, &[]) } else { Ok(()) };
+        let outcome = if self.begin() {
+            self.put(name, &[])
+        } else {
+            Ok(())
+        };
         self.end(outcome)
     }
 
     fn append(&mut self, name: &str, bytes: &[u8]) -> io::Result<()> {
-        let outcome = if self.begin() { self.add(name, bytes) } else { Ok(()) };
+        let outcome = if self.begin() {
+            self.add(name, bytes)
+        } else {
+            Ok(())
+        };
         self.end(outcome)
     }
 
@@ -167,7 +173,11 @@ impl Folder for FailingFolder {
     }
 
     fn rename(&mut self, from: &str, to: &str) -> io::Result<()> {
-        let outcome = if self.begin() { self.give_name(from, to) } else { Ok(()) };
+        let outcome = if self.begin() {
+            self.give_name(from, to)
+        } else {
+            Ok(())
+        };
         self.end(outcome)
     }
 

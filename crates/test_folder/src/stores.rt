@@ -1,6 +1,8 @@
 //! Stores that are published in folders in memory.
 
-use docstore::{Compressor, MemFile, RecordDocument, Schema, StoreCommand, StoreWriter, write_store};
+use docstore::{
+    Compressor, MemFile, RecordDocument, Schema, StoreCommand, StoreWriter, write_store,
+};
 use std::alloc::Global;
 use std::test::Fail;
 use store_base::MemSink;
@@ -21,7 +23,13 @@ fn commands(alloc: Global) -> Result<Commands, Fail> {
 // The file of those.
 fn file(alloc: Global) -> Result<Vec<u8>, Fail> {
     let mut commands = commands(alloc)?;
-    match write_store(alloc, MemSink::new(alloc), 16384, &Schema::with_fields(1), &mut commands) {
+    match write_store(
+        alloc,
+        MemSink::new(alloc),
+        16384,
+        &Schema::with_fields(1),
+        &mut commands,
+    ) {
         Ok(report) => Ok(report.output.into_bytes()),
         Err(refusal) => Err(refusal.error)?,
     }

@@ -1,8 +1,9 @@
 //! A footer as bytes.
 
-use docstore::{Decompressor, DocStoreFooter, DocStoreVersion};
+use docstore::{
+    BinarySerializable, Decompressor, DocStoreFooter, DocStoreVersion, FixedSize, MemSink,
+};
 use std::test::Fail;
-use store_base::{BinarySerializable, FixedSize, MemSink};
 
 const BYTES: [u8; 28] = *b"\x03\0\0\0\x0b\0\0\0\0\0\0\0\0\x08\0\0\0\0\0\0\0\0\0\0\0\0\0\0";
 

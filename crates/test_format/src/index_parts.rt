@@ -2,11 +2,10 @@
 
 ghost use Rattle.std.specs.Prelude.{◌≤◌};
 
-use docstore::{BlockCompressor, Compressor, SkipIndex, StoreError};
+use docstore::{BlockCompressor, Compressor, MemSink, OwnedBytes, SkipIndex, StoreError};
 use std::alloc::Global;
 use std::process::Abort;
 use std::test::Fail;
-use store_base::{MemSink, OwnedBytes};
 
 /// A block, by how many documents and bytes it has.
 type Block = (u32, usize);

@@ -1,8 +1,9 @@
 //! Numbers as bytes. The vectors are those of the format's description.
 
+use docstore::{BinarySerializable, DecodeFault, FixedSize, MemSink, VInt};
 use std::alloc::Global;
 use std::test::Fail;
-use store_base::{BinarySerializable, DecodeFault, FixedSize, MemSink, VInt, read_u32_vint};
+use store_base::read_u32_vint;
 
 const VECTORS: [(u64, &[u8]); 9] = [
     (0, &[0x80]),

@@ -2,12 +2,12 @@
 
 ghost use Rattle.std.specs.Prelude.{None};
 
-use std::alloc::Global;
-use std::test::Fail;
-use store_base::{
+use docstore::{
     DocFault, Document, DocumentDeserialize, Field, NoMemory, RecordDocument, Schema,
     StoredDocument,
 };
+use std::alloc::Global;
+use std::test::Fail;
 
 // The record with these fields.
 fn record(alloc: Global, fields: &[(u32, &[u8])]) -> Result<RecordDocument, NoMemory> {

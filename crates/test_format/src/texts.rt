@@ -2,13 +2,13 @@
 
 use docstore::{
     CHECKPOINT_PERIOD, Cause, Checkpoint, Compressor, DOC_STORE_VERSION, DOCSTORE_CACHE_CAPACITY,
-    Decompressor, DocStoreVersion, StoreError,
+    DecodeFault, Decompressor, DocFault, DocStoreVersion, NoMemory, ReadFault, StoreError,
+    WriteFault,
 };
 use std::alloc::Global;
 use std::fmt::Display;
 use std::process::Abort;
 use std::test::Fail;
-use store_base::{DecodeFault, DocFault, NoMemory, ReadFault, WriteFault};
 
 // The text of a value is this one.
 fn prints<D: Display>(rt: &impl Abort, alloc: Global, value: &D, text: &str) -> Result<(), Fail> {

@@ -1,9 +1,8 @@
 //! Stores merged, with and without deleted documents.
 
-use docstore::{Compressor, StoreError, StoreWriter};
+use docstore::{Compressor, MemSink, StoreError, StoreWriter};
 use std::alloc::Global;
 use std::test::Fail;
-use store_base::MemSink;
 use store_merge::merge;
 use test_support::making::{closed, is_found, opened_bytes, written};
 use test_support::merge_inputs::{inputs, six_blocks};

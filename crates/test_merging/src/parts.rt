@@ -1,9 +1,8 @@
 //! Stores stacked a part of their data at a time, alone and by a merge.
 
-use docstore::{Compressor, StoreError, StoreWriter};
+use docstore::{Compressor, MemSink, StoreError, StoreWriter};
 use std::alloc::Global;
 use std::test::Fail;
-use store_base::MemSink;
 use store_merge::merge_in_parts;
 use test_support::making::{closed, opened_bytes, written};
 use test_support::merge_inputs::{inputs, six_blocks};

@@ -1,10 +1,12 @@
 //! Whole lists of calls, and the functions of the main theorem.
 
-use docstore::{Answer, ReadCall, StoreCommand, StoreError, write_store};
+use docstore::{
+    Answer, Field, MemFile, MemSink, ReadCall, RecordDocument, Schema, StoreCommand, StoreError,
+    write_store,
+};
 use main_theorem::{stacked_in_two_orders, written_and_asked};
 use std::alloc::Global;
 use std::test::Fail;
-use store_base::{Field, MemFile, MemSink, RecordDocument, Schema};
 use test_support::making::{opened_bytes, written};
 
 type Commands = Vec<StoreCommand<RecordDocument, MemFile>>;

@@ -1,10 +1,12 @@
 //! Documents that are values of a type.
 
-use docstore::{Compressor, StoreError, StoreReader, StoreWriter};
+use docstore::{
+    Compressor, Field, MemFile, MemSink, RecordDocument, Schema, StoreError, StoreReader,
+    StoreWriter,
+};
 use std::alloc::Global;
 use std::process::Abort;
 use std::test::Fail;
-use store_base::{Field, MemFile, MemSink, RecordDocument, Schema};
 use test_support::making::{closed, opened_bytes};
 
 // Stores a record with one field, where there may be one field, number 0.

@@ -1,9 +1,8 @@
 //! A store in a file that is sought by a few small reads.
 
-use docstore::{SeekingReader, StoreError};
+use docstore::{FileSlice, OwnedBytes, SeekingReader, StoreError};
 use std::alloc::Global;
 use std::test::Fail;
-use store_base::{FileSlice, OwnedBytes};
 use test_support::{SPARSE_BLOCK, SparseFile};
 
 // How many blocks the great store has.

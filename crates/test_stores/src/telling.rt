@@ -1,12 +1,11 @@
 //! What a writer, a reader and a view tell of themselves.
 
 use docstore::{
-    CacheStats, Checkpoint, Compressor, Decompressor, DocStoreVersion, LayerCursor, StoreReader,
-    StoreView, StoreWriter,
+    AliveBitSet, CacheStats, Checkpoint, Compressor, Decompressor, DocStoreVersion, LayerCursor,
+    MemFile, MemSink, StoreReader, StoreView, StoreWriter,
 };
 use std::alloc::Global;
 use std::test::Fail;
-use store_base::{AliveBitSet, MemFile, MemSink};
 use test_support::making::{opened_bytes, written};
 
 #[test]

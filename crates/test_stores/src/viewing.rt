@@ -1,9 +1,10 @@
 //! Stores over bytes in memory.
 
-use docstore::{Compressor, StoreError, StoreView, StoreWriter};
+use docstore::{
+    AliveBitSet, Compressor, MemSink, RecordDocument, StoreError, StoreView, StoreWriter,
+};
 use std::alloc::Global;
 use std::test::Fail;
-use store_base::{AliveBitSet, MemSink, RecordDocument};
 use test_support::making::{closed, written};
 
 #[test]

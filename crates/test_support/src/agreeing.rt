@@ -2,9 +2,8 @@
 
 use crate::making::opened;
 use crate::seeking::seeking_agrees;
-use docstore::{StoreError, StoreReader, StoreSlice, StoreView};
+use docstore::{FileHandle, MemFile, StoreError, StoreReader, StoreSlice, StoreView};
 use std::alloc::Global;
-use store_base::{FileHandle, MemFile};
 
 // Whether a view's get and its place in the bytes are the reader's answer.
 fn is_same_answer<H: FileHandle>(

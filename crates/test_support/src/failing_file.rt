@@ -2,10 +2,10 @@
 
 ghost use Rattle.std.specs.Prelude.{◌≡◌, true, IfOk};
 
+use docstore::{FileHandle, NoMemory, OwnedBytes, ReadFault};
 use std::alloc::Global;
 use std::marker::Model;
 use std::ops::Range;
-use store_base::{FileHandle, NoMemory, OwnedBytes, ReadFault};
 
 /// An honest file in memory one of whose reads fails, once.
 #[derive(Drop)]

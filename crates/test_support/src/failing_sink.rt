@@ -4,9 +4,9 @@ ghost use Rattle.std.specs.Prelude.{◌≡◌, ◌↔◌, [], IsErr, IsTrue, len
 ghost use Rattle.store_base.specs.Counts.{HasRisen, raised};
 ghost use Rattle.store_base.specs.Outputs.{IsTerminated, never_terminated};
 
+use docstore::{TerminatingWrite, WriteFault};
 use std::alloc::Global;
 use std::marker::Model;
-use store_base::{TerminatingWrite, WriteFault};
 
 /// An output in memory one of whose writes, or whose `terminate`, fails. A write that fails leaves the first half of
 /// its bytes.

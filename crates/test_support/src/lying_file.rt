@@ -2,10 +2,10 @@
 
 ghost use Rattle.std.specs.Prelude.{◌≡◌, false, length, IfOk};
 
+use docstore::{FileHandle, NoMemory, OwnedBytes, ReadFault};
 use std::alloc::Global;
 use std::marker::Model;
 use std::ops::Range;
-use store_base::{FileHandle, NoMemory, OwnedBytes, ReadFault};
 
 /// A file that gives other bytes at each read, of the right length; at first it may be honest.
 #[derive(Drop)]

@@ -1,8 +1,10 @@
 //! Makes stores, and asks them for documents.
 
-use docstore::{Compressor, StoreError, StoreReader, StoreWriter};
+use docstore::{
+    Compressor, FileHandle, FileSlice, MemFile, MemSink, StoreError, StoreReader, StoreWriter,
+    TerminatingWrite,
+};
 use std::alloc::Global;
-use store_base::{FileHandle, FileSlice, MemFile, MemSink, TerminatingWrite};
 
 /// Closes a writer, and returns its output.
 pub fn closed<W: TerminatingWrite>(writer: StoreWriter<W>) -> Result<W, StoreError> {

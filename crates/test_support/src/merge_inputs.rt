@@ -5,9 +5,8 @@ ghost use Rattle.store_merge.specs.Inputs.{HasWholeSet};
 
 use crate::failing_file::FailingFile;
 use crate::making::{opened, opened_bytes, written};
-use docstore::{StoreError, StoreReader};
+use docstore::{AliveBitSet, FileHandle, MemFile, StoreError, StoreReader};
 use std::alloc::Global;
-use store_base::{AliveBitSet, FileHandle, MemFile};
 use store_merge::MergeInput;
 
 /// A store of which nothing is deleted, with no set.

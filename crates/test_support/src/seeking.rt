@@ -1,8 +1,7 @@
 //! A store that is sought in a file, beside a view of the file's bytes.
 
-use docstore::{SeekingReader, StoreError, StoreView};
+use docstore::{FileHandle, FileSlice, MemFile, SeekingReader, StoreError, StoreView};
 use std::alloc::Global;
-use store_base::{FileHandle, FileSlice, MemFile};
 
 // Whether a get is the view's.
 fn is_same_answer<H: FileHandle>(

@@ -4,13 +4,12 @@ ghost use Rattle.std.specs.Prelude.{◌≡◌, ◌≤◌, ◌<◌, ◌-◌, ◌+
 ghost use Rattle.layered_index.specs.Checkpoint.{checkpoint};
 
 use docstore::{
-    BinarySerializable, Checkpoint, DOC_STORE_VERSION, Decompressor, DocStoreFooter,
-    SkipIndexBuilder, StoreError,
+    BinarySerializable, Checkpoint, DOC_STORE_VERSION, Decompressor, DocStoreFooter, FileHandle,
+    MemSink, NoMemory, OwnedBytes, ReadFault, SkipIndexBuilder, StoreError,
 };
 use std::alloc::Global;
 use std::marker::Model;
 use std::ops::Range;
-use store_base::{FileHandle, MemSink, NoMemory, OwnedBytes, ReadFault};
 
 /// How many bytes each of its blocks has.
 pub const SPARSE_BLOCK: u64 = 16_384;

@@ -1,10 +1,10 @@
 //! Why a command failed, and the line that reports it.
 
+use docstore::{NoMemory, StoreError};
 use document_framing::FramingFault;
 use std::alloc::{AllocError, AllocFailed, Global};
 use std::process::ExitCode;
 use std::{fmt, io};
-use store_base::{NoMemory, StoreError};
 use store_commands::RequestError;
 use store_files::CreateError;
 

@@ -5,11 +5,11 @@ use crate::document_output::{DocumentOutput, standard_output};
 use crate::failure::{Failure, FailureCause, to_output, with_file};
 use crate::store_file::{DiskReader, StorePath, store_path};
 use clap::{ArgMatches, Command};
+use docstore::DocId;
 use document_framing::Framing;
 use std::alloc::{AllocError, Global};
 use std::io::Write;
 use std::ops::Range;
-use store_base::DocId;
 use store_commands::{IdRange, ranges_of};
 
 const EXAMPLE: &str = "\

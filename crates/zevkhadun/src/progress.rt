@@ -1,8 +1,8 @@
 //! How far a long work is, on a terminal.
 
+use docstore::DocId;
 use std::io::IsTerminal;
 use std::time::{Duration, Instant};
-use store_base::DocId;
 use store_commands::checking::BlockWatch;
 
 // After how many documents or bytes the line is written anew.

@@ -2,9 +2,8 @@
 
 use crate::failure::FailureCause;
 use crate::store_file::{StoreFile, StorePath};
-use docstore::DocStoreFooter;
+use docstore::{DocStoreFooter, StoreError};
 use std::fs;
-use store_base::StoreError;
 use store_commands::store_part::part_of;
 
 // How a page of HTML begins.

@@ -3,9 +3,8 @@
 use crate::arguments::input_path;
 use crate::failure::{Failure, FailureCause};
 use clap::ArgMatches;
-use docstore::{OpenError, StoreReader};
+use docstore::{FileSlice, OpenError, StoreReader};
 use std::fs;
-use store_base::FileSlice;
 use store_commands::store_part::before_tail;
 use store_files::{CreateError, DiskFile, OsFile};
 

@@ -5,8 +5,8 @@ use crate::failure::{Failure, FailureCause, to_output};
 use crate::progress::Progress;
 use crate::store_file::{DiskReader, StoreFile, StorePath, reader_of};
 use clap::{ArgMatches, Command};
+use docstore::StoreError;
 use std::alloc::{AllocError, Global};
-use store_base::StoreError;
 use store_commands::broken_part::{BrokenPart, broken_part};
 use store_commands::checking::{Verdict, check_blocks};
 

@@ -1,9 +1,9 @@
 use Rattle.std.proofs.Common.{◌≡◌, ◌+◌, ◌-◌, ◌++◌, length, refl, sym, ◌∙◌, ap, arith}
 use Rattle.std.specs.Prelude.{slice_range}
+use Rattle.store_base.proofs.ListLemmas.{length-slice}
 use Rattle.layered_index.specs.Checkpoint.{byte_len, doc_count}
 use Rattle.store_format.specs.StoreFile.{docs_in}
 use Rattle.store_format.proofs.StoreLemmas.{docs_in-append}
-use Rattle.store_reader.proofs.ReaderStoreLemmas.{length-slice}
 use Rattle.docstore.specs.BlockOutput.{BlockOutput}
 use Rattle.docstore.specs.StackingInParts.{CameOf}
 use Rattle.docstore.proofs.PartLemmas.{in_part, found_below}

@@ -3,14 +3,15 @@ use Rattle.std.specs.Prelude.{IfErr}
 use Rattle.std.proofs.lemmas.Grind.{common_steps}
 use Rattle.std.proofs.lemmas.List.{take_all, take_more_set, length-set}
 use Rattle.std.proofs.lemmas.Result.{err_from_is_err_and}
+use Rattle.store_base.proofs.ListLemmas.{front_more, rest_more}
 use Rattle.store_base.specs.declared.error.StoreError.{StoreError}
 use Rattle.docstore.specs.declared.run.StoreCommand.{StoreCommand}
 use Rattle.docstore.specs.Causes.{first_stage, HaveCauses}
-use Rattle.docstore.specs.Run.{told, stage_of, AreKept, IsTrace, AfterRun}
+use Rattle.docstore.specs.Run.{told, stage_of, AreCommandsKept, IsTrace, AfterRun}
 use Rattle.store_format.specs.StoreFile.{file, IsStore}
 use Rattle.docstore.specs.Trace.{Blocks}
 use Rattle.docstore.specs.Writer.{Writing, flushed}
-use Rattle.docstore.proofs.CommandLemmas.{IsRun, none_failed, run_by_more, all_kept, kept_more, failed_more, after_run, front_more, rest_more}
+use Rattle.docstore.proofs.CommandLemmas.{IsRun, none_failed, run_by_more, all_kept, kept_more, failed_more, after_run}
 use Rattle.docstore.proofs.MeaningLemmas.{blocks_mean_their_calls}
 use Rattle.docstore.proofs.RunSoFarLemmas.{run_begins, run_closes}
 use Rattle.docstore.proofs.run.write_store_with_period.Goals as goal
@@ -71,8 +72,8 @@ loop-command-preserved g c =
           (λ works. (c.loop-command.invariant.run works).so_far.before) c.loop-command.invariant.failed c.make_call.ensures.failed;
       termination = c.make_call.ensures.termination ∙ c.loop-command.invariant.termination;
       count = omega (arith, c.loop-command.invariant.count, c.make_call.ensures.count);
-      kept = subst (λ (cs : List (StoreCommand g.row.D.Denot g.row.H.Denot)). AreKept cs (take (i + 1) (set commands i after))) (sym front)
-          (subst (AreKept (take i olds ++ command ∷ [])) (sym left)
+      kept = subst (λ (cs : List (StoreCommand g.row.D.Denot g.row.H.Denot)). AreCommandsKept cs (take (i + 1) (set commands i after))) (sym front)
+          (subst (AreCommandsKept (take i olds ++ command ∷ [])) (sym left)
           (kept_more (take i olds) (take i commands) command after c.loop-command.invariant.kept c.make_call.ensures.kept));
       rest = rest_more olds commands i after c.loop-command.invariant.rest;
       len = ap length pushed ∙ length-append results (c.make_call.result ∷ []) ∙ ap (λ (n : ℕ). n + 1) c.loop-command.invariant.len;

@@ -1,5 +1,5 @@
 use Rattle.std.proofs.Common.{sym}
-use Rattle.layered_index.specs.LineLemmas.{ends_in_line}
+use Rattle.layered_index.proofs.LineLemmas.{ends_in_line}
 use Rattle.docstore.proofs.PendingLemmas.{from_ok}
 use Rattle.store_c.proofs.EndLemmas.{one_more_end, none_more}
 use Rattle.store_c.proofs.ending.index_of.Goals as goal

@@ -2,7 +2,7 @@ use Rattle.std.proofs.Common.{◌≡◌, ℕ, ◌+◌, ◌*◌, ◌^◌, ◌<◌
 use Rattle.layered_index.specs.declared.checkpoint.Checkpoint.{Checkpoint}
 use Rattle.layered_index.specs.Checkpoint.{checkpoint, EndsAt}
 use Rattle.layered_index.specs.Layers.{Index}
-use Rattle.layered_index.specs.LineLemmas.{ends_in_line, ends_put}
+use Rattle.layered_index.proofs.LineLemmas.{ends_in_line, ends_put}
 use Rattle.test_support.proofs.sparse_file.index_of.Goals as goal
 
 -- the block of this number begins where those before it end

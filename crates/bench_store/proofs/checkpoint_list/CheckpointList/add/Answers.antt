@@ -1,7 +1,7 @@
 use Rattle.std.proofs.Common.{◌≡◌, ℕ, ◌+◌, ◌^◌, ◌<◌, List, [], ◌∷◌, ◌++◌, refl, sym, subst, arith}
 use Rattle.layered_index.specs.declared.checkpoint.Checkpoint.{Checkpoint}
 use Rattle.layered_index.specs.Checkpoint.{checkpoint, EndsAt}
-use Rattle.layered_index.specs.LineLemmas.{ends_in_line, ends_put}
+use Rattle.layered_index.proofs.LineLemmas.{ends_in_line, ends_put}
 use Rattle.bench_store.proofs.checkpoint_list.CheckpointList.add.Goals as goal
 
 -- what begins at the ends is put behind

@@ -4,7 +4,7 @@ use Rattle.std.proofs.lemmas.Option.{get_or_from_slice_get, slice_get_within}
 use Rattle.layered_index.specs.declared.checkpoint.Checkpoint.{Checkpoint}
 use Rattle.layered_index.specs.Checkpoint.{IsInLine}
 use Rattle.layered_index.specs.Layers.{Index}
-use Rattle.layered_index.specs.LineLemmas.{ends_in_line, in_line_take}
+use Rattle.layered_index.proofs.LineLemmas.{ends_in_line, in_line_take}
 use Rattle.bench_store.proofs.checkpoint_list.CheckpointList.index_part.Goals as goal
 
 -- the front that is one longer

@@ -1,6 +1,6 @@
 use Rattle.std.proofs.Common.{sym, subst}
 use Rattle.layered_index.specs.Checkpoint.{IsInLine}
-use Rattle.layered_index.specs.LineLemmas.{in_line_take}
+use Rattle.layered_index.proofs.LineLemmas.{in_line_take}
 use Rattle.layered_index.proofs.checkpoint_block.CheckpointBlock.pop.Goals as goal
 
 pub invariant_of-self : goal.invariant_of-self

@@ -1,11 +1,11 @@
 use Rattle.std.proofs.Common.{◌≡◌, List, [], ◌∷◌, ◌++◌, inl, inr, subst, sym, ◌∙◌, ap}
 use Rattle.std.proofs.lemmas.Result.{on_ok_weaker}
+use Rattle.store_base.proofs.ListLemmas.{either}
 use Rattle.layered_index.specs.declared.checkpoint.Checkpoint.{Checkpoint}
 use Rattle.layered_index.specs.Checkpoint.{IsInLine}
 use Rattle.layered_index.specs.Layers.{Index}
 use Rattle.layered_index.specs.Building.{list_of, IsBuilder}
 use Rattle.layered_index.proofs.BuilderLemmas.{builder_takes, list_of-inserted, inserted_is_builder}
-use Rattle.layered_index.proofs.InsertionLemmas.{either}
 use Rattle.layered_index.proofs.skip_index_builder.SkipIndexBuilder.insert.Goals as goal
 
 pub insert_at-requires-clause-takes : goal.insert_at-requires-clause-takes

@@ -1,9 +1,10 @@
 use Rattle.std.proofs.Common.{◌∙◌, ap, ℕ, List, inl, inr, ⊎_elim}
 use Rattle.std.specs.Prelude.{Vec}
 use Rattle.std.specs.declared.alloc.Global.{Global}
+use Rattle.store_base.proofs.ListLemmas.{either}
 use Rattle.store_folder.specs.declared.memory.Change.{Change}
 use Rattle.store_folder.specs.Changes.{look_of}
-use Rattle.store_folder.proofs.ChangesLemmas.{crash_renamed, either}
+use Rattle.store_folder.proofs.ChangesLemmas.{crash_renamed}
 use Rattle.store_folder.proofs.memory.MemFolderFolder.rename.Goals as goal
 
 pub returns-in-Ok-clause-crash : goal.returns-in-Ok-clause-crash
