@@ -1,9 +1,9 @@
 //! What is left where a call of the folder fails.
 
 use crate::failing_folder::FailingFolder;
+use docstore::TerminatingWrite;
 use std::alloc::Global;
 use std::test::Fail;
-use store_base::TerminatingWrite;
 use store_folder::Publication;
 
 const OLD: &[u8] = b"old";

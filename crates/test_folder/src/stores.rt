@@ -1,11 +1,10 @@
 //! Stores that are published in folders in memory.
 
 use docstore::{
-    Compressor, MemFile, RecordDocument, Schema, StoreCommand, StoreWriter, write_store,
+    Compressor, MemFile, MemSink, RecordDocument, Schema, StoreCommand, StoreWriter, write_store,
 };
 use std::alloc::Global;
 use std::test::Fail;
-use store_base::MemSink;
 use store_folder::{Folder, MemFolder, Publication};
 use store_published::{close_published, write_published};
 use torn_folder::TornFolder;
