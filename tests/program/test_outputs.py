@@ -2,10 +2,9 @@
 
 import resource
 
-from harness import ProgramCase, limited, numbers
+from harness import ProgramCase, limited
+from program.texts import LINES, NUMBERS
 
-LINES = b"one\n\nthree\n"
-NUMBERS = numbers(20_000)
 # A file may have as many bytes.
 SMALL_DISK = limited(resource.RLIMIT_FSIZE, 1024)
 
