@@ -5,7 +5,7 @@ import resource
 from harness import ProgramCase, limited
 from program.texts import LINES, NUMBERS
 
-# A file may have as many bytes.
+# No file may have more bytes.
 SMALL_DISK = limited(resource.RLIMIT_FSIZE, 1024)
 
 
