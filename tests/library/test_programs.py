@@ -19,14 +19,14 @@ class ByGcc(LibraryCase):
             with self.subTest(name):
                 self.succeed(self.compiled_by(self.compiler, name, in_cpp), HEX)
 
-    def test_programs_in_c(self):
+    def test_programs_in_c_end_well(self):
         self.run_programs(in_cpp=False)
 
-    def test_programs_in_cpp(self):
+    def test_programs_in_cpp_end_well(self):
         self.run_programs(in_cpp=True)
 
-    def test_what_reaches_the_proved_calls(self):
-        """Where NULL is given to the library, the proved calls get arrays that are there."""
+    def test_the_proved_calls_get_arrays_that_are_there(self):
+        """Also where NULL is given to the library."""
         program = self.folder / "program"
         names = names_in(ARRAYS, r"zevk_proved_[a-z_]+")
         self.assertTrue(names, "there is no proved call")

@@ -105,7 +105,7 @@ class Pages(ProgramCase):
         printed = self.browser.call("Page.printToPDF", printBackground=True)["data"]
         (folder / f"{name[:20]}.pdf").write_bytes(base64.b64decode(printed))
 
-    def test_the_page_of_a_store_of_each_shape(self):
+    def test_the_page_of_each_shape_has_no_fault(self):
         for name, documents, words in (
             ("lines.store", NUMBERS, ()),
             ("deep.store", NUMBERS, ("--block-size", "16", "--period", "2")),
@@ -118,7 +118,7 @@ class Pages(ProgramCase):
                 self.pack(name, documents, *words)
                 self.assert_page(name)
 
-    def test_the_page_of_a_damaged_store(self):
+    def test_the_page_of_a_damaged_store_has_no_fault(self):
         """The first position of the block's table points past the block."""
         self.write("damaged.store", changed(self.pack("a.store", b"a\n"), 1, b"\xff" * 4))
         self.assert_page("damaged.store")

@@ -4,9 +4,7 @@ from dataclasses import dataclass
 from typing import Callable
 
 from harness import ProgramCase, changed, numbers
-
-NUMBERS = numbers(20_000)
-LINES = b"one\n\nthree\n"
+from program.texts import LINES, NUMBERS
 
 
 @dataclass(frozen=True)

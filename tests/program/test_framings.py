@@ -3,8 +3,8 @@
 import random
 
 from harness import ProgramCase
+from program.texts import LINES
 
-LINES = b"one\n\nthree\n"
 OPEN = b"one\n\nthree"
 RANDOM = random.Random(7).randbytes(300_000)
 COMES_BACK = {

@@ -3,9 +3,8 @@
 import html.parser
 import re
 
-from harness import ProgramCase, numbers
-
-NUMBERS = numbers(20_000)
+from harness import ProgramCase
+from program.texts import NUMBERS
 
 
 class Elements(html.parser.HTMLParser):

@@ -3,9 +3,7 @@
 import resource
 
 from harness import ProgramCase, limited, numbers
-
-LINES = b"one\n\nthree\n"
-NUMBERS = numbers(20_000)
+from program.texts import LINES, NUMBERS
 
 
 class Merge(ProgramCase):

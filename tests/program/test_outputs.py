@@ -2,11 +2,10 @@
 
 import resource
 
-from harness import ProgramCase, limited, numbers
+from harness import ProgramCase, limited
+from program.texts import LINES, NUMBERS
 
-LINES = b"one\n\nthree\n"
-NUMBERS = numbers(20_000)
-# A file may have as many bytes.
+# No file may have more bytes.
 SMALL_DISK = limited(resource.RLIMIT_FSIZE, 1024)
 
 

@@ -1,8 +1,7 @@
 """`get` and `cat`: documents by their numbers, and all but some."""
 
 from harness import ProgramCase, numbers
-
-NUMBERS = numbers(20_000)
+from program.texts import NUMBERS
 
 
 class Get(ProgramCase):

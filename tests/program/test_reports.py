@@ -2,9 +2,8 @@
 
 import json
 
-from harness import ProgramCase, numbers
-
-NUMBERS = numbers(20_000)
+from harness import ProgramCase
+from program.texts import NUMBERS
 
 
 class Stat(ProgramCase):

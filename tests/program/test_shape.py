@@ -1,8 +1,7 @@
 """The shape of a store: its blocks and its period."""
 
-from harness import ProgramCase, numbers
-
-NUMBERS = numbers(20_000)
+from harness import ProgramCase
+from program.texts import NUMBERS
 
 
 class Shape(ProgramCase):

@@ -5,9 +5,8 @@ import subprocess
 import time
 
 from harness import ProgramCase, numbers
+from program.texts import LINES, NUMBERS
 
-LINES = b"one\n\nthree\n"
-NUMBERS = numbers(20_000)
 READERS = (
     ["cat", "numbers.store"],
     ["get", "numbers.store", "0.."],

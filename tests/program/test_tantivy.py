@@ -1,8 +1,8 @@
 """A file `.store` of a segment of tantivy, which ends with the footer of tantivy's directory."""
 
-from harness import ProgramCase, numbers
+from harness import ProgramCase
+from program.texts import NUMBERS
 
-NUMBERS = numbers(20_000)
 FOOTER = b'{"version":{}}\x0e\0\0\0\x39\5\0\0'
 
 
