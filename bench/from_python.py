@@ -21,7 +21,7 @@ from statistics import median
 from typing import Callable, Dict, Iterable, Iterator, List
 
 HERE = Path(__file__).resolve().parent
-sys.path.insert(0, str(HERE.parent / "examples" / "python"))
+sys.path.insert(0, str(HERE.parent / "bindings" / "python"))
 
 import machine  # noqa: E402 (the package is found by the path above)
 from zevkhadun import Store, Writer  # noqa: E402 (the same)

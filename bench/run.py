@@ -57,7 +57,7 @@ def build() -> None:
         words = ["rt", "run", "--jobs", "2"]
         subprocess.run(words, cwd=TOP / "crates/bench_store", check=True, stdout=subprocess.DEVNULL)
     if not (OUT / "prefix/lib/libzevkhadun.a").exists():
-        subprocess.run(["bash", str(TOP / "examples/c/build.sh"), str(OUT / "prefix")], check=True)
+        subprocess.run(["bash", str(TOP / "bindings/c/build.sh"), str(OUT / "prefix")], check=True)
     subprocess.run(["make", "--silent", "-j2", "-C", str(HERE / "peers")], check=True)
 
 

@@ -1,5 +1,5 @@
 #!/usr/bin/env python3
-"""Writes every list of the library's errors from one table, crates/store_c/refusals.txt.
+"""Writes every list of the library's errors from one table, bindings/refusals.txt.
 
 usage: refusals.py [--check]
 
@@ -16,7 +16,7 @@ from pathlib import Path
 from typing import Callable, List
 
 TOP = Path(__file__).resolve().parent.parent
-TABLE = TOP / "crates/store_c/refusals.txt"
+TABLE = TOP / "bindings/refusals.txt"
 # Exceptions of Python that are errors of another kind, too.
 BASES = {"NoDocument": "IndexError", "NoMemory": "MemoryError"}
 
@@ -124,13 +124,13 @@ class Listing:
         return found
 
 
-C = "crates/store_c"
-RUST = "examples/rust/src/error.rs"
-PYTHON = "examples/python/zevkhadun/refusals.py"
+CRATE = "crates/store_c"
+RUST = "bindings/rust/src/error.rs"
+PYTHON = "bindings/python/zevkhadun/refusals.py"
 LISTINGS = [
-    Listing(f"{C}/include/zevkhadun.h", r"enum zevk_refusal \{", r"\};", header),
-    Listing(f"{C}/src/refusal_text.rt", r"    match number \{", r'        _ => "unknown', texts),
-    Listing(f"{C}/specs/Texts.antt", r"refusal_text number =", '    codes "unknown', definition),
+    Listing("bindings/c/include/zevkhadun.h", r"enum zevk_refusal \{", r"\};", header),
+    Listing(f"{CRATE}/src/refusal_text.rt", r"    match number \{", r'        _ => "unknown', texts),
+    Listing(f"{CRATE}/specs/Texts.antt", r"refusal_text number =", '    codes "unknown', definition),
     Listing(PYTHON, r"# From refusals\.txt:\n", r"\n# End of refusals\.txt", exceptions),
     Listing(RUST, r"pub enum Refusal \{", r"    /// A number that", variants),
     Listing(RUST, r"        match number \{", r"            other => Refusal::Other", numbers),

@@ -9,8 +9,8 @@ from collections.abc import Iterable
 from documents.pages import files, text_of
 from harness import TOP
 
-HEADER = TOP / "crates/store_c/include/zevkhadun.h"
-SOURCES = list(files("crates", "tests", "tools", "examples", "bench", ".ci"))
+HEADER = TOP / "bindings/c/include/zevkhadun.h"
+SOURCES = list(files("crates", "tests", "tools", "bindings", "examples", "bench", ".ci"))
 PATHS = [str(path.relative_to(TOP)) for path in SOURCES]
 CRATES = set(re.findall(r"^(\w+)(?: \w+)?:", text_of(TOP / "crates.txt"), re.M))
 

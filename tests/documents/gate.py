@@ -36,8 +36,8 @@ def is_run(path: str) -> bool:
         return parts[1] in CRATES
     if parts[0] == "tests" and len(parts) == 3:
         return parts[1] in suites()
-    if parts[:2] == ["examples", "c"]:
+    if parts[:2] == ["bindings", "c"]:
         return f'"{parts[-1]}"' in text_of_suites("library", "packages", "answers")
-    if parts[0] == "examples":
+    if parts[0] == "bindings":
         return f'"{"/".join(parts[:2])}"' in text_of_suites("packages")
     return path in text_of(SCRIPT)

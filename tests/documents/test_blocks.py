@@ -49,7 +49,8 @@ class Blocks(Rules):
 
     def test_the_example_of_the_header_is_its_program(self):
         example = re.findall(r"^ \*     .*", pages.text_of(HEADER).partition("#ifndef")[0], re.M)
-        self.assertTrue(stands(example, "examples/c/first.c"), f"the example of {HEADER} is not examples/c/first.c")
+        path = "bindings/c/examples/first.c"
+        self.assertTrue(stands(example, path), f"the example of {HEADER} is not {path}")
 
 
 class Gate(unittest.TestCase):
@@ -63,6 +64,6 @@ class Gate(unittest.TestCase):
         self.assertEqual(set(folders), set(run.SUITES))
 
     def test_what_the_gate_does_not_run_is_known(self):
-        for path in ("tools/fuzz/run.sh", "examples/dask/distribute.py", "examples/c/none.c", "tests/none/x.py"):
+        for path in ("tools/fuzz/run.sh", "examples/dask/distribute.py", "bindings/c/tests/none.c", "tests/none/x.py"):
             with self.subTest(path):
                 self.assertFalse(gate.is_run(path))

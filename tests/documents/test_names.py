@@ -49,7 +49,7 @@ def is_path(name: str) -> bool:
     """Whether a name between backticks is a path of the repository: by its folder or by its ending."""
     if not re.fullmatch(r"[\w.*-]+(?:/[\w.*-]+)*/?", name) or {"NAME", "out"} & set(re.split(r"[/.]", name)):
         return False
-    own = re.match(r"(?:crates|tests|tools|docs|examples|bench|specs|src|\.ci)/", name)
+    own = re.match(r"(?:crates|tests|tools|docs|bindings|examples|bench|specs|src|\.ci)/", name)
     return bool(own or re.search(rf"\w\.(?:{ENDINGS})$", name))
 
 

@@ -13,7 +13,7 @@ from documents.pages import at, documents, text_of
 from harness import TOP
 
 README = TOP / "README.md"
-BUILD = TOP / "examples/c/build.sh"
+BUILD = TOP / "bindings/c/build.sh"
 # Words that this house no longer uses where users begin to read.
 OLD_WORDS = (
     "so many", "at hand", "(?:is|are) told", "tells? of", "told of", "behind", "asked of", "hands? on", "want of",
@@ -21,9 +21,9 @@ OLD_WORDS = (
 )
 VERSIONS = {
     "crates/zevkhadun/src/*.rt": r'\.version\("([^"]*)"\)',
-    "examples/rust/Cargo.toml": r'^version = "([^"]*)"',
-    "examples/rust/Cargo.lock": r'name = "zevkhadun"\nversion = "([^"]*)"',
-    "examples/python/zevkhadun/__init__.py": r'^__version__ = "([^"]*)"',
+    "bindings/rust/Cargo.toml": r'^version = "([^"]*)"',
+    "bindings/rust/Cargo.lock": r'name = "zevkhadun"\nversion = "([^"]*)"',
+    "bindings/python/zevkhadun/__init__.py": r'^__version__ = "([^"]*)"',
     "CHANGELOG.md": r"\A.*?^## (\S+)",
 }
 

@@ -14,11 +14,13 @@ from pathlib import Path
 
 from harness import LIBRARY, TOP, FolderCase
 
-SOURCES = TOP / "examples/c"
-HEADER = TOP / "crates/store_c/include/zevkhadun.h"
+C = TOP / "bindings/c"
+SOURCES = C / "tests"
+EXAMPLES = C / "examples"
+HEADER = C / "include/zevkhadun.h"
 # A store of 64 documents in 13 blocks, as hexadecimal text.
-HEX = TOP / "examples/words.hex"
-ARRAYS = SOURCES / "null_arrays.c"
+HEX = SOURCES / "words.hex"
+ARRAYS = C / "src/null_arrays.c"
 WARNINGS = ("-Wall", "-Wextra", "-Wpedantic", "-Wconversion", "-Wshadow", "-Werror")
 SECONDS = 900
 
@@ -61,7 +63,7 @@ def prefix() -> Path:
     """The folder in which the library is installed. It is made once, and removed at the end."""
     folder = Path(tempfile.mkdtemp(prefix="zevkhadun-library-"))
     atexit.register(shutil.rmtree, folder, ignore_errors=True)
-    command = ["bash", SOURCES / "build.sh", folder, LIBRARY.path()]
+    command = ["bash", C / "build.sh", folder, LIBRARY.path()]
     done = subprocess.run(command, capture_output=True, text=True, timeout=SECONDS)
     if done.returncode:
         raise AssertionError(f"build.sh ends with status {done.returncode}: {done.stdout}{done.stderr}")
@@ -107,7 +109,7 @@ class LibraryCase(FolderCase):
         return path
 
     def compiled_by(self, compiler: Compiler, name: str, in_cpp: bool) -> Path:
-        """A program of examples/c in C11 or C++17, with the calls with arrays as they are compiled here."""
+        """A program of bindings/c/tests in C11 or C++17, with the calls with arrays as they are compiled here."""
         command = [compiler.c, "-std=c11", "-g", "-O1"]
         if in_cpp:
             command = [compiler.cpp, "-std=c++17", "-g", "-O1", "-x", "c++"]

@@ -5,7 +5,7 @@ import shutil
 import subprocess
 
 from harness import TOP
-from library.compiling import HEX, SOURCES, WARNINGS, LibraryCase, default_compiler, prefix
+from library.compiling import EXAMPLES, HEX, WARNINGS, LibraryCase, default_compiler, prefix
 
 # A store of the two documents "abc" and "de".
 TWO = bytes.fromhex(
@@ -34,8 +34,8 @@ def with_library() -> dict[str, str]:
 
 class ExampleCase(LibraryCase):
     def example(self, name):
-        """A program of examples/c over the shared library."""
-        source = SOURCES / name
+        """A program of bindings/c/examples over the shared library."""
+        source = EXAMPLES / name
         program = self.folder / source.stem
         self.succeed(default_compiler(), "-std=c11", *WARNINGS, "-o", program, source, *shared_flags())
         return program

@@ -1,7 +1,7 @@
 """The header is compared with the crate that it declares, and with the calls before the proved ones.
 
 The exported functions by name, and each parameter by name and type; the fields of the structs; the numbers of refusals;
-and the functions that take an array with those of examples/c/null_arrays.c.
+and the functions that take an array with those of bindings/c/src/null_arrays.c.
 """
 
 from __future__ import annotations

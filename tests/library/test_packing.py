@@ -3,12 +3,12 @@
 import os
 import subprocess
 
-from library.compiling import SOURCES, WARNINGS, LibraryCase, default_compiler, names_in, prefix, wrapped
+from library.compiling import EXAMPLES, SOURCES, WARNINGS, LibraryCase, default_compiler, names_in, prefix, wrapped
 from library.packing import PackingTests
 from library.test_examples import ExampleCase, with_library
 
 LINES = b"a\nb\nc\n"
-# The functions that examples/c/failing.c wraps.
+# The functions that bindings/c/tests/failing.c wraps.
 WRAPPED = r"^(?:WRAPPED\([^,]*, |size_t __wrap_)(\w+)"
 
 
@@ -27,7 +27,7 @@ class FailingCalls(LibraryCase):
         self.assertGreater(len(names), 9, "functions that are wrapped")
         self.succeed(
             default_compiler(), "-std=c11", *WARNINGS, f"-I{prefix() / 'include'}", "-o", self.program, *wrapped(names),
-            SOURCES / "pack.c", SOURCES / "failing.c", prefix() / "lib/libzevkhadun.a",
+            EXAMPLES / "pack.c", SOURCES / "failing.c", prefix() / "lib/libzevkhadun.a",
         )
         self.old, self.new = (self.packed(name, text) for name, text in (("old", b"old\n"), ("new", LINES)))
 

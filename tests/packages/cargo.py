@@ -13,7 +13,7 @@ from pathlib import Path
 from harness import TOP
 from library.compiling import SECONDS, prefix
 
-PACKAGE = TOP / "examples/rust"
+PACKAGE = TOP / "bindings/rust"
 
 
 @functools.cache

@@ -8,7 +8,7 @@ import sys
 from harness import TOP, Case
 from library.compiling import prefix
 
-PACKAGE = TOP / "examples/python"
+PACKAGE = TOP / "bindings/python"
 
 
 class Python(Case):

@@ -46,10 +46,10 @@ done
 (cd "$crate" && rattle build --crate-name store_c src/lib.rt --crate-type staticlib "${libraries[@]}" \
     -L "dependency=$kit/rlibs" --antt-project "$kit/rattle/logic/antt-project.json" --logic-built "$kit/logic_built" \
     --jobs 2 --toolchain "$out/toolchain" -o "$out/libstore_c.a")
-bash "$top/examples/c/build.sh" --static "$out/prefix" "$out/libstore_c.a"
+bash "$top/bindings/c/build.sh" --static "$out/prefix" "$out/libstore_c.a"
 
 # Only the library counts edges: the calls are compiled without.
-clang -std=c11 -g -O1 -I"$out/prefix/include" -I"$top/examples/c" -c -o "$out/calls.o" "$data/calls.c"
+clang -std=c11 -g -O1 -I"$out/prefix/include" -I"$top/bindings/c/tests" -c -o "$out/calls.o" "$data/calls.c"
 clang -g -fsanitize=fuzzer -o "$out/calls" "$out/calls.o" "$out/prefix/lib/libzevkhadun.a"
 
 # How many edges the inputs of a folder reach, each run once: in its fork mode libFuzzer counts other things besides.

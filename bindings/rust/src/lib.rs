@@ -2,7 +2,7 @@
 //!
 //! ```
 //! # fn main() -> Result<(), zevkhadun::Refusal> {
-//! # let text = include_str!("../../words.hex");
+//! # let text = include_str!("../../c/tests/words.hex");
 //! # let digits: Vec<u8> = text.bytes().filter(u8::is_ascii_hexdigit).collect();
 //! # let nibble = |digit: u8| (digit as char).to_digit(16).unwrap() as u8;
 //! # let file: Vec<u8> = digits.chunks(2).map(|two| nibble(two[0]) << 4 | nibble(two[1])).collect();

@@ -3,7 +3,7 @@
  * A store is one file of byte strings, its documents, numbered from 0. This library reads a store from bytes in
  * memory, loaded or mapped, and makes the bytes that a program writes to its own file to create one. It keeps nothing
  * between calls, so there is nothing to close. This prints a document of a file whose bytes are in memory
- * (examples/c/first.c):
+ * (bindings/c/examples/first.c):
  *
  *     uint32_t print_document(const uint8_t *file, size_t len, uint32_t id) {
  *         zevk_place place;
@@ -27,7 +27,7 @@
  *
  * The library is proved: for every argument that keeps these rules, a call reads and writes no byte outside what it is
  * given, and meets its contract in crates/store_c/src. This header says the same in words, by hand. A few lines of C
- * are only tested: they replace the address of an array of length 0 before each proved call (examples/c/null_arrays.c).
+ * are only tested: they replace the address of an array of length 0 before each proved call (bindings/c/src/null_arrays.c).
  */
 #ifndef ZEVKHADUN_H
 #define ZEVKHADUN_H
@@ -142,7 +142,7 @@ uint32_t zevk_locate_run(const uint8_t *file, size_t file_len, const zevk_block 
 /* ---- reading a file that lies elsewhere
  *
  * A store in object storage, or on a web server, is read by ranges of its file. The end of the file has the index: keep
- * it, and then a document takes one read, of its block. The reads are the caller's (examples/c/ranges.c):
+ * it, and then a document takes one read, of its block. The reads are the caller's (bindings/c/tests/ranges.c):
  *
  *     read the last tail_len bytes of the file, 64 KiB say, or all if it is shorter
  *     while ((error = zevk_block_of(tail, tail_len, file_len, id, &block, &wanted)) == ZEVK_TAIL_TOO_SHORT)

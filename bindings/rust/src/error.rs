@@ -2,7 +2,7 @@
 
 use std::{error, fmt, io};
 
-/// An error of the library. `tools/refusals.py` writes its lists from `crates/store_c/refusals.txt`.
+/// An error of the library. `tools/refusals.py` writes its lists from `bindings/refusals.txt`.
 #[derive(Clone, Copy, Debug, PartialEq, Eq)]
 #[non_exhaustive]
 pub enum Refusal {

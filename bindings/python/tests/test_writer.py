@@ -14,7 +14,7 @@ from unittest import mock
 
 from zevkhadun import Store, Writer, refusals
 
-HEX = os.path.join(os.path.dirname(__file__), "..", "..", "words.hex")
+HEX = os.path.join(os.path.dirname(__file__), "..", "..", "c", "tests", "words.hex")
 
 with open(HEX, encoding="ascii") as text:
     FILE = bytes.fromhex(text.read())

@@ -11,8 +11,8 @@ from zevkhadun import REFUSALS, Refused, Store
 from zevkhadun import refusals
 
 TOP = os.path.join(os.path.dirname(__file__), "..", "..", "..")
-HEADER = os.path.join(TOP, "crates", "store_c", "include", "zevkhadun.h")
-HEX = os.path.join(os.path.dirname(__file__), "..", "..", "words.hex")
+HEADER = os.path.join(TOP, "bindings", "c", "include", "zevkhadun.h")
+HEX = os.path.join(os.path.dirname(__file__), "..", "..", "c", "tests", "words.hex")
 # A store of no documents: an index of no layers, and the footer.
 EMPTY = bytes.fromhex("8003000000000000000000000000080000000000000000000000000000")
 

@@ -15,7 +15,7 @@ fn bytes_of(text: &str) -> Vec<u8> {
 }
 
 fn file() -> Vec<u8> {
-    bytes_of(include_str!("../../words.hex"))
+    bytes_of(include_str!("../../c/tests/words.hex"))
 }
 
 fn documents() -> Vec<Vec<u8>> {

@@ -16,9 +16,10 @@ if [ $# -lt 1 ] || [ $# -gt 2 ]; then
     echo "usage: $0 [--static] PREFIX [LIBRARY]" >&2
     exit 2
 fi
-top=$(cd "$(dirname "$0")/../.." && pwd)
+here=$(cd "$(dirname "$0")" && pwd)
+top=$(cd "$here/../.." && pwd)
 crate=$top/crates/store_c
-calls=$top/examples/c/null_arrays.c
+calls=$here/src/null_arrays.c
 heap=$(dirname "$(rt doc | head -n 1)")/c/liblibc_c.a
 mkdir -p "$1/include" "$1/lib/pkgconfig"
 prefix=$(cd "$1" && pwd)
@@ -37,7 +38,7 @@ for name in "${proved[@]}"; do
     names+=(--redefine-sym "zevk_${name#zevk_proved_}=$name")
 done
 "${OBJCOPY:-objcopy}" "${names[@]}" "$library" "$work/proved.a"
-"${CC:-cc}" -std=c11 -O2 -fPIC -I"$crate/include" -c -o "$work/null_arrays.o" "$calls"
+"${CC:-cc}" -std=c11 -O2 -fPIC -I"$here/include" -c -o "$work/null_arrays.o" "$calls"
 
 ar -M <<MRI
 create $work/libzevkhadun.a
@@ -48,14 +49,14 @@ save
 end
 MRI
 install -m 644 "$work/libzevkhadun.a" "$prefix/lib/libzevkhadun.a"
-install -m 644 "$crate/include/zevkhadun.h" "$prefix/include/zevkhadun.h"
+install -m 644 "$here/include/zevkhadun.h" "$prefix/include/zevkhadun.h"
 if [ $shared = no ]; then
     exit 0
 fi
 
 "${CC:-cc}" -shared -o "$work/libzevkhadun.so.1" -Wl,-soname,libzevkhadun.so.1 \
     -Wl,--whole-archive "$work/libzevkhadun.a" -Wl,--no-whole-archive \
-    -Wl,--version-script="$crate/zevkhadun.map" -Wl,-z,defs -Wl,-z,relro,-z,now
+    -Wl,--version-script="$here/zevkhadun.map" -Wl,-z,defs -Wl,-z,relro,-z,now
 install -m 755 "$work/libzevkhadun.so.1" "$prefix/lib/libzevkhadun.so.1"
 ln -sf libzevkhadun.so.1 "$prefix/lib/libzevkhadun.so"
 cat >"$prefix/lib/pkgconfig/zevkhadun.pc" <<PC

@@ -9,7 +9,7 @@ import tempfile
 import unittest
 
 TOP = pathlib.Path(__file__).resolve().parents[3]
-MARKER = "<!-- run by: examples/python/tests/test_documents.py -->"
+MARKER = "<!-- run by: bindings/python/tests/test_documents.py -->"
 PIECE = re.compile(re.escape(MARKER) + r"\n```python\n(.*?)^```$", re.S | re.M)
 
 
@@ -17,7 +17,7 @@ class Documents(unittest.TestCase):
     """Each page's pieces run in order, in a folder of their own."""
 
     def test_each_piece_of_the_documents_runs(self):
-        pages = [TOP / "README.md", TOP / "docs/GUIDE.md", TOP / "examples/README.md"]
+        pages = [TOP / "README.md", TOP / "docs/GUIDE.md", TOP / "bindings/README.md"]
         count = 0
         for page in pages:
             for piece in PIECE.findall(page.read_text()):

@@ -59,7 +59,7 @@ fn documents_come_back_for_any_block_size_and_period() {
 
 #[test]
 fn a_known_file_is_written_byte_for_byte() {
-    let file = bytes_of(include_str!("../../words.hex"));
+    let file = bytes_of(include_str!("../../c/tests/words.hex"));
     assert_eq!(written(&read(&file), 120, 3), file);
 }
 
