@@ -6,14 +6,13 @@ mod block_index;
 pub mod close_error;
 mod current_block;
 pub mod laws;
-mod parts;
 pub mod run;
 pub mod store_compressor;
 pub mod writer;
 
 pub use close_error::CloseError;
 pub use layered_index::{
-    CHECKPOINT_PERIOD, Checkpoint, CheckpointBlock, IndexHead, IndexSlice, LayerCursor, Looks,
+    CHECKPOINT_PERIOD, Checkpoint, CheckpointBlock, CheckpointRange, IndexHead, IndexSlice, LayerCursor, Looks,
     SkipIndex, SkipIndexBuilder, Steps, seek_near, seek_over,
 };
 pub use run::{StoreCommand, WriteReport, write_store, write_store_with_period};
@@ -31,7 +30,7 @@ pub use store_format::{
 pub use store_reader::{
     AliveDocuments, AliveSliceDocuments, Answer, BlockSlice, BlockSlices, CacheStats,
     DOCSTORE_CACHE_CAPACITY, DataPart, DocIter, DocWalk, Documents, Items, RawIter, ReadCall,
-    SeekingReader, SliceDocuments, StoreReader, StoreSlice, StoreTail, StoreView, TailError, Walk,
+    SeekingReader, SliceDocuments, StorePart, StoreReader, StoreSlice, StoreTail, StoreView, TailError, Walk,
     answer_all, any_lacks_memory,
 };
 pub use writer::StoreWriter;
