@@ -14,6 +14,8 @@ ghost use Rattle.store_format.specs.Slots.{slots};
 ghost use Rattle.store_format.specs.StoreFile.{IsStore};
 ghost use Rattle.store_reader.specs.Walking.{set_of, set_in, IsEntered, IsWalk, LooksAlong};
 
+pub mod parts;
+
 use crate::block_request::BlockRequest;
 use crate::cache::BlockCache;
 use crate::cache_stats::CacheStats;
