@@ -96,6 +96,7 @@ pub fn seek_over<S: Looks>(source: &mut S, target: DocId) -> Option<Checkpoint>
 // How many looks there are to spare near a guess: one for each base-4 digit of an eighth of the length. Where the length
 // has b binary digits these are b / 2 - 1 at most. Halving takes b, and the look at the answer 1: in all b + b / 2.
 const SPARE_SHARE: usize = 8;
+
 const SPARE_BASE: usize = 4;
 
 // Where the answer lies, by looks where the guess is and from there on in growing steps, until the

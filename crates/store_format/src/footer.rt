@@ -33,12 +33,7 @@ impl DocStoreFooter {
         ensures decompressor { result.decompressor ≡ decompressor }
         ensures period { result.period ≡ CHECKPOINT_PERIOD }
     {
-        DocStoreFooter::with_period(
-            offset,
-            decompressor,
-            doc_store_version,
-            USUAL_PERIOD,
-        )
+        DocStoreFooter::with_period(offset, decompressor, doc_store_version, USUAL_PERIOD)
     }
 
     /// The footer of an index of this period.

@@ -189,11 +189,7 @@ impl RecentBlocks {
     }
 
     // Whether there was memory to put the block in front.
-    fn put_front(
-        blocks: &mut LruCache<usize, OwnedBytes>,
-        key: usize,
-        block: OwnedBytes,
-    ) -> bool
+    fn put_front(blocks: &mut LruCache<usize, OwnedBytes>, key: usize, block: OwnedBytes) -> bool
         requires { lookup (nat_eq key) blocks.old.entries ≡ None }
         ensures cap { blocks.new.cap ≡ blocks.old.cap }
         ensures room { 0 < blocks.old.cap }

@@ -5,8 +5,8 @@ ghost use Rattle.store_base.specs.declared.error.StoreError.{StoreError as Store
 ghost use Rattle.store_reader.specs.LookingUp.{LooksUp};
 ghost use Rattle.store_reader.specs.BlockRequests.{AnswersRequest};
 
-use crate::cache::BlockCache;
 use crate::block_request::{BlockRequest, answer_request};
+use crate::cache::BlockCache;
 use layered_index::Checkpoint;
 use std::alloc::Global;
 use store_base::{DocId, FileHandle, FileSlice, OwnedBytes, StoreError};

@@ -12,10 +12,7 @@ use store_format::{DocStoreFooter, FOOTER_LEN, footer_in, read_footer, read_part
 
 /// Where the index lies in a file of `file_len` bytes: between the offset and the footer. It returns `BadOffset` where
 /// the offset is past that.
-pub(crate) fn index_range(
-    footer: &DocStoreFooter,
-    file_len: u64,
-) -> Result<Range<u64>, StoreError>
+pub(crate) fn index_range(footer: &DocStoreFooter, file_len: u64) -> Result<Range<u64>, StoreError>
     requires { 28 ≤ file_len }
     ensures start { IfOk result (λ r. r.start ≡ footer.now.offset) }
     ensures end { IfOk result (λ r. r.end ≡ file_len - 28) }

@@ -6,8 +6,8 @@ ghost use Rattle.store_format.specs.StoreFile.{checkpoints_of};
 ghost use Rattle.store_reader.specs.Opening.{IsSomeStore};
 ghost use Rattle.store_reader.specs.StoreTails.{IsTailOf, IsWanted, HasIndexIn, RefusesEnd};
 
-use crate::tail_error::TailError;
 use crate::opening::{footer_of, index_range};
+use crate::tail_error::TailError;
 use layered_index::{Checkpoint, IndexSlice};
 use std::alloc::Global;
 use std::marker::Model;

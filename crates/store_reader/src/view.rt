@@ -12,9 +12,9 @@ ghost use Rattle.store_reader.specs.Viewing.{Finds, IsViewOf, IsAt, IsBlockOf, S
 ghost use Rattle.store_reader.specs.Viewing.{slot_of, count_in, document_of, given, placed_in};
 
 use crate::document_reading::read_bytes;
-use crate::store_index::StoreIndex;
 use crate::documents::{AliveDocuments, Documents, ViewBlock};
 use crate::opening::view_store;
+use crate::store_index::StoreIndex;
 use layered_index::{LayerCursor, Steps};
 use std::alloc::Global;
 use std::marker::Model;
