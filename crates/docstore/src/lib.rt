@@ -15,7 +15,7 @@ pub mod writer;
 pub use close_error::CloseError;
 pub use layered_index::{
     CHECKPOINT_PERIOD, Checkpoint, CheckpointBlock, IndexHead, IndexSlice, LayerCursor, Looks,
-    SkipIndex, SkipIndexBuilder, Steps, seek_near, seek_over,
+    SkipIndex, SkipIndexBuilder, Steps, USUAL_PERIOD, seek_near, seek_over,
 };
 pub use run::{StoreCommand, WriteReport, write_store, write_store_with_period};
 pub use store_base::{

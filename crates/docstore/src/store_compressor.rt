@@ -19,7 +19,7 @@ ghost use Rattle.store_reader.specs.Viewing.{count_in};
 use crate::block_index::BlockIndex;
 use crate::close_error::CloseError;
 use crate::parts::stack_parts;
-use layered_index::{CHECKPOINT_PERIOD, Checkpoint, LayerCursor};
+use layered_index::{CHECKPOINT_PERIOD, Checkpoint, LayerCursor, USUAL_PERIOD};
 use std::alloc::Global;
 use std::marker::Model;
 use store_base::{
@@ -59,7 +59,7 @@ impl<W: TerminatingWrite> BlockCompressor<W> {
             (W.content output) (W.termination output) (W.failures output) }
         ensures sound { IsSound result }
     {
-        BlockCompressor::with_period(alloc, compressor, output, CHECKPOINT_PERIOD as u8)
+        BlockCompressor::with_period(alloc, compressor, output, USUAL_PERIOD)
     }
 
     /// The same with an index of this period.
