@@ -12,8 +12,7 @@ pub mod writer;
 
 pub use close_error::CloseError;
 pub use layered_index::{
-    CHECKPOINT_PERIOD, Checkpoint, CheckpointBlock, CheckpointRange, IndexFault, IndexHead,
-    IndexSlice, LayerCursor, Looks, SkipIndex, SkipIndexBuilder, Steps, seek_near, seek_over,
+    CHECKPOINT_PERIOD, Checkpoint, CheckpointBlock, CheckpointRange, IndexFault, IndexHead, IndexSlice, LayerCursor, Looks, SkipIndex, SkipIndexBuilder, Steps, USUAL_PERIOD, seek_near, seek_over,
 };
 pub use run::{StoreCommand, WriteReport, write_store, write_store_with_period};
 pub use store_base::{

@@ -13,7 +13,7 @@ mod stacking;
 
 use crate::block_index::BlockIndex;
 use crate::close_error::CloseError;
-use layered_index::{CHECKPOINT_PERIOD, Checkpoint};
+use layered_index::{CHECKPOINT_PERIOD, Checkpoint, USUAL_PERIOD};
 use std::alloc::Global;
 use std::marker::Model;
 use store_base::{BinarySerializable, Cause, CountingWriter, StoreError, TerminatingWrite};
@@ -50,7 +50,7 @@ impl<W: TerminatingWrite> BlockCompressor<W> {
             (W.content output) (W.termination output) (W.failures output) }
         ensures sound { IsSound result }
     {
-        BlockCompressor::with_period(alloc, compressor, output, CHECKPOINT_PERIOD as u8)
+        BlockCompressor::with_period(alloc, compressor, output, USUAL_PERIOD)
     }
 
     /// The same with an index of this period.

@@ -1,4 +1,4 @@
-//! Where an iteration stands, and how it goes on.
+//! Where an iteration over a reader's documents stands, and how it goes on.
 ghost use Rattle.std.specs.Prelude.{◌≡◌, ◌≤◌, ◌<◌, ◌+◌, true, Some, length, slice_get, slice_range, take};
 ghost use Rattle.std.specs.Prelude.{IsSome, IsSomeAnd, MatchOption};
 ghost use Rattle.layered_index.specs.declared.checkpoint.Checkpoint.{Checkpoint};
