@@ -26,8 +26,8 @@ pub use store_base::{
 };
 pub use store_compressor::BlockCompressor;
 pub use store_format::{
-    Compressor, DOC_STORE_VERSION, Decompressor, DocStoreFooter, DocStoreVersion, OpenError,
-    block_read_index,
+    Compressor, DOC_STORE_VERSION, Decompressor, DocStoreFooter, DocStoreVersion, FOOTER_LEN,
+    OpenError, block_read_index, u32_at,
 };
 pub use store_reader::{
     AliveDocuments, AliveSliceDocuments, Answer, BlockSlice, BlockSlices, CacheStats,
