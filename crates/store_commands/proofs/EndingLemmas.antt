@@ -69,12 +69,15 @@ slot_behind xs ys s id e =
 -- the set's documents of the blocks that were given, and no more
 pub ends_at_block : {T : Type 0} (takes : T → List ℕ → T → Type 0) (set : Option (ℕ → Bool)) (r now : Reading) (next : ℕ) (old new : T) → HasGiven takes set r now next old new → next < num_docs r
     → EndsAtBlock takes set r old new
-ends_at_block takes set r now next old new h lt = (next, record {
-  below = lt;
-  given = λ honest.
-      let all : take next (slots (store_of r)) ≡ slots h.front = ap (λ (bs : List StoreBlock). take next (slots bs)) h.come.parts ∙ below_block h.front h.come.rest next h.come.next_is in
-      subst (λ (xs : List Slot). TakesSlots takes (alive xs set) old new) (sym all) (h.taken honest);
-})
+ends_at_block takes set r now next old new h lt = (
+  next,
+  record {
+    below = lt;
+    given = λ honest.
+        let all : take next (slots (store_of r)) ≡ slots h.front = ap (λ (bs : List StoreBlock). take next (slots bs)) h.come.parts ∙ below_block h.front h.come.rest next h.come.next_is in
+        subst (λ (xs : List Slot). TakesSlots takes (alive xs set) old new) (sym all) (h.taken honest);
+  },
+)
 
 -- and those of the next block before a position
 id_in : {T : Type 0} (takes : T → List ℕ → T → Type 0) (set : Option (ℕ → Bool)) (r now : Reading) (next position : ℕ) (old middle : T) (part : DataPart) (h : HasGiven takes set r now next old middle)
@@ -132,21 +135,26 @@ ends_in_block {T} {E} takes refuses set r now read next old middle new part e h 
     lt = omega (arith, b.below, n.count)
 
     by : (e : GivingError E) → RefusesSlot refuses (part.ids.start + b.position) (slot part.bytes b.position) b.before new e → EndsGiving takes refuses set r read old new e
-    by (Store s) c = subst (EndsByStore takes set r read old new) (sym c.0)
-        (record {
-          before = subst (HasTakenTo takes set r (part.ids.start + b.position) old) (sym c.2) (given_to takes set r now next b.position old middle b.before part h n lt b.given);
-          kept = b.kept;
-          is = λ honest. slot_at takes set r now next b.position old middle part h n lt honest ∙ ap (λ (x : Slot). Some x) c.1;
-        }, steady)
-    by (Target t) c = (record {
-      id = part.ids.start + b.position;
-      middle = b.before;
-      before = given_to takes set r now next b.position old middle b.before part h n lt b.given;
-      kept = b.kept;
-      bytes = c.0;
-      is = λ honest. slot_at takes set r now next b.position old middle part h n lt honest ∙ ap (λ (x : Slot). Some x) c.1;
-      refused = c.2;
-    }, steady)
+    by (Store s) c = subst (EndsByStore takes set r read old new) (sym c.0) (
+      record {
+        before = subst (HasTakenTo takes set r (part.ids.start + b.position) old) (sym c.2) (given_to takes set r now next b.position old middle b.before part h n lt b.given);
+        kept = b.kept;
+        is = λ honest. slot_at takes set r now next b.position old middle part h n lt honest ∙ ap (λ (x : Slot). Some x) c.1;
+      },
+      steady,
+    )
+    by (Target t) c = (
+      record {
+        id = part.ids.start + b.position;
+        middle = b.before;
+        before = given_to takes set r now next b.position old middle b.before part h n lt b.given;
+        kept = b.kept;
+        bytes = c.0;
+        is = λ honest. slot_at takes set r now next b.position old middle part h n lt honest ∙ ap (λ (x : Slot). Some x) c.1;
+        refused = c.2;
+      },
+      steady,
+    )
 
 -- what an Ok says of the count of failures
 pub steady_of : {A P : Type 0} (x : A) → (let came : Result A StoreError = Ok x in IsErrOf came Read ⊎ P) → P

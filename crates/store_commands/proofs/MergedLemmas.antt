@@ -98,21 +98,24 @@ pub ends_alone : {H : Type 0} (words : List (Bor (List ℕ))) (reader : Reading)
     → (first_old xs ≡ None → IsEnded BeginsStack xs left old new e) → IsFailed e.error ⊎ (new.output.failure ≡ old.output.failure)
     → EndsStore H words reader r old new e.error × IsMergedReader reader r
 unfolding error_of
-ends_alone {H} words reader x xs left r old new result e alone same keeps kept readers is old_one ended works = (record {
-  set = x.alive;
-  kept = keeps;
-  old_version = λ first.
-      let h = at_first (first_old_alone x (ap (λ (s : Reading). s.version) same ∙ first)) in
-      (ap error_of (sym is ∙ h.0), h.1, left_same (h.2));
-  ended = λ not.
-      let h : IsEnded BeginsStack (x ∷ []) left old new e = ended_one (none_old_alone x (λ first. not (ap (λ (s : Reading). s.version) (sym same) ∙ first))) in
-      let place : e.input ≡ 0 = only_place x h.named e.input h.is_named in
-      let at : IsEnded BeginsStack (x ∷ []) left old new (record { error = e.error; input = 0 }) = subst (λ (n : ℕ). IsEnded BeginsStack (x ∷ []) left old new (record { error = e.error; input = n })) place h in
-      let one : x ∷ [] ≡ input_of H reader x.alive ∷ [] = (λ i. input_of H (same i) x.alive ∷ []) in
-      subst (λ (ys : List (MergeInput H)). IsEnded BeginsStack ys (input_of H r x.alive ∷ []) old new (record { error = e.error; input = 0 })) one
-      (subst (λ (ys : List (MergeInput H)). IsEnded BeginsStack (x ∷ []) ys old new (record { error = e.error; input = 0 })) here.is at);
-  works = works;
-}, merged_reader reader x left r same here)
+ends_alone {H} words reader x xs left r old new result e alone same keeps kept readers is old_one ended works = (
+  record {
+    set = x.alive;
+    kept = keeps;
+    old_version = λ first.
+        let h = at_first (first_old_alone x (ap (λ (s : Reading). s.version) same ∙ first)) in
+        (ap error_of (sym is ∙ h.0), h.1, left_same (h.2));
+    ended = λ not.
+        let h : IsEnded BeginsStack (x ∷ []) left old new e = ended_one (none_old_alone x (λ first. not (ap (λ (s : Reading). s.version) (sym same) ∙ first))) in
+        let place : e.input ≡ 0 = only_place x h.named e.input h.is_named in
+        let at : IsEnded BeginsStack (x ∷ []) left old new (record { error = e.error; input = 0 }) = subst (λ (n : ℕ). IsEnded BeginsStack (x ∷ []) left old new (record { error = e.error; input = n })) place h in
+        let one : x ∷ [] ≡ input_of H reader x.alive ∷ [] = (λ i. input_of H (same i) x.alive ∷ []) in
+        subst (λ (ys : List (MergeInput H)). IsEnded BeginsStack ys (input_of H r x.alive ∷ []) old new (record { error = e.error; input = 0 })) one
+        (subst (λ (ys : List (MergeInput H)). IsEnded BeginsStack (x ∷ []) ys old new (record { error = e.error; input = 0 })) here.is at);
+    works = works;
+  },
+  merged_reader reader x left r same here,
+)
   where
     here : IsLeft x left r
     here = left_alone x left r (subst (λ (ys : List (MergeInput H)). AreInputsKept ys left) alone kept) readers
