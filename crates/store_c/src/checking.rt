@@ -6,12 +6,11 @@ ghost use Rattle.store_c.specs.Calls.{RefusesFile};
 ghost use Rattle.store_c.specs.Checking.{AreWholeTo, IsSound, IsFirstDamaged, IsIndexFault};
 ghost use Rattle.store_c.specs.declared.fault.Fault.{Fault as FaultOf};
 
+use crate::DONE;
 use crate::fault::{Fault, LAYER_COVER, LAYER_LIST};
 use std::alloc::Global;
 use store_base::{DocId, StoreError};
 use store_reader::{StoreView, check_index};
-
-const DONE: u32 = 0;
 
 const BAD_INDEX: u32 = 5;
 
