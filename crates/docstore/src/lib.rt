@@ -12,7 +12,9 @@ pub mod writer;
 
 pub use close_error::CloseError;
 pub use layered_index::{
-    CHECKPOINT_PERIOD, Checkpoint, CheckpointBlock, CheckpointRange, IndexFault, IndexHead, IndexSlice, LayerCursor, Looks, SkipIndex, SkipIndexBuilder, Steps, USUAL_PERIOD, seek_near, seek_over,
+    CHECKPOINT_PERIOD, Checkpoint, CheckpointBlock, CheckpointRange, IndexFault, IndexHead,
+    IndexSlice, LayerCursor, Looks, SkipIndex, SkipIndexBuilder, Steps, USUAL_PERIOD, seek_near,
+    seek_over,
 };
 pub use run::{StoreCommand, WriteReport, write_store, write_store_with_period};
 pub use store_base::{
@@ -23,8 +25,8 @@ pub use store_base::{
 };
 pub use store_compressor::BlockCompressor;
 pub use store_format::{
-    Compressor, DOC_STORE_VERSION, Decompressor, DocStoreFooter, DocStoreVersion, OpenError,
-    block_read_index, likely_read_index,
+    Compressor, DOC_STORE_VERSION, Decompressor, DocStoreFooter, DocStoreVersion, FOOTER_LEN,
+    OpenError, block_read_index, likely_read_index, u32_at,
 };
 pub use store_reader::{
     AliveDocuments, AliveSliceDocuments, Answer, BlockSlice, BlockSlices, CacheStats,
