@@ -25,8 +25,9 @@ pub use store_base::{
 };
 pub use store_compressor::BlockCompressor;
 pub use store_format::{
-    Compressor, DOC_STORE_VERSION, Decompressor, DocStoreFooter, DocStoreVersion, FOOTER_LEN,
-    OpenError, block_read_index, likely_read_index, u32_at,
+    BLOCK_LIMIT, Compressor, DOC_STORE_VERSION, Decompressor, DocStoreFooter, DocStoreVersion,
+    FOOTER_LEN, OpenError, block_len, block_read_index, likely_read_index, table_len, u32_at,
+    weight_of,
 };
 pub use store_reader::{
     AliveDocuments, AliveSliceDocuments, Answer, BlockSlice, BlockSlices, CacheStats,

@@ -8,11 +8,10 @@ use crate::block::{Block, BlockEnd};
 use crate::table::start_of;
 use crate::writer_refusal::WriterRefusal;
 use docstore::{
-    BinarySerializable, Checkpoint, DOC_STORE_VERSION, Decompressor, DocStoreFooter, MemSink,
-    SkipIndexBuilder,
+    BLOCK_LIMIT, BinarySerializable, Checkpoint, DOC_STORE_VERSION, Decompressor, DocStoreFooter,
+    MemSink, SkipIndexBuilder,
 };
 use std::alloc::Global;
-use store_format::BLOCK_LIMIT;
 
 // The checkpoint of a block from the one end to the other, if a block can be so.
 fn checkpoint_between(start: BlockEnd, end: BlockEnd) -> Option<Checkpoint>

@@ -8,7 +8,7 @@ use crate::block::{Block, BlockEnd};
 use crate::table::start_of;
 use crate::writer::Writer;
 use crate::writer_refusal::WriterRefusal;
-use store_format::{block_len, table_len, weight_of};
+use docstore::{block_len, table_len, weight_of};
 
 /// Where a block ends that begins here and has so many documents of so many bytes.
 pub(crate) fn end_of(start: BlockEnd, docs: usize, bytes: usize) -> Result<BlockEnd, WriterRefusal>
