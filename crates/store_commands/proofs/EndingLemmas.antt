@@ -2,7 +2,7 @@
 use Rattle.std.proofs.Common.{◌≡◌, ℕ, suc, ◌+◌, ◌-◌, ◌<◌, ◌≤◌, Bool, true, List, [], ◌∷◌, ◌++◌, length, map, take, Option, Some, refl, sym, ap, ◌∙◌, subst, arith, inl, inr, false, length-append, append_assoc}
 use Rattle.std.specs.Prelude.{IsTrue, slice_get, slice_range, get_or, nat_lt, ◌⊎◌, Result, Ok, Err, IfErr, IsErrOf, IsOkAnd, IsNone}
 use Rattle.std.specs.List.{range_with_len}
-use Rattle.std.proofs.lemmas.List.{take_at, map-append}
+use Rattle.std.proofs.lemmas.List.{take_at}
 use Rattle.std.proofs.lemmas.List.Concat.{flat_map-append}
 use Rattle.std.proofs.lemmas.Option.{slice_get-get_or}
 use Rattle.std.proofs.Math.Seq.{get_or-append_seam}
@@ -14,12 +14,12 @@ use Rattle.layered_index.specs.declared.checkpoint.Checkpoint.{Checkpoint}
 use Rattle.layered_index.specs.Checkpoint.{docs_end, first_past}
 use Rattle.store_base.specs.Counts.{HasRisen}
 use Rattle.store_base.specs.declared.error.StoreError.{StoreError}
-use Rattle.store_base.specs.declared.error.StoreError.TheVariants.{DamagedDocument, Read, Memory}
-use Rattle.store_format.specs.Block.{Slot, slot, doc, damaged}
+use Rattle.store_base.specs.declared.error.StoreError.TheVariants.{Read, Memory}
+use Rattle.store_format.specs.Block.{Slot, slot}
 use Rattle.store_format.specs.Slots.{slots}
 use Rattle.store_format.specs.StoreFile.{StoreBlock, docs_in}
 use Rattle.store_reader.specs.declared.data_part.DataPart.{DataPart}
-use Rattle.store_reader.specs.Iteration.{is_in, alive}
+use Rattle.store_reader.specs.Iteration.{alive}
 use Rattle.store_reader.specs.Parts.{place_of}
 use Rattle.store_reader.specs.Reading.{Reading, num_docs, store_of}
 use Rattle.store_commands.specs.declared.block_walk.GivingError.{GivingError}
@@ -30,7 +30,7 @@ use Rattle.store_commands.specs.Giving.{RefusesSlot, EndsBlock, HasTakenTo, Ends
 use Rattle.store_commands.proofs.AliveLemmas.{alive_joined}
 use Rattle.store_commands.proofs.GivingLemmas.{HasGiven, next_in, slots_split}
 use Rattle.store_commands.proofs.TakingLemmas.{takes_more}
-use Rattle.store_commands.proofs.WalkLemmas.{HasCome, IsNext, docs_of_all}
+use Rattle.store_commands.proofs.WalkLemmas.{IsNext, docs_of_all}
 
 -- ---- the slots below an id
 

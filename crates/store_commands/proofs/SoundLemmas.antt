@@ -1,17 +1,15 @@
 -- A sound block is the block of its documents.
-use Rattle.std.proofs.Common.{◌≡◌, ℕ, zero, suc, ◌+◌, ◌-◌, ◌*◌, ◌^◌, ◌<◌, ◌≤◌, Bool, true, false, List, [], ◌∷◌, ◌++◌, length, map, take, drop, get_or, refl, sym, ap, ◌∙◌, subst, arith}
+use Rattle.std.proofs.Common.{◌≡◌, ℕ, zero, suc, ◌+◌, ◌-◌, ◌*◌, ◌^◌, ◌<◌, ◌≤◌, Bool, true, false, List, [], ◌∷◌, ◌++◌, length, map, take, drop, refl, sym, ap, ◌∙◌, arith}
 use Rattle.std.specs.Prelude.{slice_range, not, ◌&&◌, ◌||◌, nat_le, ◌==◌}
-use Rattle.std.specs.List.{concat, flat_map, list_any, AllByRecursion}
+use Rattle.std.specs.List.{concat, flat_map, list_any}
 use Rattle.std.proofs.lemmas.Bool.{lt-ltb, le-ltb, le-leb, leb-true, and_from}
 use Rattle.std.proofs.lemmas.Bool.Decides.{nat_tests}
-use Rattle.std.specs.Int.{w32, from_le_bytes}
 use Rattle.store_base.proofs.ListLemmas.{length-slice}
 use Rattle.store_base.specs.Serialize.{IsBytes, fixed}
 use Rattle.store_base.proofs.FixedReads.{AreOctets, wide32}
-use Rattle.store_format.specs.Block.{Slot, slot, doc, damaged, block, starts_from, u32_at, count_of, table_of, start_of, end_of, is_sound as is_slot_sound}
-use Rattle.store_format.specs.StoreFile.{StoreBlock}
+use Rattle.store_format.specs.Block.{slot, doc, damaged, block, starts_from, u32_at, count_of, table_of, start_of, end_of, is_sound as is_slot_sound}
 use Rattle.store_reader.proofs.ReaderStoreLemmas.{slices_joined, all_of}
-use Rattle.store_commands.specs.Checks.{is_damaged, slots_in, has_table, is_sound, is_sound_block}
+use Rattle.store_commands.specs.Checks.{is_damaged, slots_in, has_table}
 use Rattle.store_format.proofs.BlockLemmas.{length-block}
 use Rattle.store_format.proofs.DocumentLemmas.{count_of-block, start_of-block, blocks_hold_documents}
 use Rattle.std.proofs.lemmas.List.{append-nil}

@@ -11,7 +11,6 @@ use Rattle.store_format.specs.declared.kinds.Decompressor.{Decompressor}
 use Rattle.store_format.specs.declared.kinds.Decompressor.TheVariants as unpacked
 use Rattle.store_format.specs.declared.footer.DocStoreFooter.{DocStoreFooter}
 use Rattle.store_format.specs.declared.version.DocStoreVersion.{DocStoreVersion}
-use Rattle.store_format.specs.declared.version.DocStoreVersion.TheVariants.{V1, V2, V3}
 use Rattle.store_format.specs.Footer.{kind_of, version_number}
 use Rattle.store_format.specs.FooterReading.{version_bytes, Begins, ReadsFooter, IsPeriodOf}
 

@@ -11,12 +11,10 @@ use Rattle.store_reader.proofs.ItemsSoFarLemmas.{same_slots, same_count}
 use Rattle.store_base.proofs.ListLemmas.{enumerate_append}
 use Rattle.store_base.specs.Counts.{HasRisen}
 use Rattle.store_base.specs.Files.{Part}
-use Rattle.layered_index.specs.Checkpoint.{docs_end}
 use Rattle.store_base.specs.declared.error.StoreError.{StoreError}
 use Rattle.store_base.specs.declared.error.StoreError.TheVariants.{Read, Memory, DamagedDocument}
 use Rattle.layered_index.specs.declared.checkpoint.Checkpoint.{Checkpoint}
 use Rattle.store_reader.specs.GetAnswer.{AnswersFrom, AnswersTruly}
-use Rattle.store_format.specs.StoreFile.{blocks_at}
 use Rattle.store_format.specs.Block.{Slot, doc, damaged}
 use Rattle.store_reader.specs.declared.walk.Walk.{Walk}
 use Rattle.store_reader.specs.Iteration.{is_in, alive}
