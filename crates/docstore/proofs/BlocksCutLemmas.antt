@@ -1,12 +1,12 @@
 -- Blocks that checkpoints cut from bytes, wherever these checkpoints begin.
-use Rattle.std.proofs.Common.{◌≡◌, ℕ, suc, ◌+◌, ◌-◌, ◌<◌, ◌≤◌, List, [], ◌∷◌, ◌++◌, length, take, drop, refl, sym, ◌∙◌, ap, arith}
+use Rattle.std.proofs.Common.{◌≡◌, ℕ, ◌+◌, ◌<◌, ◌≤◌, List, [], ◌∷◌, ◌++◌, length, take, drop, refl, sym, ◌∙◌, ap, arith}
 use Rattle.std.specs.Prelude.{slice_range}
 use Rattle.std.specs.List.{AllByRecursion}
 use Rattle.std.proofs.lemmas.List.{length-take-le, length-drop, take-append-drop}
 use Rattle.std.proofs.Math.Seq.{take-append_seam, drop-append_seam}
 use Rattle.layered_index.specs.declared.checkpoint.Checkpoint.{Checkpoint}
 use Rattle.layered_index.specs.Checkpoint.{checkpoint, doc_count, byte_len, IsInLineFrom, IsFilled, bytes_end}
-use Rattle.store_format.specs.StoreFile.{StoreBlock, IsStoreBlock, data_of, checkpoints_from, blocks_at}
+use Rattle.store_format.specs.StoreFile.{IsStoreBlock, data_of, checkpoints_from, blocks_at}
 use Rattle.store_reader.specs.Reading.{part_of}
 use Rattle.store_reader.proofs.SeekLemmas.{bytes_go_on}
 use Rattle.store_reader.proofs.ReaderStoreLemmas.{blocks_of, slices_joined, length-slice}

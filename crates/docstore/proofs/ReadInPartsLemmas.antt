@@ -1,6 +1,6 @@
 -- What the reading of a store in parts brings, and what a part that is refused leaves.
-use Rattle.std.proofs.Common.{◌≡◌, ◌⊎◌, inl, inr, ℕ, zero, suc, ◌+◌, ◌-◌, ◌^◌, ◌<◌, ◌≤◌, IsTrue, List, [], ◌∷◌, ◌++◌, length, map, take, drop, Option, Some, None, refl, sym, ◌∙◌, ap, subst, arith, append_assoc, length-append}
-use Rattle.std.specs.Prelude.{slice_get, slice_range, IfSome, IsNone, Result, Ok, Err, IfOk}
+use Rattle.std.proofs.Common.{◌≡◌, ◌⊎◌, inl, inr, ℕ, zero, suc, ◌+◌, ◌-◌, ◌^◌, ◌<◌, ◌≤◌, IsTrue, List, [], ◌∷◌, ◌++◌, length, take, drop, Option, Some, None, refl, sym, ◌∙◌, ap, subst, arith, append_assoc, length-append}
+use Rattle.std.specs.Prelude.{slice_get, slice_range, IfSome, IsNone, Ok, Err}
 use Rattle.std.specs.List.{sum_by, AllByRecursion}
 use Rattle.std.proofs.lemmas.List.{append-nil, map-append, take_all, take-map, take-append-drop}
 use Rattle.std.proofs.lemmas.List.Sums.{sum_by-append}
@@ -13,7 +13,7 @@ use Rattle.store_base.specs.declared.error.StoreError.TheVariants.{Read, Memory}
 use Rattle.layered_index.specs.declared.checkpoint.Checkpoint.{Checkpoint}
 use Rattle.layered_index.specs.Checkpoint.{doc_count, docs_end, bytes_end, IsInLineFrom, IsFilled, Covers}
 use Rattle.layered_index.specs.LineLemmas.{in_line-split}
-use Rattle.store_format.specs.StoreFile.{StoreBlock, docs_in, data_of, checkpoints_of, checkpoints_from, blocks_at}
+use Rattle.store_format.specs.StoreFile.{StoreBlock, docs_in, data_of, checkpoints_from, blocks_at}
 use Rattle.store_format.proofs.StoreLemmas.{docs_in-cons, docs_in-append, length-data_of-cons, data_of-append, checkpoints_from-append}
 use Rattle.store_reader.specs.Reading.{Reading, IsReadOnce, store_of, part_of}
 use Rattle.store_reader.specs.Parts.{byte_at, number_of_parts, EndsPart, IsPartFrom, IsPartRead}
@@ -23,7 +23,7 @@ use Rattle.store_reader.proofs.ReaderStoreLemmas.{blocks_of, store_is}
 use Rattle.store_reader.proofs.SeekLemmas.{docs_go_on}
 use Rattle.docstore.specs.BlockOutput.{BlockOutput, with_blocks, with_risen, HasCause, FailsFor, AfterFailedBlock}
 use Rattle.docstore.specs.Stacking.{AreRead, CutAll}
-use Rattle.docstore.specs.StackingInParts.{after_more, IsReadTimes, IsReadAtMost, IsReadInPieces, AreFirstRead, BeginsStacking, AfterStackingInParts, StacksFirst, IsReadUpTo}
+use Rattle.docstore.specs.StackingInParts.{after_more, IsReadTimes, IsReadAtMost, IsReadInPieces, BeginsStacking, AfterStackingInParts, StacksFirst, IsReadUpTo}
 use Rattle.docstore.proofs.BlocksCutLemmas.{is_cut, cut_own}
 use Rattle.docstore.proofs.ShiftedCheckpointLemmas.{docs_up}
 

@@ -12,8 +12,8 @@ pub mod writer;
 
 pub use close_error::CloseError;
 pub use layered_index::{
-    CHECKPOINT_PERIOD, Checkpoint, CheckpointBlock, CheckpointRange, IndexHead, IndexSlice, LayerCursor, Looks,
-    SkipIndex, SkipIndexBuilder, Steps, seek_near, seek_over,
+    CHECKPOINT_PERIOD, Checkpoint, CheckpointBlock, CheckpointRange, IndexHead, IndexSlice,
+    LayerCursor, Looks, SkipIndex, SkipIndexBuilder, Steps, seek_near, seek_over,
 };
 pub use run::{StoreCommand, WriteReport, write_store, write_store_with_period};
 pub use store_base::{
@@ -30,7 +30,7 @@ pub use store_format::{
 pub use store_reader::{
     AliveDocuments, AliveSliceDocuments, Answer, BlockSlice, BlockSlices, CacheStats,
     DOCSTORE_CACHE_CAPACITY, DataPart, DocIter, DocWalk, Documents, Items, RawIter, ReadCall,
-    SeekingReader, SliceDocuments, StorePart, StoreReader, StoreSlice, StoreTail, StoreView, TailError, Walk,
-    answer_all, any_lacks_memory,
+    SeekingReader, SliceDocuments, StorePart, StoreReader, StoreSlice, StoreTail, StoreView,
+    TailError, Walk, answer_all, any_lacks_memory,
 };
 pub use writer::StoreWriter;

@@ -85,9 +85,8 @@ impl<W: TerminatingWrite> BlockCompressor<W> {
         self.check_works()?;
         let alloc = self.alloc;
         let mut next_block = 0;
-        while let Some(StorePart { blocks, bytes }) =
-            reader.read_part(alloc, next_block, part_bytes)?
-        {
+        while let Some(part) = reader.read_part(alloc, next_block, part_bytes)? {
+            let StorePart { blocks, bytes } = part;
             next_block = blocks.end;
             self.write_blocks(bytes.as_slice(), reader.checkpoints_in(blocks))?;
         }
@@ -114,11 +113,7 @@ impl<W: TerminatingWrite> BlockCompressor<W> {
     }
 
     // Puts the blocks that these checkpoints cut from the bytes behind the others.
-    fn write_blocks(
-        &mut self,
-        bytes: &[u8],
-        checkpoints: CheckpointRange<'_>,
-    ) -> Result<(), Cause>
+    fn write_blocks(&mut self, bytes: &[u8], checkpoints: CheckpointRange<'_>) -> Result<(), Cause>
         requires works { self.old.failure ≡ None }
         requires cut { CutAll checkpoints (length bytes.now) }
         requires few_docs { docs_in self.old.finished + sum_by doc_count checkpoints < 2 ^ 32 }
@@ -161,8 +156,10 @@ fn register_all(
     requires few { next_id.old < 2 ^ 32 }
     requires in_line { IsInLineFrom 0 0 (index.old.checkpoints ++ laid_from next_id.old start checkpoints) }
     requires filled { AllByRecursion IsFilled checkpoints }
-    ensures ok { OnOk result (index.new ≡ record index.old { checkpoints =
-        index.old.checkpoints ++ laid_from next_id.old start checkpoints.entry }) }
+    ensures ok { OnOk result (index.new ≡ record index.old {
+      checkpoints =
+          index.old.checkpoints ++ laid_from next_id.old start checkpoints.entry;
+    }) }
     ensures period { index.new.period ≡ index.old.period }
     ensures ids { next_id.new ≡ sum_by doc_count index.new.checkpoints }
     ensures few { next_id.new < 2 ^ 32 }

@@ -1,13 +1,12 @@
 use Rattle.std.proofs.Common.{◌≡◌, ℕ, List, length, sym, ◌∙◌, ap, subst, arith}
-use Rattle.std.specs.Prelude.{slice_range}
 use Rattle.std.specs.List.{sum_by}
 use Rattle.layered_index.specs.declared.checkpoint.Checkpoint.{Checkpoint}
 use Rattle.layered_index.specs.Checkpoint.{Covers, doc_count}
 use Rattle.store_format.specs.StoreFile.{StoreBlock, checkpoints_of, blocks_at}
 use Rattle.store_reader.specs.Reading.{Reading}
-use Rattle.docstore.specs.Stacking.{AreRead, CutAll}
+use Rattle.docstore.specs.Stacking.{AreRead}
 use Rattle.store_reader.proofs.ReaderStoreLemmas.{store_seen}
-use Rattle.docstore.proofs.ReadInPartsLemmas.{all_of_range, covers_cut, docs_covered}
+use Rattle.docstore.proofs.ReadInPartsLemmas.{all_of_range, docs_covered}
 use Rattle.docstore.proofs.store_compressor.BlockCompressor.stack_reader.Goals as goal
 
 pub write_blocks-requires-clause-few_docs : goal.write_blocks-requires-clause-few_docs

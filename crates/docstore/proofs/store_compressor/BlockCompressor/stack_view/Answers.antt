@@ -1,10 +1,9 @@
-use Rattle.std.proofs.Common.{◌≡◌, List, length, sym, ◌∙◌, ap, subst, arith}
+use Rattle.std.proofs.Common.{◌≡◌, List, ◌∙◌, ap, arith}
 use Rattle.std.specs.List.{sum_by}
 use Rattle.layered_index.specs.declared.checkpoint.Checkpoint.{Checkpoint}
-use Rattle.layered_index.specs.Checkpoint.{Covers, docs_end, doc_count}
+use Rattle.layered_index.specs.Checkpoint.{doc_count}
 use Rattle.store_format.specs.StoreFile.{blocks_at, docs_in, checkpoints_of, data_of}
 use Rattle.store_format.proofs.StoreLemmas.{blocks_back, checkpoints_cover, docs_in-blocks_at}
-use Rattle.docstore.specs.Stacking.{CutAll}
 use Rattle.docstore.proofs.TakenLemmas.{length-slots}
 use Rattle.docstore.proofs.ReadInPartsLemmas.{all_of_range, covers_cut}
 use Rattle.docstore.proofs.store_compressor.BlockCompressor.stack_view.Goals as goal
