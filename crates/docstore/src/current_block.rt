@@ -110,6 +110,7 @@ impl CurrentBlock {
     }
 
     /// Their block: the bytes, and the table after them. It takes no memory.
+    #[inline]
     pub(crate) fn finish(self) -> FinishedBlock
         requires some { 0 < length self }
         ensures { result ≡ block_of self }
@@ -177,6 +178,7 @@ impl FinishedBlock {
     }
 
     /// No documents, in the same room. It takes no memory.
+    #[inline]
     pub(crate) fn into_empty(self) -> CurrentBlock
         ensures { result ≡ [] }
     {

@@ -94,10 +94,10 @@ impl<W: TerminatingWrite> BlockCompressor<W> {
         ensures works { MatchResult result (λ _. self.now.failure ≡ None) (λ cause. self.now.failure ≡ Some cause) }
         ensures sound { IsSound self.now }
     {
-        match self.failure {
-            Some(cause) => Err(cause),
-            None => Ok(()),
+        if let Some(cause) = self.failure {
+            return Err(cause);
         }
+        Ok(())
     }
 
     /// How many documents the blocks have.

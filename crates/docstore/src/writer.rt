@@ -276,7 +276,7 @@ fn flush_if_full<W: TerminatingWrite>(
     }
 }
 
-// Writes the documents as a block if there are any. None waits afterwards, whether the write succeeds or not.
+// Writes the documents as a block if there are any. None waits afterwards, also where this write fails.
 fn flush<W: TerminatingWrite>(
     documents: &mut CurrentBlock,
     output: &mut BlockCompressor<W>,

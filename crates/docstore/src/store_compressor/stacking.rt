@@ -85,9 +85,8 @@ impl<W: TerminatingWrite> BlockCompressor<W> {
         self.check_works()?;
         let alloc = self.alloc;
         let mut next_block = 0;
-        while let Some(StorePart { blocks, bytes }) = reader.read_part(
-            alloc, next_block, part_bytes,
-        )? {
+        while let Some(part) = reader.read_part(alloc, next_block, part_bytes)? {
+            let StorePart { blocks, bytes } = part;
             next_block = blocks.end;
             self.write_blocks(bytes.as_slice(), reader.checkpoints_in(blocks))?;
         }

@@ -3,8 +3,8 @@ use Rattle.docstore.specs.BlockOutput.{IsSound}
 use Rattle.docstore.specs.StackingInParts.{StacksFirst, IsReadUpTo}
 use Rattle.docstore.proofs.store_compressor.BlockCompressor.stack_reader_in_parts.Given as goal
 
-abbrev pub invariant-loop-blocks : goal.invariant-loop-blocks
-invariant-loop-blocks g l = record {
+abbrev pub invariant-loop-part : goal.invariant-loop-part
+invariant-loop-part g l = record {
   put : StacksFirst l.fn.reader l.next_block l.fn.self l.self;
   read : IsReadUpTo l.part_bytes l.next_block l.fn.reader l.reader;
   within : l.next_block ≤ length l.fn.reader.checkpoints;
@@ -16,5 +16,5 @@ invariant-loop-blocks g l = record {
   sound : IsSound l.self;
 }
 
-abbrev pub decreases-loop-blocks : goal.decreases-loop-blocks
-decreases-loop-blocks g l = length l.fn.reader.checkpoints - l.next_block
+abbrev pub decreases-loop-part : goal.decreases-loop-part
+decreases-loop-part g l = length l.fn.reader.checkpoints - l.next_block
