@@ -11,7 +11,7 @@ overflow_add-walk g c =
     let end = c.requires.walk.end in let here = c.requires.here in
     omega arith
 
-next : (g : _) (c : goal.Joined-walk g) → IsNextBlock c.args.reader.now.checkpoints c.args.walk.now.place c.args.walk.now.next c.enter-entered.ensures.entered.checkpoint
+next : (g : _) (c : goal.Joined-walk-new g) → IsNextBlock c.args.reader.now.checkpoints c.args.walk.now.place c.args.walk.now.next c.enter-entered.ensures.entered.checkpoint
 next g c = next_is _ _ _ _ _ c.enter-entered.ensures.covers (c.requires.here ∙ c.requires.walk.end) c.requires.more c.enter-entered.ensures.entered.looked.looked.seeks
 
 pub returns-clause-walk : goal.returns-clause-walk
@@ -28,16 +28,16 @@ returns-clause-walk g c =
       end = e.end ∙ sym n.end;
       above = omega arith;
       below = omega arith;
-      some = (λ _. omega arith, λ _. refl);
-      holds = λ honest. holds_next c.args.reader.now c.enter-entered.new.self c.args.walk.now.next c.args.walk.now.place
-          ((c.args.walk.now.place + 1) - 1) e.checkpoint c.enter-entered.result.block e.looked n.at place honest;
-      only = only_next c.args.reader.now c.enter-entered.new.self c.args.walk.now.next e.checkpoint c.enter-entered.result.block e.looked;
+      some = rw c.new.ensures (λ _. omega arith, λ _. refl);
+      holds = λ honest. rw c.new.ensures (holds_next c.args.reader.now c.enter-entered.new.self c.args.walk.now.next c.args.walk.now.place
+          ((c.args.walk.now.place + 1) - 1) e.checkpoint c.enter-entered.result.block e.looked n.at place honest);
+      only = rw c.new.ensures (only_next c.args.reader.now c.enter-entered.new.self c.args.walk.now.next e.checkpoint c.enter-entered.result.block e.looked);
     })
 
 pub returns-clause-taken : goal.returns-clause-taken
 returns-clause-taken g c =
     let n = next g c in
-    (c.enter-entered.ensures.entered.checkpoint, n.at, n.start, c.enter-entered.ensures.entered.looked)
+    rw c.new.ensures (c.enter-entered.ensures.entered.checkpoint, n.at, n.start, c.enter-entered.ensures.entered.looked)
 
 pub returns-clause-inside : goal.returns-clause-inside
 returns-clause-inside g c = let n = (next g c).inside in let end = c.enter-entered.ensures.entered.end in omega arith
