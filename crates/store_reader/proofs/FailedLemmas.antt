@@ -64,8 +64,8 @@ pub item_failed : (first old new : Reading) (set : Option (ℕ → Bool)) (count
 item_failed first old new set count from to item items listed gives before some = elim (Contains-push_cases items item (Err Read) some) [
   | inl earlier ↦ risen_on first.file.failures old.file.failures new.file.failures (before earlier) gives.same.failures
   | inr here ↦
-      let block = taken_failed gives.last (gives.last - to.first) (taken_last to.block) item gives.gives.answers here in
-      elim (failed_along (take to.place first.checkpoints) first None new (taken_last to.block) listed.looks block) [ inl none ↦ absurd cc | inr risen ↦ risen ]
+      let block = taken_failed gives.last (gives.last - to.first) (taken_last to) item gives.gives.answers here in
+      elim (failed_along (take to.place first.checkpoints) first None new (taken_last to) listed.looks block) [ inl none ↦ absurd cc | inr risen ↦ risen ]
 ]
 
 -- one more answer

@@ -1,5 +1,5 @@
 -- How an iteration goes over the documents.
-use Rattle.std.proofs.Common.{◌≡◌, ℕ, zero, suc, ◌+◌, ◌-◌, ◌<◌, ◌≤◌, Bool, true, false, List, [], ◌∷◌, ◌++◌, length, take, drop, Option, Some, None, refl, sym, ap, ◌∙◌, subst, arith, add-one, inl, inr, ◌⊎◌}
+use Rattle.std.proofs.Common.{◌≡◌, ℕ, zero, suc, ◌+◌, ◌-◌, ◌<◌, ◌≤◌, Bool, true, false, List, [], ◌∷◌, ◌++◌, length, take, drop, Option, Some, None, is_some, refl, sym, ap, ◌∙◌, subst, arith, add-one, inl, inr, ◌⊎◌}
 use Rattle.std.proofs.lemmas.Bool.{ltb-true, ltb-false, lt-ltb, le-ltb}
 use Rattle.std.proofs.lemmas.List.{drop-drop}
 use Rattle.std.proofs.Math.Seq.{take-add}
@@ -16,10 +16,20 @@ use Rattle.store_reader.specs.Iteration.{is_in}
 use Rattle.store_reader.specs.LookingUp.{Takes}
 use Rattle.store_reader.specs.Reading.{Reading, part_of, num_docs, store_of}
 use Rattle.store_format.specs.Slots.{slots}
-use Rattle.store_reader.specs.Walking.{taken_last, IsTaken, HoldsPart, StandsIn, IsWalk, LooksAlong, WalksTo}
+use Rattle.store_reader.specs.Walking.{taken_at, taken_last, IsTaken, HoldsPart, StandsIn, IsWalk, LooksAlong, WalksTo}
 use Rattle.store_reader.proofs.GetAnswerLemmas.{why_none, slot_at}
 use Rattle.store_reader.proofs.LookUpLemmas.{same_file}
 use Rattle.store_reader.proofs.SeekLemmas.{within, next_block, docs_end-take_more, not_all, docs_go_on}
+
+-- once a block was looked up there is one
+pub taken_some : (place : ℕ) (block : Result (List ℕ) StoreError) → 0 < place → taken_at place block ≡ Some block
+taken_some zero block some = absurd (omega arith)
+taken_some (suc before) block some = refl
+
+-- and before that there is none
+pub taken_place : (place : ℕ) (block : Result (List ℕ) StoreError) → IsSome (taken_at place block) → 0 < place
+taken_place zero block some = absurd cc
+taken_place (suc before) block some = omega arith
 
 -- the next block of a list, which begins at this document
 pub record IsNextBlock (cs : List Checkpoint) (n target : ℕ) (c : Checkpoint) : Type 0 where
@@ -73,7 +83,7 @@ range_more cs p q c le e =
 
 -- past a document that is not alive
 pub walks_past : (set : Option (ℕ → Bool)) (old : Reading) (from : Walk) (id : ℕ) (new : Reading) (to to' : Walk) → WalksTo set old from id new to → is_in set id ≡ false → to'.place ≡ to.place
-    → (taken_last to'.block) ≡ (taken_last to.block) → WalksTo set old from (id + 1) new to'
+    → to'.block ≡ to.block → WalksTo set old from (id + 1) new to'
 walks_past set old from id new to to' w dead place block = record {
   on = omega (arith, w.on);
   dead = λ k lo hi. dead_at k lo hi;
@@ -101,15 +111,15 @@ range_joined cs p q n pq qn =
 
 -- on through more blocks
 pub walks_along : (set : Option (ℕ → Bool)) (old : Reading) (from : Walk) (id : ℕ) (mid : Reading) (to : Walk) (new : Reading) (to' : Walk)
-    → WalksTo set old from id mid to → to.place ≤ to'.place → LooksAlong (slice_range mid.checkpoints to.place to'.place) mid (taken_last to.block) new (taken_last to'.block) → WalksTo set old from id new to'
+    → WalksTo set old from id mid to → to.place ≤ to'.place → LooksAlong (slice_range mid.checkpoints to.place to'.place) mid (taken_last to) new (taken_last to') → WalksTo set old from id new to'
 walks_along set old from id mid to new to' w later looks =
-    let same = checkpoints_along (slice_range old.checkpoints from.place to.place) old (taken_last from.block) mid (taken_last to.block) w.looks in
+    let same = checkpoints_along (slice_range old.checkpoints from.place to.place) old (taken_last from) mid (taken_last to) w.looks in
     record {
       on = w.on;
       dead = w.dead;
       later = omega (arith, w.later);
       looks = rw (range_joined old.checkpoints from.place to.place to'.place w.later later)
-          (looks_on _ _ old (taken_last from.block) mid (taken_last to.block) new (taken_last to'.block) w.looks (subst (λ (cs : List Checkpoint). LooksAlong (slice_range cs to.place to'.place) mid (taken_last to.block) new (taken_last to'.block)) same looks));
+          (looks_on _ _ old (taken_last from) mid (taken_last to) new (taken_last to') w.looks (subst (λ (cs : List Checkpoint). LooksAlong (slice_range cs to.place to'.place) mid (taken_last to) new (taken_last to')) same looks));
     }
 
 -- a walk that has not begun
@@ -133,7 +143,7 @@ no_block [] bytes covers le = refl
 no_block (c ∷ cs) bytes covers le = absurd (let on = docs_go_on c.doc_range.end c.byte_range.end cs covers.in_line.3 in let f = covers.filled.0.0 in omega arith)
 
 -- the same, if only the next document is another
-pub walks_same : (set : Option (ℕ → Bool)) (old : Reading) (from : Walk) (id : ℕ) (new : Reading) (to to' : Walk) → WalksTo set old from id new to → to'.place ≡ to.place → (taken_last to'.block) ≡ (taken_last to.block)
+pub walks_same : (set : Option (ℕ → Bool)) (old : Reading) (from : Walk) (id : ℕ) (new : Reading) (to to' : Walk) → WalksTo set old from id new to → to'.place ≡ to.place → to'.block ≡ to.block
     → WalksTo set old from id new to'
 walks_same set old from id new to to' w place block = record { on = w.on; dead = w.dead; later = omega (arith, w.later); looks = rw (place, block) w.looks }
 
@@ -244,18 +254,18 @@ stands_there old new id first place (Some b) c is covers above same file some ho
 
 -- where a document of the walk stands
 pub stands_in : (set : Option (ℕ → Bool)) (old : Reading) (from : Walk) (id : ℕ) (new : Reading) (w : Walk) → WalksTo set old from id new w → Covers old.checkpoints (length old.file.content)
-    → IsWalk new w → w.next ≡ id → id < w.end → IsSomeAnd (taken_last w.block) (StandsIn old id w.first)
+    → IsWalk new w → w.next ≡ id → id < w.end → IsSomeAnd (taken_last w) (StandsIn old id w.first)
 stands_in set old from id new w walks covers is here inside =
     let range = slice_range old.checkpoints from.place w.place in
-    let same = checkpoints_along range old (taken_last from.block) new (taken_last w.block) walks.looks in
-    let file = file_along range old (taken_last from.block) new (taken_last w.block) walks.looks in
+    let same = checkpoints_along range old (taken_last from) new (taken_last w) walks.looks in
+    let file = file_along range old (taken_last from) new (taken_last w) walks.looks in
     let few : w.place ≤ length old.checkpoints = subst (λ (cs : List Checkpoint). w.place ≤ length cs) same is.few in
     let first : w.first ≡ docs_end 0 (take (w.place - 1) old.checkpoints) = subst (λ (cs : List Checkpoint). w.first ≡ docs_end 0 (take (w.place - 1) cs)) same is.first in
     let end : w.end ≡ docs_end 0 (take w.place old.checkpoints) = subst (λ (cs : List Checkpoint). w.end ≡ docs_end 0 (take w.place cs)) same is.end in
     let above = is.above in
     let found = is_in_block old.checkpoints (length old.file.content) w.place w.first id covers few first (omega arith) (omega arith) in
     let c = found.0 in
-    stands_there old new id w.first w.place (taken_last w.block) c found.1 covers (omega arith) same file (is.some.1 found.1.some) is.holds is.only
+    stands_there old new id w.first w.place (taken_last w) c found.1 covers (omega arith) same file (ap is_some (taken_some w.place w.block found.1.some)) is.holds is.only
 
 -- what it answers, by the bytes of the data
 answers_by : (content : List ℕ) (c : Checkpoint) (id : ℕ) (block result : Result (List ℕ) StoreError) → HoldsPart content block c → IfErr block (λ e. (e ≡ Read) ⊎ (e ≡ Memory))

@@ -43,4 +43,4 @@ pub use store_slice::StoreSlice;
 pub use store_tail::StoreTail;
 pub use tail_error::TailError;
 pub use view::StoreView;
-pub use walk::{DocWalk, LastBlock, Walk};
+pub use walk::{DocWalk, Walk};

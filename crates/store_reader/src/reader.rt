@@ -235,7 +235,7 @@ impl<H: FileHandle> StoreReader<H> {
         ensures next { result.walk.next ≡ 0 }
         ensures walk { IsWalk result.reader.now result.walk }
         ensures first_block { LooksAlong (take 1 self.old.checkpoints)
-            self.old None result.reader.now (taken_last result.walk.block) }
+            self.old None result.reader.now (taken_last result.walk) }
         ensures same_store { IsSameStore self.old result.reader.now }
         ensures place { result.walk.place ≡ length (take 1 self.old.checkpoints) }
     {
@@ -261,7 +261,7 @@ impl<H: FileHandle> StoreReader<H> {
         ensures next { result.walk.raw.next ≡ 0 }
         ensures walk { IsWalk result.reader.now result.walk.raw }
         ensures first_block { LooksAlong (take 1 self.old.checkpoints)
-            self.old None result.reader.now (taken_last result.walk.raw.block) }
+            self.old None result.reader.now (taken_last result.walk.raw) }
         ensures same_store { IsSameStore self.old result.reader.now }
         ensures place { result.walk.raw.place ≡ length (take 1 self.old.checkpoints) }
     {

@@ -12,30 +12,6 @@ use std::alloc::Global;
 use std::marker::PhantomData;
 use store_base::{AliveBitSet, DocId, DocumentDeserialize, FileHandle, OwnedBytes, StoreError};
 
-/// The block that an iteration looked up last.
-#[derive(Drop)]
-pub enum LastBlock {
-    /// Its bytes.
-    Came(OwnedBytes),
-    /// Why its bytes did not come.
-    Missing(StoreError),
-    /// No block was looked up yet.
-    NoneYet,
-}
-
-impl LastBlock {
-    // What a look-up gave.
-    #[inline(always)]
-    fn new(block: Result<OwnedBytes, StoreError>) -> LastBlock
-        ensures { taken_last result ≡ Some block }
-    {
-        match block {
-            Ok(bytes) => LastBlock::Came(bytes),
-            Err(error) => LastBlock::Missing(error),
-        }
-    }
-}
-
 /// Where an iteration stands: at an id, in the block that it looked up last.
 #[derive(Drop)]
 pub struct Walk {
@@ -43,7 +19,7 @@ pub struct Walk {
     pub(crate) place: usize,
     pub(crate) first: DocId,
     pub(crate) end: DocId,
-    pub(crate) block: LastBlock,
+    pub(crate) block: Result<OwnedBytes, StoreError>,
 }
 
 /// The same, where each document is read as a type.
@@ -53,16 +29,16 @@ pub struct DocWalk<D: DocumentDeserialize> {
     pub(crate) document: PhantomData<D>,
 }
 
-// Before the first block.
+// Before the first block. As long as `place` is 0 there is no block, and `block` is not read.
 fn new_walk() -> Walk
-    ensures { result ≡ record { next = 0; place = 0; first = 0; end = 0; block = LastBlock.NoneYet } }
+    ensures { result ≡ record { next = 0; place = 0; first = 0; end = 0; block = Err StoreError.Memory } }
 {
     Walk {
         next: 0,
         place: 0,
         first: 0,
         end: 0,
-        block: LastBlock::NoneYet,
+        block: Err(StoreError::Memory),
     }
 }
 
@@ -74,7 +50,7 @@ fn enter_next<H: FileHandle>(reader: &mut StoreReader<H>, alloc: Global, walk: &
     ensures walk { IsWalk reader.new walk.new }
     ensures taken { (c : Checkpoint) × (slice_get reader.old.checkpoints walk.old.place ≡ Some c)
         × (c.doc_range.start ≡ walk.old.next)
-        × IsSomeAnd (taken_last walk.new.block) (λ block. IsTaken reader.old walk.old.next c block reader.new) }
+        × IsSomeAnd (taken_last walk.new) (λ block. IsTaken reader.old walk.old.next c block reader.new) }
     ensures next { walk.new.next ≡ walk.old.next }
     ensures inside { walk.new.next < walk.new.end }
     ensures place { walk.new.place ≡ walk.old.place + 1 }
@@ -83,7 +59,7 @@ fn enter_next<H: FileHandle>(reader: &mut StoreReader<H>, alloc: Global, walk: &
     walk.place += 1;
     walk.first = entered.first;
     walk.end = entered.end;
-    walk.block = LastBlock::new(entered.block);
+    walk.block = entered.block;
 }
 
 // Into the block of the next document, where the walk is not in it yet.
@@ -95,7 +71,7 @@ fn step_in<H: FileHandle>(reader: &mut StoreReader<H>, alloc: Global, walk: &mut
     ensures inside { walk.new.next < walk.new.end }
     ensures later { walk.old.place ≤ walk.new.place }
     ensures looks { LooksAlong (slice_range reader.old.checkpoints walk.old.place walk.new.place)
-        reader.old (taken_last walk.old.block) reader.new (taken_last walk.new.block) }
+        reader.old (taken_last walk.old) reader.new (taken_last walk.new) }
 {
     if walk.next < walk.end {
         return;
@@ -109,7 +85,7 @@ pub(crate) fn first_walk<H: FileHandle>(reader: &mut StoreReader<H>, alloc: Glob
     ensures next { result.next ≡ 0 }
     ensures place { result.place ≡ length (take 1 reader.old.checkpoints) }
     ensures looks { LooksAlong (take 1 reader.old.checkpoints)
-        reader.old None reader.new (taken_last result.block) }
+        reader.old None reader.new (taken_last result) }
 {
     let mut walk = new_walk();
     if reader.num_docs() == 0 {
@@ -144,7 +120,7 @@ pub(crate) fn walk_on<H: FileHandle>(
         × (walk.new.next ≡ num_docs reader.old))
         (λ id. WalksTo (set_in alive.now) reader.old walk.old id reader.new walk.new
         × (id < num_docs reader.old) × (is_in (set_in alive.now) id ≡ true) × (walk.new.next ≡ id + 1)
-        × IsSomeAnd (taken_last walk.new.block) (StandsIn reader.old id walk.new.first)) }
+        × IsSomeAnd (taken_last walk.new) (StandsIn reader.old id walk.new.first)) }
 {
     for doc_id in walk.next..reader.num_docs() {
         step_in(reader, alloc, walk);
@@ -158,14 +134,12 @@ pub(crate) fn walk_on<H: FileHandle>(
 
 // What a document answers of the block that was taken.
 pub(crate) fn answer_of(walk: &Walk, doc_id: DocId) -> Result<OwnedBytes, StoreError>
-    requires block { IsSome (taken_last walk.now.block) }
+    requires block { 0 < walk.now.place }
     requires above { walk.now.first ≤ doc_id }
     ensures { AnswersOf doc_id walk.now result }
 {
     match &walk.block {
-        LastBlock::Came(block) => document_in(block, doc_id, doc_id - walk.first),
-        LastBlock::Missing(error) => Err(*error),
-        // The document's block was looked up.
-        LastBlock::NoneYet => unreachable!(),
+        Ok(block) => document_in(block, doc_id, doc_id - walk.first),
+        Err(error) => Err(*error),
     }
 }

@@ -29,7 +29,7 @@ loop-iter-preserved g c =
     let pushed = c.in_ok-push.ensures.items in
     let listed : IsListedTo first set (length c.loop-iter.items.items + 1) new.reader.now new.walk =
     listed_on first set (length c.loop-iter.items.items) old.reader.now old.walk c.in-Some.item new.reader.now new.walk c.loop-iter.invariant.same.checkpoints c.loop-iter.invariant.looks gives in
-    let not_past = walked_not_past gives.last (gives.last - new.walk.first) (taken_last new.walk.block) c.in-Some.item gives.walk.only gives.gives.answers in
+    let not_past = walked_not_past gives.last (gives.last - new.walk.first) (taken_last new.walk) c.in-Some.item gives.walk.only gives.gives.answers in
     record {
       name = steps.2 ∙ c.loop-iter.invariant.name;
       walk = c.in-Some.ensures.goes.keeps;
