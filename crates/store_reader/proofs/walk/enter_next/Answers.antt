@@ -1,4 +1,4 @@
-use Rattle.std.proofs.Common.{◌≡◌, ◌+◌, ◌-◌, take, refl, sym, ap, ◌∙◌, arith}
+use Rattle.std.proofs.Common.{◌≡◌, ◌+◌, ◌-◌, take, sym, ap, ◌∙◌, arith}
 use Rattle.layered_index.specs.Checkpoint.{docs_end}
 use Rattle.store_reader.specs.Reading.{Reading}
 use Rattle.store_reader.proofs.SeekLemmas.{docs_grow}
