@@ -1,16 +1,14 @@
 -- A sound block is the block of its documents.
-use Rattle.std.proofs.Common.{◌≡◌, ℕ, zero, suc, ◌+◌, ◌-◌, ◌*◌, ◌^◌, ◌<◌, ◌≤◌, Bool, true, false, List, [], ◌∷◌, ◌++◌, length, map, take, drop, get_or, refl, sym, ap, ◌∙◌, subst, arith}
+use Rattle.std.proofs.Common.{◌≡◌, ℕ, zero, suc, ◌+◌, ◌-◌, ◌*◌, ◌^◌, ◌<◌, ◌≤◌, Bool, true, false, List, [], ◌∷◌, ◌++◌, length, map, take, drop, refl, sym, ap, ◌∙◌, arith}
 use Rattle.std.specs.Prelude.{slice_range, not, ◌&&◌, ◌||◌, nat_le, ◌==◌}
-use Rattle.std.specs.List.{concat, flat_map, list_any, AllByRecursion}
+use Rattle.std.specs.List.{concat, flat_map, list_any}
 use Rattle.std.proofs.lemmas.Bool.{lt-ltb, le-ltb, le-leb, leb-true, and_from}
 use Rattle.std.proofs.lemmas.Bool.Decides.{nat_tests}
-use Rattle.std.specs.Int.{w32, from_le_bytes}
 use Rattle.store_base.specs.Serialize.{IsBytes, fixed}
 use Rattle.store_base.proofs.FixedReads.{AreOctets, wide32}
-use Rattle.store_format.specs.Block.{Slot, slot, doc, damaged, block, starts_from, u32_at, count_of, table_of, start_of, end_of, is_sound as is_slot_sound}
-use Rattle.store_format.specs.StoreFile.{StoreBlock}
+use Rattle.store_format.specs.Block.{slot, doc, damaged, block, starts_from, u32_at, count_of, table_of, start_of, end_of, is_sound as is_slot_sound}
 use Rattle.store_reader.proofs.ReaderStoreLemmas.{slices_joined, length-slice, all_of}
-use Rattle.store_commands.specs.Checks.{is_damaged, slots_in, has_table, is_sound, is_sound_block}
+use Rattle.store_commands.specs.Checks.{is_damaged, slots_in, has_table}
 use Rattle.store_format.proofs.BlockLemmas.{length-block}
 use Rattle.store_format.proofs.DocumentLemmas.{count_of-block, start_of-block, blocks_hold_documents}
 use Rattle.std.proofs.lemmas.List.{append-nil}
@@ -121,7 +119,8 @@ whole_block bytes n b h first =
     ap (λ (m : ℕ). flat_map (fixed 4) (starts_from m (docs_from bytes 0 n))) (sym first) ∙ table_from bytes n 0 n b h (omega arith) ∙ ap (λ (m : ℕ). slice_range bytes m (t + 4 * n)) zero_place in
     let last : length bytes - 4 ≡ t + 4 * n = omega (arith, place) in
     let number : fixed 4 (length (docs_from bytes 0 n)) ≡ slice_range bytes (t + 4 * n) (length bytes) =
-    ap (fixed 4) (length-docs_from bytes 0 n ∙ sym h.count) ∙ spelled_at bytes (length bytes - 4) (length bytes) b (omega (arith, place)) (omega arith) ∙ ap (λ (m : ℕ). slice_range bytes m (length bytes)) last in
+    ap (fixed 4) (length-docs_from bytes 0 n ∙ sym h.count)
+    ∙ spelled_at bytes (length bytes - 4) (length bytes) b (omega (arith, place)) (omega arith) ∙ ap (λ (m : ℕ). slice_range bytes m (length bytes)) last in
     sym (all_of bytes (length bytes) refl)
     ∙ slices_joined bytes 0 (t + 4 * n) (length bytes) (omega arith) (omega (arith, place))
     ∙ ap (λ (xs : List ℕ). xs ++ slice_range bytes (t + 4 * n) (length bytes)) (slices_joined bytes 0 t (t + 4 * n) (omega arith) (omega arith))
@@ -195,7 +194,8 @@ has_table_of docs fits = and_from _ _ (and_from _ _ (le-leb (4 * (length docs + 
 
     first : (docs : List (List ℕ)) → length (block docs) < 2 ^ 32 → ((length docs == 0) || (start_of (block docs) 0 == 0)) ≡ true
     first [] fits = refl
-    first (d ∷ docs) fits = either (length (d ∷ docs) == 0) (start_of (block (d ∷ docs)) 0 == 0) (let start : start_of (block (d ∷ docs)) 0 ≡ 0 = start_of-block [] d docs 0 refl fits in grind (arith, nat_tests))
+    first (d ∷ docs) fits =
+        either (length (d ∷ docs) == 0) (start_of (block (d ∷ docs)) 0 == 0) (let start : start_of (block (d ∷ docs)) 0 ≡ 0 = start_of-block [] d docs 0 refl fits in grind (arith, nat_tests))
 
 pub blocks_of_documents_are_sound : BlocksOfDocumentsAreSound
 blocks_of_documents_are_sound docs fits =
