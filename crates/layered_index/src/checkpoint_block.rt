@@ -5,8 +5,8 @@ ghost use Rattle.layered_index.specs.Checkpoint.{IsInLine, doc_interval, checkpo
 ghost use Rattle.layered_index.specs.BlockReading.{HasBlock};
 ghost use Rattle.layered_index.specs.Refusal.{RefusesOnlyUnless};
 
-use crate::run_reading::first_block;
 use crate::checkpoint::{CHECKPOINT_PERIOD, Checkpoint};
+use crate::run_reading::first_block;
 use std::alloc::Global;
 use std::marker::Model;
 use std::ops::Range;

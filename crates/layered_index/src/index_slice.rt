@@ -11,9 +11,9 @@ ghost use Rattle.layered_index.specs.Sought.{next_layer, after_numbers, from_poi
 ghost use Rattle.layered_index.specs.Sought.{IsPast, IndexBytes, found_in_index, Answers};
 
 use crate::checkpoint::Checkpoint;
-use crate::run_seek::{seek_block, seek_layer};
 use crate::layer_cursor::LayerCursor;
 use crate::looks::Steps;
+use crate::run_seek::{seek_block, seek_layer};
 use std::marker::Model;
 use store_base::{DocId, StoreError, first_number};
 

@@ -6,8 +6,8 @@ ghost use Rattle.store_base.specs.Counts.{raised};
 ghost use Rattle.layered_index.specs.LayerReading.{next_in_block, next_at, items};
 
 use crate::checkpoint::Checkpoint;
-use crate::run_reading::{heading_front, step_front};
 use crate::looks::Steps;
+use crate::run_reading::{heading_front, step_front};
 use std::marker::Model;
 
 // The next checkpoint of a block, how many are left in it, and what follows it.

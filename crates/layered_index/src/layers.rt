@@ -13,10 +13,10 @@ ghost use Rattle.layered_index.specs.Faults.{standing_from, PassedTo, BreaksAt, 
 ghost use Rattle.layered_index.specs.Refusal.{Gives, BreaksOnlyUnless, RefusedOnlyUnless};
 
 use crate::checkpoint::Checkpoint;
-use crate::run_reading::{Heading, heading_front, step_front};
 use crate::fault::{LayerFault, ReadFault, Refusal};
 use crate::index_fault::fault_in;
 use crate::layer_cursor::LayerCursor;
+use crate::run_reading::{Heading, heading_front, step_front};
 use crate::tables::Ends;
 use store_base::OwnedBytes;
 

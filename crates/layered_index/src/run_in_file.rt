@@ -8,8 +8,8 @@ ghost use Rattle.layered_index.specs.IndexHeads.{RefusesSeek, AnswersByReads};
 ghost use Rattle.layered_index.specs.Sought.{found_on_top, found_in_run, found_in, IsPast};
 
 use crate::checkpoint::Checkpoint;
-use crate::run_seek::{seek_block, seek_pointed, seek_top};
 use crate::looks::Steps;
+use crate::run_seek::{seek_block, seek_pointed, seek_top};
 use std::alloc::Global;
 use std::ops::Range;
 use store_base::{DocId, FileHandle, FileSlice, OwnedBytes, StoreError};

@@ -10,8 +10,8 @@ ghost use Rattle.layered_index.specs.Sought.{found_on_top, found_in_run, found_i
 ghost use Rattle.layered_index.specs.Sought.{sought_from, sought_at, scanned, scanned_at, IsPast, IsRunAt, IsFoundAbove};
 
 use crate::checkpoint::Checkpoint;
-use crate::run_reading::{Heading, heading_front, step_front};
 use crate::looks::Steps;
+use crate::run_reading::{Heading, heading_front, step_front};
 use store_base::DocId;
 
 /// What a seek in a whole block found: the first checkpoint whose documents end past the target, if there is one, and

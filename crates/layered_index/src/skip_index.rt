@@ -11,6 +11,7 @@ ghost use Rattle.layered_index.specs.Tables.{no_ends, with_ends};
 ghost use Rattle.layered_index.specs.Faults.{IsFirstFault};
 ghost use Rattle.layered_index.specs.Refusal.{RefusesOnlyUnless, RefusedOnlyUnless};
 
+use crate::checkpoint::{CHECKPOINT_PERIOD, Checkpoint};
 use crate::fault::Refusal;
 use crate::index_fault::IndexFault;
 use crate::layer_cursor::LayerCursor;
@@ -18,7 +19,6 @@ use crate::layers::{digit_count, walk_down};
 use crate::looks::{Steps, seek_near, seek_over};
 use crate::split::split;
 use crate::tables::{Ends, TableLooks, Tables};
-use crate::checkpoint::{CHECKPOINT_PERIOD, Checkpoint};
 use std::alloc::Global;
 use std::marker::Model;
 use store_base::{DocId, NoMemory, OwnedBytes, StoreError};

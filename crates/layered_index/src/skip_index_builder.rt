@@ -10,8 +10,8 @@ ghost use Rattle.layered_index.specs.Layers.{ends_from, index_part};
 ghost use Rattle.layered_index.specs.Building.{put, put_some, closed_text, last_pointer};
 ghost use Rattle.layered_index.specs.Building.{TookOne, Takes, inserted, Closes, closed, texts_of};
 
-use crate::checkpoint_block::CheckpointBlock;
 use crate::checkpoint::{CHECKPOINT_PERIOD, Checkpoint};
+use crate::checkpoint_block::CheckpointBlock;
 use std::alloc::Global;
 use std::marker::Model;
 use store_base::{Cause, StoreError, TerminatingWrite, VInt, WriteFault};
