@@ -98,7 +98,7 @@ fn pass_on<F: Folder>(folder: &mut F, beside: &str, bytes: &[u8], sent: &mut Sen
     ensures file { IsTrue F.honest → OnOk result
         (F.seen folder.new beside.now ≡ Some (unwrap_or (F.seen folder.old beside.now) [] ++ bytes.now)) }
     ensures crash { IsTrue F.honest
-        → Follows (Elsewhere beside.now) (F.may_leave folder.old) (F.may_leave folder.new) }
+        → ComesFrom (Elsewhere beside.now) (F.may_leave folder.old) (F.may_leave folder.new) }
     ensures time { IsTrue F.honest → Elapses (F.moment folder.old) (F.moment folder.new)
         (F.left_since folder.old) (F.left_since folder.new) (F.may_leave folder.new) }
 {
