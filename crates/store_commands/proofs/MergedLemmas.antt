@@ -15,7 +15,7 @@ use Rattle.store_reader.specs.Iteration.{alive}
 use Rattle.store_reader.specs.Reading.{Reading, IsSameStore, num_docs, store_of}
 use Rattle.store_merge.specs.declared.input.MergeInput.{MergeInput}
 use Rattle.store_merge.specs.declared.merge_error.MergeError.{MergeError}
-use Rattle.store_merge.specs.Choice.{set_of, alive_of, alive_slots, first_old}
+use Rattle.store_merge.specs.Choice.{flags_of, alive_of, alive_slots, first_old}
 use Rattle.store_merge.specs.Inputs.{AreInputsKept, IsAskedOnce}
 use Rattle.store_merge.specs.Merge.{IsEnded, IsFailed}
 use Rattle.store_commands.specs.Merging.{is_kept, KeepsDocuments, kept_slots, IsMergedReader, input_of, EndsStore}

@@ -22,7 +22,7 @@ use Rattle.store_reader.specs.LookingUp.{LooksUp, IsShared}
 use Rattle.store_reader.specs.Reading.{Reading, IsSameStore, num_docs, store_of}
 use Rattle.store_format.specs.Slots.{slots}
 use Rattle.docstore.specs.Trace.{weight}
-use Rattle.store_reader.specs.Walking.{taken_last, GivesNext, IsTaken as IsBlockTaken, IsWalk, LooksAlong}
+use Rattle.store_reader.specs.Walking.{taken_last, GivesNext, IsBlockTaken, IsWalk, LooksAlong}
 use Rattle.docstore.specs.Writer.{Writing, flushed, with_document, with_failures}
 use Rattle.docstore.specs.Laws.{taken}
 use Rattle.store_merge.specs.Bringing.{IsCopied, with_documents}

@@ -17,7 +17,7 @@ use Rattle.store_reader.specs.GetAnswer.{IsLookedUp, AnswersFrom}
 use Rattle.store_reader.specs.CallAnswers.{IsGet, HasRefusal, results_of}
 use Rattle.store_reader.specs.LookingUp.{IsShared}
 use Rattle.store_reader.specs.Reading.{Reading, IsSameStore}
-use Rattle.store_reader.specs.Walking.{taken_last, IsTaken, LooksAlong, GivesNext}
+use Rattle.store_reader.specs.Walking.{taken_last, IsBlockTaken, LooksAlong, GivesNext}
 use Rattle.store_reader.proofs.GetAnswerLemmas.{has_failed}
 use Rattle.store_reader.proofs.IterationLookUpLemmas.{IsListedTo}
 use Rattle.store_reader.proofs.RecentLemmas.{same_store, same_along}

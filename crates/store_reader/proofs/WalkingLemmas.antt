@@ -17,7 +17,7 @@ use Rattle.store_reader.specs.Iteration.{is_in}
 use Rattle.store_reader.specs.LookingUp.{IsShared}
 use Rattle.store_reader.specs.Reading.{Reading, part_of, num_docs, store_of}
 use Rattle.store_format.specs.Slots.{slots}
-use Rattle.store_reader.specs.Walking.{taken_at, taken_last, IsTaken, HoldsPart, StandsIn, IsWalk, LooksAlong, WalksTo}
+use Rattle.store_reader.specs.Walking.{taken_at, taken_last, IsBlockTaken, HoldsPart, StandsIn, IsWalk, LooksAlong, WalksTo}
 use Rattle.store_reader.proofs.GetAnswerLemmas.{why_none, slot_at}
 use Rattle.store_reader.proofs.LookUpLemmas.{same_file}
 use Rattle.store_reader.proofs.SeekLemmas.{within, next_block, docs_end-take_more, not_all}

@@ -4,7 +4,7 @@ ghost use Rattle.std.specs.Prelude.{IsSome, IsSomeAnd, MatchOption};
 ghost use Rattle.layered_index.specs.declared.checkpoint.Checkpoint.{Checkpoint};
 ghost use Rattle.store_reader.specs.Iteration.{is_in};
 ghost use Rattle.store_reader.specs.Reading.{IsSameStore, num_docs};
-ghost use Rattle.store_reader.specs.Walking.{set_in, taken_last, IsTaken, StandsIn, IsWalk, LooksAlong, WalksTo, AnswersOf};
+ghost use Rattle.store_reader.specs.Walking.{set_in, taken_last, IsBlockTaken, StandsIn, IsWalk, LooksAlong, WalksTo, AnswersOf};
 
 use crate::reader::StoreReader;
 use crate::slot::document_in;
@@ -50,7 +50,7 @@ fn enter_next<H: FileHandle>(reader: &mut StoreReader<H>, alloc: Global, walk: &
     ensures walk { IsWalk reader.new walk.new }
     ensures taken { (c : Checkpoint) × (slice_get reader.old.checkpoints walk.old.place ≡ Some c)
         × (c.doc_range.start ≡ walk.old.next)
-        × IsSomeAnd (taken_last walk.new) (λ block. IsTaken reader.old walk.old.next c block reader.new) }
+        × IsSomeAnd (taken_last walk.new) (λ block. IsBlockTaken reader.old walk.old.next c block reader.new) }
     ensures next { walk.new.next ≡ walk.old.next }
     ensures inside { walk.new.next < walk.new.end }
     ensures place { walk.new.place ≡ walk.old.place + 1 }
