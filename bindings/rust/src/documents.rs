@@ -164,6 +164,16 @@ impl fmt::Debug for Documents<'_> {
 }
 
 /// The documents of a store that aren't damaged, in order, each with its number: made by [`Documents::sound`].
+///
+/// ```
+/// # let mut writer = zevkhadun::Writer::new(Vec::new());
+/// # for fruit in ["apple", "banana", "cherry"] {
+/// #     writer.put(fruit.as_bytes())?;
+/// # }
+/// # let store = zevkhadun::Store::open(writer.close()?)?;
+/// assert_eq!(store.iter().sound().last(), Some((2, b"cherry".as_slice())));
+/// # Ok::<(), Box<dyn std::error::Error>>(())
+/// ```
 #[derive(Clone, Debug)]
 #[must_use = "iterators are lazy"]
 pub struct SoundDocuments<'s> {

@@ -7,12 +7,10 @@ use std::{error, fmt, io};
 /// An error of the library. The numbers up to 16 are the store's own in every language.
 ///
 /// ```
-/// # fn main() {
 /// let refusal = zevkhadun::Store::open(b"too short").unwrap_err();
 /// assert_eq!(refusal, zevkhadun::Refusal::ShortFile);
 /// assert_eq!(refusal.number(), 1);
 /// assert_eq!(refusal.to_string(), "the file is shorter than a footer");
-/// # }
 /// ```
 #[derive(Clone, Copy, Debug, PartialEq, Eq, Hash)]
 #[non_exhaustive]

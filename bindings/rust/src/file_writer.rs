@@ -104,8 +104,8 @@ impl FileWriter {
     /// # Errors
     ///
     /// [`File`](Error::File), [`Failed`](Error::Failed), and [`Refused`](Error::Refused) with
-    /// [`NoMemory`](crate::Refusal::NoMemory). The old file is still there and the second one is removed. If the last step
-    /// alone fails, the sync of the folder, the new file is there, and a crash may bring the old one back.
+    /// [`NoMemory`](crate::Refusal::NoMemory). The old file is still there and the second one is removed. If the last
+    /// step alone fails, the sync of the folder, the new file is there, and a crash may bring the old one back.
     pub fn publish(self) -> Result<(), Error> {
         match self.writer.close() {
             Ok(part) => part.publish(),

@@ -75,6 +75,11 @@ pub fn verify(file: &[u8]) -> Result<(), Fault> {
 }
 
 /// Where a file first breaks the format, and how.
+///
+/// ```
+/// let fault = zevkhadun::verify(b"no store").unwrap_err();
+/// assert_eq!(fault.to_string(), "file: the file is shorter than a footer");
+/// ```
 #[derive(Clone, Copy, Debug, PartialEq, Eq)]
 #[non_exhaustive]
 pub struct Fault {
@@ -85,6 +90,16 @@ pub struct Fault {
 }
 
 /// The place of a fault in a file. Offsets are counted in bytes from the beginning of the file.
+///
+/// ```
+/// # let mut file = zevkhadun::Writer::new(Vec::new()).close()?;
+/// use zevkhadun::FaultPlace;
+///
+/// file[0] = 0x00; // the index of a store without documents is its first byte
+/// let fault = zevkhadun::verify(&file).unwrap_err();
+/// assert_eq!(fault.place, FaultPlace::LayerList { byte: 0 });
+/// # Ok::<(), zevkhadun::Error>(())
+/// ```
 #[derive(Clone, Copy, Debug, PartialEq, Eq)]
 #[non_exhaustive]
 pub enum FaultPlace {
@@ -104,7 +119,7 @@ pub enum FaultPlace {
     },
     /// The index is sound, but its blocks don't cover the data.
     Cover {
-        /// The offset that is reported.
+        /// The offset of the index.
         byte: usize,
     },
     /// A document that is damaged.
@@ -137,7 +152,7 @@ impl fmt::Display for FaultPlace {
             FaultPlace::File => f.write_str("file"),
             FaultPlace::LayerList { byte } => write!(f, "list of layers at byte {byte}"),
             FaultPlace::Run { byte, layer } => write!(f, "run of layer {layer} at byte {byte}"),
-            FaultPlace::Cover { byte } => write!(f, "blocks of the index, at byte {byte}"),
+            FaultPlace::Cover { byte } => write!(f, "blocks of the index at byte {byte}"),
             FaultPlace::Document { doc_id } => write!(f, "document {doc_id}"),
         }
     }
