@@ -18,7 +18,10 @@
 /* The path where links lead, or NULL with errno. A link that leads nowhere is an error. */
 static char *without_links(const char *path) {
     struct stat found;
-    return lstat(path, &found) == 0 && S_ISLNK(found.st_mode) ? realpath(path, NULL) : strdup(path);
+    if (lstat(path, &found) != 0) {
+        return errno == ENOENT ? strdup(path) : NULL;
+    }
+    return S_ISLNK(found.st_mode) ? realpath(path, NULL) : strdup(path);
 }
 
 /* Sets both names, and opens the folder of a path, which may be cut. */
