@@ -116,7 +116,7 @@ class LibraryCase(FolderCase):
         return self.compiled_source(compiler, ARRAYS)
 
     def compiled_by(self, compiler: Compiler, name: str, in_cpp: bool, sources: tuple[Path, ...] = (ARRAYS,)) -> Path:
-        """A program of bindings/c/tests in C11 or C++17, with these sources of the library as they are compiled here."""
+        """A program of bindings/c/tests in C11 or C++17, with these sources of the library compiled as it is."""
         command = [compiler.c, "-std=c11", "-D_GNU_SOURCE", "-g", "-O1"]
         if in_cpp:
             command = [compiler.cpp, "-std=c++17", "-g", "-O1", "-x", "c++"]

@@ -15,8 +15,9 @@ MOST = 20
 class Costs(ExampleCase):
     def instructions(self, program, way, count):
         """The instructions of a program that gets this many documents."""
-        command = ["valgrind", "--tool=callgrind", "--callgrind-out-file=/dev/null", program, way, str(count)]
-        done = subprocess.run([*command, self.folder / "store"], capture_output=True, text=True, timeout=120, check=True)
+        callgrind = ["valgrind", "--tool=callgrind", "--callgrind-out-file=/dev/null"]
+        command = [*callgrind, program, way, str(count), self.folder / "store"]
+        done = subprocess.run(command, capture_output=True, text=True, timeout=120, check=True)
         return int(re.search(r"Collected : (\d+)", done.stderr)[1])
 
     def test_a_get_by_path_takes_at_most_twenty_instructions_more(self):

@@ -10,6 +10,7 @@ OLD, NEW = b"an old line\n" * 40, b"a new line\n" * 9
 # What bindings/c/tests/failing_paths.c wraps, and those of its calls without which a store is written all the same: an
 # index is decoded twice where there is no memory for a table that is surely long enough.
 WRAPPED = r"(?:^WRAPPED\([^,]*, |__wrap_)([a-z_]+)"
+MEMORY = {"malloc", "calloc", "realloc", "strdup"}
 SPARED = {"fchown", "ioctl", "copy_file_range", "close", "malloc"}
 
 
@@ -50,7 +51,7 @@ class FailingPaths(WrappedCase):
         return self.read("a.store")
 
     def assert_each_failure(self, new, *words, **names):
-        """Each failing call leaves the old store or the new one; only the last sync comes after the new one is there."""
+        """Each failing call leaves the old store or the new one; after the last sync alone it is the new one."""
         replaced, failed = [], set()
         for call in range(1, 1000):
             self.write("a.store", self.old)
@@ -65,7 +66,7 @@ class FailingPaths(WrappedCase):
                 self.assert_same(self.read("a.store"), new, what)
                 continue
             self.assertEqual(done.returncode, 1, what)
-            self.assertIn(b"No space left" if name not in ("malloc", "calloc", "realloc", "strdup") else b"", done.stderr)
+            self.assertRegex(done.stderr, b"No space left|out of memory" if name in MEMORY else b"No space left")
             failed.add(name)
             is_replaced = self.read("a.store") == new
             self.assertTrue(is_replaced or self.read("a.store") == self.old, what)
