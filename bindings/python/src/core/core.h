@@ -16,7 +16,8 @@ typedef struct reader {
     PyObject *path;      /* the path of its file, or None */
     Py_buffer buffer;    /* the caller's bytes; without an object if the file is mapped */
     const uint8_t *file; /* the bytes of the file */
-    size_t len;          /* how many these are */
+    size_t len;          /* how many these are; 0 if it was closed */
+    size_t size;         /* how many they were */
     zevk_block *table;   /* the blocks */
     size_t rows;         /* how many blocks there are */
     uint32_t count;      /* how many documents there are */

@@ -74,6 +74,7 @@ static PyObject *open_bytes(reader *self) {
         release(self);
         return raise_refusal(answer, self->path, NULL);
     }
+    self->size = self->len;
     self->is_open = 1;
     Py_RETURN_NONE;
 }
@@ -273,7 +274,21 @@ static void release_buffer(PyObject *object, Py_buffer *given) {
     ((reader *)object)->views--;
 }
 
-/* ---- the type */
+/* ---- facts */
+
+/* How many bytes a footer has. */
+#define FOOTER_LEN 28
+
+static PyObject *footer(PyObject *object, PyObject *unused) {
+    const reader *self = (const reader *)object;
+    /* An open store has a footer. */
+    return check_open(self) ? PyBytes_FromStringAndSize((const char *)self->file + self->len - FOOTER_LEN, FOOTER_LEN)
+                            : NULL;
+}
+
+static PyObject *get_size(PyObject *object, void *closure) {
+    return PyLong_FromSize_t(((reader *)object)->size);
+}
 
 static PyObject *get_is_open(PyObject *object, void *closure) {
     return PyBool_FromLong(((reader *)object)->is_open);
@@ -283,15 +298,19 @@ static PyObject *get_blocks(PyObject *object, void *closure) {
     return PyLong_FromSize_t(((reader *)object)->rows);
 }
 
+/* ---- the type */
+
 static PyGetSetDef members[] = {
     {"is_open", get_is_open, NULL, "Whether it was opened and not closed.", NULL},
     {"num_blocks", get_blocks, NULL, "How many blocks of documents it has.", NULL},
+    {"size", get_size, NULL, "How many bytes the file has.", NULL},
     {NULL, NULL, NULL, NULL, NULL},
 };
 
 static PyMethodDef methods[] = {
     {"_open_file", open_file, METH_VARARGS, "Maps the file of a descriptor, whose path is given, and opens it."},
     {"_open_buffer", open_buffer, METH_O, "Opens the file that these bytes are."},
+    {"_footer", footer, METH_NOARGS, "The last bytes of the file. Raises Closed."},
     {"_close", close_reader, METH_NOARGS, "Closes it. Raises BufferError if it has views."},
     {"get_many", get_many, METH_O,
      "get_many(numbers)\n--\n\nThe documents of many numbers, in the order of the numbers, as a list.\n\n"

@@ -164,6 +164,13 @@ class RangedStore(Sequence[bytes]):
         """The documents in order. Raises DamagedDocument, Closed, and what `read` raises."""
         return self.iter()
 
+    def block_of(self, number: int) -> Block:
+        """Where the block of a document lies: its first document, one more than its last, its offset and its length.
+
+        Raises NoDocument and BadIndex.
+        """
+        return self._block_of(self._number(number))
+
     def close(self) -> None:
         """Drops the cache. Later gets raise Closed."""
         self._read = None

@@ -56,24 +56,19 @@ class Store(Reader, Sequence[bytes]):
         return self._path
 
     @property
-    def size(self) -> int:
-        """How many bytes the file has. Raises Closed."""
-        return memoryview(self).nbytes
-
-    @property
     def data_size(self) -> int:
         """How many bytes the blocks of documents have. Raises Closed."""
-        return self._footer()[1]
+        return self._facts()[1]
 
     @property
     def version(self) -> int:
         """The version of the format: 1, 2 or 3. Raises Closed."""
-        return self._footer()[0]
+        return self._facts()[0]
 
     @property
     def period(self) -> int:
         """How many entries a run of the index has. Raises Closed."""
-        version, _, _, period = self._footer()
+        version, _, _, period = self._facts()
         return period if version == 3 else _OLD_PERIOD
 
     def iter(self, *, damaged: Damaged = "raise") -> Iterator[bytes]:
@@ -118,7 +113,7 @@ class Store(Reader, Sequence[bytes]):
         state = f"{len(self)} documents" if self.is_open else "closed"
         return f"{type(self).__name__}({what}, {state})"
 
-    def _footer(self) -> Tuple[int, int, int, int]:
+    def _facts(self) -> Tuple[int, int, int, int]:
         """Version, length of the data, block kind and period."""
-        version, data_size, kind, period = _FOOTER.unpack(memoryview(self)[-_FOOTER.size:])
+        version, data_size, kind, period = _FOOTER.unpack(self._footer())
         return version, data_size, kind, period
