@@ -126,7 +126,7 @@ class Listing:
 
 CRATE = "crates/store_c"
 RUST = "bindings/rust/src/error.rs"
-PYTHON = "bindings/python/zevkhadun/refusals.py"
+PYTHON = "bindings/python/src/zevkhadun/refusals.py"
 LISTINGS = [
     Listing("bindings/c/include/zevkhadun.h", r"enum zevk_refusal \{", r"\};", header),
     Listing(f"{CRATE}/src/refusal_text.rt", r"    match number \{", r'        _ => "unknown', texts),

@@ -133,7 +133,9 @@ def write_wheel(path: Path, files: dict[str, bytes]) -> None:
             wheel.writestr(told, content)
 
 
-def build_wheel(wheel_directory: str, config_settings: dict | None = None, metadata_directory: str | None = None) -> str:
+def build_wheel(
+    wheel_directory: str, config_settings: dict | None = None, metadata_directory: str | None = None
+) -> str:
     """Builds the wheel, and returns its name."""
     prefix = prefix_of(config_settings)
     with tempfile.TemporaryDirectory() as folder:

@@ -8,6 +8,7 @@ import unittest
 from sparse import BLOCK, PERIOD, last_of, write_sparse
 from zevkhadun import RangedStore, Store, Stores, Writer
 
+
 def memory():
     """How many bytes of memory and swap the machine has; 0 where the system doesn't tell."""
     try:

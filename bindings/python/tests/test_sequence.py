@@ -109,7 +109,8 @@ class ManyDocuments(InFolder):
                 next(documents)
             self.assertEqual(caught.exception.document, 3)
             self.assertEqual(list(documents), [])
-            for call in [lambda: store[2:9], lambda: store[3::60], lambda: store.get_many([5, 3]), lambda: store.view(3)]:
+            many = [lambda: store[2:9], lambda: store[3::60], lambda: store.get_many([5, 3])]
+            for call in [*many, lambda: store.view(3)]:
                 with self.assertRaises(refusals.DamagedDocument) as caught:
                     call()
                 self.assertEqual(caught.exception.document, 3)
