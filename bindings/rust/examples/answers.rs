@@ -31,9 +31,12 @@ fn main() -> std::io::Result<()> {
             Err(refusal) => println!("error {}", refusal.number()),
             Ok(store) => {
                 println!("docs {}", store.len());
-                let first = 0..store.len().min(FIRST);
-                for doc_id in first.chain([store.len().wrapping_sub(1), store.len()]) {
-                    println!("{}", text_of(store.get(doc_id)));
+                let count = store.facts().documents;
+                let first = 0..count.min(FIRST);
+                for doc_id in first.chain([count.wrapping_sub(1), count]) {
+                    let answer = store.get(doc_id);
+                    assert_eq!(zevkhadun::get(&file, doc_id), answer, "without opening");
+                    println!("{}", text_of(answer));
                 }
             }
         }

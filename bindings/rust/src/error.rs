@@ -1,9 +1,18 @@
 //! Errors.
 
+use std::path::PathBuf;
 use std::{error, fmt, io};
 
-/// An error of the library. `tools/refusals.py` writes its lists from `bindings/refusals.txt`.
-#[derive(Clone, Copy, Debug, PartialEq, Eq)]
+// `tools/refusals.py` writes the lists of this type from `bindings/refusals.txt`.
+/// An error of the library. The numbers up to 16 are the store's own in every language.
+///
+/// ```
+/// let refusal = zevkhadun::Store::open(b"too short").unwrap_err();
+/// assert_eq!(refusal, zevkhadun::Refusal::ShortFile);
+/// assert_eq!(refusal.number(), 1);
+/// assert_eq!(refusal.to_string(), "the file is shorter than a footer");
+/// ```
+#[derive(Clone, Copy, Debug, PartialEq, Eq, Hash)]
 #[non_exhaustive]
 pub enum Refusal {
     /// The file is shorter than a footer.
@@ -130,14 +139,45 @@ impl fmt::Display for Refusal {
 impl error::Error for Refusal {}
 
 /// An error of a writer.
+///
+/// ```no_run
+/// # fn main() -> Result<(), zevkhadun::Error> {
+/// use zevkhadun::{Error, FileWriter};
+///
+/// let mut writer = match FileWriter::create("fruits.store") {
+///     Err(Error::Busy { path }) => return Ok(println!("{} is being written", path.display())),
+///     begun => begun?,
+/// };
+/// writer.put(b"apple")?;
+/// writer.publish()
+/// # }
+/// ```
 #[derive(Debug)]
+#[non_exhaustive]
 pub enum Error {
     /// An error of the library. The writer has the documents that it had, and goes on.
     Refused(Refusal),
-    /// The output failed. The writer takes no more.
+    /// The output of a [`Writer`](crate::Writer) failed. The writer takes no more.
     Io(io::Error),
+    /// A call of the system failed for this file or folder. The writer takes no more.
+    File {
+        /// The path of the file or folder.
+        path: PathBuf,
+        /// What the system said.
+        source: io::Error,
+    },
     /// The output failed before, so its content is unknown.
     Failed,
+    /// Another writer writes to the file of this name.
+    Busy {
+        /// The path of the file beside.
+        path: PathBuf,
+    },
+    /// The name is that of a folder, a device or another thing that is no plain file.
+    NotPlainFile {
+        /// Its path.
+        path: PathBuf,
+    },
 }
 
 impl fmt::Display for Error {
@@ -145,7 +185,10 @@ impl fmt::Display for Error {
         match self {
             Error::Refused(refusal) => refusal.fmt(f),
             Error::Io(error) => error.fmt(f),
+            Error::File { path, source } => write!(f, "{}: {source}", path.display()),
             Error::Failed => f.write_str("the writer's output failed before"),
+            Error::Busy { path } => write!(f, "{} is being written by another", path.display()),
+            Error::NotPlainFile { path } => write!(f, "{} is not a plain file", path.display()),
         }
     }
 }
@@ -154,8 +197,8 @@ impl error::Error for Error {
     fn source(&self) -> Option<&(dyn error::Error + 'static)> {
         match self {
             Error::Refused(refusal) => Some(refusal),
-            Error::Io(error) => Some(error),
-            Error::Failed => None,
+            Error::Io(source) | Error::File { source, .. } => Some(source),
+            _ => None,
         }
     }
 }

@@ -1,38 +1,70 @@
-//! Document stores: documents by number, read from bytes in memory, and written to any output.
+//! Document stores: write-once files of byte strings, which are read by number, over a proved library for C.
 //!
+//! A store is written once, document by document, and numbers them from 0. It is then read by any number of threads and
+//! processes. The crate has the library inside and needs no other crate; it is for Linux on x86-64.
+//!
+//! # Write a file
+//!
+//! ```no_run
+//! # fn main() -> Result<(), zevkhadun::Error> {
+//! use zevkhadun::FileWriter;
+//!
+//! let mut writer = FileWriter::create("fruits.store")?;
+//! writer.put(b"apple")?;
+//! writer.put(b"banana")?;
+//! writer.publish()?; // the file appears whole, or not at all
+//! # Ok(())
+//! # }
 //! ```
-//! # fn main() -> Result<(), zevkhadun::Refusal> {
-//! # let text = include_str!("../../c/tests/words.hex");
-//! # let digits: Vec<u8> = text.bytes().filter(u8::is_ascii_hexdigit).collect();
-//! # let nibble = |digit: u8| (digit as char).to_digit(16).unwrap() as u8;
-//! # let file: Vec<u8> = digits.chunks(2).map(|two| nibble(two[0]) << 4 | nibble(two[1])).collect();
+//!
+//! [`Writer`] writes to any [`std::io::Write`].
+//!
+//! # Read it
+//!
+//! ```no_run
+//! # fn main() -> Result<(), Box<dyn std::error::Error>> {
 //! use zevkhadun::Store;
 //!
-//! let store = Store::open(&file)?;
-//! assert_eq!(store.get(3)?, b"3 is a document's number");
-//! assert_eq!(store.iter().count(), 64);
+//! let store = Store::open(std::fs::read("fruits.store")?)?;
+//! println!("{} documents, the last one is {:?}", store.len(), store.get(1)?);
+//! for document in &store {
+//!     println!("{:?}", document?);
+//! }
 //! # Ok(())
 //! # }
 //! ```
 //!
-//! ```
-//! # fn main() -> Result<(), Box<dyn std::error::Error>> {
-//! use zevkhadun::{Store, Writer};
+//! A [`Store`] takes the bytes of a file from any type that has them: a vector, a slice, an `Arc<[u8]>`, or a file that
+//! a crate such as `memmap2` mapped. A mapped file must not be cut while it is read, or the program ends with SIGBUS.
+//! [`get`] reads one document and opens nothing, and [`verify`] checks a whole file.
 //!
-//! let mut writer = Writer::new(Vec::new());
-//! assert_eq!(writer.put(b"apple")?, 0);
-//! assert_eq!(writer.put(b"banana")?, 1);
-//! let file = writer.close()?;
-//! assert_eq!(Store::open(&file)?.get(1)?, b"banana");
-//! # Ok(())
-//! # }
-//! ```
+//! # Safety
+//!
+//! No bytes make a call crash or read out of bounds, which is proved of the library for C. This crate is tested.
 
+#![warn(missing_docs)]
+
+mod close_error;
+mod documents;
 mod error;
+mod facts;
+mod file_writer;
+mod part;
 mod raw;
 mod store;
+mod unopened;
 mod writer;
 
+pub use close_error::CloseError;
+pub use documents::{Documents, SoundDocuments};
 pub use error::{Error, Refusal};
-pub use store::{Documents, Store};
+pub use facts::Facts;
+pub use file_writer::FileWriter;
+pub use store::Store;
+pub use unopened::{get, num_docs, verify, Fault, FaultPlace};
 pub use writer::{Options, Writer};
+
+/// The code of README.md.
+#[cfg(doctest)]
+#[doc = include_str!("../README.md")]
+struct Readme;

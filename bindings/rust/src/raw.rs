@@ -1,4 +1,4 @@
-//! The library's calls, as include/zevkhadun.h declares them.
+//! The library's calls and types, as `zevkhadun.h` declares them. A test compares both.
 
 /// Where a block of documents ends, and a number that makes gets quick.
 #[repr(C)]
@@ -6,7 +6,7 @@
 pub(crate) struct Block {
     pub(crate) end_doc: u32,
     guide: u32,
-    end_byte: usize,
+    pub(crate) end_byte: usize,
 }
 
 /// Where a document lies in its file.
@@ -17,10 +17,25 @@ pub(crate) struct Place {
     pub(crate) len: usize,
 }
 
+/// Where a file breaks what the format says of it.
+#[repr(C)]
+#[derive(Clone, Copy, Default)]
+pub(crate) struct Fault {
+    pub(crate) byte: usize,
+    pub(crate) layer: u32,
+    pub(crate) doc_id: u32,
+}
+
+/// The layer of a fault in the list of the layers' ends.
+pub(crate) const LAYER_LIST: u32 = u32::MAX;
+
+/// The layer of the fault of an index whose blocks don't cover the data.
+pub(crate) const LAYER_COVER: u32 = u32::MAX - 1;
+
 /// The numbers of a writer, which only the library changes.
 #[repr(C)]
 #[derive(Clone, Copy, Default)]
-pub(crate) struct WriterNumbers {
+pub(crate) struct Writer {
     block_size: usize,
     pub(crate) blocks: usize,
     pub(crate) docs: usize,
@@ -28,6 +43,10 @@ pub(crate) struct WriterNumbers {
 }
 
 extern "C" {
+    pub(crate) fn zevk_get(file: *const u8, file_len: usize, doc_id: u32, place: *mut Place)
+        -> u32;
+    pub(crate) fn zevk_num_docs(file: *const u8, file_len: usize, num_docs: *mut u32) -> u32;
+    pub(crate) fn zevk_check(file: *const u8, file_len: usize, fault: *mut Fault) -> u32;
     pub(crate) fn zevk_open(
         file: *const u8,
         file_len: usize,
@@ -54,9 +73,9 @@ extern "C" {
         places_len: usize,
         count: *mut usize,
     ) -> u32;
-    pub(crate) fn zevk_writer_begin(writer: *mut WriterNumbers, block_size: usize);
+    pub(crate) fn zevk_writer_begin(writer: *mut Writer, block_size: usize);
     pub(crate) fn zevk_writer_put(
-        writer: *mut WriterNumbers,
+        writer: *mut Writer,
         starts: *mut u32,
         starts_len: usize,
         table: *mut Block,
@@ -65,7 +84,7 @@ extern "C" {
         count: *mut usize,
     ) -> u32;
     pub(crate) fn zevk_writer_end_block(
-        writer: *mut WriterNumbers,
+        writer: *mut Writer,
         starts: *mut u32,
         starts_len: usize,
         table: *mut Block,
@@ -73,7 +92,7 @@ extern "C" {
         count: *mut usize,
     ) -> u32;
     pub(crate) fn zevk_writer_stack(
-        writer: *mut WriterNumbers,
+        writer: *mut Writer,
         table: *mut Block,
         table_len: usize,
         file: *const u8,
@@ -82,7 +101,7 @@ extern "C" {
         len: *mut usize,
     ) -> u32;
     pub(crate) fn zevk_writer_close(
-        writer: *const WriterNumbers,
+        writer: *const Writer,
         table: *const Block,
         table_len: usize,
         period: u8,
@@ -90,4 +109,11 @@ extern "C" {
         end_len: usize,
         len: *mut usize,
     ) -> u32;
+}
+
+impl Place {
+    /// The bytes of the document, in the file in which the library found it.
+    pub(crate) fn of(self, file: &[u8]) -> &[u8] {
+        &file[self.start..][..self.len]
+    }
 }

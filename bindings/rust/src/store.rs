@@ -1,160 +1,228 @@
 //! Reading.
 
+use crate::documents::Documents;
 use crate::error::{check, Refusal, NO_ROOM};
+use crate::facts::Facts;
 use crate::raw::{self, Block, Place};
+use crate::unopened::{self, Fault};
+use std::fmt;
+use std::ops::{Bound, Range, RangeBounds};
 
-/// How many places an iteration asks for at once.
-const RUN: usize = 64;
-
-/// A store whose file is a slice that another holds. Its documents are parts of the slice; a row for each block is kept
-/// beside it. No call changes it, so threads may share it.
-pub struct Store<'a> {
-    file: &'a [u8],
+/// An open store: the bytes of its file, and a table of 16 bytes for each block.
+///
+/// The bytes are borrowed (`Store<&[u8]>`), owned (`Store<Vec<u8>>`), shared (`Store<Arc<[u8]>>`) or mapped: `D` is any
+/// type that gives them. No call changes a store, so threads may share it.
+///
+/// `D` should give the same bytes at every call. If it gives others, the calls stay safe, and return an error or some
+/// of these bytes.
+///
+/// ```
+/// # let mut writer = zevkhadun::Writer::new(Vec::new());
+/// # for fruit in ["apple", "banana", "cherry"] {
+/// #     writer.put(fruit.as_bytes())?;
+/// # }
+/// # let file = writer.close()?;
+/// use zevkhadun::{Refusal, Store};
+///
+/// struct Segment {
+///     path: String,
+///     store: Store<Vec<u8>>,
+/// }
+///
+/// let segment = Segment { path: "fruits.store".to_owned(), store: Store::open(file)? };
+/// assert_eq!(segment.store.len(), 3);
+/// assert_eq!(segment.store.get(2)?, b"cherry");
+/// assert_eq!(segment.store.get(3), Err(Refusal::NoDocument));
+/// # Ok::<(), Box<dyn std::error::Error>>(())
+/// ```
+#[derive(Clone)]
+pub struct Store<D> {
+    file: D,
     table: Vec<Block>,
-    count: u32,
+    facts: Facts,
 }
 
-impl<'a> Store<'a> {
-    /// The store whose file these bytes are.
-    pub fn open(file: &'a [u8]) -> Result<Store<'a>, Refusal> {
-        let mut store = Store {
-            file,
-            table: Vec::new(),
-            count: 0,
-        };
-        let mut blocks = 0;
-        let answer = store.fill(&mut blocks);
-        if answer == NO_ROOM {
-            store.table.resize(blocks, Block::default());
-            check(store.fill(&mut blocks))?;
-        } else {
-            check(answer)?;
-        }
-        Ok(store)
+impl<D: AsRef<[u8]>> Store<D> {
+    /// Opens the store whose file these bytes are. It checks the footer and the whole index, and takes time by the
+    /// size of the index.
+    ///
+    /// # Errors
+    ///
+    /// Those of a file, as for [`get`](crate::get()); [`NoMemory`](Refusal::NoMemory).
+    pub fn open(file: D) -> Result<Store<D>, Refusal> {
+        let bytes = file.as_ref();
+        let (table, num_docs) = opened(bytes)?;
+        let facts = Facts::of(bytes, &table, num_docs);
+        Ok(Store { file, table, facts })
     }
 
-    /// How many documents it has.
-    pub fn len(&self) -> u32 {
-        self.count
+    /// The number of documents.
+    pub fn len(&self) -> usize {
+        self.facts.documents as usize
     }
 
-    /// Whether it has none.
+    /// Whether there are no documents.
     pub fn is_empty(&self) -> bool {
-        self.count == 0
+        self.facts.documents == 0
     }
 
-    /// The bytes of a document.
-    pub fn get(&self, doc_id: u32) -> Result<&'a [u8], Refusal> {
-        let mut place = Place::default();
-        // SAFETY: pointers and lengths are those of slices, and the place is ours.
-        check(unsafe {
-            raw::zevk_locate(
-                self.file.as_ptr(),
-                self.file.len(),
-                self.table.as_ptr(),
-                self.table.len(),
-                doc_id,
-                &mut place,
-            )
-        })?;
-        Ok(self.part(place))
+    /// The bytes of a document. Nothing is copied.
+    ///
+    /// # Errors
+    ///
+    /// [`NoDocument`](Refusal::NoDocument), if the store has no document of this number;
+    /// [`DamagedDocument`](Refusal::DamagedDocument).
+    pub fn get(&self, doc_id: u32) -> Result<&[u8], Refusal> {
+        let file = self.file();
+        Ok(place(file, &self.table, doc_id)?.of(file))
     }
 
-    /// The documents in order, each damaged one as its refusal.
-    pub fn iter(&self) -> Documents<'_, 'a> {
-        Documents {
-            store: self,
-            next: 0,
-            places: [Place::default(); RUN],
-            at: 0,
-            told: 0,
-        }
+    /// Where a document lies in the file, in bytes: it is that range of [`Store::file`]. With it a document can be
+    /// borrowed longer than its store.
+    ///
+    /// # Errors
+    ///
+    /// Those of [`Store::get`].
+    ///
+    /// ```
+    /// # let mut writer = zevkhadun::Writer::new(Vec::new());
+    /// # writer.put(b"apple")?;
+    /// # let file = writer.close()?;
+    /// let place = zevkhadun::Store::open(&file)?.locate(0)?;
+    /// assert_eq!(&file[place], b"apple");
+    /// # Ok::<(), Box<dyn std::error::Error>>(())
+    /// ```
+    pub fn locate(&self, doc_id: u32) -> Result<Range<usize>, Refusal> {
+        let place = place(self.file(), &self.table, doc_id)?;
+        Ok(place.start..place.start + place.len)
+    }
+
+    /// All documents in order, each damaged one as its error.
+    pub fn iter(&self) -> Documents<'_> {
+        self.range(..)
+    }
+
+    /// The documents whose numbers lie in a range, in order. What lies past the end of the store is left out.
+    ///
+    /// ```
+    /// # let mut writer = zevkhadun::Writer::new(Vec::new());
+    /// # for fruit in ["apple", "banana", "cherry"] {
+    /// #     writer.put(fruit.as_bytes())?;
+    /// # }
+    /// # let store = zevkhadun::Store::open(writer.close()?)?;
+    /// let page: Vec<&[u8]> = store.range(1..11).collect::<Result<_, _>>()?;
+    /// assert_eq!(page, [b"banana", b"cherry"]);
+    /// # Ok::<(), Box<dyn std::error::Error>>(())
+    /// ```
+    pub fn range(&self, doc_ids: impl RangeBounds<u32>) -> Documents<'_> {
+        let count = u64::from(self.facts.documents);
+        let start = match doc_ids.start_bound() {
+            Bound::Included(&first) => u64::from(first),
+            Bound::Excluded(&before) => u64::from(before) + 1,
+            Bound::Unbounded => 0,
+        };
+        let end = match doc_ids.end_bound() {
+            Bound::Included(&last) => u64::from(last) + 1,
+            Bound::Excluded(&end) => u64::from(end),
+            Bound::Unbounded => count,
+        };
+        let end = end.min(count);
+        // Both are at most the count, which is a u32.
+        Documents::new(self.file(), &self.table, start.min(end) as u32, end as u32)
+    }
+
+    /// Checks the whole file, each block too, as [`verify`](crate::verify) does.
+    ///
+    /// # Errors
+    ///
+    /// The first [`Fault`] of the file.
+    pub fn verify(&self) -> Result<(), Fault> {
+        unopened::verify(self.file())
     }
 
     /// The bytes of the file.
-    pub fn file(&self) -> &'a [u8] {
-        self.file
-    }
-
-    fn fill(&mut self, blocks: &mut usize) -> u32 {
-        // SAFETY: pointers and lengths are those of slices; the table is this store's own, and the numbers are ours.
-        unsafe {
-            raw::zevk_open(
-                self.file.as_ptr(),
-                self.file.len(),
-                self.table.as_mut_ptr(),
-                self.table.len(),
-                blocks,
-                &mut self.count,
-            )
-        }
-    }
-
-    fn part(&self, place: Place) -> &'a [u8] {
-        &self.file[place.start..place.start + place.len]
+    pub fn file(&self) -> &[u8] {
+        self.file.as_ref()
     }
 }
 
-impl<'s, 'a> IntoIterator for &'s Store<'a> {
-    type Item = Result<&'a [u8], Refusal>;
-    type IntoIter = Documents<'s, 'a>;
+impl<D> Store<D> {
+    /// Counts and sizes of the store, as it was opened.
+    pub fn facts(&self) -> Facts {
+        self.facts
+    }
 
-    fn into_iter(self) -> Documents<'s, 'a> {
+    /// What the store was opened with.
+    pub fn get_ref(&self) -> &D {
+        &self.file
+    }
+
+    /// What the store was opened with, without the store.
+    pub fn into_inner(self) -> D {
+        self.file
+    }
+}
+
+impl<D> fmt::Debug for Store<D> {
+    fn fmt(&self, f: &mut fmt::Formatter<'_>) -> fmt::Result {
+        f.debug_struct("Store")
+            .field("facts", &self.facts)
+            .finish_non_exhaustive()
+    }
+}
+
+impl<'s, D: AsRef<[u8]>> IntoIterator for &'s Store<D> {
+    type Item = Result<&'s [u8], Refusal>;
+    type IntoIter = Documents<'s>;
+
+    fn into_iter(self) -> Documents<'s> {
         self.iter()
     }
 }
 
-/// The documents of a store in order.
-pub struct Documents<'s, 'a> {
-    store: &'s Store<'a>,
-    next: u32,
-    places: [Place; RUN],
-    at: usize,
-    told: usize,
+/// The table of a store's file, and its number of documents.
+fn opened(file: &[u8]) -> Result<(Vec<Block>, u32), Refusal> {
+    let (mut table, mut blocks, mut num_docs) = (Vec::new(), 0, 0);
+    let answer = fill(file, &mut table, &mut blocks, &mut num_docs);
+    if answer != NO_ROOM {
+        check(answer)?;
+        return Ok((table, num_docs));
+    }
+    table
+        .try_reserve_exact(blocks)
+        .map_err(|_| Refusal::NoMemory)?;
+    table.resize(blocks, Block::default());
+    check(fill(file, &mut table, &mut blocks, &mut num_docs))?;
+    Ok((table, num_docs))
 }
 
-impl Documents<'_, '_> {
-    /// Asks for the next places.
-    fn refill(&mut self) -> Result<(), Refusal> {
-        let Store { file, table, .. } = self.store;
-        self.at = 0;
-        // SAFETY: pointers and lengths are those of slices; the places and their count are ours.
-        let answer = unsafe {
-            raw::zevk_locate_run(
-                file.as_ptr(),
-                file.len(),
-                table.as_ptr(),
-                table.len(),
-                self.next,
-                self.places.as_mut_ptr(),
-                RUN,
-                &mut self.told,
-            )
-        };
-        if self.told > 0 {
-            return Ok(());
-        }
-        check(answer)
+fn fill(file: &[u8], table: &mut [Block], blocks: &mut usize, num_docs: &mut u32) -> u32 {
+    // SAFETY: pointers and lengths are those of slices, of which the table is exclusive, and the numbers are ours.
+    unsafe {
+        raw::zevk_open(
+            file.as_ptr(),
+            file.len(),
+            table.as_mut_ptr(),
+            table.len(),
+            blocks,
+            num_docs,
+        )
     }
 }
 
-impl<'a> Iterator for Documents<'_, 'a> {
-    type Item = Result<&'a [u8], Refusal>;
-
-    fn next(&mut self) -> Option<Self::Item> {
-        if self.next == self.store.count {
-            return None;
-        }
-        let refilled = if self.at == self.told {
-            self.refill()
-        } else {
-            Ok(())
-        };
-        self.next += 1;
-        if let Err(refusal) = refilled {
-            return Some(Err(refusal));
-        }
-        self.at += 1;
-        Some(Ok(self.store.part(self.places[self.at - 1])))
-    }
+/// Where a document lies in a file, by any table. It lies within the file.
+pub(crate) fn place(file: &[u8], table: &[Block], doc_id: u32) -> Result<Place, Refusal> {
+    let mut place = Place::default();
+    // SAFETY: pointers and lengths are those of slices, and the place is ours.
+    check(unsafe {
+        raw::zevk_locate(
+            file.as_ptr(),
+            file.len(),
+            table.as_ptr(),
+            table.len(),
+            doc_id,
+            &mut place,
+        )
+    })?;
+    Ok(place)
 }

@@ -1,38 +1,12 @@
 //! Stores that are written by the crate.
 
+mod support;
+
 use std::error::Error as _;
-use std::io::{self, Write};
-use zevkhadun::{Error, Options, Refusal, Store, Writer};
-
-fn bytes_of(text: &str) -> Vec<u8> {
-    let digits: Vec<u8> = text
-        .chars()
-        .filter_map(|c| c.to_digit(16))
-        .map(|digit| digit as u8)
-        .collect();
-    digits.chunks(2).map(|two| two[0] << 4 | two[1]).collect()
-}
-
-/// Documents of 0, 8, 100 and 20000 bytes in turn, each of its own bytes.
-fn documents(count: usize, seed: usize) -> Vec<Vec<u8>> {
-    let lengths = [0, 8, 100, 0, 20000, 8];
-    (0..count)
-        .map(|id| vec![(seed + id) as u8; lengths[id % lengths.len()]])
-        .collect()
-}
-
-fn begun(block_size: usize, period: u8) -> Writer<Vec<u8>> {
-    Writer::with_options(Vec::new(), Options { block_size, period }).unwrap()
-}
-
-fn written(documents: &[Vec<u8>], block_size: usize, period: u8) -> Vec<u8> {
-    let mut writer = begun(block_size, period);
-    for (id, document) in documents.iter().enumerate() {
-        assert_eq!(writer.put(document).unwrap(), id as u32);
-        assert_eq!(writer.len(), id as u32 + 1);
-    }
-    writer.close().unwrap()
-}
+use std::fs::OpenOptions;
+use std::io::{self, BufWriter, Write};
+use support::{begun, documents, read, words, written};
+use zevkhadun::{CloseError, Error, Options, Refusal, Store, Writer};
 
 fn stacked(files: [&[u8]; 2], block_size: usize, period: u8) -> Vec<u8> {
     let mut writer = begun(block_size, period);
@@ -40,11 +14,6 @@ fn stacked(files: [&[u8]; 2], block_size: usize, period: u8) -> Vec<u8> {
         writer.stack(&Store::open(file).unwrap()).unwrap();
     }
     writer.close().unwrap()
-}
-
-fn read(file: &[u8]) -> Vec<Vec<u8>> {
-    let store = Store::open(file).unwrap();
-    store.iter().map(|item| item.unwrap().to_vec()).collect()
 }
 
 #[test]
@@ -59,7 +28,7 @@ fn documents_come_back_for_any_block_size_and_period() {
 
 #[test]
 fn a_known_file_is_written_byte_for_byte() {
-    let file = bytes_of(include_str!("../../c/tests/words.hex"));
+    let file = words();
     assert_eq!(written(&read(&file), 120, 3), file);
 }
 
@@ -94,7 +63,7 @@ fn stacking_in_two_shapes_gives_one_file() {
 }
 
 #[test]
-fn documents_before_and_behind_a_store() {
+fn documents_before_and_after_a_store() {
     let inner = documents(20, 7);
     let file = written(&inner, 1, 8);
     let mut writer = Writer::new(Vec::new());
@@ -137,7 +106,8 @@ fn bad_periods_are_refused() {
     }
 }
 
-/// An output that takes so many bytes, and one write that is more fails. All that comes behind goes well again.
+/// An output with room for some bytes: one write of more fails, and all after it succeed.
+#[derive(Debug)]
 struct Full {
     room: usize,
     failures: u32,
@@ -147,7 +117,7 @@ impl Write for Full {
     fn write(&mut self, bytes: &[u8]) -> io::Result<usize> {
         if bytes.len() > self.room && self.failures == 0 {
             self.failures += 1;
-            return Err(io::Error::new(io::ErrorKind::Other, "full"));
+            return Err(io::Error::other("full"));
         }
         self.room = self.room.saturating_sub(bytes.len());
         Ok(bytes.len())
@@ -158,7 +128,7 @@ impl Write for Full {
     }
 }
 
-/// The first error of a store of ten documents, and what the calls behind it answered.
+/// The first error of a store of ten documents, and what the calls after it returned.
 fn errors_with(room: usize) -> Vec<Error> {
     let options = Options {
         block_size: 30,
@@ -168,12 +138,12 @@ fn errors_with(room: usize) -> Vec<Error> {
     let mut errors: Vec<Error> = (0..10)
         .filter_map(|_| writer.put(b"document").err())
         .collect();
-    errors.extend(writer.close().err());
+    errors.extend(writer.close().err().map(CloseError::into_error));
     errors
 }
 
 #[test]
-fn an_output_that_fails_anywhere_is_told_once_and_refused_behind() {
+fn an_output_that_fails_anywhere_is_reported_once_and_then_refused() {
     let whole = written(&vec![b"document".to_vec(); 10], 30, 8).len();
     for room in 0..whole {
         let errors = errors_with(room);
@@ -200,7 +170,7 @@ fn a_failed_writer_stacks_nothing() {
     });
     assert!(matches!(writer.stack(&store), Err(Error::Io(_))));
     assert!(matches!(writer.stack(&store), Err(Error::Failed)));
-    assert!(matches!(writer.close(), Err(Error::Failed)));
+    assert!(matches!(writer.close().unwrap_err().error(), Error::Failed));
 }
 
 #[test]
@@ -214,4 +184,66 @@ fn writers_go_to_threads() {
         written.join().unwrap()
     });
     assert_eq!(read(&file), [b"a"]);
+}
+
+#[test]
+fn a_full_disk_gives_the_output_back() {
+    let full = OpenOptions::new().write(true).open("/dev/full").unwrap();
+    let mut writer = Writer::new(BufWriter::new(full));
+    writer.put(b"document").unwrap();
+    let refused = writer.close().unwrap_err();
+    assert!(matches!(refused.error(), Error::Io(error) if error.raw_os_error() == Some(28)));
+    assert_eq!(refused.to_string(), refused.error().to_string());
+    assert!(refused.source().is_some());
+    let (error, writer) = refused.into_parts();
+    assert!(matches!(error, Error::Io(_)));
+    let (_, unwritten) = writer.into_inner().into_parts();
+    assert!(unwritten.unwrap().starts_with(b"document"));
+}
+
+#[test]
+fn an_error_of_close_becomes_one_of_the_crate() {
+    fn closed(room: usize) -> Result<(), Error> {
+        let mut writer = Writer::new(Full { room, failures: 0 });
+        writer.put(b"document")?;
+        assert_eq!(writer.close()?.failures, 0);
+        Ok(())
+    }
+
+    assert!(closed(1000).is_ok());
+    assert!(matches!(closed(10), Err(Error::Io(_))));
+    assert!(matches!(closed(0), Err(Error::Io(_))));
+}
+
+/// An output whose flush fails.
+#[derive(Debug)]
+struct Unflushed(Vec<u8>);
+
+impl Write for Unflushed {
+    fn write(&mut self, bytes: &[u8]) -> io::Result<usize> {
+        self.0.write(bytes)
+    }
+
+    fn flush(&mut self) -> io::Result<()> {
+        Err(io::Error::other("not flushed"))
+    }
+}
+
+#[test]
+fn a_flush_that_fails_is_the_error_of_close() {
+    let refused = Writer::new(Unflushed(Vec::new())).close().unwrap_err();
+    assert_eq!(refused.to_string(), "not flushed");
+    let (_, writer) = refused.into_parts();
+    let refused = writer.close().unwrap_err();
+    assert!(matches!(refused.error(), Error::Failed));
+    assert_eq!(read(&refused.into_output().0), [b""; 0]);
+}
+
+#[test]
+fn the_unfinished_output_is_given_back() {
+    let mut writer = Writer::new(Vec::new());
+    writer.put(b"apple").unwrap();
+    assert_eq!(writer.get_ref(), b"apple");
+    assert!(format!("{writer:?}").contains("documents: 1"));
+    assert_eq!(writer.into_inner(), b"apple");
 }

@@ -2,15 +2,14 @@
 ghost use Rattle.std.specs.Prelude.{◌≤◌};
 
 use crate::measure::Run;
+use docstore::FOOTER_LEN;
 use std::time::Duration;
 
 const HASH_START: u64 = 14695981039346656037;
 
 const HASH_FACTOR: u64 = 1099511628211;
 
-// A footer: the version, the offset of the index, the kind of the blocks, and what is reserved.
-const FOOTER_LEN: usize = 28;
-
+// A footer begins with the version, and what is reserved stands at its end.
 const VERSION_2: [u8; 4] = [2, 0, 0, 0];
 
 const VERSION_LEN: usize = 4;
@@ -46,11 +45,12 @@ pub fn hash(bytes: &[u8]) -> u64 {
 
 /// The hash of a file, with the footer that version 2 has in place of version 3's.
 pub fn hash_as_version_2(file: &[u8]) -> u64 {
-    if file.len() < FOOTER_LEN {
+    let footer_len = FOOTER_LEN as usize;
+    if file.len() < footer_len {
         return hash(file);
     }
-    let (front, footer) = file.split_at(file.len() - FOOTER_LEN);
-    let kept = &footer[VERSION_LEN..FOOTER_LEN - RESERVED_LEN];
+    let (front, footer) = file.split_at(file.len() - footer_len);
+    let kept = &footer[VERSION_LEN..footer_len - RESERVED_LEN];
     let hash = hash_on(hash_on(hash(front), &VERSION_2), kept);
     hash_on(hash, &[0; RESERVED_LEN])
 }

@@ -1,8 +1,7 @@
 pub mod PendingLemmas
 pub mod OutputLemmas
 pub mod WriterLemmas
-pub mod PartLemmas
-pub mod PutLemmas
+pub mod BlocksCutLemmas
 pub mod ReadInPartsLemmas
 pub mod TakenLemmas
 pub mod ShiftedCheckpointLemmas

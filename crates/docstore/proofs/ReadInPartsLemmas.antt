@@ -1,30 +1,31 @@
 -- What the reading of a store in parts brings, and what a part that is refused leaves.
-use Rattle.std.proofs.Common.{◌≡◌, ℕ, zero, suc, ◌+◌, ◌<◌, ◌≤◌, IsTrue, List, [], ◌∷◌, ◌++◌, length, take, Option, Some, None, refl, sym, ◌∙◌, ap, subst, arith}
-use Rattle.std.specs.Prelude.{IfSome, IfOk, IsSome, IsNone, Result}
-use Rattle.std.proofs.Common.{length-append}
-use Rattle.std.proofs.lemmas.List.{append-nil, map-append}
-use Rattle.std.proofs.Math.Seq.{take-append_seam}
-use Rattle.store_base.specs.Counts.{raised}
+use Rattle.std.proofs.Common.{◌≡◌, ◌⊎◌, inl, inr, ℕ, zero, suc, ◌+◌, ◌-◌, ◌^◌, ◌<◌, ◌≤◌, IsTrue, List, [], ◌∷◌, ◌++◌, length, take, drop, Option, Some, None, refl, sym, ◌∙◌, ap, subst, arith, append_assoc, length-append}
+use Rattle.std.specs.Prelude.{slice_get, slice_range, IfSome, IsNone, Ok, Err}
+use Rattle.std.specs.List.{sum_by, AllByRecursion}
+use Rattle.std.proofs.lemmas.List.{append-nil, map-append, take_all, take-map, take-append-drop}
+use Rattle.std.proofs.lemmas.List.Sums.{sum_by-append}
+use Rattle.std.proofs.Math.Seq.{take-add}
+use Rattle.layered_index.proofs.LayerLemmas.{docs_grow}
+use Rattle.store_base.specs.Counts.{HasRisen, raised}
 use Rattle.store_base.specs.declared.error.Cause.{Cause}
+use Rattle.store_base.specs.declared.error.Cause.TheVariants.{Write, Memory as OutOfMemory}
 use Rattle.store_base.specs.declared.error.StoreError.{StoreError}
-use Rattle.store_base.specs.declared.error.StoreError.TheVariants.{ShortFile, BadVersion, BadBlockKind, BadOffset, BadIndex, InvalidArgument, DamagedDocument, BadDocument, Read, Memory, OldVersion}
-use Rattle.store_base.specs.declared.error.StoreError.TheVariants.{Unserializable, BlockTooLarge, TooManyDocs, Failed, BadPeriod}
+use Rattle.store_base.specs.declared.error.StoreError.TheVariants.{Read, Memory}
 use Rattle.layered_index.specs.declared.checkpoint.Checkpoint.{Checkpoint}
-use Rattle.layered_index.specs.Checkpoint.{byte_len, doc_count, docs_end, bytes_end, first_past, Covers}
+use Rattle.layered_index.specs.Checkpoint.{doc_count, docs_end, bytes_end, IsInLineFrom, IsFilled, Covers}
 use Rattle.layered_index.proofs.LineLemmas.{in_line-split}
-use Rattle.store_format.specs.StoreFile.{StoreBlock, checkpoints_of}
-use Rattle.store_reader.specs.declared.data_part.DataPart.{DataPart}
-use Rattle.store_reader.specs.Parts.{IsPartFrom, IsPartRead}
-use Rattle.store_reader.specs.Reading.{Reading, num_docs as docs_of, IsReadOnce, store_of, part_of}
+use Rattle.store_format.specs.StoreFile.{StoreBlock, docs_in, data_of, checkpoints_from, blocks_at}
+use Rattle.store_format.proofs.StoreLemmas.{docs_in-cons, docs_in-append, length-data_of-cons, data_of-append, checkpoints_from-append}
+use Rattle.store_reader.specs.Reading.{Reading, IsReadOnce, store_of, part_of}
+use Rattle.store_reader.specs.Parts.{byte_at, number_of_parts, EndsPart, IsPartFrom, IsPartRead}
+use Rattle.store_reader.specs.declared.reader.parts.StorePart.{StorePart}
+use Rattle.store_reader.proofs.PartLemmas.{block_at, byte_order, byte_within, none_behind}
 use Rattle.store_reader.proofs.ReaderStoreLemmas.{blocks_of, store_is}
-use Rattle.store_reader.proofs.StoreSlotLemmas.{map_len}
-use Rattle.docstore.specs.BlockOutput.{BlockOutput, with_blocks, with_risen, FailsFor, AfterFailedBlock}
-use Rattle.docstore.specs.Stacking.{AreRead, AfterStacking}
-use Rattle.store_reader.specs.Parts.{front_up_to, rest_from, number_of_parts, IsBetween, IsBlockOf}
-use Rattle.docstore.specs.StackingInParts.{after_more, IsReadTimes, AreFirstRead, AfterStackingInParts, PutsBlocks, PutsPart, IsPartTaken}
-use Rattle.store_reader.proofs.PartLemmas.{front_and_rest, before_all, next_of, is_block_of}
-use Rattle.docstore.proofs.PartLemmas.{first_of_rest}
-use Rattle.docstore.proofs.PutLemmas.{came_places, came_own, fails_behind, puts_joined, puts_kept}
+use Rattle.docstore.specs.BlockOutput.{BlockOutput, with_blocks, with_risen, HasCause, FailsFor, AfterFailedBlock}
+use Rattle.docstore.specs.Stacking.{AreRead, CutAll}
+use Rattle.docstore.specs.StackingInParts.{after_more, IsReadTimes, IsReadAtMost, IsReadInPieces, BeginsStacking, AfterStackingInParts, StacksFirst, IsReadUpTo}
+use Rattle.docstore.proofs.BlocksCutLemmas.{is_cut, cut_own}
+use Rattle.docstore.proofs.ShiftedCheckpointLemmas.{docs_up}
 
 -- ---- reads
 
@@ -40,10 +41,7 @@ bytes_more count (suc n) (suc m) some =
     let same : suc (n + suc m) ≡ suc n + suc m = omega arith in
     more ∙ ap (after_more count) same
 
-pub not_read : (reader : Reading) → IsReadTimes 0 0 reader reader
-not_read reader = record { content = refl; honest = refl; reads = refl; asked = refl; failures = omega arith; others = refl }
-
-pub read_more : (times bytes len : ℕ) (reader read new : Reading) → 0 < len → IsReadTimes times bytes reader read → IsReadOnce len read new → IsReadTimes (suc times) (bytes + len) reader new
+read_more : (times bytes len : ℕ) (reader read new : Reading) → 0 < len → IsReadTimes times bytes reader read → IsReadOnce len read new → IsReadTimes (suc times) (bytes + len) reader new
 read_more times bytes len reader read new some p q = record {
   content = q.once.content ∙ p.content;
   honest = q.once.honest ∙ p.honest;
@@ -53,211 +51,310 @@ read_more times bytes len reader read new some p q = record {
   others = q.others ∙ ap (λ (r : Reading). record r { file = new.file }) p.others;
 }
 
--- ---- blocks
-
--- what was put from the first block on
-pub put_first : (reader : Reading) (next : ℕ) (old new : BlockOutput) → Covers reader.checkpoints (length reader.file.content) → (p : PutsBlocks reader 0 next old new)
-    → p.some ≡ front_up_to next reader.checkpoints
-put_first reader next old new covers p = sym (p.front ∙ ap (λ (xs : List Checkpoint). xs ++ p.some) (before_all reader.checkpoints (length reader.file.content) covers).front)
-
-front_places : (reader : Reading) (next : ℕ) (old new : BlockOutput) → Covers reader.checkpoints (length reader.file.content) → (p : PutsBlocks reader 0 next old new)
-    → checkpoints_of p.blocks ≡ front_up_to next reader.checkpoints
-front_places reader next old new covers p =
-    let some = put_first reader next old new covers p in
-    let line = in_line-split 0 0 (front_up_to next reader.checkpoints) (rest_from next reader.checkpoints) (rw (front_and_rest next reader.checkpoints) covers.in_line) in
-    came_places reader.file.honest reader.file.content 0 0 p.some p.blocks (rw some line.0) p.came ∙ some
-
-front_own : (reader : Reading) (next : ℕ) (old new : BlockOutput) → Covers reader.checkpoints (length reader.file.content) → (p : PutsBlocks reader 0 next old new)
-    → IsTrue reader.file.honest → p.blocks ≡ blocks_of reader.file.content (front_up_to next reader.checkpoints)
-front_own reader next old new covers p is =
-    came_own reader.file.honest reader.file.content p.some p.blocks is p.came ∙ ap (blocks_of reader.file.content) (put_first reader next old new covers p)
-
--- where none is left, all came
-pub all_read : (reader : Reading) (next : ℕ) (old new : BlockOutput) → Covers reader.checkpoints (length reader.file.content) → (p : PutsBlocks reader 0 next old new)
-    → rest_from next reader.checkpoints ≡ [] → AreRead reader p.blocks
-all_read reader next old new covers p none =
-    let whole : front_up_to next reader.checkpoints ≡ reader.checkpoints = sym (append-nil (front_up_to next reader.checkpoints))
-    ∙ ap (λ (xs : List Checkpoint). front_up_to next reader.checkpoints ++ xs) (sym none) ∙ front_and_rest next reader.checkpoints in
-    record {
-      places = front_places reader next old new covers p ∙ whole;
-      honest = λ is. front_own reader next old new covers p is ∙ ap (blocks_of reader.file.content) whole ∙ sym (store_is reader.file.content reader.checkpoints covers);
-    }
-
--- and all bytes
-pub all_bytes : (cs : List Checkpoint) (total next : ℕ) → Covers cs total → rest_from next cs ≡ [] → bytes_end 0 (front_up_to next cs) ≡ total
-all_bytes cs total next covers none =
-    let whole : front_up_to next cs ≡ cs = sym (append-nil (front_up_to next cs)) ∙ ap (λ (xs : List Checkpoint). front_up_to next cs ++ xs) (sym none) ∙ front_and_rest next cs in
-    ap (bytes_end 0) whole ∙ covers.end
-
--- where one is left, the first ones came
-pub first_read : (reader : Reading) (next : ℕ) (old new : BlockOutput) (c : Checkpoint) (more : List Checkpoint) → Covers reader.checkpoints (length reader.file.content)
-    → (p : PutsBlocks reader 0 next old new) → rest_from next reader.checkpoints ≡ c ∷ more → AreFirstRead reader p.blocks
-first_read reader next old new c more covers p left =
-    let front = front_up_to next reader.checkpoints in
-    let rest = rest_from next reader.checkpoints in
-    let content = reader.file.content in
-    let whole = front_and_rest next reader.checkpoints in
-    let first : take (length front) reader.checkpoints ≡ front = ap (take (length front)) (sym whole) ∙ take-append_seam front rest in
-    let f : Checkpoint → StoreBlock = λ c. record { count = doc_count c; bytes = part_of content c } in
-    let store : store_of reader ≡ blocks_of content front ++ blocks_of content rest =
-    store_is content reader.checkpoints covers ∙ ap (blocks_of content) (sym whole) ∙ map-append f front rest in
-    let own : take (length front) (store_of reader) ≡ blocks_of content front =
-    ap (take (length front)) store ∙ ap (λ (n : ℕ). take n (blocks_of content front ++ blocks_of content rest)) (sym (map_len f front))
-    ∙ take-append_seam (blocks_of content front) (blocks_of content rest) in
-    record {
-      count = length front;
-      some_left = omega (arith, ap length whole, length-append front rest, ap length left);
-      places = front_places reader next old new covers p ∙ sym first;
-      honest = λ is. front_own reader next old new covers p is ∙ sym own;
-    }
-
--- ---- a part that is put behind
-
 pub same_checkpoints : (times bytes : ℕ) (reader read : Reading) → IsReadTimes times bytes reader read → read.checkpoints ≡ reader.checkpoints
 same_checkpoints times bytes reader read kept = ap (λ (r : Reading). r.checkpoints) kept.others
 
--- the block that a part begins with
-pub record BeginsPart (reader read : Reading) (id : ℕ) (c : Checkpoint) : Type 0 where
-  pub start : c.doc_range.start ≡ id
-  pub rest : rest_from id reader.checkpoints ≡ c ∷ rest_from c.doc_range.end reader.checkpoints
-  pub block : IsBlockOf read.checkpoints c
-  pub byte : bytes_end 0 (front_up_to id reader.checkpoints) ≡ c.byte_range.start
-  pub count : docs_of read ≡ docs_of reader
+-- reads leave the store as it is
+pub covers_still : (times bytes : ℕ) (reader read : Reading) → IsReadTimes times bytes reader read → Covers read.checkpoints (length read.file.content)
+    → Covers reader.checkpoints (length reader.file.content)
+covers_still times bytes reader read kept covers =
+    subst (λ (xs : List ℕ). Covers reader.checkpoints (length xs)) kept.content (subst (λ (cs : List Checkpoint). Covers cs (length read.file.content)) (same_checkpoints times bytes reader read kept) covers)
 
-pub part_begins : (times bytes : ℕ) (reader read : Reading) (id : ℕ) (c : Checkpoint) → Covers reader.checkpoints (length reader.file.content) → IsReadTimes times bytes reader read
-    → (byte : ℕ) × IsBetween reader.checkpoints id byte → first_past read.checkpoints id ≡ Some c → BeginsPart reader read id c
-part_begins times bytes reader read id c covers kept at e =
-    let cs = same_checkpoints times bytes reader read kept in
-    let found : first_past reader.checkpoints id ≡ Some c = rw cs at e in
-    let next = next_of reader.checkpoints (length reader.file.content) id at.0 c covers at.1 found in
+some_at : (cs : List Checkpoint) (n : ℕ) → n < length cs → (c : Checkpoint) × (slice_get cs n ≡ Some c)
+some_at [] n lt = absurd (omega arith)
+some_at (c ∷ cs) zero lt = (c, refl)
+some_at (c ∷ cs) (suc n) lt = some_at cs n (omega arith)
+
+-- a part has bytes
+part_bytes : (cs : List Checkpoint) (total n m : ℕ) → Covers cs total → n < m → m ≤ length cs → byte_at n cs < byte_at m cs
+part_bytes cs total n m covers lt le =
+    let c = some_at cs n (omega arith) in
+    let here = block_at cs total n c.0 covers c.1 in
+    omega (arith, here.byte_start, here.some_bytes, byte_order cs total n m c.0 covers c.1 lt)
+
+pub nothing_read : (size : ℕ) (reader : Reading) → IsReadUpTo size 0 reader reader
+nothing_read size reader = record {
+  times = 0;
+  read = record { content = refl; honest = refl; reads = refl; asked = refl; failures = omega arith; others = refl };
+  parts = omega arith;
+}
+
+-- one more part was read, whether it came or not
+pub part_read : (size n m : ℕ) (reader read new : Reading) → Covers reader.checkpoints (length reader.file.content) → IsReadUpTo size n reader read → EndsPart size read.checkpoints n m
+    → IsReadOnce (byte_at m read.checkpoints - byte_at n read.checkpoints) read new → IsReadUpTo size m reader new
+part_read size n m reader read new covers up ends once =
+    let cs = same_checkpoints up.times (byte_at n reader.checkpoints) reader read up.read in
+    let p : EndsPart size reader.checkpoints n m = subst (λ (xs : List Checkpoint). EndsPart size xs n m) cs ends in
+    let q : IsReadOnce (byte_at m reader.checkpoints - byte_at n reader.checkpoints) read new =
+    subst (λ (xs : List Checkpoint). IsReadOnce (byte_at m xs - byte_at n xs) read new) cs once in
+    let less = part_bytes reader.checkpoints (length reader.file.content) n m covers p.some p.last in
+    let len = byte_at m reader.checkpoints - byte_at n reader.checkpoints in
+    let end : byte_at n reader.checkpoints + len ≡ byte_at m reader.checkpoints = omega arith in
     record {
-      start = next.doc_start;
-      rest = next.rest;
-      block = subst (λ (xs : List Checkpoint). IsBlockOf xs c) (sym cs) (is_block_of reader.checkpoints id at.0 c at.1 next);
-      count = ap (docs_end 0) cs;
-      byte = at.1.bytes ∙ sym next.byte_start;
+      times = suc up.times;
+      read = subst (λ (k : ℕ). IsReadTimes (suc up.times) k reader new) end (read_more up.times (byte_at n reader.checkpoints) len reader read new (omega arith) up.read q);
+      parts = omega (arith, up.parts, p.parts);
     }
 
--- a part, put behind the blocks from the first on
-pub record IsPartOf (size : ℕ) (reader : Reading) (id next : ℕ) (old new : BlockOutput) : Type 0 where
-  pub put : PutsBlocks reader 0 next old new
-  pub more : id < next
-  pub between : (byte : ℕ) × IsBetween reader.checkpoints next byte
-  pub parts : number_of_parts size (rest_from id reader.checkpoints) ≡ 1 + number_of_parts size (rest_from next reader.checkpoints)
+pub read_at_most : (size n : ℕ) (reader read : Reading) → Covers reader.checkpoints (length reader.file.content) → IsReadUpTo size n reader read
+    → IsReadAtMost (number_of_parts size reader.checkpoints) reader read
+read_at_most size n reader read covers up = record {
+  times = up.times;
+  bytes = byte_at n reader.checkpoints;
+  few = omega (arith, up.parts);
+  within = byte_within reader.checkpoints (length reader.file.content) n covers;
+  read = up.read;
+}
 
-pub part_put : (size times bytes : ℕ) (reader read : Reading) (id next : ℕ) (first : Checkpoint) (old mid new : BlockOutput) → IsReadTimes times bytes reader read → first.doc_range.start ≡ id
-    → PutsBlocks reader 0 id old mid → PutsPart size read first next mid new → IsPartOf size reader id next old new
-part_put size times bytes reader read id next first old mid new kept start before p =
-    let cs = same_checkpoints times bytes reader read kept in
-    let here : PutsBlocks reader id next mid new = subst (λ (k : ℕ). PutsBlocks reader k next mid new) start (puts_kept times bytes first.doc_range.start next reader read mid new kept p.put) in
-    record {
-      put = puts_joined reader 0 id next old mid new before here;
-      more = omega (arith, start, p.more);
-      between = (p.between.0, subst (λ (xs : List Checkpoint). IsBetween xs next p.between.0) cs p.between.1);
-      parts = rw (← start, ← cs) p.parts;
-    }
-
--- ---- a part that was read
-
--- where a part lies that begins with this block
-pub record IsReadPart (size len : ℕ) (reader read : Reading) (first : Checkpoint) (part : DataPart) : Type 0 where
-  pub doc_start : part.ids.start ≡ first.doc_range.start
-  pub byte_start : part.start ≡ first.byte_range.start
-  pub more : first.doc_range.start < part.ids.end
-  pub ends : IsBetween reader.checkpoints part.ids.end (part.start + length part.bytes)
-  pub parts : number_of_parts size (rest_from part.ids.start reader.checkpoints) ≡ 1 + number_of_parts size (rest_from part.ids.end reader.checkpoints)
-  pub kept : IsReadTimes 1 (0 + len) reader read
-  pub checkpoints : read.checkpoints ≡ reader.checkpoints
-
-pub part_read : (size len : ℕ) (reader read : Reading) (first : Checkpoint) (found : Option DataPart) (part : DataPart) → IsBlockOf reader.checkpoints first → found ≡ Some part
-    → IfSome found (IsPartFrom size reader first.doc_range.start) → 0 < len → IsReadOnce len reader read → IsReadPart size len reader read first part
-part_read size len reader read first found part block is came some once =
+pub read_in_pieces : (size n : ℕ) (reader read : Reading) → Covers reader.checkpoints (length reader.file.content) → length reader.checkpoints ≤ n → IsReadUpTo size n reader read
+    → IsReadInPieces (number_of_parts size reader.checkpoints) reader read
+read_in_pieces size n reader read covers all up =
     let cs = reader.checkpoints in
-    let p : IsPartFrom size reader first.doc_range.start part = subst (λ (o : Option DataPart). IfSome o (IsPartFrom size reader first.doc_range.start)) is came in
-    let own = first_of_rest first.doc_range.start cs first (rest_from first.doc_range.end cs) block.rest in
-    let found = p.seeks in
-    let same : p.first ≡ first = cc in
-    let kept = read_more 0 0 len reader reader read some (not_read reader) once in
+    let none = none_behind cs n all in
+    let times : up.times ≡ number_of_parts size cs = omega (arith, up.parts, ap (λ (xs : List Checkpoint). number_of_parts size xs) none) in
+    let end : byte_at n cs ≡ length reader.file.content = ap (bytes_end 0) (take_all n cs all) ∙ covers.end in
+    subst (λ (k : ℕ). IsReadTimes k (length reader.file.content) reader read) times (subst (λ (k : ℕ). IsReadTimes up.times k reader read) end up.read)
+
+-- ---- some of the checkpoints that follow one another
+
+docs_end-append : (doc : ℕ) (xs ys : List Checkpoint) → docs_end doc (xs ++ ys) ≡ docs_end (docs_end doc xs) ys
+docs_end-append doc [] ys = refl
+docs_end-append doc (x ∷ xs) ys = docs_end-append x.doc_range.end xs ys
+
+bytes_end-append : (byte : ℕ) (xs ys : List Checkpoint) → bytes_end byte (xs ++ ys) ≡ bytes_end (bytes_end byte xs) ys
+bytes_end-append byte [] ys = refl
+bytes_end-append byte (x ∷ xs) ys = bytes_end-append x.byte_range.end xs ys
+
+filled_front : (xs ys : List Checkpoint) → AllByRecursion IsFilled (xs ++ ys) → AllByRecursion IsFilled xs
+filled_front [] ys f = tt
+filled_front (x ∷ xs) ys f = (f.0, filled_front xs ys f.1)
+
+filled_back : (xs ys : List Checkpoint) → AllByRecursion IsFilled (xs ++ ys) → AllByRecursion IsFilled ys
+filled_back [] ys f = f
+filled_back (x ∷ xs) ys f = filled_back xs ys f.1
+
+pub record IsSlice (cs : List Checkpoint) (n m : ℕ) : Type 0 where
+  pub line : IsInLineFrom (docs_end 0 (take n cs)) (byte_at n cs) (slice_range cs n m)
+  pub filled : AllByRecursion IsFilled (slice_range cs n m)
+  pub front : take m cs ≡ take n cs ++ slice_range cs n m
+  pub end : bytes_end (byte_at n cs) (slice_range cs n m) ≡ byte_at m cs
+  pub docs : sum_by doc_count (take n cs) ≡ docs_end 0 (take n cs)
+  pub few_docs : sum_by doc_count (take n cs) + sum_by doc_count (slice_range cs n m) ≤ docs_end 0 cs
+
+pub is_slice : (cs : List Checkpoint) (total n m : ℕ) → Covers cs total → n ≤ m → IsSlice cs n m
+is_slice cs total n m covers le =
+    let some = slice_range cs n m in
+    let size : n + (m - n) ≡ m = omega arith in
+    let front : take m cs ≡ take n cs ++ some = ap (λ (k : ℕ). take k cs) (sym size) ∙ take-add n (m - n) cs in
+    let whole : (take n cs ++ some) ++ drop m cs ≡ cs = ap (λ (xs : List Checkpoint). xs ++ drop m cs) (sym front) ∙ take-append-drop m cs in
+    let line = in_line-split 0 0 (take n cs ++ some) (drop m cs) (subst (IsInLineFrom 0 0) (sym whole) covers.in_line) in
+    let two = in_line-split 0 0 (take n cs) some line.0 in
+    let filled = filled_front (take n cs ++ some) (drop m cs) (subst (AllByRecursion IsFilled) (sym whole) covers.filled) in
+    let ends = docs_grow (docs_end 0 (take n cs ++ some)) (bytes_end 0 (take n cs ++ some)) (drop m cs) line.1 in
+    let all : docs_end (docs_end 0 (take n cs ++ some)) (drop m cs) ≡ docs_end 0 cs = sym (docs_end-append 0 (take n cs ++ some) (drop m cs)) ∙ ap (docs_end 0) whole in
+    let sum = docs_up 0 0 (take n cs ++ some) line.0 in
     record {
-      doc_start = p.first_id ∙ ap (λ (c : Checkpoint). c.doc_range.start) same;
-      byte_start = p.first_byte ∙ ap (λ (c : Checkpoint). c.byte_range.start) same;
-      more = p.to;
-      ends = p.ends;
-      parts = p.parts;
-      kept = kept;
-      checkpoints = same_checkpoints 1 (0 + len) reader read kept;
+      line = two.1;
+      filled = filled_back (take n cs) some filled;
+      front = front;
+      end = sym (bytes_end-append 0 (take n cs) some) ∙ ap (bytes_end 0) (sym front);
+      docs = omega (arith, docs_up 0 0 (take n cs) two.0);
+      few_docs = omega (arith, sum, sum_by-append doc_count (take n cs) some, ends, all);
     }
 
--- some bytes were read of a part
-pub some_read : (size : ℕ) (reader read : Reading) (first : Checkpoint) (found : Result (Option DataPart) StoreError) → IsBlockOf reader.checkpoints first
-    → (once : IsPartRead size reader first.doc_range.start found read) → 0 < once.len
-some_read size reader read first found block once =
-    let cs = reader.checkpoints in
-    let own = first_of_rest first.doc_range.start cs first (rest_from first.doc_range.end cs) block.rest in
-    let seeks = once.seeks in
-    let same : once.first ≡ first = cc in
-    omega (arith, block.some_bytes, once.some, ap (λ (c : Checkpoint). byte_len c) same)
+-- ---- blocks that were put behind
 
--- the bytes that were read of a part that begins with this block
-pub part_taken : (size : ℕ) (reader read : Reading) (first : Checkpoint) (found : Result (Option DataPart) StoreError) (result : Result ℕ StoreError) → IsBlockOf reader.checkpoints first
-    → (once : IsPartRead size reader first.doc_range.start found read) → IfOk result (λ next. IsBetween reader.checkpoints next (first.byte_range.start + once.len))
-    → IsPartTaken reader read first result
-part_taken size reader read first found result block once ends =
+checkpoint_ends : (id byte : ℕ) (bs : List StoreBlock) → (docs_end id (checkpoints_from id byte bs) ≡ id + docs_in bs) × (bytes_end byte (checkpoints_from id byte bs) ≡ byte + length (data_of bs))
+checkpoint_ends id byte [] = (omega arith, omega arith)
+checkpoint_ends id byte (b ∷ bs) =
+    let on = checkpoint_ends (id + b.count) (byte + length b.bytes) bs in
+    (omega (arith, on.0, docs_in-cons b bs), omega (arith, on.1, length-data_of-cons b bs))
+
+joined : (old : BlockOutput) (bs cs : List StoreBlock) (n m : ℕ) → with_risen n (with_blocks (with_risen m (with_blocks old bs)) cs) ≡ with_risen n (with_blocks old (bs ++ cs))
+joined old bs cs n m =
+    let text : (old.content ++ data_of bs) ++ data_of cs ≡ old.content ++ data_of (bs ++ cs) =
+    append_assoc old.content (data_of bs) (data_of cs) ∙ ap (λ (x : List ℕ). old.content ++ x) (sym (data_of-append bs cs)) in
+    λ i. record old { finished = append_assoc old.finished bs cs i; content = text i; failures = n }
+
+pub none_stacked : (reader : Reading) (out : BlockOutput) → StacksFirst reader 0 out out
+none_stacked reader out = record {
+  blocks = [];
+  places = refl;
+  honest = λ is. refl;
+  after = λ i. record out { finished = sym (append-nil out.finished) i; content = sym (append-nil out.content) i };
+}
+
+-- how many documents they have
+pub docs_stacked : (reader : Reading) (n m : ℕ) (old new : BlockOutput) → IsSlice reader.checkpoints n m → (p : StacksFirst reader n old new)
+    → docs_in p.blocks ≡ sum_by doc_count (take n reader.checkpoints)
+docs_stacked reader n m old new s p =
+    omega (arith, (checkpoint_ends 0 0 p.blocks).0, ap (docs_end 0) p.places, s.docs)
+
+-- a part is put behind those before it
+pub part_stacked : (size n : ℕ) (reader read : Reading) (times bytes : ℕ) (part : StorePart) (old mid new : BlockOutput) → Covers reader.checkpoints (length reader.file.content)
+    → IsReadTimes times bytes reader read → IsPartFrom size read n part → StacksFirst reader n old mid
+    → new ≡ with_risen new.failures (with_blocks mid (blocks_at (slice_range read.checkpoints part.blocks.start part.blocks.end) part.bytes)) → StacksFirst reader part.blocks.end old new
+part_stacked size n reader read times bytes part old mid new covers kept p before after =
     let cs = reader.checkpoints in
-    let own = first_of_rest first.doc_range.start cs first (rest_from first.doc_range.end cs) block.rest in
-    let seeks = once.seeks in
-    let same : once.first ≡ first = cc in
+    let content = reader.file.content in
+    let m = part.blocks.end in
+    let same = same_checkpoints times bytes reader read kept in
+    let s = is_slice cs (length content) n m covers (omega (arith, p.ends.some)) in
+    let some = slice_range cs n m in
+    let len : byte_at n cs + length part.bytes ≡ byte_at m cs = subst (λ (xs : List Checkpoint). byte_at n xs + length part.bytes ≡ byte_at m xs) same p.len in
+    let cut = is_cut (docs_end 0 (take n cs)) (byte_at n cs) some part.bytes s.line s.filled (s.end ∙ sym len) in
+    let more = blocks_at some part.bytes in
+    let cut_is : blocks_at (slice_range read.checkpoints part.blocks.start m) part.bytes ≡ more = λ i. blocks_at (slice_range (same i) (p.first i) m) part.bytes in
+    let doc : 0 + docs_in before.blocks ≡ docs_end 0 (take n cs) = sym (checkpoint_ends 0 0 before.blocks).0 ∙ ap (docs_end 0) before.places in
+    let byte : 0 + length (data_of before.blocks) ≡ byte_at n cs = sym (checkpoint_ends 0 0 before.blocks).1 ∙ ap (bytes_end 0) before.places in
     record {
-      len = once.len;
-      once = once.once;
-      some = some_read size reader read first found block once;
-      within = omega (arith, once.within, ap (λ (c : Checkpoint). c.byte_range.start) same);
-      ends = ends;
+      blocks = before.blocks ++ more;
+      places = checkpoints_from-append 0 0 before.blocks more ∙ (λ i. before.places i ++ checkpoints_from (doc i) (byte i) more) ∙ ap (λ (xs : List Checkpoint). take n cs ++ xs) cut.places
+          ∙ sym s.front;
+      honest = λ is. own is;
+      after = after ∙ (λ i. with_risen new.failures (with_blocks (before.after i) (cut_is i))) ∙ joined old before.blocks more new.failures mid.failures;
+    }
+  where
+    own : IsTrue reader.file.honest → before.blocks ++ blocks_at (slice_range reader.checkpoints n part.blocks.end) part.bytes ≡ take part.blocks.end (store_of reader)
+    own is =
+        let cs = reader.checkpoints in
+        let content = reader.file.content in
+        let m = part.blocks.end in
+        let same = same_checkpoints times bytes reader read kept in
+        let s = is_slice cs (length content) n m covers (omega (arith, p.ends.some)) in
+        let some = slice_range cs n m in
+        let f : Checkpoint → StoreBlock = λ c. record { count = doc_count c; bytes = part_of content c } in
+        let taken : (k : ℕ) → take k (store_of reader) ≡ blocks_of content (take k cs) = λ k. ap (take k) (store_is content cs covers) ∙ take-map f k cs in
+        let came = p.bytes (subst IsTrue (sym kept.honest) is) in
+        let here : part.bytes ≡ slice_range content (byte_at n cs) (byte_at m cs) = came ∙ (λ i. slice_range (kept.content i) (byte_at n (same i)) (byte_at m (same i))) in
+        let cut : blocks_at some part.bytes ≡ blocks_of content some =
+        cut_own content (docs_end 0 (take n cs)) (byte_at n cs) some part.bytes s.line (omega (arith, s.end, byte_within cs (length content) m covers))
+        (here ∙ ap (slice_range content (byte_at n cs)) (sym s.end)) in
+        (λ i. before.honest is i ++ cut i) ∙ ap (λ (bs : List StoreBlock). bs ++ blocks_of content some) (taken n) ∙ sym (map-append f (take n cs) some) ∙ ap (blocks_of content) (sym s.front) ∙ sym (taken m)
+
+-- a part that was read, and can be put behind those before it
+pub record IsPartTaken (size n : ℕ) (reader read new : Reading) (part : StorePart) (mid : BlockOutput) : Type 0 where
+  pub covers : Covers reader.checkpoints (length reader.file.content)
+  pub came : IsPartFrom size read n part
+  pub up : IsReadUpTo size part.blocks.end reader new
+  pub within : part.blocks.end ≤ length reader.checkpoints
+  pub more : n < part.blocks.end
+  pub checkpoints : new.checkpoints ≡ read.checkpoints
+  pub few : docs_in mid.finished + sum_by doc_count (slice_range new.checkpoints part.blocks.start part.blocks.end) < 2 ^ 32
+  pub cut : CutAll (slice_range new.checkpoints part.blocks.start part.blocks.end) (length part.bytes)
+
+pub part_taken : (size n : ℕ) (reader read new : Reading) (found : Option StorePart) (part : StorePart) (old mid : BlockOutput) → Covers read.checkpoints (length read.file.content)
+    → IsReadUpTo size n reader read → StacksFirst reader n old mid → docs_in old.finished + docs_end 0 reader.checkpoints < 2 ^ 32 → found ≡ Some part → IfSome found (IsPartFrom size read n)
+    → (n < length read.checkpoints → IsPartRead size read n (Ok found) new) → IsPartTaken size n reader read new part mid
+part_taken size n reader read new found part old mid covers_read up put few is came once =
+    let cs = reader.checkpoints in
+    let covers = covers_still up.times (byte_at n cs) reader read up.read covers_read in
+    let same = same_checkpoints up.times (byte_at n cs) reader read up.read in
+    let p : IsPartFrom size read n part = subst (λ (o : Option StorePart). IfSome o (IsPartFrom size read n)) is came in
+    let ends : EndsPart size cs n part.blocks.end = subst (λ (xs : List Checkpoint). EndsPart size xs n part.blocks.end) same p.ends in
+    let r = once (omega (arith, p.ends.some, p.ends.last)) in
+    let end : part.blocks.end ≡ r.end = subst (λ (o : Option StorePart). IfSome o (λ q. q.blocks.end ≡ r.end)) is r.came in
+    let kept : new.checkpoints ≡ read.checkpoints = ap (λ (x : Reading). x.checkpoints) r.once.others in
+    let s = is_slice cs (length reader.file.content) n part.blocks.end covers (omega (arith, p.ends.some)) in
+    let range : slice_range new.checkpoints part.blocks.start part.blocks.end ≡ slice_range cs n part.blocks.end = λ i. slice_range ((kept ∙ same) i) (p.first i) part.blocks.end in
+    let finished : docs_in mid.finished ≡ docs_in old.finished + docs_in put.blocks = ap (λ (out : BlockOutput). docs_in out.finished) put.after ∙ docs_in-append old.finished put.blocks in
+    let len : byte_at n cs + length part.bytes ≡ byte_at part.blocks.end cs = subst (λ (xs : List Checkpoint). byte_at n xs + length part.bytes ≡ byte_at part.blocks.end xs) same p.len in
+    record {
+      covers = covers;
+      came = p;
+      up = subst (λ (k : ℕ). IsReadUpTo size k reader new) (sym end) (part_read size n r.end reader read new covers up r.ends r.once);
+      within = ends.last;
+      more = ends.some;
+      checkpoints = kept;
+      few = omega (arith, few, finished, docs_stacked reader n part.blocks.end old mid s put, s.few_docs, ap (λ (xs : List Checkpoint). sum_by doc_count xs) range);
+      cut = subst (λ (xs : List Checkpoint). CutAll xs (length part.bytes)) (sym range)
+          (record { doc = docs_end 0 (take n cs); byte = byte_at n cs; in_line = s.line; filled = s.filled; end = s.end ∙ sym len });
     }
 
--- a part that came has as many bytes as were read
-pub part_len : (found : Option DataPart) (part : DataPart) (len : ℕ) → found ≡ Some part → IfSome found (λ p. length p.bytes ≡ len) → length part.bytes ≡ len
-part_len found part len is came = subst (λ (o : Option DataPart). IfSome o (λ p. length p.bytes ≡ len)) is came
+-- and once it was written they are all behind the finished ones
+pub taken_stacked : (size n : ℕ) (reader read left : Reading) (part : StorePart) (old mid new : BlockOutput) (range : List Checkpoint) (text : List ℕ) → IsReadUpTo size n reader read
+    → StacksFirst reader n old mid → IsPartTaken size n reader read left part mid → range ≡ slice_range left.checkpoints part.blocks.start part.blocks.end → text ≡ part.bytes
+    → new ≡ with_risen new.failures (with_blocks mid (blocks_at range text)) → StacksFirst reader part.blocks.end old new
+taken_stacked size n reader read left part old mid new range text up put taken range_is text_is after =
+    let same : range ≡ slice_range read.checkpoints part.blocks.start part.blocks.end =
+    range_is ∙ ap (λ (cs : List Checkpoint). slice_range cs part.blocks.start part.blocks.end) taken.checkpoints in
+    part_stacked size n reader read up.times (byte_at n reader.checkpoints) part old mid new taken.covers up.read taken.came put
+    (after ∙ (λ i. with_risen new.failures (with_blocks mid (blocks_at (same i) (text_is i)))))
 
--- a document below the last one has a part
-pub has_part : (found : Option DataPart) (count id : ℕ) → (IsNone found → count ≤ id) → id < count → IsSome found
-has_part None count id none lt = absurd (let le = none refl in omega arith)
-has_part (Some part) count id none lt = refl
+-- a part that did not come was read
+pub refused_taken : (size n : ℕ) (reader read new : Reading) (e : StoreError) → Covers read.checkpoints (length read.file.content) → IsReadUpTo size n reader read
+    → n < length read.checkpoints → (n < length read.checkpoints → IsPartRead size read n (Err e) new) → IsReadAtMost (number_of_parts size reader.checkpoints) reader new
+refused_taken size n reader read new e covers_read up below once =
+    let covers = covers_still up.times (byte_at n reader.checkpoints) reader read up.read covers_read in
+    let r = once below in
+    read_at_most size r.end reader new covers (part_read size n r.end reader read new covers up r.ends r.once)
+
+-- no part came since there is none
+pub none_came : (found : Option StorePart) (count n : ℕ) → found ≡ None → (IsNone found → count ≤ n) → count ≤ n
+none_came found count n is none = none (subst (λ (o : Option StorePart). IsNone o) (sym is) refl)
+
+pub some_left : (n count : ℕ) → (count ≤ n → ⊥) → n < count
+some_left n zero f = absurd (f (omega arith))
+some_left zero (suc count) f = omega arith
+some_left (suc n) (suc count) f = omega (arith, some_left n count (λ le. f (omega (arith, le))))
+
+-- where none is left, all came
+pub all_stacked : (reader : Reading) (n : ℕ) (old new : BlockOutput) → length reader.checkpoints ≤ n → (p : StacksFirst reader n old new) → length (store_of reader) ≡ length reader.checkpoints
+    → AreRead reader p.blocks
+all_stacked reader n old new all p many = record {
+  places = p.places ∙ take_all n reader.checkpoints all;
+  honest = λ is. p.honest is ∙ take_all n (store_of reader) (omega (arith, many, all));
+}
+
+-- where one is left, the first ones came
+pub begins_stacking : (reader : Reading) (n : ℕ) (old new : BlockOutput) → old.failure ≡ None → n < length reader.checkpoints → StacksFirst reader n old new → BeginsStacking reader old new
+begins_stacking reader n old new works some p = record {
+  works = works;
+  blocks = p.blocks;
+  came = record { count = n; some_left = some; places = p.places; honest = p.honest };
+  after = p.after;
+}
 
 -- ---- a part that is refused
 
-failed_part : (reader : Reading) (next : ℕ) (cause : Cause) (old mid new : BlockOutput) (first middle : Option Cause) → first ≡ None → middle ≡ None → PutsBlocks reader 0 next old mid
-    → old.failures ≤ mid.failures → AfterFailedBlock middle cause mid new → AfterFailedBlock first cause old new
-failed_part reader next cause old mid new first middle works worked p le h =
-    let fails : FailsFor cause mid new = subst (λ (f : Option Cause). AfterFailedBlock f cause mid new) worked h in
-    subst (λ (f : Option Cause). AfterFailedBlock f cause old new) (sym works) (fails_behind reader 0 next cause old mid new p le fails)
-
-pub refused_part : (reader read left : Reading) (times bytes next : ℕ) (old mid new : BlockOutput) (e : StoreError) → old.failure ≡ None → mid.failure ≡ None
-    → (p : PutsBlocks reader 0 next old mid)
-    → AreFirstRead reader p.blocks → old.failures ≤ mid.failures → IsReadTimes times bytes reader read → read.file.failures ≡ reader.file.failures → AfterStacking read left mid new e
-    → AfterStackingInParts reader left old new e
-refused_part reader read left times bytes next old mid new e works worked p came le kept steady h = after e h
+-- a read that failed
+pub refused_read : (reader read left : Reading) (n : ℕ) (old out : BlockOutput) (e : StoreError) → BeginsStacking reader old out → read.file.failures ≡ reader.file.failures
+    → (e ≡ Read) ⊎ (e ≡ Memory) → (e ≡ Read → HasRisen read.file.failures left.file.failures) → (e ≡ Read) ⊎ (left.file.failures ≡ read.file.failures)
+    → AfterStackingInParts reader left old out e
+refused_read reader read left n old out e begins steady (inl is) risen still = subst (AfterStackingInParts reader left old out) (sym is)
+    (begins, subst (λ (k : ℕ). HasRisen k left.file.failures) steady (risen is))
+refused_read reader read left n old out e begins steady (inr is) risen (inl other) = absurd (differ e is other)
   where
-    kept_out : new ≡ mid → new ≡ with_risen new.failures (with_blocks old p.blocks)
-    kept_out same = same ∙ p.after ∙ ap (λ (n : ℕ). with_risen n (with_blocks old p.blocks)) (sym (ap (λ (out : BlockOutput). out.failures) same))
+    differ : (e : StoreError) → e ≡ Memory → e ≡ Read → ⊥
+    differ e m r = cc
+refused_read reader read left n old out e begins steady (inr is) risen (inr same) = subst (AfterStackingInParts reader left old out) (sym is) (begins, same ∙ steady)
 
-    after : (e : StoreError) → AfterStacking read left mid new e → AfterStackingInParts reader left old new e
-    after Memory h = (record { works = works; blocks = p.blocks; came = came; after = kept_out h.1 }, h.2 ∙ steady)
-    after Read h = (
-      record { works = works; blocks = p.blocks; came = came; after = kept_out h.1 },
-      record { no_lower = omega (arith, kept.failures, h.2.no_lower); risen = λ small. omega (arith, kept.failures, h.2.risen small) },
-    )
-    after (Failed cause) h = failed_part reader next cause old mid new old.failure mid.failure works worked p le h
-    after (ShortFile k) h = absurd h
-    after (BadVersion k) h = absurd h
-    after (BadBlockKind k) h = absurd h
-    after BadOffset h = absurd h
-    after BadIndex h = absurd h
-    after (InvalidArgument k) h = absurd h
-    after (DamagedDocument k) h = absurd h
-    after BadDocument h = absurd h
-    after OldVersion h = absurd h
-    after Unserializable h = absurd h
-    after BlockTooLarge h = absurd h
-    after TooManyDocs h = absurd h
-    after (BadPeriod k) h = absurd h
+-- a writer that fails behind what was put has failed
+pub fails_behind : (reader : Reading) (n : ℕ) (cause : Cause) (old mid new : BlockOutput) → old.failure ≡ None → StacksFirst reader n old mid → old.failures ≤ mid.failures → FailsFor cause mid new
+    → AfterFailedBlock old.failure cause old new
+fails_behind reader n cause old mid new works p le h = subst (λ (f : Option Cause). AfterFailedBlock f cause old new) (sym works) (record {
+  worked = works;
+  failure = h.failure;
+  why = why cause h.why;
+})
+  where
+    why : (cause : Cause) → HasCause cause mid.failures new.failures mid.content new.content → HasCause cause old.failures new.failures old.content new.content
+    why Write w = record { no_lower = omega (arith, w.no_lower); risen = λ small. omega (arith, w.no_lower, w.risen small) }
+    why OutOfMemory w =
+        let grown : mid.content ≡ old.content ++ data_of p.blocks = ap (λ (out : BlockOutput). out.content) p.after in
+        record {
+          more = data_of p.blocks ++ w.more;
+          some = omega (arith, length-append (data_of p.blocks) w.more, w.some);
+          parts = w.parts ∙ ap (λ (x : List ℕ). x ++ w.more) grown ∙ append_assoc old.content (data_of p.blocks) w.more;
+        }
+
+-- ---- all blocks of a store
+
+pub all_of_range : (cs : List Checkpoint) (count : ℕ) → count ≡ length cs → slice_range cs 0 count ≡ cs
+all_of_range cs count is = take_all (count - 0) cs (omega arith)
+
+pub covers_cut : (cs : List Checkpoint) (total : ℕ) → Covers cs total → CutAll cs total
+covers_cut cs total covers = record { doc = 0; byte = 0; in_line = covers.in_line; filled = covers.filled; end = omega (arith, covers.end) }
+
+pub docs_covered : (cs : List Checkpoint) (total : ℕ) → Covers cs total → sum_by doc_count cs ≡ docs_end 0 cs
+docs_covered cs total covers = omega (arith, docs_up 0 0 cs covers.in_line)

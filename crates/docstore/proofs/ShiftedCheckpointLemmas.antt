@@ -1,19 +1,19 @@
 -- Checkpoints that are put behind others, and the blocks that they cut from bytes.
 use Rattle.std.proofs.Common.{◌≡◌, ℕ, ◌+◌, ◌^◌, ◌<◌, List, [], ◌∷◌, ◌++◌, length, map, Option, None, refl, sym, ◌∙◌, ap, subst, arith}
 use Rattle.std.proofs.lemmas.List.Sums.{sum_by-cons}
-use Rattle.std.specs.List.{sum_by, AllByRecursion}
+use Rattle.std.specs.List.{sum_by}
 use Rattle.store_format.specs.declared.kinds.Compressor.{Compressor}
 use Rattle.store_base.specs.Outputs.{Termination}
 use Rattle.store_base.specs.declared.error.Cause.{Cause}
 use Rattle.layered_index.specs.declared.checkpoint.Checkpoint.{Checkpoint}
-use Rattle.layered_index.specs.Checkpoint.{checkpoint, doc_count, IsWithinLimits, IsInLineFrom, IsInLine, docs_end, Covers}
+use Rattle.layered_index.specs.Checkpoint.{checkpoint, doc_count, byte_len, IsWithinLimits, IsInLineFrom, IsInLine, docs_end}
 use Rattle.layered_index.proofs.LineLemmas.{in_line-split, in_line-join, in_line_from}
-use Rattle.store_format.specs.StoreFile.{StoreBlock, IsStoreBlock, docs_in, data_of, checkpoints_from, checkpoints_of, blocks_at}
+use Rattle.store_format.specs.StoreFile.{StoreBlock, docs_in, data_of, checkpoints_from, checkpoints_of, blocks_at}
 use Rattle.docstore.specs.BlockOutput.{BlockOutput, IsCompressing, compressing}
-use Rattle.docstore.specs.Stacking.{shifted}
-use Rattle.store_format.proofs.StoreLemmas.{length-data_of-cons, docs_in-blocks_at}
+use Rattle.docstore.specs.Stacking.{CutAll, laid_from, shifted}
+use Rattle.docstore.proofs.BlocksCutLemmas.{is_cut, laid_is, some_cut}
+use Rattle.store_format.proofs.StoreLemmas.{docs_in-blocks_at}
 use Rattle.docstore.proofs.OutputLemmas.{AreAdded, are_added, docs_seen}
-use Rattle.store_reader.proofs.ReaderStoreLemmas.{store_seen}
 
 -- ---- shifted checkpoints
 
@@ -37,7 +37,7 @@ shifted_behind docs bytes cs bs is =
 
 -- ---- the next of a list in line
 
-docs_up : (doc byte : ℕ) (cs : List Checkpoint) → IsInLineFrom doc byte cs → doc + sum_by doc_count cs ≡ docs_end doc cs
+pub docs_up : (doc byte : ℕ) (cs : List Checkpoint) → IsInLineFrom doc byte cs → doc + sum_by doc_count cs ≡ docs_end doc cs
 docs_up doc byte [] h = omega arith
 docs_up doc byte (c ∷ cs) h = omega (arith, sum_by-cons doc_count c cs, docs_up c.doc_range.end c.byte_range.end cs h.3, h.0, h.2.doc_order)
 
@@ -63,45 +63,36 @@ is_next xs c rest h =
     }
 
 -- the next of those that are left
-pub next_left : (docs bytes : ℕ) (all index left more : List Checkpoint) (c : Checkpoint) → index ++ map (shifted docs bytes) left ≡ all → left ≡ c ∷ more → IsInLineFrom 0 0 all
-    → IsNext index (shifted docs bytes c)
-next_left docs bytes all index left more c is first h =
-    let parts : all ≡ index ++ shifted docs bytes c ∷ map (shifted docs bytes) more = sym is ∙ ap (λ (xs : List Checkpoint). index ++ map (shifted docs bytes) xs) first in
-    is_next index (shifted docs bytes c) (map (shifted docs bytes) more) (subst (IsInLineFrom 0 0) parts h)
+pub next_laid : (all index left more : List Checkpoint) (id at : ℕ) (c : Checkpoint) → index ++ laid_from id at left ≡ all → left ≡ c ∷ more → IsInLineFrom 0 0 all
+    → IsNext index (checkpoint id (id + doc_count c) at (at + byte_len c))
+next_laid all index left more id at c is first h =
+    let rest = laid_from (id + doc_count c) (at + byte_len c) more in
+    let parts : all ≡ index ++ checkpoint id (id + doc_count c) at (at + byte_len c) ∷ rest = sym is ∙ ap (λ (xs : List Checkpoint). index ++ laid_from id at xs) first in
+    is_next index (checkpoint id (id + doc_count c) at (at + byte_len c)) rest (subst (IsInLineFrom 0 0) parts h)
 
 -- ---- blocks that are put behind others
-
--- the blocks have the documents of the checkpoints that cut them
-pub docs_cut : (cs : List Checkpoint) (bytes : List ℕ) → Covers cs (length bytes) → docs_in (blocks_at cs bytes) ≡ docs_end 0 cs
-docs_cut cs bytes covers = omega (arith, docs_in-blocks_at cs bytes, docs_up 0 0 cs covers.in_line)
-
--- blocks have bytes
-some_data : (cs : List Checkpoint) (bs : List StoreBlock) → cs ≡ checkpoints_of bs → AllByRecursion IsStoreBlock bs → 0 < length cs → 0 < length (data_of bs)
-some_data cs [] is each some = absurd (omega (arith, ap length is, some))
-some_data cs (b ∷ bs) is each some = omega (arith, length-data_of-cons b bs, each.0.some_bytes)
 
 -- what is known once the blocks that checkpoints cut from bytes are written behind the others
 pub record AreCut (period next_id : ℕ) (cs : List Checkpoint) (content : List ℕ) (written : ℕ) (more : List Checkpoint) (bytes : List ℕ) : Type 0 where
   pub added : AreAdded period next_id cs content written (blocks_at more bytes) bytes (docs_in (blocks_at more bytes))
-  pub places : map (shifted next_id written) more ≡ checkpoints_from next_id written (blocks_at more bytes)
+  pub places : laid_from next_id written more ≡ checkpoints_from next_id written (blocks_at more bytes)
   pub joined : bytes ≡ data_of (blocks_at more bytes)
   pub some : 0 < length more → 0 < length bytes
 
 pub are_cut : (compressor : Compressor) (period next_id : ℕ) (cs : List Checkpoint) (content : List ℕ) (written : ℕ) (termination : Termination) (failures : ℕ) (failure : Option Cause)
     (now : BlockOutput) (more : List Checkpoint) (bytes : List ℕ) → compressing compressor period cs content written termination failures failure ≡ now
-    → IsCompressing period next_id cs content written failure → now.failure ≡ None → Covers more (length bytes) → docs_in now.finished + docs_end 0 more < 2 ^ 32
+    → IsCompressing period next_id cs content written failure → now.failure ≡ None → CutAll more (length bytes) → docs_in now.finished + sum_by doc_count more < 2 ^ 32
     → AreCut period next_id cs content written more bytes
-are_cut compressor period next_id cs content written termination failures failure now more bytes view_is h works covers few =
+are_cut compressor period next_id cs content written termination failures failure now more bytes view_is h works cut few =
     let bs = blocks_at more bytes in
-    let seen = store_seen bytes more covers in
+    let here = is_cut cut.doc cut.byte more bytes cut.in_line cut.filled cut.end in
     let none : failure ≡ None = ap (λ (out : BlockOutput). out.failure) view_is ∙ works in
     let inv : IsCompressing period next_id cs content written None = subst (IsCompressing period next_id cs content written) none h in
     let docs : docs_in now.finished ≡ next_id = sym (ap (λ (out : BlockOutput). docs_in out.finished) view_is) ∙ docs_seen period next_id cs content written failure h in
-    let joined : bytes ≡ data_of bs = sym seen.data_is in
-    let all = are_added period next_id cs content written bs inv seen.blocks.each (omega (arith, docs, few, docs_cut more bytes covers)) in
+    let all = are_added period next_id cs content written bs inv here.each (omega (arith, docs, few, docs_in-blocks_at more bytes)) in
     record {
-      added = subst (λ (x : List ℕ). AreAdded period next_id cs content written bs x (docs_in bs)) (sym joined) all;
-      places = shifted_behind next_id written more bs (sym seen.checkpoints_are);
-      joined = joined;
-      some = λ some. omega (arith, ap length joined, some_data more bs (sym seen.checkpoints_are) seen.blocks.each some);
+      added = subst (λ (x : List ℕ). AreAdded period next_id cs content written bs x (docs_in bs)) here.joined all;
+      places = laid_is next_id written cut.doc cut.byte more bytes cut.in_line cut.end;
+      joined = sym here.joined;
+      some = some_cut cut.doc cut.byte more (length bytes) cut.in_line cut.filled cut.end;
     }

@@ -1,7 +1,6 @@
 -- What a refused `close` leaves.
 use Rattle.std.proofs.Common.{◌≡◌, ℕ, ◌<◌, ◌≤◌, List, [], ◌∷◌, ◌++◌, length, Option, None, sym, ◌∙◌, ap, subst, arith, append_assoc, length-append}
 use Rattle.store_base.proofs.ListLemmas.{risen_later}
-use Rattle.store_base.specs.Counts.{HasRisen}
 use Rattle.store_base.specs.Outputs.{Termination}
 use Rattle.store_base.specs.declared.error.Cause.{Cause}
 use Rattle.store_base.specs.declared.error.Cause.TheVariants.{Write, Memory as OutOfMemory}

@@ -1,12 +1,13 @@
 -- Putting a store behind what a writer has.
-use Rattle.std.specs.Prelude.{◌≡◌, ◌≢◌, ℕ, ◌+◌, ◌<◌, ◌≤◌, ◌^◌, IsTrue, List, [], Some, None}
+use Rattle.std.specs.Prelude.{◌≡◌, ◌≢◌, ℕ, ◌+◌, ◌<◌, ◌≤◌, ◌^◌, IsTrue, List, [], ◌∷◌, Some, None}
+use Rattle.std.specs.List.{AllByRecursion}
 use Rattle.store_base.specs.Counts.{HasRisen}
 use Rattle.store_base.specs.declared.error.StoreError.{StoreError}
 use Rattle.store_base.specs.declared.error.StoreError.TheVariants.{Read, Memory, OldVersion, TooManyDocs, Failed}
 use Rattle.store_format.specs.declared.version.DocStoreVersion.{DocStoreVersion}
 use Rattle.store_format.specs.declared.version.DocStoreVersion.TheVariants.{V1}
 use Rattle.layered_index.specs.declared.checkpoint.Checkpoint.{Checkpoint}
-use Rattle.layered_index.specs.Checkpoint.{checkpoint}
+use Rattle.layered_index.specs.Checkpoint.{checkpoint, doc_count, byte_len, bytes_end, IsFilled, IsInLineFrom}
 use Rattle.store_format.specs.StoreFile.{StoreBlock, checkpoints_of}
 use Rattle.store_reader.specs.Reading.{Reading, num_docs as docs_of, store_of, IsReadWhole}
 use Rattle.docstore.specs.BlockOutput.{BlockOutput, with_blocks, AfterFailedBlock}
@@ -21,6 +22,20 @@ pub record AreRead (reader : Reading) (bs : List StoreBlock) : Type 0 where
 abbrev pub shifted : ℕ → ℕ → Checkpoint → Checkpoint
 shifted docs bytes c = checkpoint (c.doc_range.start + docs) (c.doc_range.end + docs) (c.byte_range.start + bytes)
     (c.byte_range.end + bytes)
+
+-- the checkpoints of blocks of the same sizes, one behind the other from this id and this byte on
+abbrev pub laid_from : ℕ → ℕ → List Checkpoint → List Checkpoint
+laid_from id byte [] = []
+laid_from id byte (c ∷ cs) = checkpoint id (id + doc_count c) byte (byte + byte_len c)
+    ∷ laid_from (id + doc_count c) (byte + byte_len c) cs
+
+-- The checkpoints follow one another from some document and some byte on, none is empty, and they have so many bytes.
+pub record CutAll (cs : List Checkpoint) (bytes : ℕ) : Type 0 where
+  pub doc : ℕ
+  pub byte : ℕ
+  pub in_line : IsInLineFrom doc byte cs
+  pub filled : AllByRecursion IsFilled cs
+  pub end : bytes_end byte cs ≡ byte + bytes
 
 -- What a refused stacking of blocks leaves: where the reading is refused, the writer as it was.
 abbrev pub AfterStacking : Reading → Reading → BlockOutput → BlockOutput → StoreError → Type 0

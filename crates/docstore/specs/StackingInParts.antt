@@ -1,15 +1,12 @@
 -- Putting a store behind what a writer has, a part of its data at a time.
 use Rattle.std.specs.Prelude.{◌≡◌, ℕ, zero, suc, ◌+◌, ◌<◌, ◌≤◌}
-use Rattle.std.specs.Prelude.{Bool, IsTrue, Result, IfOk}
-use Rattle.std.specs.Prelude.{List, [], ◌∷◌, ◌++◌, length, take, None}
+use Rattle.std.specs.Prelude.{IsTrue, List, length, take, drop, None}
 use Rattle.store_base.specs.Counts.{HasRisen, raised}
 use Rattle.store_base.specs.declared.error.StoreError.{StoreError}
 use Rattle.store_base.specs.declared.error.StoreError.TheVariants.{Read, Memory, OldVersion, TooManyDocs, Failed}
-use Rattle.layered_index.specs.declared.checkpoint.Checkpoint.{Checkpoint}
-use Rattle.layered_index.specs.Checkpoint.{doc_count, byte_len}
-use Rattle.store_format.specs.StoreFile.{StoreBlock, checkpoints_of, docs_in}
-use Rattle.store_reader.specs.Parts.{number_of_parts, front_up_to, rest_from, IsBetween}
-use Rattle.store_reader.specs.Reading.{Reading, part_of, store_of, with_file, IsReadOnce}
+use Rattle.store_format.specs.StoreFile.{StoreBlock, checkpoints_of}
+use Rattle.store_reader.specs.Parts.{number_of_parts, byte_at}
+use Rattle.store_reader.specs.Reading.{Reading, store_of, with_file}
 use Rattle.docstore.specs.BlockOutput.{BlockOutput, with_blocks, with_risen, AfterFailedBlock}
 use Rattle.docstore.specs.Stacking.{with_store}
 use Rattle.docstore.specs.Writer.{Writing, with_failures, AfterFailed}
@@ -88,40 +85,15 @@ AfterStackInParts reader read old new _ = ⊥
 
 -- ---- how far a stacking has come
 
--- A block came of the place of a checkpoint.
-pub record CameOf (honest : Bool) (content : List ℕ) (c : Checkpoint) (b : StoreBlock) : Type 0 where
-  pub count : b.count ≡ doc_count c
-  pub len : length b.bytes ≡ byte_len c
-  pub bytes : IsTrue honest → b.bytes ≡ part_of content c
-
--- each of the places of these
-abbrev pub AllCameOf : Bool → List ℕ → List Checkpoint → List StoreBlock → Type 0
-AllCameOf honest content [] [] = Unit {0}
-AllCameOf honest content (c ∷ cs) (b ∷ bs) = CameOf honest content c b × AllCameOf honest content cs bs
-AllCameOf honest content _ _ = ⊥
-
--- The blocks of a reader from this id on and up to that one are behind the finished ones.
-pub record PutsBlocks (reader : Reading) (id next : ℕ) (old new : BlockOutput) : Type 0 where
-  pub some : List Checkpoint
-  pub front : front_up_to next reader.checkpoints ≡ front_up_to id reader.checkpoints ++ some
+-- So many of the first blocks that came of a reader's file are behind the finished ones.
+pub record StacksFirst (reader : Reading) (count : ℕ) (old new : BlockOutput) : Type 0 where
   pub blocks : List StoreBlock
-  pub came : AllCameOf reader.file.honest reader.file.content some blocks
-  pub count : id + docs_in blocks ≡ next
+  pub places : checkpoints_of blocks ≡ take count reader.checkpoints
+  pub honest : IsTrue reader.file.honest → blocks ≡ take count (store_of reader)
   pub after : new ≡ with_risen new.failures (with_blocks old blocks)
 
--- A part that begins with this block was put behind, and the next one begins with the block of that document.
-pub record PutsPart (size : ℕ) (reader : Reading) (first : Checkpoint) (next : ℕ) (old new : BlockOutput)
-    : Type 0 where
-  pub put : PutsBlocks reader first.doc_range.start next old new
-  pub more : first.doc_range.start < next
-  pub between : (byte : ℕ) × IsBetween reader.checkpoints next byte
-  pub parts : number_of_parts size (rest_from first.doc_range.start reader.checkpoints)
-      ≡ 1 + number_of_parts size (rest_from next reader.checkpoints)
-
--- One read of a part that begins with a block, which is in the data; where it was put, up to this document.
-pub record IsPartTaken (reader read : Reading) (first : Checkpoint) (result : Result ℕ StoreError) : Type 0 where
-  pub len : ℕ
-  pub once : IsReadOnce len reader read
-  pub some : 0 < len
-  pub within : first.byte_range.start + len ≤ length reader.file.content
-  pub ends : IfOk result (λ next. IsBetween reader.checkpoints next (first.byte_range.start + len))
+-- The data up to the block with this number was read, by one read for each part.
+pub record IsReadUpTo (size count : ℕ) (old new : Reading) : Type 0 where
+  pub times : ℕ
+  pub read : IsReadTimes times (byte_at count old.checkpoints) old new
+  pub parts : times + number_of_parts size (drop count old.checkpoints) ≡ number_of_parts size old.checkpoints

@@ -12,10 +12,7 @@ ghost use Rattle.store_format.specs.StoreFile.{block_of};
 use std::alloc::Global;
 use std::marker::Model;
 use store_base::{DocFault, Document, Schema, StoreError};
-use store_format::append_table;
-
-// A block is shorter than this.
-const BLOCK_LIMIT: usize = 0x1_0000_0000;
+use store_format::{BLOCK_LIMIT, append_table, block_len, weight_of};
 
 /// Documents that wait for their block. Room for the block's table is kept, so that a flush of them takes no memory.
 #[derive(Drop)]
@@ -61,7 +58,7 @@ impl CurrentBlock {
     pub(crate) fn weight(&self) -> usize
         ensures { result ≡ weight self.now }
     {
-        self.bytes.len() + 8 * self.starts.len()
+        weight_of(self.bytes.len(), self.starts.len())
     }
 
     /// Adds a document at the end. `Err` leaves the documents as they were.
@@ -113,6 +110,7 @@ impl CurrentBlock {
     }
 
     /// Their block: the bytes, and the table after them. It takes no memory.
+    #[inline]
     pub(crate) fn finish(self) -> FinishedBlock
         requires some { 0 < length self }
         ensures { result ≡ block_of self }
@@ -180,6 +178,7 @@ impl FinishedBlock {
     }
 
     /// No documents, in the same room. It takes no memory.
+    #[inline]
     pub(crate) fn into_empty(self) -> CurrentBlock
         ensures { result ≡ [] }
     {
@@ -227,7 +226,7 @@ fn make_room(bytes: &mut Vec<u8>, more: usize, table: usize) -> Result<usize, St
     ensures items { bytes.new.items ≡ bytes.old.items }
     ensures capacity { vec_capacity bytes.old ≤ vec_capacity bytes.new }
 {
-    if more >= BLOCK_LIMIT || bytes.len() + more + table >= BLOCK_LIMIT {
+    if block_len(bytes.len().saturating_add(more), table).is_none() {
         return Err(StoreError::BlockTooLarge);
     }
     bytes.reserve(more + table)?;

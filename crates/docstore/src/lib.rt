@@ -6,15 +6,15 @@ mod block_index;
 pub mod close_error;
 mod current_block;
 pub mod laws;
-mod parts;
 pub mod run;
 pub mod store_compressor;
 pub mod writer;
 
 pub use close_error::CloseError;
 pub use layered_index::{
-    CHECKPOINT_PERIOD, Checkpoint, CheckpointBlock, IndexFault, IndexHead, IndexSlice, LayerCursor,
-    Looks, SkipIndex, SkipIndexBuilder, Steps, seek_near, seek_over,
+    CHECKPOINT_PERIOD, Checkpoint, CheckpointBlock, CheckpointRange, IndexFault, IndexHead,
+    IndexSlice, LayerCursor, Looks, SkipIndex, SkipIndexBuilder, Steps, USUAL_PERIOD, seek_near,
+    seek_over,
 };
 pub use run::{StoreCommand, WriteReport, write_store, write_store_with_period};
 pub use store_base::{
@@ -25,13 +25,14 @@ pub use store_base::{
 };
 pub use store_compressor::BlockCompressor;
 pub use store_format::{
-    Compressor, DOC_STORE_VERSION, Decompressor, DocStoreFooter, DocStoreVersion, OpenError,
-    block_read_index, likely_read_index,
+    BLOCK_LIMIT, Compressor, DOC_STORE_VERSION, Decompressor, DocStoreFooter, DocStoreVersion,
+    FOOTER_LEN, OpenError, block_len, block_read_index, likely_read_index, table_len, u32_at,
+    weight_of,
 };
 pub use store_reader::{
     AliveDocuments, AliveSliceDocuments, Answer, BlockSlice, BlockSlices, CacheStats,
     DOCSTORE_CACHE_CAPACITY, DataPart, DocIter, DocWalk, Documents, Items, RawIter, ReadCall,
-    SeekingReader, SliceDocuments, StoreReader, StoreSlice, StoreTail, StoreView, TailError, Walk,
-    answer_all, any_lacks_memory, check_index,
+    SeekingReader, SliceDocuments, StorePart, StoreReader, StoreSlice, StoreTail, StoreView,
+    TailError, Walk, answer_all, any_lacks_memory, check_index,
 };
 pub use writer::StoreWriter;

@@ -7,7 +7,7 @@ ghost use Rattle.docstore.specs.Writer.{IsStoreWriter, AfterFailed};
 
 use crate::close_error::CloseError;
 use crate::writer::StoreWriter;
-use layered_index::CHECKPOINT_PERIOD;
+use layered_index::{CHECKPOINT_PERIOD, USUAL_PERIOD};
 use std::alloc::Global;
 use store_base::{Document, FileHandle, Schema, StoreError, TerminatingWrite};
 use store_format::Compressor;
@@ -55,14 +55,7 @@ pub fn write_store<W: TerminatingWrite, D: Document, H: FileHandle>(
     // Documents and bytes stay, and readers keep their stores.
     ensures kept { AreCommandsKept commands.old commands.new }
 {
-    write_store_with_period(
-        alloc,
-        output,
-        block_size,
-        CHECKPOINT_PERIOD as u8,
-        schema,
-        commands,
-    )
+    write_store_with_period(alloc, output, block_size, USUAL_PERIOD, schema, commands)
 }
 
 /// The same with an index of this period.

@@ -1,32 +1,23 @@
 //! Writes blocks one behind the other, and their index behind them.
 
-ghost use Rattle.std.specs.Prelude.{◌≡◌, ◌≢◌, ◌+◌, ◌<◌, ◌≤◌, ◌^◌, ◌⊎◌, List, [], ◌∷◌, ◌++◌, length, map, true, None};
-ghost use Rattle.std.specs.Prelude.{Some, OnOk, OnErr, IfOk, IfErr, IfSome, IsErrOf, MatchResult};
-ghost use Rattle.std.specs.List.{sum_by, AllByRecursion};
-ghost use Rattle.layered_index.specs.Checkpoint.{doc_count, docs_end, IsFilled, IsInLineFrom, Covers};
+ghost use Rattle.std.specs.Prelude.{◌≡◌, ◌+◌, ◌<◌, ◌≤◌, ◌^◌, ◌⊎◌, [], ◌∷◌, ◌++◌, length, true, Some, None};
+ghost use Rattle.std.specs.Prelude.{OnOk, IfOk, IfErr, IfSome, IsErrOf, MatchResult};
 ghost use Rattle.store_format.specs.Footer.{footer, kind_of, unpacks};
 ghost use Rattle.layered_index.specs.Layers.{index_part};
-ghost use Rattle.store_format.specs.StoreFile.{StoreBlock, docs_in, file, reserved_of, IsStore, blocks_at};
+ghost use Rattle.store_format.specs.StoreFile.{docs_in, file, reserved_of, IsStore};
 ghost use Rattle.store_base.specs.Outputs.{terminated_once};
 ghost use Rattle.docstore.specs.BlockOutput.{new_output, with_blocks, with_risen, IsSound, FailsFor, AfterBlock};
 ghost use Rattle.docstore.specs.BlockOutput.{AfterClose, IsEndRefusal};
-ghost use Rattle.store_reader.specs.Reading.{num_docs as docs_of, IsReadWhole};
-ghost use Rattle.docstore.specs.Stacking.{AreRead, shifted, AfterStacking};
-ghost use Rattle.store_reader.specs.Parts.{number_of_parts};
-ghost use Rattle.docstore.specs.StackingInParts.{IsReadInPieces, IsReadAtMost, AfterStackingInParts};
-ghost use Rattle.store_reader.specs.Viewing.{count_in};
+
+mod stacking;
 
 use crate::block_index::BlockIndex;
 use crate::close_error::CloseError;
-use crate::parts::stack_parts;
-use layered_index::{CHECKPOINT_PERIOD, Checkpoint, LayerCursor};
+use layered_index::{CHECKPOINT_PERIOD, Checkpoint, USUAL_PERIOD};
 use std::alloc::Global;
 use std::marker::Model;
-use store_base::{
-    BinarySerializable, Cause, CountingWriter, FileHandle, StoreError, TerminatingWrite,
-};
-use store_format::{Compressor, DOC_STORE_VERSION, Decompressor, DocStoreFooter, DocStoreVersion};
-use store_reader::{StoreReader, StoreView};
+use store_base::{BinarySerializable, Cause, CountingWriter, StoreError, TerminatingWrite};
+use store_format::{Compressor, DOC_STORE_VERSION, Decompressor, DocStoreFooter};
 
 /// Writes the blocks of a store to an output.
 #[derive(Drop)]
@@ -59,7 +50,7 @@ impl<W: TerminatingWrite> BlockCompressor<W> {
             (W.content output) (W.termination output) (W.failures output) }
         ensures sound { IsSound result }
     {
-        BlockCompressor::with_period(alloc, compressor, output, CHECKPOINT_PERIOD as u8)
+        BlockCompressor::with_period(alloc, compressor, output, USUAL_PERIOD)
     }
 
     /// The same with an index of this period.
@@ -103,10 +94,10 @@ impl<W: TerminatingWrite> BlockCompressor<W> {
         ensures works { MatchResult result (λ _. self.now.failure ≡ None) (λ cause. self.now.failure ≡ Some cause) }
         ensures sound { IsSound self.now }
     {
-        match self.failure {
-            Some(cause) => Err(cause),
-            None => Ok(()),
+        if let Some(cause) = self.failure {
+            return Err(cause);
         }
+        Ok(())
     }
 
     /// How many documents the blocks have.
@@ -189,122 +180,6 @@ impl<W: TerminatingWrite> BlockCompressor<W> {
         Ok(())
     }
 
-    /// Puts the blocks of a store behind the others as they come from its file, damaged ones too.
-    ///
-    /// The whole data is read before anything is written, so `Read` and `Memory` leave all as it was.
-    pub fn stack_reader<H: FileHandle>(
-        &mut self,
-        reader: &mut StoreReader<H>,
-    ) -> Result<(), StoreError>
-        requires version { reader.old.version ≢ DocStoreVersion.V1 }
-        requires few_docs { docs_in self.old.finished + docs_of reader.old < 2 ^ 32 }
-        ensures stacked { OnOk result ((bs : List StoreBlock) × AreRead reader.old bs
-            × (self.new ≡ with_risen self.new.failures (with_blocks self.old bs))) }
-        ensures works { OnOk result (self.old.failure ≡ None) }
-
-        // A failed writer answers its cause again and stays as it was, and the reader too.
-        ensures failed { IfSome self.old.failure (λ cause. IsErrOf result (StoreError.Failed cause)
-            × (self.new ≡ self.old) × (reader.new ≡ reader.old)) }
-        ensures err { IfErr result (AfterStacking reader.old reader.new self.old self.new) }
-
-        ensures read { self.old.failure ≡ None → IsReadWhole reader.old reader.new }
-        ensures reader { OnOk result (reader.new.file.failures ≡ reader.old.file.failures) }
-        ensures termination { self.new.termination ≡ self.old.termination }
-        ensures count { self.old.failures ≤ self.new.failures }
-        ensures steady { IsErrOf result (StoreError.Failed Cause.Write)
-            ⊎ (self.new.failures ≡ self.old.failures) }
-        ensures sound { IsSound self.new }
-    {
-        self.check_works()?;
-        let data = reader.block_data(self.alloc)?;
-        self.write_blocks(data.as_slice(), reader.block_checkpoints())?;
-        Ok(())
-    }
-
-    /// The same, a part of its data at a time: as many whole blocks as so many bytes hold, at least one.
-    ///
-    /// `Read` and `Memory` leave the blocks of the parts before, so the writer works on.
-    pub fn stack_reader_in_parts<H: FileHandle>(
-        &mut self,
-        reader: &mut StoreReader<H>,
-        part_bytes: usize,
-    ) -> Result<(), StoreError>
-        requires version { reader.old.version ≢ DocStoreVersion.V1 }
-        requires few_docs { docs_in self.old.finished + docs_of reader.old < 2 ^ 32 }
-        ensures stacked { OnOk result ((bs : List StoreBlock) × AreRead reader.old bs
-            × (self.new ≡ with_risen self.new.failures (with_blocks self.old bs))) }
-        ensures works { OnOk result (self.old.failure ≡ None) }
-
-        // A failed writer answers its cause again and stays as it was, and the reader too.
-        ensures failed { IfSome self.old.failure (λ cause. IsErrOf result (StoreError.Failed cause)
-            × (self.new ≡ self.old) × (reader.new ≡ reader.old)) }
-        ensures err { IfErr result (AfterStackingInParts reader.old reader.new self.old self.new) }
-
-        ensures read { OnOk result
-            (IsReadInPieces (number_of_parts part_bytes reader.old.checkpoints) reader.old reader.new) }
-        ensures kept { IsReadAtMost (number_of_parts part_bytes reader.old.checkpoints) reader.old reader.new }
-        ensures reader { OnOk result (reader.new.file.failures ≡ reader.old.file.failures) }
-        ensures termination { self.new.termination ≡ self.old.termination }
-        ensures count { self.old.failures ≤ self.new.failures }
-        ensures steady { IsErrOf result (StoreError.Failed Cause.Write)
-            ⊎ (self.new.failures ≡ self.old.failures) }
-        ensures sound { IsSound self.new }
-    {
-        self.check_works()?;
-        stack_parts(self.alloc, self, reader, part_bytes)
-    }
-
-    /// Puts the blocks of a store whose bytes are at hand behind the others.
-    pub(crate) fn stack_view(&mut self, view: &StoreView<'_>) -> Result<(), StoreError>
-        requires few_docs { docs_in self.old.finished + count_in view.now < 2 ^ 32 }
-        ensures stacked { OnOk result (self.new
-            ≡ with_risen self.new.failures (with_blocks self.old view.now.store)) }
-        ensures works { OnOk result (self.old.failure ≡ None) }
-        ensures err { IfErr result (AfterBlock self.old self.new) }
-        ensures termination { self.new.termination ≡ self.old.termination }
-        ensures count { self.old.failures ≤ self.new.failures }
-        ensures steady { IsErrOf result (StoreError.Failed Cause.Write)
-            ⊎ (self.new.failures ≡ self.old.failures) }
-        ensures sound { IsSound self.new }
-    {
-        self.check_works()?;
-        self.write_blocks(view.block_data(), view.block_checkpoints())?;
-        Ok(())
-    }
-
-    // Puts the blocks that these checkpoints cut from the bytes behind the others.
-    fn write_blocks(&mut self, bytes: &[u8], checkpoints: LayerCursor<'_>) -> Result<(), Cause>
-        requires works { self.old.failure ≡ None }
-        requires covers { Covers checkpoints (length bytes.now) }
-        requires few_docs { docs_in self.old.finished + docs_end 0 checkpoints < 2 ^ 32 }
-        ensures written { OnOk result (self.new ≡ with_risen self.new.failures
-            (with_blocks self.old (blocks_at checkpoints.entry bytes.now))) }
-        ensures err { IfErr result (λ cause. FailsFor cause self.old self.new) }
-        ensures termination { self.new.termination ≡ self.old.termination }
-        ensures count { self.old.failures ≤ self.new.failures }
-        ensures steady { IsErrOf result Cause.Write ⊎ (self.new.failures ≡ self.old.failures) }
-        ensures sound { IsSound self.new }
-    {
-        let start = self.writer.written_bytes() as usize;
-        if self.writer.write_all(bytes).is_err() {
-            self.failure = Some(Cause::Write);
-            return Err(Cause::Write);
-        }
-        let docs = self.first_doc_in_block;
-        let registered = register_all(
-            &mut self.index,
-            &mut self.first_doc_in_block,
-            checkpoints,
-            docs,
-            start,
-        );
-        if registered.is_err() {
-            self.failure = Some(Cause::Memory);
-            return Err(Cause::Memory);
-        }
-        Ok(())
-    }
-
     /// Writes the index and the footer, and ends the output: once, behind all that was written.
     ///
     /// `Memory` means that no byte of this call went out.
@@ -366,35 +241,5 @@ fn write_end<W: TerminatingWrite>(
     index.into_builder().serialize_into(writer)?;
     footer.serialize(writer)?;
     writer.terminate()?;
-    Ok(())
-}
-
-// Adds the checkpoints, so many documents and bytes further on. A refusal leaves those before it added.
-fn register_all(
-    index: &mut BlockIndex,
-    next_id: &mut u32,
-    checkpoints: LayerCursor<'_>,
-    docs: u32,
-    bytes: usize,
-) -> Result<(), StoreError>
-    requires ids { next_id.old ≡ sum_by doc_count index.old.checkpoints }
-    requires few { next_id.old < 2 ^ 32 }
-    requires in_line { IsInLineFrom 0 0 (index.old.checkpoints ++ map (shifted docs bytes) checkpoints) }
-    requires filled { AllByRecursion IsFilled checkpoints }
-    ensures ok { OnOk result (index.new
-        ≡ record index.old { checkpoints = index.old.checkpoints ++ map (shifted docs bytes) checkpoints.entry }) }
-    ensures period { index.new.period ≡ index.old.period }
-    ensures ids { next_id.new ≡ sum_by doc_count index.new.checkpoints }
-    ensures few { next_id.new < 2 ^ 32 }
-    ensures some { OnErr result (0 < length checkpoints.entry) }
-{
-    for checkpoint in checkpoints {
-        let end = checkpoint.doc_range.end + docs;
-        index.insert(Checkpoint {
-            doc_range: checkpoint.doc_range.start + docs..end,
-            byte_range: checkpoint.byte_range.start + bytes..checkpoint.byte_range.end + bytes,
-        })?;
-        *next_id = end;
-    }
     Ok(())
 }

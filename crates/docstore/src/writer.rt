@@ -17,7 +17,7 @@ mod stacking;
 use crate::close_error::CloseError;
 use crate::current_block::CurrentBlock;
 use crate::store_compressor::BlockCompressor;
-use layered_index::CHECKPOINT_PERIOD;
+use layered_index::{CHECKPOINT_PERIOD, USUAL_PERIOD};
 use std::alloc::Global;
 use std::marker::Model;
 use std::mem;
@@ -56,13 +56,7 @@ impl<W: TerminatingWrite> StoreWriter<W> {
             (W.content output) (W.termination output) (W.failures output)) }
         ensures sound { IsStoreWriter result }
     {
-        StoreWriter::with_period(
-            alloc,
-            output,
-            compressor,
-            block_size,
-            CHECKPOINT_PERIOD as u8,
-        )
+        StoreWriter::with_period(alloc, output, compressor, block_size, USUAL_PERIOD)
     }
 
     /// The same with an index of this period.
@@ -282,7 +276,7 @@ fn flush_if_full<W: TerminatingWrite>(
     }
 }
 
-// Writes the documents as a block if there are any. None waits afterwards, whether the write succeeds or not.
+// Writes the documents as a block if there are any. None waits afterwards, also where this write fails.
 fn flush<W: TerminatingWrite>(
     documents: &mut CurrentBlock,
     output: &mut BlockCompressor<W>,

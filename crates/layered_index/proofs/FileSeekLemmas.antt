@@ -8,7 +8,6 @@ use Rattle.std.proofs.lemmas.Nat.{mul-le}
 use Rattle.std.specs.Prelude.{slice_range, is_some, MatchResult, IsTrue}
 use Rattle.store_base.proofs.ListLemmas.{length-slice}
 use Rattle.store_base.proofs.Ranges.{part_of_part}
-use Rattle.store_base.specs.Counts.{HasRisen}
 use Rattle.store_base.specs.Files.{Part, ReadsOnce}
 use Rattle.store_base.specs.VInt.{number_below}
 use Rattle.store_base.specs.ReadingLemmas.{some_is}

@@ -1,6 +1,5 @@
 -- Halving: what is known below and above the middle.
-use Rattle.std.proofs.Common.{◌≡◌, ℕ, zero, suc, ◌+◌, ◌/◌, ◌<◌, ◌≤◌, ltb, List, [], ◌∷◌, length, Some, None, refl, ◌∙◌, ap, arith}
-use Rattle.std.proofs.lemmas.Bool.{cond-true, cond-false, lt-ltb, le-ltb}
+use Rattle.std.proofs.Common.{◌≡◌, ℕ, zero, suc, ◌+◌, ◌/◌, ◌<◌, ◌≤◌, List, [], ◌∷◌, length, Some, None, refl, ◌∙◌, ap, arith}
 use Rattle.std.specs.Prelude.{slice_get}
 use Rattle.layered_index.proofs.PointedLemmas.{past_here, past_later}
 use Rattle.layered_index.specs.declared.checkpoint.Checkpoint.{Checkpoint}

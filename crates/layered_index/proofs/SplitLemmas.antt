@@ -1,5 +1,5 @@
 -- The texts of an index are read as they were written.
-use Rattle.std.proofs.Common.{◌≡◌, ℕ, zero, suc, ◌+◌, ◌-◌, ◌<◌, ◌≤◌, ◌^◌, Bool, true, false, cond, eqb, ltb, List, [], ◌∷◌, ◌++◌, length, take, drop, Option, Some, None, refl, sym, ◌∙◌, ap, subst}
+use Rattle.std.proofs.Common.{◌≡◌, ℕ, zero, suc, ◌+◌, ◌-◌, ◌<◌, ◌≤◌, ◌^◌, false, cond, eqb, ltb, List, [], ◌∷◌, ◌++◌, length, take, drop, Some, None, refl, sym, ◌∙◌, ap, subst}
 use Rattle.std.proofs.Common.{arith, append_assoc, length-append}
 use Rattle.std.proofs.lemmas.Bool.{eqb-true, ltb-false, le-ltb}
 use Rattle.std.proofs.lemmas.List.{take-append-drop, length-take, nil_from_length}
@@ -9,7 +9,6 @@ use Rattle.store_base.specs.NumbersLemmas.{length-numbers}
 use Rattle.store_base.proofs.ListLemmas.{pass_none}
 use Rattle.store_base.specs.VInt.{number}
 use Rattle.store_base.specs.VInt.{◌>>=◌, number_below}
-use Rattle.store_base.specs.VIntLemmas.{number_some}
 use Rattle.store_base.specs.ReadingLemmas.{bind_some, some_is, pass_some, below_again, below_takes, bytes_behind, SplitsOff, takes_then}
 use Rattle.store_base.specs.Serialize.{IsBytes}
 use Rattle.layered_index.specs.Layers.{ends_from}

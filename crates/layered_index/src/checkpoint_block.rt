@@ -31,20 +31,12 @@ impl Model for CheckpointBlock {
 }
 
 impl CheckpointBlock {
-    /// An empty block, with room for two full ones of the usual period.
+    /// An empty block, with room for two full ones of the usual period. One of a longer period grows.
     pub fn new(alloc: Global) -> Result<CheckpointBlock, StoreError>
         ensures ok { IfOk result (λ block. block ≡ []) }
         ensures memory { IsOkUnless result StoreError.Memory }
     {
-        CheckpointBlock::with_room(alloc, CHECKPOINT_PERIOD)
-    }
-
-    // An empty block, with room for two full ones of this period.
-    pub(crate) fn with_room(alloc: Global, period: usize) -> Result<CheckpointBlock, StoreError>
-        ensures ok { IfOk result (λ block. block ≡ []) }
-        ensures memory { IsOkUnless result StoreError.Memory }
-    {
-        let checkpoints = Vec::with_capacity(alloc, period.saturating_mul(2))?;
+        let checkpoints = Vec::with_capacity(alloc, 2 * CHECKPOINT_PERIOD)?;
         Ok(CheckpointBlock { checkpoints })
     }
 

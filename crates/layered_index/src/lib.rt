@@ -3,6 +3,7 @@
 
 pub mod checkpoint;
 pub mod checkpoint_block;
+pub mod checkpoint_range;
 mod fault;
 mod guide;
 pub mod index_fault;
@@ -23,6 +24,7 @@ mod tables;
 
 pub use checkpoint::{CHECKPOINT_PERIOD, Checkpoint, USUAL_PERIOD};
 pub use checkpoint_block::CheckpointBlock;
+pub use checkpoint_range::CheckpointRange;
 pub use index_fault::IndexFault;
 pub use index_head::IndexHead;
 pub use index_slice::IndexSlice;

@@ -1,5 +1,5 @@
 //! The layered skip index of a store.
-ghost use Rattle.std.specs.Prelude.{◌≡◌, ◌≤◌, ◌<◌, ◌+◌, ◌*◌, ℕ, [], length, IfOk, IfErr, MatchResult};
+ghost use Rattle.std.specs.Prelude.{◌≡◌, ◌≤◌, ◌<◌, ◌+◌, ◌*◌, ℕ, [], length, slice_get, slice_range, IfOk, IfErr, MatchResult};
 ghost use Rattle.std.specs.Prelude.{IsNone, IsSome, IfSome};
 ghost use Rattle.store_base.specs.Counts.{raised};
 ghost use Rattle.layered_index.specs.Checkpoint.{IsInLine, first_past};
@@ -12,6 +12,7 @@ ghost use Rattle.layered_index.specs.Faults.{IsFirstFault};
 ghost use Rattle.layered_index.specs.Refusal.{RefusesOnlyUnless, RefusedOnlyUnless};
 
 use crate::checkpoint::{CHECKPOINT_PERIOD, Checkpoint, USUAL_PERIOD};
+use crate::checkpoint_range::CheckpointRange;
 use crate::fault::Refusal;
 use crate::index_fault::IndexFault;
 use crate::layer_cursor::LayerCursor;
@@ -21,6 +22,7 @@ use crate::split::split;
 use crate::tables::{Ends, TableLooks, Tables};
 use std::alloc::Global;
 use std::marker::Model;
+use std::ops::Range;
 use store_base::{DocId, NoMemory, OwnedBytes, StoreError};
 
 /// The checkpoints of a store, found by document. It keeps the bytes of the bottom layer and where
@@ -199,5 +201,30 @@ impl SkipIndex {
         ensures { result ≡ self.now.checkpoints }
     {
         LayerCursor::new(self.bottom.as_slice())
+    }
+
+    /// How many checkpoints there are.
+    pub fn len(&self) -> usize
+        ensures { result ≡ length self.now.checkpoints }
+    {
+        self.tables.len()
+    }
+
+    /// The checkpoint at this place of the list, if the list is so long. Nothing is sought.
+    pub fn get(&self, place: usize) -> Option<Checkpoint>
+        ensures { result ≡ slice_get self.now.checkpoints place }
+    {
+        if place >= self.tables.len() {
+            return None;
+        }
+        Some(self.tables.get(place))
+    }
+
+    /// The checkpoints at these places of the list, in order.
+    pub fn range(&self, places: Range<usize>) -> CheckpointRange<'_>
+        requires { places.end ≤ length self.now.checkpoints }
+        ensures { result ≡ slice_range self.now.checkpoints places.start places.end }
+    {
+        CheckpointRange::new(&self.tables, places)
     }
 }

@@ -32,12 +32,11 @@ impl Model for LayerBuilder {
 }
 
 impl LayerBuilder {
-    // A layer of no checkpoints, with room for two full blocks of this period.
-    fn new(alloc: Global, period: usize) -> Result<LayerBuilder, StoreError>
+    fn new(alloc: Global) -> Result<LayerBuilder, StoreError>
         ensures ok { IfOk result (λ layer. layer ≡ record { bytes = []; rest = [] }) }
         ensures memory { IsOkUnless result StoreError.Memory }
     {
-        let block = CheckpointBlock::with_room(alloc, period)?;
+        let block = CheckpointBlock::new(alloc)?;
         Ok(LayerBuilder {
             buffer: Vec::new(alloc),
             block,
@@ -149,11 +148,7 @@ impl LayerBuilder {
 }
 
 // Adds a layer at the top, with one checkpoint.
-fn add_layer(
-    layers: &mut Vec<LayerBuilder>,
-    period: usize,
-    checkpoint: Checkpoint,
-) -> Result<(), StoreError>
+fn add_layer(layers: &mut Vec<LayerBuilder>, checkpoint: Checkpoint) -> Result<(), StoreError>
     requires { IsInLine (checkpoint ∷ []) }
     ensures ok { OnOk result (layers.new.items ≡
         layers.old.items ++ record { bytes = []; rest = checkpoint ∷ [] } ∷ []) }
@@ -161,7 +156,7 @@ fn add_layer(
     ensures memory { IsOkUnless result StoreError.Memory }
 {
     let alloc = *layers.allocator();
-    let mut layer = LayerBuilder::new(alloc, period)?;
+    let mut layer = LayerBuilder::new(alloc)?;
     layer.push(checkpoint)?;
     layers.push(layer)?;
     Ok(())
@@ -183,7 +178,7 @@ fn insert_at(
     ensures memory { IsOkUnless result StoreError.Memory }
 {
     if at == layers.len() {
-        return add_layer(layers, period, checkpoint);
+        return add_layer(layers, checkpoint);
     }
     let layer = &mut layers[at];
     let start = layer.len();

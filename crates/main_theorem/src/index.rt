@@ -7,7 +7,10 @@ ghost use Rattle.layered_index.specs.Refusal.{RefusesOnlyUnless};
 ghost use Rattle.main_theorem.specs.Index.{AreLooks, IsIndexAnswer};
 ghost use Rattle.main_theorem.specs.Want.{IsWant};
 
-use docstore::{Checkpoint, CheckpointBlock, DocId, LayerCursor, Looks, MemSink, OwnedBytes, SkipIndex, SkipIndexBuilder, Steps, StoreError, seek_near};
+use docstore::{
+    Checkpoint, CheckpointBlock, DocId, LayerCursor, Looks, MemSink, OwnedBytes, SkipIndex,
+    SkipIndexBuilder, Steps, StoreError, seek_near,
+};
 use layered_index::laws;
 use std::alloc::Global;
 

@@ -2,7 +2,7 @@
 use Rattle.std.proofs.Common.{◌≡◌, ◌⊎◌, inl, inr, ℕ, zero, suc, ◌+◌, ◌-◌, ◌<◌, ◌≤◌, List, [], ◌∷◌, ◌++◌, length, take, drop, get_or, set, Bool, true, false, ◌&&◌, cond, Option, Some, None}
 use Rattle.std.proofs.Common.{Result, Ok, Err, refl, sym, ◌∙◌, ap, arith, length-drop}
 use Rattle.std.proofs.lemmas.List.{take_more, get_or-drop, drop-set-lt, drop-drop, length-take-le, drop_at, take_at}
-use Rattle.std.specs.Prelude.{slice_range, slice_get, OnOk, OnErr}
+use Rattle.std.specs.Prelude.{slice_range, OnOk, OnErr}
 use Rattle.std.specs.List.{AllByRecursion, enumerate_from}
 use Rattle.store_base.specs.Counts.{HasRisen}
 

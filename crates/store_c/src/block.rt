@@ -24,6 +24,14 @@ pub struct Block {
     pub end_byte: usize,
 }
 
+impl BlockEnd {
+    /// Where the first block begins.
+    pub(crate) const ZERO: BlockEnd = BlockEnd {
+        end_doc: 0,
+        end_byte: 0,
+    };
+}
+
 impl Block {
     /// The row of a block that ends here, with no guide.
     pub(crate) fn new(end: BlockEnd) -> Block

@@ -6,11 +6,10 @@ ghost use Rattle.store_c.specs.Calls.{RefusesFile};
 ghost use Rattle.store_c.specs.Checking.{AreWholeTo, IsSoundFile, IsFirstDamaged, IsIndexFault};
 ghost use Rattle.store_c.specs.declared.fault.Fault.{Fault as FaultOf};
 
+use crate::DONE;
 use crate::fault::{Fault, LAYER_COVER, LAYER_LIST};
 use docstore::{DocId, StoreError, StoreView, check_index};
 use std::alloc::Global;
-
-const DONE: u32 = 0;
 
 const BAD_INDEX: u32 = 5;
 

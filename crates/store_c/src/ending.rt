@@ -8,13 +8,10 @@ use crate::block::{Block, BlockEnd};
 use crate::table::start_of;
 use crate::writer_refusal::WriterRefusal;
 use docstore::{
-    BinarySerializable, Checkpoint, DOC_STORE_VERSION, Decompressor, DocStoreFooter, MemSink,
-    SkipIndexBuilder,
+    BLOCK_LIMIT, BinarySerializable, Checkpoint, DOC_STORE_VERSION, Decompressor, DocStoreFooter,
+    MemSink, SkipIndexBuilder,
 };
 use std::alloc::Global;
-
-// A block is shorter than this.
-const BLOCK_LIMIT: usize = 0x1_0000_0000;
 
 // The checkpoint of a block from the one end to the other, if a block can be so.
 fn checkpoint_between(start: BlockEnd, end: BlockEnd) -> Option<Checkpoint>
@@ -41,10 +38,7 @@ fn index_of(alloc: Global, ends: &[Block], period: u8) -> Result<SkipIndexBuilde
     ensures refused { IfErr result (RefusesIndex (ends_in ends.now)) }
 {
     let mut index = SkipIndexBuilder::with_period(alloc, period);
-    let mut start = BlockEnd {
-        end_doc: 0,
-        end_byte: 0,
-    };
+    let mut start = BlockEnd::ZERO;
     for row in ends {
         let end = row.end();
         let Some(checkpoint) = checkpoint_between(start, end) else {

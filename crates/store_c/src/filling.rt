@@ -8,12 +8,6 @@ use crate::block::{Block, BlockEnd};
 use crate::guiding::write_guides;
 use docstore::LayerCursor;
 
-// Where the first block begins.
-const FIRST: BlockEnd = BlockEnd {
-    end_doc: 0,
-    end_byte: 0,
-};
-
 /// Writes where blocks end that stand behind this place to the front of a table, as many as it has room for. It answers
 /// how many there are.
 pub(crate) fn fill(checkpoints: LayerCursor<'_>, start: BlockEnd, table: &mut [Block]) -> usize
@@ -46,7 +40,7 @@ pub(crate) fn fill_table(checkpoints: LayerCursor<'_>, table: &mut [Block]) -> u
     ensures filled { ends_in table.new ≡ with_front (map ends_of checkpoints.entry) (ends_in table.old) }
     ensures behind { drop result table.new ≡ drop result table.old }
 {
-    let count = fill(checkpoints, FIRST, table);
+    let count = fill(checkpoints, BlockEnd::ZERO, table);
     if count > table.len() {
         return count;
     }

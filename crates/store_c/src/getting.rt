@@ -8,11 +8,10 @@ ghost use Rattle.store_reader.specs.StoreSlices.{document_in, count_of_store};
 ghost use Rattle.store_c.specs.Getting.{IsPlaceIn, ArePlacesIn, RefusesGet, HasBlock};
 ghost use Rattle.store_c.specs.Getting.{RefusesUnopened, RefusesHead};
 
+use crate::DONE;
 use crate::place::Place;
 use docstore::{BlockSlice, DocId, StoreError, StoreSlice};
 use std::alloc::Global;
-
-const DONE: u32 = 0;
 
 // Where a document of a block lies in the file.
 #[inline(always)]

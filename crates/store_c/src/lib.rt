@@ -25,3 +25,6 @@ mod table;
 pub mod writer;
 pub mod writer_refusal;
 pub mod writing;
+
+// What a call returns that did what it was called for.
+const DONE: u32 = 0;

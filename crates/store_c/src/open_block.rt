@@ -8,9 +8,7 @@ use crate::block::{Block, BlockEnd};
 use crate::table::start_of;
 use crate::writer::Writer;
 use crate::writer_refusal::WriterRefusal;
-
-// A block is shorter than this.
-const BLOCK_LIMIT: usize = 0x1_0000_0000;
+use docstore::{block_len, table_len, weight_of};
 
 /// Where a block ends that begins here and has so many documents of so many bytes.
 pub(crate) fn end_of(start: BlockEnd, docs: usize, bytes: usize) -> Result<BlockEnd, WriterRefusal>
@@ -22,11 +20,10 @@ pub(crate) fn end_of(start: BlockEnd, docs: usize, bytes: usize) -> Result<Block
     if end_doc > u32::MAX as usize {
         return Err(WriterRefusal::TooManyDocs);
     }
-    let table = 4 * docs + 4;
-    if bytes >= BLOCK_LIMIT || bytes + table >= BLOCK_LIMIT {
+    let Some(len) = block_len(bytes, table_len(docs)) else {
         return Err(WriterRefusal::BlockTooLarge);
-    }
-    match start.end_byte.checked_add(bytes + table) {
+    };
+    match start.end_byte.checked_add(len) {
         Some(end_byte) => Ok(BlockEnd {
             end_doc: end_doc as u32,
             end_byte,
@@ -88,7 +85,7 @@ pub(crate) fn put(
     starts[writer.docs] = writer.bytes as u32;
     writer.docs += 1;
     writer.bytes = bytes;
-    if bytes + 8 * writer.docs > writer.block_size {
+    if weight_of(bytes, writer.docs) > writer.block_size {
         Ok(finish(writer, starts, table, end))
     } else {
         Ok(0)

@@ -8,13 +8,12 @@ ghost use Rattle.store_reader.specs.StoreTails.{IsTailOf, IsWanted};
 ghost use Rattle.store_c.specs.Getting.{IsPlaceIn, RefusesHead};
 ghost use Rattle.store_c.specs.Ranges.{HasBlockAt, IsBlockPlace, RefusesTail, IsOtherBlock};
 
+use crate::DONE;
 use crate::block_place::BlockPlace;
 use crate::place::Place;
 use crate::refusal::Refusal;
 use docstore::{BlockSlice, StoreTail, TailError};
 use std::alloc::Global;
-
-const DONE: u32 = 0;
 
 /// Sets `block` to where the block lies that has a document, in a file of `file_len` bytes of which these are the last.
 ///

@@ -6,13 +6,11 @@ ghost use Rattle.store_c.specs.Calls.{IsTableOf, Fills, HasCounts, IsByRoom, IsP
 
 use crate::block::Block;
 use crate::filling::fill_table;
-use crate::locating;
 use crate::place::Place;
 use crate::refusal::Refusal;
+use crate::{DONE, locating};
 use docstore::StoreView;
 use std::alloc::Global;
-
-const DONE: u32 = 0;
 
 /// Opens the store whose file these bytes are: fills the table of its blocks, and tells how many blocks and how many
 /// documents there are. It is refused by 32 where the table has no room for all blocks; then the table has the first of

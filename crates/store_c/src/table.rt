@@ -14,10 +14,7 @@ pub(crate) fn start_of(table: &[Block], at: usize) -> BlockEnd
 {
     match at.checked_sub(1) {
         Some(before) => table[before].end(),
-        None => BlockEnd {
-            end_doc: 0,
-            end_byte: 0,
-        },
+        None => BlockEnd::ZERO,
     }
 }
 

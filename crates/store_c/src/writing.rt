@@ -14,11 +14,9 @@ use crate::block::Block;
 use crate::ending::end_of_file;
 use crate::writer::Writer;
 use crate::writer_refusal::WriterRefusal;
-use crate::{open_block, stacking};
+use crate::{DONE, open_block, stacking};
 use docstore::StoreView;
 use std::alloc::Global;
-
-const DONE: u32 = 0;
 
 /// Begins a store that has nothing yet. A block of documents is ended once they weigh more than the block size: their
 /// bytes and eight for each.

@@ -1,8 +1,8 @@
 -- Which documents were given before a giving ended.
-use Rattle.std.proofs.Common.{◌≡◌, ℕ, suc, ◌+◌, ◌-◌, ◌<◌, ◌≤◌, Bool, true, List, [], ◌∷◌, ◌++◌, length, map, take, Option, Some, refl, sym, ap, ◌∙◌, subst, arith, inl, inr, false, length-append, append_assoc}
+use Rattle.std.proofs.Common.{◌≡◌, ℕ, suc, ◌+◌, ◌-◌, ◌<◌, ◌≤◌, Bool, true, List, ◌∷◌, ◌++◌, length, map, take, Option, Some, refl, sym, ap, ◌∙◌, subst, arith, inl, inr, false, length-append, append_assoc}
 use Rattle.std.specs.Prelude.{IsTrue, slice_get, slice_range, get_or, nat_lt, ◌⊎◌, Result, Ok, Err, IfErr, IsErrOf, IsOkAnd, IsNone}
 use Rattle.std.specs.List.{range_with_len}
-use Rattle.std.proofs.lemmas.List.{take_at, map-append}
+use Rattle.std.proofs.lemmas.List.{take_at}
 use Rattle.std.proofs.lemmas.List.Concat.{flat_map-append}
 use Rattle.std.proofs.lemmas.Option.{slice_get-get_or}
 use Rattle.std.proofs.Math.Seq.{get_or-append_seam}
@@ -14,12 +14,12 @@ use Rattle.layered_index.specs.declared.checkpoint.Checkpoint.{Checkpoint}
 use Rattle.layered_index.specs.Checkpoint.{docs_end, first_past}
 use Rattle.store_base.specs.Counts.{HasRisen}
 use Rattle.store_base.specs.declared.error.StoreError.{StoreError}
-use Rattle.store_base.specs.declared.error.StoreError.TheVariants.{DamagedDocument, Read, Memory}
-use Rattle.store_format.specs.Block.{Slot, slot, doc, damaged}
+use Rattle.store_base.specs.declared.error.StoreError.TheVariants.{Read, Memory}
+use Rattle.store_format.specs.Block.{Slot, slot}
 use Rattle.store_format.specs.Slots.{slots}
 use Rattle.store_format.specs.StoreFile.{StoreBlock, docs_in}
 use Rattle.store_reader.specs.declared.data_part.DataPart.{DataPart}
-use Rattle.store_reader.specs.Iteration.{is_in, alive}
+use Rattle.store_reader.specs.Iteration.{alive}
 use Rattle.store_reader.specs.Parts.{place_of}
 use Rattle.store_reader.specs.Reading.{Reading, num_docs, store_of}
 use Rattle.store_commands.specs.declared.block_walk.GivingError.{GivingError}
@@ -30,7 +30,7 @@ use Rattle.store_commands.specs.Giving.{RefusesSlot, EndsBlock, HasTakenTo, Ends
 use Rattle.store_commands.proofs.AliveLemmas.{alive_joined}
 use Rattle.store_commands.proofs.GivingLemmas.{HasGiven, next_in, slots_split}
 use Rattle.store_commands.proofs.TakingLemmas.{takes_more}
-use Rattle.store_commands.proofs.WalkLemmas.{HasCome, IsNext, docs_of_all}
+use Rattle.store_commands.proofs.WalkLemmas.{IsNext, docs_of_all}
 
 -- ---- the slots below an id
 
@@ -55,7 +55,8 @@ cut_at front rest b position lt =
     ap (slots_in b.bytes) more ∙ slots_split b.bytes position (suc (b.count - (position + 1))) in
     slots_front front (b ∷ rest)
     ∙ ap (λ (xs : List Slot). slots front ++ (xs ++ slots rest)) here
-    ∙ ap (λ (xs : List Slot). slots front ++ xs) (append_assoc (slots_in b.bytes position) (slot b.bytes position ∷ map (slot b.bytes) (range_with_len (position + 1) (b.count - (position + 1)))) (slots rest))
+    ∙ ap (λ (xs : List Slot). slots front ++ xs)
+    (append_assoc (slots_in b.bytes position) (slot b.bytes position ∷ map (slot b.bytes) (range_with_len (position + 1) (b.count - (position + 1)))) (slots rest))
     ∙ sym (append_assoc (slots front) (slots_in b.bytes position) (slot b.bytes position ∷ slots_after b rest position))
 
 slot_behind : (xs ys : List Slot) (s : Slot) (id : ℕ) → id ≡ length xs → slice_get (xs ++ s ∷ ys) id ≡ Some s
@@ -81,18 +82,21 @@ ends_at_block takes set r now next old new h lt = (
 )
 
 -- and those of the next block before a position
-id_in : {T : Type 0} (takes : T → List ℕ → T → Type 0) (set : Option (ℕ → Bool)) (r now : Reading) (next position : ℕ) (old middle : T) (part : DataPart) (h : HasGiven takes set r now next old middle)
+id_in : {T : Type 0} (takes : T → List ℕ → T → Type 0) (set : Option (ℕ → Bool)) (r now : Reading) (next position : ℕ) (old middle : T)
+    (part : DataPart) (h : HasGiven takes set r now next old middle)
     (n : IsNext r h.front next part) → part.ids.start + position ≡ length (slots h.front ++ slots_in n.block.bytes position)
 id_in takes set r now next position old middle part h n =
     let size = length-append (slots h.front) (slots_in n.block.bytes position) in
     omega (arith, size, length-slots h.front, length-map-range_with_len (slot n.block.bytes) 0 position, n.first, h.come.next_is)
 
-cut_store : {T : Type 0} (takes : T → List ℕ → T → Type 0) (set : Option (ℕ → Bool)) (r now : Reading) (next position : ℕ) (old middle : T) (part : DataPart) (h : HasGiven takes set r now next old middle)
+cut_store : {T : Type 0} (takes : T → List ℕ → T → Type 0) (set : Option (ℕ → Bool)) (r now : Reading) (next position : ℕ) (old middle : T)
+    (part : DataPart) (h : HasGiven takes set r now next old middle)
     (n : IsNext r h.front next part) → position < n.block.count
     → slots (store_of r) ≡ (slots h.front ++ slots_in n.block.bytes position) ++ (slot n.block.bytes position ∷ slots_after n.block n.rest position)
 cut_store takes set r now next position old middle part h n lt = ap slots n.parts ∙ cut_at h.front n.rest n.block position lt
 
-slot_at : {T : Type 0} (takes : T → List ℕ → T → Type 0) (set : Option (ℕ → Bool)) (r now : Reading) (next position : ℕ) (old middle : T) (part : DataPart) (h : HasGiven takes set r now next old middle)
+slot_at : {T : Type 0} (takes : T → List ℕ → T → Type 0) (set : Option (ℕ → Bool)) (r now : Reading) (next position : ℕ) (old middle : T)
+    (part : DataPart) (h : HasGiven takes set r now next old middle)
     (n : IsNext r h.front next part) → position < n.block.count → IsTrue r.file.honest → slice_get (slots (store_of r)) (part.ids.start + position) ≡ Some (slot part.bytes position)
 slot_at takes set r now next position old middle part h n lt honest =
     ap (λ (xs : List Slot). slice_get xs (part.ids.start + position)) (cut_store takes set r now next position old middle part h n lt)
@@ -100,7 +104,8 @@ slot_at takes set r now next position old middle part h n lt honest =
     (id_in takes set r now next position old middle part h n)
     ∙ ap (λ (xs : List ℕ). Some (slot xs position)) (sym (n.bytes honest))
 
-given_to : {T : Type 0} (takes : T → List ℕ → T → Type 0) (set : Option (ℕ → Bool)) (r now : Reading) (next position : ℕ) (old middle new : T) (part : DataPart) (h : HasGiven takes set r now next old middle)
+given_to : {T : Type 0} (takes : T → List ℕ → T → Type 0) (set : Option (ℕ → Bool)) (r now : Reading) (next position : ℕ) (old middle new : T)
+    (part : DataPart) (h : HasGiven takes set r now next old middle)
     (n : IsNext r h.front next part) → position < n.block.count → TakesSlots takes (alive_from part.ids.start (slots_in part.bytes position) set) middle new
     → HasTakenTo takes set r (part.ids.start + position) old new
 given_to takes set r now next position old middle new part h n lt taken = record {
@@ -163,12 +168,14 @@ steady_of x (inl b) = absurd cc
 steady_of x (inr p) = p
 
 -- a block that does not come
-pub ends_by_read : {T : Type 0} (E : Type 0) (takes refuses : T → List ℕ → T → Type 0) (set : Option (ℕ → Bool)) (r now read : Reading) (next : ℕ) (old new : T) (result : Result (Option DataPart) StoreError) (e : StoreError)
+pub ends_by_read : {T : Type 0} (E : Type 0) (takes refuses : T → List ℕ → T → Type 0) (set : Option (ℕ → Bool)) (r now read : Reading) (next : ℕ)
+    (old new : T) (result : Result (Option DataPart) StoreError) (e : StoreError)
     → HasGiven takes set r now next old new → now.file.failures ≡ r.file.failures → result ≡ Err e → IfErr result (λ x. (x ≡ Read) ⊎ (x ≡ Memory))
     → (IsErrOf result Read → HasRisen now.file.failures read.file.failures) → IsErrOf result Read ⊎ (read.file.failures ≡ now.file.failures) → (num_docs now ≤ next → IsOkAnd result IsNone)
     → EndsGiving {T = T} {E = E} takes refuses set r read old new (Store e)
 ends_by_read E takes refuses set r now read next old new (Ok x) e h f is causes told steady none = absurd cc
-ends_by_read {T} E takes refuses set r now read next old new (Err x) e h f is causes told steady none = subst (λ (y : StoreError). EndsGiving {T = T} {E = E} takes refuses set r read old new (Store y)) same (by x causes told steady)
+ends_by_read {T} E takes refuses set r now read next old new (Err x) e h f is causes told steady none =
+    subst (λ (y : StoreError). EndsGiving {T = T} {E = E} takes refuses set r read old new (Store y)) same (by x causes told steady)
   where
     same : x ≡ e
     same = cc
@@ -190,6 +197,8 @@ ends_by_read {T} E takes refuses set r now read next old new (Err x) e h f is ca
 
     by : (y : StoreError) → (y ≡ Read) ⊎ (y ≡ Memory) → (IsErrOf (failed y) Read → HasRisen now.file.failures read.file.failures)
         → IsErrOf (failed y) Read ⊎ (read.file.failures ≡ now.file.failures) → EndsGiving {T = T} {E = E} takes refuses set r read old new (Store y)
-    by y (inl is) risen stays = subst (λ (z : StoreError). EndsGiving {T = T} {E = E} takes refuses set r read old new (Store z)) (sym is) (at, subst (λ (n : ℕ). HasRisen n read.file.failures) f (risen (ap (λ (z : StoreError). failed z) is)))
+    by y (inl is) risen stays =
+        subst (λ (z : StoreError). EndsGiving {T = T} {E = E} takes refuses set r read old new (Store z)) (sym is)
+        (at, subst (λ (n : ℕ). HasRisen n read.file.failures) f (risen (ap (λ (z : StoreError). failed z) is)))
     by y (inr is) risen (inl bad) = absurd cc
     by y (inr is) risen (inr stays) = subst (λ (z : StoreError). EndsGiving {T = T} {E = E} takes refuses set r read old new (Store z)) (sym is) (at, stays ∙ f)

@@ -16,7 +16,7 @@ use Rattle.store_reader.specs.Reading.{Reading, IsSameStore, num_docs, store_of}
 use Rattle.store_merge.specs.declared.input.MergeInput.{MergeInput}
 use Rattle.store_merge.specs.declared.merge_error.MergeError.{MergeError}
 use Rattle.store_merge.specs.Choice.{flags_of, alive_of, alive_slots, first_old}
-use Rattle.store_merge.specs.Inputs.{IsInputKept, AreInputsKept, IsAskedOnce}
+use Rattle.store_merge.specs.Inputs.{AreInputsKept, IsAskedOnce}
 use Rattle.store_merge.specs.Merge.{IsEnded, IsFailed}
 use Rattle.store_commands.specs.Merging.{is_kept, KeepsDocuments, kept_slots, IsMergedReader, input_of, EndsStore}
 use Rattle.store_commands.proofs.AliveLemmas.{alive_agreed}
@@ -92,7 +92,8 @@ only_place : {X : Type 0} (x y : X) (place : ℕ) → slice_get (x ∷ []) place
 only_place x y zero is = refl
 only_place x y (suc place) is = absurd cc
 
-pub ends_alone : {H : Type 0} (words : List (Bor (List ℕ))) (reader : Reading) (x : MergeInput H) (xs left : List (MergeInput H)) (r : Reading) (old new : Writing) (result : Result (Unit {0}) MergeError) (e : MergeError)
+pub ends_alone : {H : Type 0} (words : List (Bor (List ℕ))) (reader : Reading) (x : MergeInput H) (xs left : List (MergeInput H)) (r : Reading)
+    (old new : Writing) (result : Result (Unit {0}) MergeError) (e : MergeError)
     → xs ≡ x ∷ [] → x.reader ≡ reader → KeepsDocuments words (num_docs reader) x.alive → AreInputsKept xs left → map (λ (y : MergeInput H). y.reader) left ≡ r ∷ [] → result ≡ Err e
     → IfSome (first_old xs) (λ place. (result ≡ Err (record { error = OldVersion; input = place })) × (new ≡ old) × (left ≡ xs))
     → (first_old xs ≡ None → IsEnded BeginsStack xs left old new e) → IsFailed e.error ⊎ (new.output.failure ≡ old.output.failure)
@@ -108,7 +109,8 @@ ends_alone {H} words reader x xs left r old new result e alone same keeps kept r
     ended = λ not.
         let h : IsEnded BeginsStack (x ∷ []) left old new e = ended_one (none_old_alone x (λ first. not (ap (λ (s : Reading). s.version) (sym same) ∙ first))) in
         let place : e.input ≡ 0 = only_place x h.named e.input h.is_named in
-        let at : IsEnded BeginsStack (x ∷ []) left old new (record { error = e.error; input = 0 }) = subst (λ (n : ℕ). IsEnded BeginsStack (x ∷ []) left old new (record { error = e.error; input = n })) place h in
+        let at : IsEnded BeginsStack (x ∷ []) left old new (record { error = e.error; input = 0 }) =
+        subst (λ (n : ℕ). IsEnded BeginsStack (x ∷ []) left old new (record { error = e.error; input = n })) place h in
         let one : x ∷ [] ≡ input_of H reader x.alive ∷ [] = (λ i. input_of H (same i) x.alive ∷ []) in
         subst (λ (ys : List (MergeInput H)). IsEnded BeginsStack ys (input_of H r x.alive ∷ []) old new (record { error = e.error; input = 0 })) one
         (subst (λ (ys : List (MergeInput H)). IsEnded BeginsStack (x ∷ []) ys old new (record { error = e.error; input = 0 })) here.is at);

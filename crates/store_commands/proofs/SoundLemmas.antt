@@ -1,18 +1,19 @@
 -- A sound block is the block of its documents.
-use Rattle.std.proofs.Common.{◌≡◌, ℕ, zero, suc, ◌+◌, ◌-◌, ◌*◌, ◌<◌, ◌≤◌, Bool, true, false, List, [], ◌∷◌, ◌++◌, length, take, drop, get_or, refl, sym, ap, ◌∙◌, subst, arith}
+use Rattle.std.proofs.Common.{◌≡◌, ℕ, zero, suc, ◌+◌, ◌-◌, ◌*◌, ◌^◌, ◌<◌, ◌≤◌, Bool, true, false, List, [], ◌∷◌, ◌++◌, length, map, take, drop, refl, sym, ap, ◌∙◌, arith}
 use Rattle.std.specs.Prelude.{slice_range, not, ◌&&◌, ◌||◌, nat_le, ◌==◌}
-use Rattle.std.specs.List.{concat, flat_map, list_any, AllByRecursion}
-use Rattle.std.proofs.lemmas.Bool.{lt-ltb, le-ltb, leb-true}
+use Rattle.std.specs.List.{concat, flat_map, list_any}
+use Rattle.std.proofs.lemmas.Bool.{lt-ltb, le-ltb, le-leb, leb-true, and_from}
 use Rattle.std.proofs.lemmas.Bool.Decides.{nat_tests}
-use Rattle.std.specs.Int.{w32, from_le_bytes}
-use Rattle.store_base.proofs.ListLemmas.{length-slice}
 use Rattle.store_base.specs.Serialize.{IsBytes, fixed}
 use Rattle.store_base.proofs.FixedReads.{AreOctets, wide32}
-use Rattle.store_format.specs.Block.{Slot, slot, damaged, block, starts_from, u32_at, count_of, table_of, start_of, end_of, is_sound as is_slot_sound}
-use Rattle.store_format.specs.StoreFile.{StoreBlock}
+use Rattle.store_format.specs.Block.{slot, doc, damaged, block, starts_from, u32_at, count_of, table_of, start_of, end_of, is_sound as is_slot_sound}
 use Rattle.store_reader.proofs.ReaderStoreLemmas.{slices_joined, all_of}
-use Rattle.store_commands.specs.Checks.{is_damaged, slots_in, has_table, is_sound, is_sound_block}
-use Rattle.store_commands.specs.Laws.{IsOfDocuments, SoundBlocksAreOfDocuments}
+use Rattle.store_commands.specs.Checks.{is_damaged, slots_in, has_table}
+use Rattle.store_format.proofs.BlockLemmas.{length-block}
+use Rattle.store_format.proofs.DocumentLemmas.{count_of-block, start_of-block, blocks_hold_documents}
+use Rattle.std.proofs.lemmas.List.{append-nil}
+use Rattle.store_base.proofs.ListLemmas.{length-slice}
+use Rattle.store_commands.specs.Laws.{SoundBlocksAreOfDocuments, BlocksOfDocumentsAreSound}
 use Rattle.store_commands.proofs.CountLemmas.{one_damaged}
 
 -- ---- numbers of four bytes
@@ -119,7 +120,8 @@ whole_block bytes n b h first =
     ap (λ (m : ℕ). flat_map (fixed 4) (starts_from m (docs_from bytes 0 n))) (sym first) ∙ table_from bytes n 0 n b h (omega arith) ∙ ap (λ (m : ℕ). slice_range bytes m (t + 4 * n)) zero_place in
     let last : length bytes - 4 ≡ t + 4 * n = omega (arith, place) in
     let number : fixed 4 (length (docs_from bytes 0 n)) ≡ slice_range bytes (t + 4 * n) (length bytes) =
-    ap (fixed 4) (length-docs_from bytes 0 n ∙ sym h.count) ∙ spelled_at bytes (length bytes - 4) (length bytes) b (omega (arith, place)) (omega arith) ∙ ap (λ (m : ℕ). slice_range bytes m (length bytes)) last in
+    ap (fixed 4) (length-docs_from bytes 0 n ∙ sym h.count)
+    ∙ spelled_at bytes (length bytes - 4) (length bytes) b (omega (arith, place)) (omega arith) ∙ ap (λ (m : ℕ). slice_range bytes m (length bytes)) last in
     sym (all_of bytes (length bytes) refl)
     ∙ slices_joined bytes 0 (t + 4 * n) (length bytes) (omega arith) (omega (arith, place))
     ∙ ap (λ (xs : List ℕ). xs ++ slice_range bytes (t + 4 * n) (length bytes)) (slices_joined bytes 0 t (t + 4 * n) (omega arith) (omega arith))
@@ -174,3 +176,29 @@ sound_blocks_are_of_documents bytes n b some sound =
     let parts = and_parts (has_table bytes n) (not (list_any is_damaged (slots_in bytes n))) sound in
     let h = tabled bytes n parts.0 (none_of (list_any is_damaged (slots_in bytes n)) parts.1) in
     record { documents = docs_from bytes 0 n; count_is = length-docs_from bytes 0 n; are = whole_block bytes n b h (begins bytes n some parts.0) }
+
+-- ---- blocks of documents
+
+none_among : (docs : List (List ℕ)) → list_any is_damaged (map doc docs) ≡ false
+none_among [] = refl
+none_among (d ∷ docs) = none_among docs
+
+has_table_of : (docs : List (List ℕ)) → length (block docs) < 2 ^ 32 → has_table (block docs) (length docs) ≡ true
+has_table_of docs fits = and_from _ _ (and_from _ _ (le-leb (4 * (length docs + 1)) (length (block docs)) (omega (arith, length-block docs))) count) (first docs fits)
+  where
+    count : (count_of (block docs) == length docs) ≡ true
+    count = let same = count_of-block docs fits in grind (arith, nat_tests)
+
+    either : (a b : Bool) → b ≡ true → (a || b) ≡ true
+    either true b e = refl
+    either false b e = e
+
+    first : (docs : List (List ℕ)) → length (block docs) < 2 ^ 32 → ((length docs == 0) || (start_of (block docs) 0 == 0)) ≡ true
+    first [] fits = refl
+    first (d ∷ docs) fits =
+        either (length (d ∷ docs) == 0) (start_of (block (d ∷ docs)) 0 == 0) (let start : start_of (block (d ∷ docs)) 0 ≡ 0 = start_of-block [] d docs 0 refl fits in grind (arith, nat_tests))
+
+pub blocks_of_documents_are_sound : BlocksOfDocumentsAreSound
+blocks_of_documents_are_sound docs fits =
+    let held : slots_in (block docs) (length docs) ≡ map doc docs = sym (append-nil (slots_in (block docs) (length docs))) ∙ blocks_hold_documents docs fits in
+    and_from _ _ (has_table_of docs fits) (ap not (ap (list_any is_damaged) held ∙ none_among docs))

@@ -1,5 +1,5 @@
 -- Why the documents of a store were not all given, and which were given before.
-use Rattle.std.specs.Prelude.{◌≡◌, ◌≢◌, ℕ, ◌+◌, ◌<◌, Bool, true, IsTrue, List, take, slice_get, Option, Some}
+use Rattle.std.specs.Prelude.{◌≡◌, ℕ, ◌+◌, ◌<◌, Bool, true, IsTrue, List, take, slice_get, Option, Some}
 use Rattle.store_base.specs.Counts.{HasRisen}
 use Rattle.store_base.specs.declared.error.StoreError.{StoreError}
 use Rattle.store_base.specs.declared.error.StoreError.TheVariants.{DamagedDocument, Read, Memory}

@@ -1,10 +1,10 @@
 -- What it says of a block that it is called sound.
-use Rattle.std.specs.Prelude.{◌≡◌, ◌↔◌, ℕ, ◌<◌, ◌^◌, true, List, length}
+use Rattle.std.specs.Prelude.{◌≡◌, ℕ, ◌<◌, ◌^◌, true, List, length}
 use Rattle.store_base.specs.Serialize.{IsBytes}
 use Rattle.store_format.specs.Block.{block}
 use Rattle.store_commands.specs.Checks.{is_sound}
 
--- A block has the bytes of the block of so many documents, and no other byte.
+-- Some documents, as many as this count, have a block of exactly these bytes.
 pub record IsOfDocuments (bytes : List ℕ) (count : ℕ) : Type 0 where
   pub documents : List (List ℕ)
   pub count_is : length documents ≡ count

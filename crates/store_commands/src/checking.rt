@@ -1,16 +1,16 @@
 //! Looks over a store block by block and slot by slot for what breaks a promise of the format.
 
-ghost use Rattle.std.specs.Prelude.{◌≡◌, ◌<◌, ◌≤◌, ◌+◌, ◌*◌, ◌^◌, ℕ, length, IfOk, IfSome, IfErr, MatchOption};
+ghost use Rattle.std.specs.Prelude.{◌≡◌, ◌<◌, ◌+◌, ◌^◌, IfOk, IfSome, IfErr};
 ghost use Rattle.std.specs.Prelude.{IsNone, IsSome, is_none, None, [], true, if◌then◌else◌, IsTrue, IsErrOf, ◌⊎◌, not};
 ghost use Rattle.store_base.specs.Counts.{raised, HasRisen};
-ghost use Rattle.store_format.specs.Block.{slot, damaged, count_of, u32_at};
+ghost use Rattle.store_format.specs.Block.{slot, damaged};
 ghost use Rattle.store_reader.specs.Parts.{place_of};
 ghost use Rattle.store_reader.specs.Reading.{IsSameStore, num_docs, store_of};
 ghost use Rattle.store_commands.specs.Blocks.{AreWhole, documents_of};
 ghost use Rattle.store_commands.specs.Checks.{damaged_count, has_table, is_sound, HasTableFault, HasFault, Judges};
 
 use crate::block_documents::documents_with_room;
-use docstore::{DataPart, DocId, FileHandle, StoreError, StoreReader, block_read_index};
+use docstore::{DataPart, DocId, FileHandle, StoreError, StoreReader, block_read_index, u32_at};
 use std::alloc::Global;
 use std::fmt;
 
@@ -96,24 +96,15 @@ pub trait BlockWatch {
     fn add(&mut self, documents: DocId, bytes: u64);
 }
 
-// The number of four bytes at a place, if there are four.
-#[tactic(auto, unfolding(store_format::specs::Block::u32_at))]
-fn number_at(bytes: &[u8], place: usize) -> Option<u32>
-    ensures { MatchOption result (length bytes.now < place + 4) (λ number. (number ≡ u32_at bytes.now place)
-        × (place + 4 ≤ length bytes.now)) }
-{
-    let (number, _) = bytes.get(place..)?.split_first_chunk::<4>()?;
-    Some(u32::from_le_bytes(*number))
-}
-
 // Where the table of a block breaks what the index promises, by how many documents.
 fn table_fault(block: &[u8], promised: u32) -> Option<TableFault>
     ensures sound { is_none result ≡ has_table block.now promised }
     ensures fault { IfSome result (HasTableFault block.now promised) }
 {
-    let Some(counted) = number_at(block, block.len().saturating_sub(4)) else {
+    let Some(count_place) = block.len().checked_sub(4) else {
         return Some(TableFault::Short);
     };
+    let counted = u32_at(block, count_place);
     if counted != promised {
         return Some(TableFault::Count { counted, promised });
     }
@@ -121,10 +112,11 @@ fn table_fault(block: &[u8], promised: u32) -> Option<TableFault>
     let Some(place) = block.len().checked_sub(table as usize) else {
         return Some(TableFault::Large { counted });
     };
-    match number_at(block, place) {
-        Some(start) if start > 0 && counted > 0 => Some(TableFault::Start { start }),
-        _ => None,
+    let start = u32_at(block, place);
+    if start > 0 && counted > 0 {
+        return Some(TableFault::Start { start });
     }
+    None
 }
 
 // The first document of a block that is damaged.

@@ -2,10 +2,9 @@
 
 ghost use Rattle.std.specs.Prelude.{◌≡◌, ◌≤◌, IfOk, IfErr};
 ghost use Rattle.layered_index.specs.Layers.{digit_count};
-ghost use Rattle.store_format.specs.Footer.{version_number};
 ghost use Rattle.store_commands.specs.Numbers.{sizes_of, AreNumbersOf};
 
-use docstore::{DocId, DocStoreVersion, FileHandle, StoreError, StoreReader};
+use docstore::{DocId, FileHandle, StoreError, StoreReader};
 use std::alloc::Global;
 
 /// What a store has, as numbers.
@@ -22,17 +21,6 @@ pub struct StoreNumbers {
     pub smallest_block: usize,
     pub median_block: usize,
     pub largest_block: usize,
-}
-
-// The version's number in a file.
-fn number_of(version: DocStoreVersion) -> u32
-    ensures { result ≡ version_number version }
-{
-    match version {
-        DocStoreVersion::V1 => 1,
-        DocStoreVersion::V2 => 2,
-        DocStoreVersion::V3 => 3,
-    }
 }
 
 /// How many layers the index of so many blocks has: as many as their number has digits in the base of the period.
@@ -73,7 +61,7 @@ pub fn numbers_of<H: FileHandle>(reader: &StoreReader<H>, mut sizes: Vec<usize>)
     let usage = reader.space_usage();
     let middle = sizes.len() / 2;
     StoreNumbers {
-        version: number_of(reader.version()),
+        version: reader.version().number(),
         period: reader.period(),
         documents: reader.num_docs(),
         blocks: sizes.len(),

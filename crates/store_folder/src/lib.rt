@@ -6,6 +6,7 @@ pub mod folder;
 pub mod memory;
 pub mod publication;
 pub mod publishing;
+mod sent;
 
 pub use folder::Folder;
 pub use memory::MemFolder;

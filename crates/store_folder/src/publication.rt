@@ -2,7 +2,6 @@
 
 ghost use Rattle.std.specs.Prelude.{◌≡◌, ◌≢◌, ◌++◌, ◌≤◌, ℕ, List, [], IsTrue, IsSome, IfOk, IfErr, OnOk, OnErr};
 ghost use Rattle.std.specs.Prelude.{IsErr, is_ok, length, Some, string_bytes, unwrap_or};
-ghost use Rattle.std.specs.List.{flat_map};
 ghost use Rattle.store_base.specs.Counts.{HasRisen};
 ghost use Rattle.store_base.specs.Outputs.{never_terminated, terminated_once};
 ghost use Rattle.store_folder.specs.Moments.{ComesFrom, Elapses, LeavesOnly};
@@ -11,13 +10,14 @@ ghost use Rattle.store_folder.specs.Publishing.{part, IsUntouched, IsSafe, IsSam
 
 use crate::folder::Folder;
 use crate::publishing::publish;
+use crate::sent::{Piece, Sent};
 use std::alloc::Global;
 use std::io;
 use std::marker::Model;
 use std::snapshot::Snapshot;
 use store_base::{TerminatingWrite, WriteFault};
 
-// How many bytes are held before they are passed to the folder.
+// How many bytes are held before they are passed to the folder. A write of as many is passed on as it is.
 const BUFFER_SIZE: usize = 1 << 16;
 
 /// How far an output has come.
@@ -40,7 +40,7 @@ pub struct Publication<F: Folder> {
     beside: String,
     buffer: Vec<u8>,
     // What was passed to the folder, and the folder as `create` got it. They take no memory: only clauses read them.
-    handed_over: Vec<Snapshot<Vec<u8>>>,
+    sent: Sent,
     first: Snapshot<F>,
     num_bytes: u64,
     stage: Stage,
@@ -53,7 +53,6 @@ pub struct Publication<F: Folder> {
 impl<F: Folder> Model for Publication<F> {
     ghost use Rattle.store_folder.specs.Publishing.{Published};
     ghost use Rattle.std.specs.Prelude.{◌≡◌, ◌≢◌, ◌++◌, length, IsTrue, string_bytes};
-    ghost use Rattle.std.specs.List.{flat_map};
     ghost use Rattle.store_folder.specs.Moments.{LeavesOnly};
     ghost use Rattle.store_folder.specs.Publishing.{IsUntouched};
     ghost use Rattle.store_folder.specs.Stages.{end_of, IsSound};
@@ -61,10 +60,10 @@ impl<F: Folder> Model for Publication<F> {
     ghost Value = { Published F };
 
     ghost view = { λ s. record {
-      content = flat_map (λ part. part.value.items) s.handed_over.items ++ s.buffer.items;
+      content = s.sent.bytes ++ s.buffer.items;
       termination = record {
         calls = s.ends;
-        at = end_of s.stage (flat_map (λ part. part.value.items) s.handed_over.items ++ s.buffer.items);
+        at = end_of s.stage (s.sent.bytes ++ s.buffer.items);
       };
       failures = s.failures;
       beside = string_bytes s.beside;
@@ -75,11 +74,11 @@ impl<F: Folder> Model for Publication<F> {
 
     ghost invariant = { λ s. (string_bytes s.beside ≢ string_bytes s.name) × (IsTrue F.honest
         → IsSound F.seen F.may_leave F.moment F.left_since s.stage s.first.value s.folder
-        (string_bytes s.beside) (string_bytes s.name) (flat_map (λ part. part.value.items) s.handed_over.items)
-        (flat_map (λ part. part.value.items) s.handed_over.items ++ s.buffer.items)) × (IsTrue F.honest → s.ends ≡ 0
+        (string_bytes s.beside) (string_bytes s.name) s.sent.bytes
+        (s.sent.bytes ++ s.buffer.items)) × (IsTrue F.honest → s.ends ≡ 0
         → LeavesOnly F.moment F.left_since s.first.value s.folder
         (IsUntouched (F.may_leave s.first.value) (string_bytes s.beside)))
-        × (s.num_bytes ≡ length (flat_map (λ part. part.value.items) s.handed_over.items ++ s.buffer.items)) };
+        × (s.num_bytes ≡ length (s.sent.bytes ++ s.buffer.items)) };
 }
 
 // The name, and the name of the file beside.
@@ -91,19 +90,34 @@ fn names(alloc: Global, name: &str) -> io::Result<(String, String)>
     Ok((String::from_str(alloc, name)?, beside))
 }
 
+// Passes bytes to the folder.
+fn pass_on<F: Folder>(folder: &mut F, beside: &str, bytes: &[u8], sent: &mut Sent) -> io::Result<()>
+    requires { IsTrue F.honest → IsSome (F.seen folder.old beside.now) }
+    ensures sent { OnOk result (sent.new.bytes ≡ sent.old.bytes ++ bytes.now) }
+    ensures kept { OnErr result (sent.new.bytes ≡ sent.old.bytes) }
+    ensures file { IsTrue F.honest → OnOk result
+        (F.seen folder.new beside.now ≡ Some (unwrap_or (F.seen folder.old beside.now) [] ++ bytes.now)) }
+    ensures crash { IsTrue F.honest
+        → ComesFrom (Elsewhere beside.now) (F.may_leave folder.old) (F.may_leave folder.new) }
+    ensures time { IsTrue F.honest → Elapses (F.moment folder.old) (F.moment folder.new)
+        (F.left_since folder.old) (F.left_since folder.new) (F.may_leave folder.new) }
+{
+    folder.append(beside, bytes)?;
+    *sent = sent.and(&Piece { bytes });
+    Ok(())
+}
+
 // Passes what is held to the folder.
 fn hand_over<F: Folder>(
     folder: &mut F,
     beside: &str,
     buffer: &mut Vec<u8>,
-    handed_over: &mut Vec<Snapshot<Vec<u8>>>,
+    sent: &mut Sent,
 ) -> io::Result<()>
     requires { IsTrue F.honest → IsSome (F.seen folder.old beside.now) }
-    ensures sent { OnOk result (flat_map (λ part. part.value.items) handed_over.new.items
-        ≡ flat_map (λ part. part.value.items) handed_over.old.items ++ buffer.old.items) }
+    ensures sent { OnOk result (sent.new.bytes ≡ sent.old.bytes ++ buffer.old.items) }
     ensures empty { OnOk result (buffer.new.items ≡ []) }
-    ensures content { flat_map (λ part. part.value.items) handed_over.new.items ++ buffer.new.items
-        ≡ flat_map (λ part. part.value.items) handed_over.old.items ++ buffer.old.items }
+    ensures content { sent.new.bytes ++ buffer.new.items ≡ sent.old.bytes ++ buffer.old.items }
     ensures file { IsTrue F.honest → OnOk result
         (F.seen folder.new beside.now ≡ Some (unwrap_or (F.seen folder.old beside.now) [] ++ buffer.old.items)) }
     ensures crash { IsTrue F.honest
@@ -111,10 +125,7 @@ fn hand_over<F: Folder>(
     ensures time { IsTrue F.honest → Elapses (F.moment folder.old) (F.moment folder.new)
         (F.left_since folder.old) (F.left_since folder.new) (F.may_leave folder.new) }
 {
-    folder.append(beside, buffer)?;
-    handed_over
-        .push(Snapshot::of(buffer))
-        .map_err(|_| io::Error::from(io::ErrorKind::OutOfMemory))?;
+    pass_on(folder, beside, buffer, sent)?;
     buffer.clear();
     Ok(())
 }
@@ -148,7 +159,7 @@ impl<F: Folder> Publication<F> {
             name,
             beside,
             buffer: Vec::new(alloc),
-            handed_over: Vec::new(alloc),
+            sent: Sent::new(),
             first,
             num_bytes: 0,
             stage: Stage::Open,
@@ -217,6 +228,35 @@ impl<F: Folder> Publication<F> {
         }
         self.refuse()
     }
+
+    // Passes what is held to the folder, where a write of this length is not copied to it.
+    #[inline]
+    fn make_way(&mut self, len: usize) -> Result<(), WriteFault>
+        ensures content { self.new.content ≡ self.old.content }
+        ensures termination { self.new.termination ≡ self.old.termination }
+        ensures count { self.old.failures ≤ self.new.failures }
+        ensures fault { OnErr result (HasRisen self.old.failures self.new.failures) }
+        ensures steady { OnOk result (self.new.failures ≡ self.old.failures) }
+        ensures same { IsSameOutput self.old self.new }
+    {
+        if len < BUFFER_SIZE || self.buffer.is_empty() {
+            return Ok(());
+        }
+        if self.stage != Stage::Open {
+            return self.refuse();
+        }
+        let sent = hand_over(
+            &mut self.folder,
+            self.beside.as_str(),
+            &mut self.buffer,
+            &mut self.sent,
+        );
+        if let Err(error) = sent {
+            self.stage = Stage::Failed;
+            return self.fail(error);
+        }
+        Ok(())
+    }
 }
 
 impl<F: Folder> TerminatingWrite for Publication<F> {
@@ -236,12 +276,23 @@ impl<F: Folder> TerminatingWrite for Publication<F> {
         ensures steady { OnOk result (self.new.failures ≡ self.old.failures) }
         ensures same { IsSameOutput self.old self.new }
     {
+        self.make_way(bytes.len())?;
         if self.stage != Stage::Open {
             return self.refuse();
         }
         let Some(num_bytes) = self.num_bytes.checked_add(bytes.len() as u64) else {
             return self.fail(io::ErrorKind::FileTooLarge.into());
         };
+        if bytes.len() >= BUFFER_SIZE && self.buffer.is_empty() {
+            let beside = self.beside.as_str();
+            let passed = pass_on(&mut self.folder, beside, bytes, &mut self.sent);
+            if let Err(error) = passed {
+                self.stage = Stage::Failed;
+                return self.fail(error);
+            }
+            self.num_bytes = num_bytes;
+            return Ok(());
+        }
         if self.buffer.extend_from_slice(bytes).is_err() {
             return self.fail(io::ErrorKind::OutOfMemory.into());
         }
@@ -253,7 +304,7 @@ impl<F: Folder> TerminatingWrite for Publication<F> {
             &mut self.folder,
             self.beside.as_str(),
             &mut self.buffer,
-            &mut self.handed_over,
+            &mut self.sent,
         );
         if let Err(error) = sent {
             self.stage = Stage::Failed;
@@ -281,7 +332,7 @@ impl<F: Folder> TerminatingWrite for Publication<F> {
             &mut self.folder,
             self.beside.as_str(),
             &mut self.buffer,
-            &mut self.handed_over,
+            &mut self.sent,
         );
         if let Err(error) = sent {
             self.stage = Stage::Failed;

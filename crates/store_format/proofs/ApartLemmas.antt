@@ -1,11 +1,11 @@
 -- A file tells its store.
-use Rattle.std.proofs.Common.{◌≡◌, ℕ, ◌≤◌, List, ◌∷◌, ◌++◌, length, replicate, refl, sym, ◌∙◌, ap, arith, length-append, inl, inr}
+use Rattle.std.proofs.Common.{◌≡◌, ℕ, ◌≤◌, List, ◌∷◌, ◌++◌, length, replicate, refl, sym, ◌∙◌, ap, arith, length-append, inr}
 use Rattle.store_format.specs.FooterLemmas.{form_reserved}
 use Rattle.store_base.specs.VIntLemmas.{tails}
 use Rattle.store_format.specs.Footer.{footer}
 use Rattle.store_format.specs.Laws.{FilesAreStores, StoresAreApart}
 use Rattle.layered_index.specs.Layers.{index_part}
-use Rattle.store_format.specs.StoreFile.{StoreBlock, data_of, checkpoints_of, reserved_of, HasForm, IsStore}
+use Rattle.store_format.specs.StoreFile.{StoreBlock, data_of, checkpoints_of, reserved_of, IsStore}
 use Rattle.store_format.proofs.ExtractionLemmas.{length-footer}
 use Rattle.layered_index.proofs.IndexLemmas.{index_parts_are_apart}
 use Rattle.layered_index.proofs.ListLemmas.{same_fronts}

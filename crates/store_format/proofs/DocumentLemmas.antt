@@ -34,7 +34,7 @@ length-table docs = omega (arith, length-fixeds (starts_from 0 docs), length-sta
 -- ---- the parts of a block
 
 -- a block says how many documents it has
-count_of-block : (docs : List (List ℕ)) → length (block docs) < 2 ^ 32 → count_of (block docs) ≡ length docs
+pub count_of-block : (docs : List (List ℕ)) → length (block docs) < 2 ^ 32 → count_of (block docs) ≡ length docs
 unfolding table
 count_of-block docs fits =
     let front = concat docs ++ table docs in
@@ -67,7 +67,7 @@ around front d back =
     regroup a b c d e = simp append_assoc
 
 -- a document begins where those before it end
-start_of-block : (front : List (List ℕ)) (d : List ℕ) (back : List (List ℕ)) (j : ℕ) → j ≡ length front → length (block (front ++ d ∷ back)) < 2 ^ 32
+pub start_of-block : (front : List (List ℕ)) (d : List ℕ) (back : List (List ℕ)) (j : ℕ) → j ≡ length front → length (block (front ++ d ∷ back)) < 2 ^ 32
     → start_of (block (front ++ d ∷ back)) j ≡ length (concat front)
 start_of-block front d back j is fits =
     let docs = front ++ d ∷ back in

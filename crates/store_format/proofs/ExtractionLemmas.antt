@@ -1,5 +1,5 @@
 -- The footer of a file.
-use Rattle.std.proofs.Common.{◌≡◌, ℕ, List, [], ◌∷◌, ◌++◌, length, ap, subst, arith, length-append, inl, inr}
+use Rattle.std.proofs.Common.{◌≡◌, ℕ, List, [], ◌∷◌, ◌++◌, length, ap, subst, arith, length-append}
 use Rattle.std.specs.Prelude.{Ok}
 use Rattle.std.proofs.lemmas.List.{nil_from_length}
 use Rattle.store_format.specs.FooterLemmas.{form_reserved}
@@ -7,7 +7,6 @@ use Rattle.store_base.specs.Serialize.{fixed}
 use Rattle.store_base.specs.SerializeLemmas.{length-fixed}
 use Rattle.store_format.specs.declared.footer.DocStoreFooter.{DocStoreFooter}
 use Rattle.store_format.specs.Footer.{footer, kind_of, version_number}
-use Rattle.store_format.specs.StoreFile.{HasForm}
 use Rattle.store_format.specs.FooterReading.{ReadsFooter}
 
 -- ---- sizes

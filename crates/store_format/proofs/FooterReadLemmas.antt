@@ -11,7 +11,6 @@ use Rattle.store_format.specs.declared.kinds.Decompressor.{Decompressor}
 use Rattle.store_format.specs.declared.kinds.Decompressor.TheVariants as unpacked
 use Rattle.store_format.specs.declared.footer.DocStoreFooter.{DocStoreFooter}
 use Rattle.store_format.specs.declared.version.DocStoreVersion.{DocStoreVersion}
-use Rattle.store_format.specs.declared.version.DocStoreVersion.TheVariants.{V1, V2, V3}
 use Rattle.store_format.specs.Footer.{kind_of, version_number}
 use Rattle.store_format.specs.FooterReading.{version_bytes, Begins, ReadsFooter, IsPeriodOf}
 
@@ -24,7 +23,7 @@ two_fronts (a ∷ b ∷ rest) le = refl
 joined : (front back old mid last : List ℕ) → old ≡ front ++ mid → mid ≡ back ++ last → old ≡ front ++ back ++ last
 joined front back old mid last p q = p ∙ ap (λ (x : List ℕ). front ++ x) q ∙ sym (append_assoc front back last)
 
--- what is version_below once the version and the offset were read
+-- what is known once the version and the offset were read
 pub record AreRead (v : DocStoreVersion) (offset : ℕ) (old mid last : List ℕ) : Type 0 where
   pub long : 28 ≤ length old
   pub few : offset < 2 ^ 64
@@ -35,12 +34,12 @@ pub record AreRead (v : DocStoreVersion) (offset : ℕ) (old mid last : List ℕ
 begins : (v : DocStoreVersion) (offset : ℕ) (old mid last : List ℕ) → AreRead v offset old mid last → Begins old (version_number v) offset last
 begins v offset old mid last h = record {
   long = h.long;
-  version_below = version_below v;
+  known = version_below v;
   few = h.few;
   parts = joined (version_bytes v) (fixed 8 offset) old mid last h.first h.second;
 }
 
--- a kind that is not version_below
+-- a kind that is not known
 pub kind_fault : (v : DocStoreVersion) (offset : ℕ) (old mid last : List ℕ) (fault : DecodeFault) → AreRead v offset old mid last → fault ≡ Kind (get_or last 0 0) → (get_or last 0 0 ≡ 0 → ⊥)
     → ReadsFooter old (Err fault) old
 kind_fault v offset old mid last fault h is wrong =

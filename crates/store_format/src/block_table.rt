@@ -24,9 +24,9 @@ pub fn append_table(bytes: &mut Vec<u8>, starts: &[u32])
     bytes.extend_from_slice(&count.to_le_bytes()).unwrap();
 }
 
-// The number of four bytes at a place.
+/// The number of four bytes at a place.
 #[tactic(auto, unfolding(crate::specs::Block::u32_at))]
-fn u32_at(bytes: &[u8], place: usize) -> u32
+pub fn u32_at(bytes: &[u8], place: usize) -> u32
     requires { place + 4 ≤ length bytes.now }
     ensures { result ≡ u32_in bytes.now place }
 {

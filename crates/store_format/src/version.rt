@@ -32,8 +32,8 @@ impl fmt::Display for DocStoreVersion {
 impl DocStoreVersion {
     ghost use Rattle.store_format.specs.FooterReading.{IsPeriodOf};
 
-    // Its number in a file.
-    fn number(&self) -> u32
+    /// Its number in a file.
+    pub fn number(&self) -> u32
         ensures { result ≡ version_number self.now }
     {
         match self {

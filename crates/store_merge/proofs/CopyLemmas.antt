@@ -11,12 +11,10 @@ use Rattle.store_reader.proofs.ItemsSoFarLemmas.{same_slots, same_count}
 use Rattle.store_base.proofs.ListLemmas.{enumerate_append}
 use Rattle.store_base.specs.Counts.{HasRisen}
 use Rattle.store_base.specs.Files.{Part}
-use Rattle.layered_index.specs.Checkpoint.{docs_end}
 use Rattle.store_base.specs.declared.error.StoreError.{StoreError}
 use Rattle.store_base.specs.declared.error.StoreError.TheVariants.{Read, Memory, DamagedDocument}
 use Rattle.layered_index.specs.declared.checkpoint.Checkpoint.{Checkpoint}
 use Rattle.store_reader.specs.GetAnswer.{AnswersFrom, AnswersTruly}
-use Rattle.store_format.specs.StoreFile.{blocks_at}
 use Rattle.store_format.specs.Block.{Slot, doc, damaged}
 use Rattle.store_reader.specs.declared.walk.Walk.{Walk}
 use Rattle.store_reader.specs.Iteration.{is_in, alive}
@@ -24,7 +22,7 @@ use Rattle.store_reader.specs.LookingUp.{LooksUp, IsShared}
 use Rattle.store_reader.specs.Reading.{Reading, IsSameStore, num_docs, store_of}
 use Rattle.store_format.specs.Slots.{slots}
 use Rattle.docstore.specs.Trace.{weight}
-use Rattle.store_reader.specs.Walking.{GivesNext, IsBlockTaken, IsWalk, LooksAlong}
+use Rattle.store_reader.specs.Walking.{taken_last, GivesNext, IsBlockTaken, IsWalk, LooksAlong}
 use Rattle.docstore.specs.Writer.{Writing, flushed, with_document, with_failures}
 use Rattle.docstore.specs.Laws.{taken}
 use Rattle.store_merge.specs.Bringing.{IsCopied, with_documents}
@@ -216,10 +214,10 @@ module _ (first old new : Reading) (set : Option (ℕ → Bool)) (from to : Walk
   last_below = omega (arith, gives.gives.below, same_count first old same, docs)
 
   -- why no document came
-  refuses_item : (e : StoreError) → IsWalk new to → HasFailedRead first new to.block → item ≡ Err e → RefusesItem gives.last first new e
-  refuses_item e walk failed is = by to.block refl (subst (λ (r : Result (List ℕ) StoreError). IsSomeAnd to.block (λ b. AnswersFrom gives.last (gives.last - to.first) b r)) is gives.gives.answers)
+  refuses_item : (e : StoreError) → IsWalk new to → HasFailedRead first new (taken_last to) → item ≡ Err e → RefusesItem gives.last first new e
+  refuses_item e walk failed is = by (taken_last to) refl (subst (λ (r : Result (List ℕ) StoreError). IsSomeAnd (taken_last to) (λ b. AnswersFrom gives.last (gives.last - to.first) b r)) is gives.gives.answers)
     where
-      by : (block : Option (Result (List ℕ) StoreError)) → to.block ≡ block → IsSomeAnd block (λ b. AnswersFrom gives.last (gives.last - to.first) b (Err e)) → RefusesItem gives.last first new e
+      by : (block : Option (Result (List ℕ) StoreError)) → (taken_last to) ≡ block → IsSomeAnd block (λ b. AnswersFrom gives.last (gives.last - to.first) b (Err e)) → RefusesItem gives.last first new e
       by None here answers = absurd answers
       by (Some (Ok block)) here answers = elim answers [
         | inl x ↦ subst (RefusesItem gives.last first new) (sym x.0) (
@@ -254,7 +252,7 @@ module _ (first old new : Reading) (set : Option (ℕ → Bool)) (from to : Walk
         (λ honest. sym (get_or_from_slice_get all last (doc t.bytes) damaged (truly_as (Ok t.bytes) t.is honest))) copied_to)
 
     -- or it stops here
-    pub stops : (e : StoreError) (after : Writing) → start.output.failures ≤ w.output.failures → IsWalk new to → HasFailedRead first new to.block → IsRefused item w after e
+    pub stops : (e : StoreError) (after : Writing) → start.output.failures ≤ w.output.failures → IsWalk new to → HasFailedRead first new (taken_last to) → IsRefused item w after e
         → StopsAt set first new start after e
     stops e after count walk failed refused = record {
       id = gives.last;
@@ -272,8 +270,8 @@ module _ (first old new : Reading) (set : Option (ℕ → Bool)) (from to : Walk
   pub below_next : to.next ≤ length (slots (store_of first))
   below_next = omega (arith, gives.gives.next, last_below)
 
-  pub failed_next : first.file.failures ≤ old.file.failures → HasFailedRead first old from.block → HasFailedRead first new to.block
-  failed_next le h = failed_along _ first old from.block new to.block le h gives.walks.looks
+  pub failed_next : first.file.failures ≤ old.file.failures → HasFailedRead first old (taken_last from) → HasFailedRead first new (taken_last to)
+  failed_next le h = failed_along _ first old (taken_last from) new (taken_last to) le h gives.walks.looks
 
 -- no further one
 pub copied_all : (first old new : Reading) (set : Option (ℕ → Bool)) (from to : Walk) (start w : Writing) → num_docs first ≡ length (slots (store_of first)) → IsSameStore first old
@@ -289,12 +287,12 @@ copied_all first old new set from to start w docs same gives below copied =
 pub record IsBegun (first : Reading) (set : Option (ℕ → Bool)) (start : Writing) (r : Reading) (w : Walk) : Type 0 where
   pub copied : IsCopied first.file.honest (alive (take w.next (slots (store_of first))) set) start start
   pub below : w.next ≤ length (slots (store_of first))
-  pub failed : HasFailedRead first r w.block
+  pub failed : HasFailedRead first r (taken_last w)
 
-pub begins : (first r : Reading) (set : Option (ℕ → Bool)) (w : Walk) (start : Writing) → w.next ≡ 0 → LooksAlong (take 1 first.checkpoints) first None r w.block → IsBegun first set start r w
+pub begins : (first r : Reading) (set : Option (ℕ → Bool)) (w : Walk) (start : Writing) → w.next ≡ 0 → LooksAlong (take 1 first.checkpoints) first None r (taken_last w) → IsBegun first set start r w
 begins first r set w start is looks = record {
   copied = copied_as first.file.honest start [] (alive (take w.next (slots (store_of first))) set) start (ap (λ (k : ℕ). alive (take k (slots (store_of first))) set) (sym is))
       (copied_none first.file.honest start);
   below = omega (arith, is);
-  failed = failed_along (take 1 first.checkpoints) first first None r w.block (omega arith) (none_failed first first) looks;
+  failed = failed_along (take 1 first.checkpoints) first first None r (taken_last w) (omega arith) (none_failed first first) looks;
 }

@@ -6,9 +6,6 @@ use crate::seek_drawing::SeekDrawing;
 use std::alloc::AllocError;
 use std::fmt::Write;
 
-// How many bytes a footer has.
-const FOOTER_BYTES: u64 = 28;
-
 // The page's look: light and dark by what the reader's system says, and black on white in print.
 const HEAD: &str = "\
 <!DOCTYPE html>
@@ -50,6 +47,7 @@ pub struct Page<'a> {
     pub numbers: &'a [(&'a str, u64)],
     pub data_bytes: u64,
     pub index_bytes: u64,
+    pub footer_bytes: u64,
     pub period: u8,
     pub layers: u32,
     pub starts: &'a BlockStarts,
@@ -98,7 +96,7 @@ impl<'a> Page<'a> {
 
     // The parts of the file, to scale.
     fn push_parts(&self, page: &mut String) -> Result<(), AllocError> {
-        let (data, index) = (self.data_bytes, self.index_bytes);
+        let (data, index, footer) = (self.data_bytes, self.index_bytes, self.footer_bytes);
         page.push_str("<section><h2>Parts of the file, to scale</h2>\n<div class=\"parts\">")?;
         write!(
             page,
@@ -110,7 +108,7 @@ impl<'a> Page<'a> {
         )?;
         write!(
             page,
-            "<div class=\"footer\" style=\"flex:{FOOTER_BYTES} 0 0\" title=\"footer\"></div>"
+            "<div class=\"footer\" style=\"flex:{footer} 0 0\" title=\"footer\"></div>"
         )?;
         page.push_str("</div>\n<p class=\"key\">")?;
         write!(
@@ -123,7 +121,7 @@ impl<'a> Page<'a> {
         )?;
         write!(
             page,
-            "<span><i class=\"footer\"></i>footer: {FOOTER_BYTES} bytes</span></p></section>\n"
+            "<span><i class=\"footer\"></i>footer: {footer} bytes</span></p></section>\n"
         )
     }
 

@@ -7,4 +7,4 @@ pub mod stores;
 
 pub use origin::Origin;
 pub use since::Since;
-pub use stores::{NotStored, Stored, close_published, write_published};
+pub use stores::{NotStored, Stored, Written, close_published, finish_published, write_published};

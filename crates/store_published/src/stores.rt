@@ -1,9 +1,8 @@
 //! Stores that are published in a folder.
 
-ghost use Rattle.std.specs.Prelude.{◌≡◌, ℕ, List, [], IsTrue, IfOk, IfErr, Some};
-ghost use Rattle.store_base.specs.Outputs.{never_terminated};
-ghost use Rattle.store_format.specs.StoreFile.{file};
-ghost use Rattle.docstore.specs.Writer.{flushed};
+ghost use Rattle.std.specs.Prelude.{◌≡◌, ℕ, List, [], length, IsTrue, IfOk, IfErr, Some};
+ghost use Rattle.docstore.specs.Writer.{flushed, num_docs};
+ghost use Rattle.store_published.specs.Contents.{content_of};
 ghost use Rattle.docstore.specs.Run.{IsWritten, AfterRun, told, Told};
 ghost use Rattle.store_folder.specs.Moments.{LeavesOnly};
 ghost use Rattle.store_folder.specs.Folder.{Keeps};
@@ -23,15 +22,17 @@ use store_folder::{Folder, Publication};
 
 /// Closes a store that is written to an output in a folder.
 ///
-/// After an Ok every crash leaves under the output's name exactly the file of the store. A crash at any moment since the
-/// output began leaves what was there then, or that file. The output that is returned is not named as the one that the
-/// writer was made with: `write_published` says that.
+/// After an Ok every crash leaves under the output's name exactly what was there before the store and then its file. A
+/// crash at any moment since the output began leaves what was there then, or that. The output that is returned is not
+/// named as the one that the writer was made with: `write_published` says that.
 pub fn close_published<F: Folder>(
     writer: StoreWriter<Publication<F>>,
 ) -> Result<Publication<F>, CloseError<Publication<F>>>
-    requires { writer.output.before ≡ [] }
     ensures kept { IsTrue F.honest → IfOk result (λ p. IsKept F.may_leave F.moment F.left_since p.first p.folder
-        p.beside p.name (file writer.output.period 3 (flushed writer).output.finished)) }
+        p.beside p.name (content_of writer)) }
+    ensures content { IfOk result (λ p. p.content ≡ content_of writer) }
+
+    // An output of which the store was not closed keeps what every output keeps.
     ensures err { IsTrue F.honest → IfErr result (λ e. IsSafe F.may_leave F.moment F.left_since e.output) }
 {
     match writer.close() {
@@ -44,6 +45,36 @@ pub fn close_published<F: Folder>(
             Err(refusal)
         }
     }
+}
+
+/// What a store has that was published.
+#[derive(Clone, Copy)]
+pub struct Written {
+    pub documents: u32,
+    pub blocks: u32,
+    pub bytes: u64,
+}
+
+/// Closes a store that is written to an output in a folder, as `close_published` does, and counts what it has.
+pub fn finish_published<F: Folder>(
+    writer: StoreWriter<Publication<F>>,
+) -> Result<(Publication<F>, Written), CloseError<Publication<F>>>
+    ensures kept { IsTrue F.honest → IfOk result (λ r. IsKept F.may_leave F.moment F.left_since r.0.first r.0.folder
+        r.0.beside r.0.name (content_of writer)) }
+    ensures content { IfOk result (λ r. r.0.content ≡ content_of writer) }
+    ensures documents { IfOk result (λ r. r.1.documents ≡ num_docs writer) }
+    ensures blocks { IfOk result (λ r. r.1.blocks ≡ length (flushed writer).output.finished) }
+    ensures bytes { IfOk result (λ r. r.1.bytes ≡ length (content_of writer)) }
+    ensures err { IsTrue F.honest → IfErr result (λ e. IsSafe F.may_leave F.moment F.left_since e.output) }
+{
+    let (documents, blocks) = (writer.num_docs(), writer.num_blocks());
+    let output = close_published(writer)?;
+    let written = Written {
+        documents,
+        blocks,
+        bytes: output.num_bytes(),
+    };
+    Ok((output, written))
 }
 
 /// A folder in which a store was published, and each call's result.

@@ -12,8 +12,6 @@ use Rattle.store_base.specs.SerializeLemmas.{fixed_numbers_are_apart}
 use Rattle.store_base.specs.declared.error.StoreError.{StoreError}
 use Rattle.store_base.specs.declared.error.StoreError.TheVariants.{BadVersion, BadBlockKind, BadPeriod, BadDocument, Read, Memory}
 use Rattle.store_format.specs.declared.footer.DocStoreFooter.{DocStoreFooter}
-use Rattle.store_format.specs.declared.version.DocStoreVersion.{DocStoreVersion}
-use Rattle.store_format.specs.declared.version.DocStoreVersion.TheVariants.{V1, V2, V3}
 use Rattle.store_reader.specs.CallAnswers.{exact_result}
 use Rattle.store_reader.specs.GetAnswer.{AnswersTruly}
 use Rattle.store_format.specs.Block.{Slot}

@@ -8,7 +8,7 @@ use Rattle.std.specs.Prelude.{IsSomeAnd, Result, Ok, Err}
 use Rattle.store_base.proofs.ListLemmas.{risen_later}
 use Rattle.store_base.specs.Counts.{HasRisen}
 use Rattle.store_base.specs.declared.error.StoreError.{StoreError}
-use Rattle.store_base.specs.declared.error.StoreError.TheVariants.{Read, Memory}
+use Rattle.store_base.specs.declared.error.StoreError.TheVariants.{Read}
 use Rattle.layered_index.specs.declared.checkpoint.Checkpoint.{Checkpoint}
 use Rattle.store_reader.specs.declared.answers.Answer.{Answer}
 use Rattle.store_reader.specs.declared.answers.ReadCall.{ReadCall}
@@ -17,7 +17,7 @@ use Rattle.store_reader.specs.GetAnswer.{IsLookedUp, AnswersFrom}
 use Rattle.store_reader.specs.CallAnswers.{IsGet, HasRefusal, results_of}
 use Rattle.store_reader.specs.LookingUp.{IsShared}
 use Rattle.store_reader.specs.Reading.{Reading, IsSameStore}
-use Rattle.store_reader.specs.Walking.{IsBlockTaken, LooksAlong, GivesNext}
+use Rattle.store_reader.specs.Walking.{taken_last, IsBlockTaken, LooksAlong, GivesNext}
 use Rattle.store_reader.proofs.GetAnswerLemmas.{has_failed}
 use Rattle.store_reader.proofs.IterationLookUpLemmas.{IsListedTo}
 use Rattle.store_reader.proofs.RecentLemmas.{same_store, same_along}
@@ -61,8 +61,8 @@ pub item_failed : (first old new : Reading) (set : Option (ℕ → Bool)) (count
 item_failed first old new set count from to item items listed gives before some = elim (Contains-push_cases items item (Err Read) some) [
   | inl earlier ↦ risen_on first.file.failures old.file.failures new.file.failures (before earlier) gives.same.failures
   | inr here ↦
-      let block = taken_failed gives.last (gives.last - to.first) to.block item gives.gives.answers here in
-      elim (failed_along (take to.place first.checkpoints) first None new to.block listed.looks block) [ inl none ↦ absurd cc | inr risen ↦ risen ]
+      let block = taken_failed gives.last (gives.last - to.first) (taken_last to) item gives.gives.answers here in
+      elim (failed_along (take to.place first.checkpoints) first None new (taken_last to) listed.looks block) [ inl none ↦ absurd cc | inr risen ↦ risen ]
 ]
 
 -- one more answer

@@ -11,7 +11,7 @@ use Rattle.layered_index.specs.Checkpoint.{Covers}
 use Rattle.store_reader.specs.Iteration.{is_in, looked_along, alive_below, keys_along}
 use Rattle.store_reader.specs.LookLaws.{AreLookUps}
 use Rattle.store_reader.specs.Reading.{Reading, IsSameStore, num_docs}
-use Rattle.store_reader.specs.Walking.{IsWalk, LooksAlong, WalksTo, GivesNext}
+use Rattle.store_reader.specs.Walking.{taken_last, IsWalk, LooksAlong, WalksTo, GivesNext}
 use Rattle.store_reader.proofs.ItemsSoFarLemmas.{same_count}
 use Rattle.store_reader.proofs.BlocksAlongLemmas.{alive_in, alive-split, take_length_one, walks_look_up}
 use Rattle.store_reader.proofs.RecentLemmas.{looks_are_recent}
@@ -65,38 +65,38 @@ pub record IsBehind (set : Option (ℕ → Bool)) (w : Walk) : Type 0 where
 
 -- The blocks up to the walk's place were looked up, for so many items; it stands behind the last of them, or where it began.
 pub record IsListedTo (first : Reading) (set : Option (ℕ → Bool)) (count : ℕ) (now : Reading) (w : Walk) : Type 0 where
-  pub looks : LooksAlong (take w.place first.checkpoints) first None now w.block
+  pub looks : LooksAlong (take w.place first.checkpoints) first None now (taken_last w)
   pub counted : alive_below set w.next ≡ count
   pub stands : ((count ≡ 0) × (w.place ≡ length (take 1 first.checkpoints))) ⊎ IsBehind set w
 
 -- before the first item
 pub listed_first : (first : Reading) (set : Option (ℕ → Bool)) (now : Reading) (w : Walk) → w.next ≡ 0 → w.place ≡ length (take 1 first.checkpoints)
-    → LooksAlong (take 1 first.checkpoints) first None now w.block → IsListedTo first set 0 now w
+    → LooksAlong (take 1 first.checkpoints) first None now (taken_last w) → IsListedTo first set 0 now w
 listed_first first set now w next place looks =
     let taken : take w.place first.checkpoints ≡ take 1 first.checkpoints = ap (λ (n : ℕ). take n first.checkpoints) place ∙ take_length_one first.checkpoints in
     record {
-      looks = subst (λ (cs : List Checkpoint). LooksAlong cs first None now w.block) (sym taken) looks;
+      looks = subst (λ (cs : List Checkpoint). LooksAlong cs first None now (taken_last w)) (sym taken) looks;
       counted = ap (alive_below set) next;
       stands = inl (refl, place);
     }
 
 -- the blocks on the way to an id
 pub looks_joined : (first old : Reading) (from : Walk) (set : Option (ℕ → Bool)) (id : ℕ) (new : Reading) (to : Walk) → old.checkpoints ≡ first.checkpoints
-    → LooksAlong (take from.place first.checkpoints) first None old from.block → WalksTo set old from id new to
-    → LooksAlong (take to.place first.checkpoints) first None new to.block
+    → LooksAlong (take from.place first.checkpoints) first None old (taken_last from) → WalksTo set old from id new to
+    → LooksAlong (take to.place first.checkpoints) first None new (taken_last to)
 looks_joined first old from set id new to same looks walks =
     let cs = first.checkpoints in
     let from_none : from.place - 0 ≡ from.place = omega arith in
     let to_none : to.place - 0 ≡ to.place = omega arith in
     let joined : take to.place cs ≡ take from.place cs ++ slice_range cs from.place to.place =
     ap (λ (n : ℕ). take n cs) (sym to_none) ∙ range_joined cs 0 from.place to.place (omega arith) walks.later ∙ ap (λ (n : ℕ). take n cs ++ slice_range cs from.place to.place) from_none in
-    subst (λ (xs : List Checkpoint). LooksAlong xs first None new to.block) (sym joined)
-    (looks_on (take from.place cs) (slice_range cs from.place to.place) first None old from.block new to.block looks
-    (subst (λ (xs : List Checkpoint). LooksAlong (slice_range xs from.place to.place) old from.block new to.block) same walks.looks))
+    subst (λ (xs : List Checkpoint). LooksAlong xs first None new (taken_last to)) (sym joined)
+    (looks_on (take from.place cs) (slice_range cs from.place to.place) first None old (taken_last from) new (taken_last to) looks
+    (subst (λ (xs : List Checkpoint). LooksAlong (slice_range xs from.place to.place) old (taken_last from) new (taken_last to)) same walks.looks))
 
 looks_to : (first : Reading) (set : Option (ℕ → Bool)) (count : ℕ) (old : Reading) (from : Walk) (id : ℕ) (new : Reading) (to : Walk) → old.checkpoints ≡ first.checkpoints
     → IsListedTo first set count old from → WalksTo set old from id new to
-    → LooksAlong (take to.place first.checkpoints) first None new to.block
+    → LooksAlong (take to.place first.checkpoints) first None new (taken_last to)
 looks_to first set count old from id new to same listed walks = looks_joined first old from set id new to same listed.looks walks
 
 -- one more item
@@ -112,9 +112,9 @@ listed_on first set count old from item new to same listed gives =
     }
 
 -- the keys of the blocks that were looked up, by a walk that the definition knows
-looked_by : (first now : Reading) (w : Walk) (keys : List ℕ) → LooksAlong (take w.place first.checkpoints) first None now w.block → keys_along (take w.place first.checkpoints) ≡ keys
+looked_by : (first now : Reading) (w : Walk) (keys : List ℕ) → LooksAlong (take w.place first.checkpoints) first None now (taken_last w) → keys_along (take w.place first.checkpoints) ≡ keys
     → AreLookUps keys first now
-looked_by first now w keys looks is = subst (λ (ks : List ℕ). AreLookUps ks first now) is (looks_are_recent (take w.place first.checkpoints) first None now w.block looks)
+looked_by first now w keys looks is = subst (λ (ks : List ℕ). AreLookUps ks first now) is (looks_are_recent (take w.place first.checkpoints) first None now (taken_last w) looks)
 
 covered : (first now : Reading) → IsSameStore first now → Covers first.checkpoints (length first.file.content) → Covers now.checkpoints (length now.file.content)
 covered first now same covers = subst (λ (n : ℕ). Covers now.checkpoints n) (sym (ap length same.content))
@@ -136,7 +136,7 @@ listed_enough first set count now w same covers walk listed =
 
 -- all that there are, where more were asked for
 listed_all : (first : Reading) (set : Option (ℕ → Bool)) (items count : ℕ) (now : Reading) (w : Walk) → IsSameStore first now → Covers first.checkpoints (length first.file.content) → IsWalk now w
-    → LooksAlong (take w.place first.checkpoints) first None now w.block → alive_below set w.next ≡ items → w.next ≡ num_docs first → items < count
+    → LooksAlong (take w.place first.checkpoints) first None now (taken_last w) → alive_below set w.next ≡ items → w.next ≡ num_docs first → items < count
     → AreLookUps (looked_along first.checkpoints set count) first now
 listed_all first set items count now w same covers walk looks counted next less =
     let law = walks_look_up now w set (covered first now same covers) walk in

@@ -1,7 +1,6 @@
 pub mod CoveringLemmas
 pub mod SeekLemmas
 pub mod PartLemmas
-pub mod DataPartLemmas
 pub mod CacheSumLemmas
 pub mod CachedBlocksLemmas
 pub mod LookUpLemmas

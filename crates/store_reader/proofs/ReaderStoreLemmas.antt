@@ -2,7 +2,7 @@
 use Rattle.std.proofs.Common.{◌≡◌, ℕ, ◌+◌, ◌-◌, ◌<◌, ◌≤◌, ◌^◌, List, [], ◌∷◌, ◌++◌, length, map, take, drop, refl, sym, ap, ◌∙◌, subst, arith}
 use Rattle.std.specs.Prelude.{slice_range}
 use Rattle.std.specs.List.{AllByRecursion}
-use Rattle.std.proofs.lemmas.List.{take_all, length-take-le, length-drop, drop-drop}
+use Rattle.std.proofs.lemmas.List.{take_all, drop-drop}
 use Rattle.std.proofs.Math.Seq.{take-add}
 use Rattle.layered_index.proofs.LayerLemmas.{docs_fit}
 use Rattle.store_base.proofs.ListLemmas.{length-slice}

@@ -1,5 +1,5 @@
 -- How an iteration goes over the documents.
-use Rattle.std.proofs.Common.{◌≡◌, ℕ, zero, suc, ◌+◌, ◌-◌, ◌<◌, ◌≤◌, Bool, true, false, List, [], ◌∷◌, ◌++◌, length, take, drop, Option, Some, None, refl, sym, ap, ◌∙◌, subst, arith, add-one, inl, inr, ◌⊎◌}
+use Rattle.std.proofs.Common.{◌≡◌, ℕ, zero, suc, ◌+◌, ◌-◌, ◌<◌, ◌≤◌, Bool, true, false, List, [], ◌∷◌, ◌++◌, length, take, drop, Option, Some, None, is_some, refl, sym, ap, ◌∙◌, subst, arith, add-one, inl, inr, ◌⊎◌}
 use Rattle.std.proofs.lemmas.Bool.{ltb-true, ltb-false, lt-ltb, le-ltb}
 use Rattle.std.proofs.lemmas.List.{drop-drop}
 use Rattle.std.proofs.Math.Seq.{take-add}
@@ -17,10 +17,20 @@ use Rattle.store_reader.specs.Iteration.{is_in}
 use Rattle.store_reader.specs.LookingUp.{IsShared}
 use Rattle.store_reader.specs.Reading.{Reading, part_of, num_docs, store_of}
 use Rattle.store_format.specs.Slots.{slots}
-use Rattle.store_reader.specs.Walking.{IsBlockTaken, HoldsPart, StandsIn, IsWalk, LooksAlong, WalksTo}
+use Rattle.store_reader.specs.Walking.{taken_at, taken_last, IsBlockTaken, HoldsPart, StandsIn, IsWalk, LooksAlong, WalksTo}
 use Rattle.store_reader.proofs.GetAnswerLemmas.{why_none, slot_at}
 use Rattle.store_reader.proofs.LookUpLemmas.{same_file}
 use Rattle.store_reader.proofs.SeekLemmas.{within, next_block, docs_end-take_more, not_all}
+
+-- once a block was looked up there is one
+pub taken_some : (place : ℕ) (block : Result (List ℕ) StoreError) → 0 < place → taken_at place block ≡ Some block
+taken_some zero block some = absurd (omega arith)
+taken_some (suc before) block some = refl
+
+-- and before that there is none
+pub taken_place : (place : ℕ) (block : Result (List ℕ) StoreError) → IsSome (taken_at place block) → 0 < place
+taken_place zero block some = absurd cc
+taken_place (suc before) block some = omega arith
 
 -- the next block of a list, which begins at this document
 pub record IsNextBlock (cs : List Checkpoint) (n target : ℕ) (c : Checkpoint) : Type 0 where
@@ -102,15 +112,15 @@ range_joined cs p q n pq qn =
 
 -- on through more blocks
 pub walks_along : (set : Option (ℕ → Bool)) (old : Reading) (from : Walk) (id : ℕ) (mid : Reading) (to : Walk) (new : Reading) (to' : Walk)
-    → WalksTo set old from id mid to → to.place ≤ to'.place → LooksAlong (slice_range mid.checkpoints to.place to'.place) mid to.block new to'.block → WalksTo set old from id new to'
+    → WalksTo set old from id mid to → to.place ≤ to'.place → LooksAlong (slice_range mid.checkpoints to.place to'.place) mid (taken_last to) new (taken_last to') → WalksTo set old from id new to'
 walks_along set old from id mid to new to' w later looks =
-    let same = checkpoints_along (slice_range old.checkpoints from.place to.place) old from.block mid to.block w.looks in
+    let same = checkpoints_along (slice_range old.checkpoints from.place to.place) old (taken_last from) mid (taken_last to) w.looks in
     record {
       on = w.on;
       dead = w.dead;
       later = omega (arith, w.later);
       looks = rw (range_joined old.checkpoints from.place to.place to'.place w.later later)
-          (looks_on _ _ old from.block mid to.block new to'.block w.looks (subst (λ (cs : List Checkpoint). LooksAlong (slice_range cs to.place to'.place) mid to.block new to'.block) same looks));
+          (looks_on _ _ old (taken_last from) mid (taken_last to) new (taken_last to') w.looks (subst (λ (cs : List Checkpoint). LooksAlong (slice_range cs to.place to'.place) mid (taken_last to) new (taken_last to')) same looks));
     }
 
 -- a walk that has not begun
@@ -245,18 +255,18 @@ stands_there old new id first place (Some b) c is covers above same file some ho
 
 -- where a document of the walk stands
 pub stands_in : (set : Option (ℕ → Bool)) (old : Reading) (from : Walk) (id : ℕ) (new : Reading) (w : Walk) → WalksTo set old from id new w → Covers old.checkpoints (length old.file.content)
-    → IsWalk new w → w.next ≡ id → id < w.end → IsSomeAnd w.block (StandsIn old id w.first)
+    → IsWalk new w → w.next ≡ id → id < w.end → IsSomeAnd (taken_last w) (StandsIn old id w.first)
 stands_in set old from id new w walks covers is here inside =
     let range = slice_range old.checkpoints from.place w.place in
-    let same = checkpoints_along range old from.block new w.block walks.looks in
-    let file = file_along range old from.block new w.block walks.looks in
+    let same = checkpoints_along range old (taken_last from) new (taken_last w) walks.looks in
+    let file = file_along range old (taken_last from) new (taken_last w) walks.looks in
     let few : w.place ≤ length old.checkpoints = subst (λ (cs : List Checkpoint). w.place ≤ length cs) same is.few in
     let first : w.first ≡ docs_end 0 (take (w.place - 1) old.checkpoints) = subst (λ (cs : List Checkpoint). w.first ≡ docs_end 0 (take (w.place - 1) cs)) same is.first in
     let end : w.end ≡ docs_end 0 (take w.place old.checkpoints) = subst (λ (cs : List Checkpoint). w.end ≡ docs_end 0 (take w.place cs)) same is.end in
     let above = is.above in
     let found = is_in_block old.checkpoints (length old.file.content) w.place w.first id covers few first (omega arith) (omega arith) in
     let c = found.0 in
-    stands_there old new id w.first w.place w.block c found.1 covers (omega arith) same file (is.some.1 found.1.some) is.holds is.only
+    stands_there old new id w.first w.place (taken_last w) c found.1 covers (omega arith) same file (ap is_some (taken_some w.place w.block found.1.some)) is.holds is.only
 
 -- what it answers, by the bytes of the data
 answers_by : (content : List ℕ) (c : Checkpoint) (id : ℕ) (block result : Result (List ℕ) StoreError) → HoldsPart content block c → IfErr block (λ e. (e ≡ Read) ⊎ (e ≡ Memory))

@@ -1,7 +1,7 @@
 -- How an iteration goes over the documents of a store.
-use Rattle.std.specs.Prelude.{◌≡◌, ◌⊎◌, ◌↔◌, ℕ, ◌+◌, ◌-◌, ◌≤◌, ◌<◌, Bool, true, false, List, [], ◌∷◌, length, take}
+use Rattle.std.specs.Prelude.{◌≡◌, ◌⊎◌, ℕ, zero, suc, ◌+◌, ◌-◌, ◌≤◌, ◌<◌, Bool, true, false, List, [], ◌∷◌, length, take}
 use Rattle.std.specs.Prelude.{slice_range, slice_get, IsTrue, IfErr, IfOk, IfSome, Option, Some, None, Result}
-use Rattle.std.specs.Prelude.{IsSome, IsSomeAnd, MatchOption}
+use Rattle.std.specs.Prelude.{IsSomeAnd, MatchOption}
 use Rattle.std.specs.Borrow.{Bor}
 use Rattle.store_base.specs.AliveBitSet.{is_alive_at}
 use Rattle.store_base.specs.declared.error.StoreError.{StoreError}
@@ -27,6 +27,14 @@ set_of (Some alive) = Some (is_alive_at alive.now)
 abbrev pub set_in : List (List Bool) → Option (ℕ → Bool)
 set_in [] = None
 set_in (alive ∷ others) = Some (is_alive_at alive)
+
+-- the block that was looked up last: its bytes, or why they did not come; none before the first
+abbrev pub taken_at : ℕ → Result (List ℕ) StoreError → Option (Result (List ℕ) StoreError)
+taken_at zero block = None
+taken_at (suc before) block = Some block
+
+abbrev pub taken_last : Walk → Option (Result (List ℕ) StoreError)
+taken_last w = taken_at w.place w.block
 
 -- One look-up of the block that has this document: what is taken of it for all of its documents.
 pub record IsBlockTaken (old : Reading) (id : ℕ) (checkpoint : Checkpoint) (block : Result (List ℕ) StoreError)
@@ -61,14 +69,13 @@ pub record StandsIn (r : Reading) (id first : ℕ) (block : Result (List ℕ) St
 -- give what is there, so does the block.
 pub record IsWalk (r : Reading) (w : Walk) : Type 0 where
   pub few : w.place ≤ length r.checkpoints
-  pub some : IsSome w.block ↔ (0 < w.place)
   pub first : w.first ≡ docs_end 0 (take (w.place - 1) r.checkpoints)
   pub end : w.end ≡ docs_end 0 (take w.place r.checkpoints)
   pub above : w.first ≤ w.next
   pub below : w.next ≤ w.end
-  pub holds : IsTrue r.file.honest → IfSome w.block (λ block. IfSome (slice_get r.checkpoints (w.place - 1))
+  pub holds : IsTrue r.file.honest → IfSome (taken_last w) (λ block. IfSome (slice_get r.checkpoints (w.place - 1))
       (HoldsPart r.file.content block))
-  pub only : IfSome w.block (λ block. IfErr block (λ e. (e ≡ Read) ⊎ (e ≡ Memory)))
+  pub only : IfSome (taken_last w) (λ block. IfErr block (λ e. (e ≡ Read) ⊎ (e ≡ Memory)))
 
 -- These blocks are looked up, in order, each at its first document. The block that was taken last is taken on; there is
 -- none before the first.
@@ -84,11 +91,12 @@ pub record WalksTo (set : Option (ℕ → Bool)) (old : Reading) (from : Walk) (
   pub on : from.next ≤ id
   pub dead : (k : ℕ) → from.next ≤ k → k < id → is_in set k ≡ false
   pub later : from.place ≤ to.place
-  pub looks : LooksAlong (slice_range old.checkpoints from.place to.place) old from.block new to.block
+  pub looks : LooksAlong (slice_range old.checkpoints from.place to.place) old (taken_last from) new
+      (taken_last to)
 
 -- what a document answers of the block that was taken last
 abbrev pub AnswersOf : ℕ → Walk → Result (List ℕ) StoreError → Type 0
-AnswersOf id w result = IsSomeAnd w.block (λ block. AnswersFrom id (id - w.first) block result)
+AnswersOf id w result = IsSomeAnd (taken_last w) (λ block. AnswersFrom id (id - w.first) block result)
 
 -- The item of an id: it is alive, and its slot answers; failed reads and want of memory aside.
 pub record IsItem (set : Option (ℕ → Bool)) (old : Reading) (id : ℕ) (to : Walk)

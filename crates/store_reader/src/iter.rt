@@ -1,4 +1,5 @@
-//! Going over the documents of a store.
+//! Iterations over the documents that a reader has. `Items` is the iterator, and its `Walk` is where it stands. Those of
+//! views are in `documents`, and those of slices in `slice_documents`.
 ghost use Rattle.std.specs.Prelude.{◌≡◌};
 ghost use Rattle.store_reader.specs.Walking.{set_of, set_in};
 

@@ -36,6 +36,7 @@ pub use data_part::DataPart;
 pub use documents::{AliveDocuments, Documents};
 pub use index_check::{IndexCheck, check_index};
 pub use iter::{DocIter, Items, RawIter};
+pub use reader::parts::StorePart;
 pub use reader::{DOCSTORE_CACHE_CAPACITY, StoreReader};
 pub use seeking_reader::SeekingReader;
 pub use slice_documents::SliceDocuments;

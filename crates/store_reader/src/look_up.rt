@@ -2,6 +2,7 @@
 
 ghost use Rattle.std.specs.Prelude.{◌≤◌, ℕ, List, Result, length};
 ghost use Rattle.store_base.specs.declared.error.StoreError.{StoreError as StoreErrorOf};
+ghost use Rattle.store_format.specs.FileReading.{Comes};
 ghost use Rattle.store_reader.specs.LookingUp.{LooksUp};
 ghost use Rattle.store_reader.specs.BlockRequests.{AnswersRequest};
 
@@ -18,6 +19,20 @@ pub(crate) struct Entered {
     pub(crate) first: DocId,
     pub(crate) end: DocId,
     pub(crate) block: Result<OwnedBytes, StoreError>,
+}
+
+// Reads a checkpoint's block.
+fn read_block<H: FileHandle>(
+    file: &mut FileSlice<H>,
+    alloc: Global,
+    checkpoint: &Checkpoint,
+) -> Result<OwnedBytes, StoreError>
+    requires order { checkpoint.now.byte_range.start ≤ checkpoint.now.byte_range.end }
+    requires within { checkpoint.now.byte_range.end ≤ length file.old.content }
+    ensures { Comes file.old checkpoint.now.byte_range.start checkpoint.now.byte_range.end result file.new }
+{
+    let range = checkpoint.byte_range.start as u64..checkpoint.byte_range.end as u64;
+    read_part(file, alloc, range)
 }
 
 // Looks the block of a checkpoint up, and gives what the request wants of it.
@@ -39,7 +54,7 @@ pub(crate) fn look_up<H: FileHandle>(
     if let Some(answer) = cache.look_up(key, request) {
         return answer;
     }
-    let block = read_part(file, alloc, key as u64..checkpoint.byte_range.end as u64)?;
+    let block = read_block(file, alloc, checkpoint)?;
     let answer = answer_request(&block, request);
     cache.put(key, block);
     answer

@@ -12,7 +12,9 @@ ghost use Rattle.store_reader.specs.Opening.{IsOpened, IsRefused, RefusesNoStore
 ghost use Rattle.store_reader.specs.Reading.{IsReadOnce, IsReadWhole, IsSameStore, IsSeen, num_docs, store_of};
 ghost use Rattle.store_format.specs.Slots.{slots};
 ghost use Rattle.store_format.specs.StoreFile.{IsStore};
-ghost use Rattle.store_reader.specs.Walking.{set_of, set_in, IsEntered, IsWalk, LooksAlong};
+ghost use Rattle.store_reader.specs.Walking.{set_of, set_in, taken_last, IsEntered, IsWalk, LooksAlong};
+
+pub mod parts;
 
 use crate::block_request::BlockRequest;
 use crate::cache::BlockCache;
@@ -235,7 +237,7 @@ impl<H: FileHandle> StoreReader<H> {
         ensures next { result.walk.next ≡ 0 }
         ensures walk { IsWalk result.reader.now result.walk }
         ensures first_block { LooksAlong (take 1 self.old.checkpoints)
-            self.old None result.reader.now result.walk.block }
+            self.old None result.reader.now (taken_last result.walk) }
         ensures same_store { IsSameStore self.old result.reader.now }
         ensures place { result.walk.place ≡ length (take 1 self.old.checkpoints) }
     {
@@ -261,7 +263,7 @@ impl<H: FileHandle> StoreReader<H> {
         ensures next { result.walk.raw.next ≡ 0 }
         ensures walk { IsWalk result.reader.now result.walk.raw }
         ensures first_block { LooksAlong (take 1 self.old.checkpoints)
-            self.old None result.reader.now result.walk.raw.block }
+            self.old None result.reader.now (taken_last result.walk.raw) }
         ensures same_store { IsSameStore self.old result.reader.now }
         ensures place { result.walk.raw.place ≡ length (take 1 self.old.checkpoints) }
     {

@@ -1,14 +1,15 @@
 //! The index of a store, whose checkpoints cover the data.
-ghost use Rattle.std.specs.Prelude.{◌≡◌, ◌≤◌, ◌<◌, ◌+◌, ◌*◌, ℕ, length, MatchResult};
+ghost use Rattle.std.specs.Prelude.{◌≡◌, ◌≤◌, ◌<◌, ◌+◌, ◌*◌, ℕ, length, slice_get, slice_range, MatchResult};
 ghost use Rattle.store_base.specs.Counts.{raised};
 ghost use Rattle.layered_index.specs.Checkpoint.{docs_end, first_past};
 ghost use Rattle.store_reader.specs.Covering.{IsIndexOf, HasIndexOf};
 ghost use Rattle.layered_index.specs.Layers.{Index, digit_count, index_part};
 ghost use Rattle.layered_index.specs.Refusal.{RefusesOnlyUnless};
 
-use layered_index::{Checkpoint, LayerCursor, SkipIndex, Steps};
+use layered_index::{Checkpoint, CheckpointRange, LayerCursor, SkipIndex, Steps};
 use std::alloc::Global;
 use std::marker::Model;
+use std::ops::Range;
 use store_base::{DocId, OwnedBytes, StoreError};
 
 /// The index of a store: how its blocks lie, how many documents they have, and how many bytes it
@@ -104,5 +105,27 @@ impl StoreIndex {
         ensures { result ≡ self.now.checkpoints }
     {
         self.index.checkpoints()
+    }
+
+    /// How many blocks there are.
+    pub fn num_blocks(&self) -> usize
+        ensures { result ≡ length self.now.checkpoints }
+    {
+        self.index.len()
+    }
+
+    /// The checkpoint of the block with this number, if there is one. Nothing is sought.
+    pub fn get(&self, number: usize) -> Option<Checkpoint>
+        ensures { result ≡ slice_get self.now.checkpoints number }
+    {
+        self.index.get(number)
+    }
+
+    /// The checkpoints of the blocks with these numbers, in order.
+    pub fn range(&self, blocks: Range<usize>) -> CheckpointRange<'_>
+        requires { blocks.end ≤ length self.now.checkpoints }
+        ensures { result ≡ slice_range self.now.checkpoints blocks.start blocks.end }
+    {
+        self.index.range(blocks)
     }
 }

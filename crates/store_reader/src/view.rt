@@ -1,6 +1,6 @@
 //! A store over bytes that another holds.
 ghost use Rattle.std.specs.Prelude.{◌≡◌, ◌≢◌, ◌≤◌, ◌<◌, ◌+◌, ◌*◌, ◌⊎◌, ◌↔◌, ℕ, length, IfOk, IfErr, IsErrOf, Err, Some};
-ghost use Rattle.std.specs.Prelude.{MatchOption, MatchResult};
+ghost use Rattle.std.specs.Prelude.{slice_range, MatchOption, MatchResult};
 ghost use Rattle.store_base.specs.Counts.{raised};
 ghost use Rattle.layered_index.specs.Layers.{digit_count, index_part};
 ghost use Rattle.store_format.specs.Block.{damaged};
@@ -15,7 +15,7 @@ use crate::document_reading::read_bytes;
 use crate::documents::{AliveDocuments, Documents, ViewBlock};
 use crate::opening::view_store;
 use crate::store_index::StoreIndex;
-use layered_index::{LayerCursor, Steps};
+use layered_index::{CheckpointRange, LayerCursor, Steps};
 use std::alloc::Global;
 use std::marker::Model;
 use std::ops::Range;
@@ -235,5 +235,20 @@ impl<'a> StoreView<'a> {
         ensures { result ≡ checkpoints_of self.now.store }
     {
         self.index.checkpoints()
+    }
+
+    /// How many blocks the store has.
+    pub fn num_blocks(&self) -> usize
+        ensures { result ≡ length (checkpoints_of self.now.store) }
+    {
+        self.index.num_blocks()
+    }
+
+    /// Where the blocks with these numbers lie, in order.
+    pub fn checkpoints_in(&self, blocks: Range<usize>) -> CheckpointRange<'_>
+        requires { blocks.end ≤ length (checkpoints_of self.now.store) }
+        ensures { result ≡ slice_range (checkpoints_of self.now.store) blocks.start blocks.end }
+    {
+        self.index.range(blocks)
     }
 }

@@ -1,10 +1,10 @@
-//! Where an iteration stands, and how it goes on.
+//! Where an iteration over a reader's documents stands, and how it goes on.
 ghost use Rattle.std.specs.Prelude.{◌≡◌, ◌≤◌, ◌<◌, ◌+◌, true, Some, length, slice_get, slice_range, take};
 ghost use Rattle.std.specs.Prelude.{IsSome, IsSomeAnd, MatchOption};
 ghost use Rattle.layered_index.specs.declared.checkpoint.Checkpoint.{Checkpoint};
 ghost use Rattle.store_reader.specs.Iteration.{is_in};
 ghost use Rattle.store_reader.specs.Reading.{IsSameStore, num_docs};
-ghost use Rattle.store_reader.specs.Walking.{set_in, IsBlockTaken, StandsIn, IsWalk, LooksAlong, WalksTo, AnswersOf};
+ghost use Rattle.store_reader.specs.Walking.{set_in, taken_last, IsBlockTaken, StandsIn, IsWalk, LooksAlong, WalksTo, AnswersOf};
 
 use crate::reader::StoreReader;
 use crate::slot::document_in;
@@ -12,14 +12,14 @@ use std::alloc::Global;
 use std::marker::PhantomData;
 use store_base::{AliveBitSet, DocId, DocumentDeserialize, FileHandle, OwnedBytes, StoreError};
 
-/// Where an iteration stands: at an id, in the last of the blocks that it looked up, if it has looked one up.
+/// Where an iteration stands: at an id, in the block that it looked up last.
 #[derive(Drop)]
 pub struct Walk {
     pub(crate) next: DocId,
     pub(crate) place: usize,
     pub(crate) first: DocId,
     pub(crate) end: DocId,
-    pub(crate) block: Option<Result<OwnedBytes, StoreError>>,
+    pub(crate) block: Result<OwnedBytes, StoreError>,
 }
 
 /// The same, where each document is read as a type.
@@ -29,16 +29,16 @@ pub struct DocWalk<D: DocumentDeserialize> {
     pub(crate) document: PhantomData<D>,
 }
 
-// Before the first block.
+// Before the first block. As long as `place` is 0 there is no block, and `block` is not read.
 fn new_walk() -> Walk
-    ensures { result ≡ record { next = 0; place = 0; first = 0; end = 0; block = None } }
+    ensures { result ≡ record { next = 0; place = 0; first = 0; end = 0; block = Err StoreError.Memory } }
 {
     Walk {
         next: 0,
         place: 0,
         first: 0,
         end: 0,
-        block: None,
+        block: Err(StoreError::Memory),
     }
 }
 
@@ -50,7 +50,7 @@ fn enter_next<H: FileHandle>(reader: &mut StoreReader<H>, alloc: Global, walk: &
     ensures walk { IsWalk reader.new walk.new }
     ensures taken { (c : Checkpoint) × (slice_get reader.old.checkpoints walk.old.place ≡ Some c)
         × (c.doc_range.start ≡ walk.old.next)
-        × IsSomeAnd walk.new.block (λ block. IsBlockTaken reader.old walk.old.next c block reader.new) }
+        × IsSomeAnd (taken_last walk.new) (λ block. IsBlockTaken reader.old walk.old.next c block reader.new) }
     ensures next { walk.new.next ≡ walk.old.next }
     ensures inside { walk.new.next < walk.new.end }
     ensures place { walk.new.place ≡ walk.old.place + 1 }
@@ -59,7 +59,7 @@ fn enter_next<H: FileHandle>(reader: &mut StoreReader<H>, alloc: Global, walk: &
     walk.place += 1;
     walk.first = entered.first;
     walk.end = entered.end;
-    walk.block = Some(entered.block);
+    walk.block = entered.block;
 }
 
 // Into the block of the next document, where the walk is not in it yet.
@@ -71,7 +71,7 @@ fn step_in<H: FileHandle>(reader: &mut StoreReader<H>, alloc: Global, walk: &mut
     ensures inside { walk.new.next < walk.new.end }
     ensures later { walk.old.place ≤ walk.new.place }
     ensures looks { LooksAlong (slice_range reader.old.checkpoints walk.old.place walk.new.place)
-        reader.old walk.old.block reader.new walk.new.block }
+        reader.old (taken_last walk.old) reader.new (taken_last walk.new) }
 {
     if walk.next < walk.end {
         return;
@@ -85,7 +85,7 @@ pub(crate) fn first_walk<H: FileHandle>(reader: &mut StoreReader<H>, alloc: Glob
     ensures next { result.next ≡ 0 }
     ensures place { result.place ≡ length (take 1 reader.old.checkpoints) }
     ensures looks { LooksAlong (take 1 reader.old.checkpoints)
-        reader.old None reader.new result.block }
+        reader.old None reader.new (taken_last result) }
 {
     let mut walk = new_walk();
     if reader.num_docs() == 0 {
@@ -120,7 +120,7 @@ pub(crate) fn walk_on<H: FileHandle>(
         × (walk.new.next ≡ num_docs reader.old))
         (λ id. WalksTo (set_in alive.now) reader.old walk.old id reader.new walk.new
         × (id < num_docs reader.old) × (is_in (set_in alive.now) id ≡ true) × (walk.new.next ≡ id + 1)
-        × IsSomeAnd walk.new.block (StandsIn reader.old id walk.new.first)) }
+        × IsSomeAnd (taken_last walk.new) (StandsIn reader.old id walk.new.first)) }
 {
     for doc_id in walk.next..reader.num_docs() {
         step_in(reader, alloc, walk);
@@ -134,11 +134,11 @@ pub(crate) fn walk_on<H: FileHandle>(
 
 // What a document answers of the block that was taken.
 pub(crate) fn answer_of(walk: &Walk, doc_id: DocId) -> Result<OwnedBytes, StoreError>
-    requires block { IsSome walk.now.block }
+    requires block { 0 < walk.now.place }
     requires above { walk.now.first ≤ doc_id }
     ensures { AnswersOf doc_id walk.now result }
 {
-    match walk.block.as_ref().unwrap() {
+    match &walk.block {
         Ok(block) => document_in(block, doc_id, doc_id - walk.first),
         Err(error) => Err(*error),
     }

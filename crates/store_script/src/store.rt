@@ -92,11 +92,7 @@ impl Store {
         deleted: &[DocId],
         output: &mut W,
     ) -> Result<(), ToolFault> {
-        let alive = AliveBitSet::for_test_from_deleted_docs(
-            alloc,
-            deleted,
-            self.reader.num_docs(),
-        )?;
+        let alive = AliveBitSet::from_deleted_docs(alloc, deleted, self.reader.num_docs())?;
         let set = if deleted.is_empty() {
             None
         } else {

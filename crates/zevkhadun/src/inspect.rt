@@ -5,7 +5,7 @@ use crate::failure::{Failure, FailureCause, with_file};
 use crate::replacing::check_page;
 use crate::store_file::{DiskReader, StorePath, store_path};
 use clap::{Arg, ArgAction, ArgMatches, Command};
-use docstore::{DataPart, StoreError, TerminatingWrite, block_read_index};
+use docstore::{DataPart, FOOTER_LEN, StoreError, TerminatingWrite, block_read_index};
 use std::alloc::{AllocError, Global};
 use store_commands::block_documents::documents_with_room;
 use store_commands::store_numbers::{StoreNumbers, block_sizes, numbers_of};
@@ -127,6 +127,7 @@ fn page_on(alloc: Global, name: &str, reader: &mut DiskReader) -> Result<String,
         numbers: &named(&numbers, documents.damaged),
         data_bytes: numbers.data_bytes,
         index_bytes: numbers.index_bytes,
+        footer_bytes: FOOTER_LEN,
         period: numbers.period,
         layers: numbers.layers,
         starts: &starts,

@@ -5,20 +5,13 @@ use crate::failure::{Failure, FailureCause, with_file};
 use crate::progress::Progress;
 use crate::replacing::check_store;
 use docstore::{Compressor, StoreWriter};
-use std::io;
 use store_commands::StoreShape;
-use store_files::DiskSink;
+use store_files::{OsFolder, begin_publication};
+use store_folder::{Folder, Publication};
+use store_published::{Written, finish_published};
 
 /// A writer to a file on disk.
-pub type DiskWriter = StoreWriter<DiskSink<HostRuntime>>;
-
-/// What a store has that was written.
-#[derive(Clone, Copy)]
-pub struct Written {
-    documents: u32,
-    blocks: u32,
-    bytes: u64,
-}
+pub type DiskWriter = StoreWriter<Publication<OsFolder<HostRuntime>>>;
 
 /// A writer to a file of this name. A store that has it is replaced at the end; any other file is kept.
 pub fn create(rt: &HostRuntime, path: &str, shape: StoreShape) -> Result<DiskWriter, Failure> {
@@ -27,25 +20,20 @@ pub fn create(rt: &HostRuntime, path: &str, shape: StoreShape) -> Result<DiskWri
         return Err(wrong_words(alloc, "a store can't be written to standard output", path));
     }
     with_file(alloc, path, check_store(rt, path))?;
-    let sink = with_file(alloc, path, DiskSink::create(alloc, *rt, path))?;
+    let output = with_file(alloc, path, begin_publication(alloc, *rt, path))?;
     Ok(StoreWriter::with_period(
         alloc,
-        sink,
+        output,
         Compressor::None,
         shape.block_size,
         shape.period,
     ))
 }
 
-// Ends a writer. Where the output failed, the cause is the system's.
-fn close(writer: DiskWriter) -> Result<Written, FailureCause> {
-    let (documents, blocks) = (writer.num_docs(), writer.num_blocks());
-    match writer.close() {
-        Ok(output) => Ok(Written {
-            documents,
-            blocks,
-            bytes: output.num_bytes(),
-        }),
+// Ends a writer. Where the output failed, the cause is the error of its folder.
+fn close<F: Folder>(writer: StoreWriter<Publication<F>>) -> Result<Written, FailureCause> {
+    match finish_published(writer) {
+        Ok((_, written)) => Ok(written),
         Err(refusal) => Err(match refusal.output.last_error() {
             Some(error) => FailureCause::System(error),
             None => FailureCause::Store(refusal.error),
@@ -55,10 +43,10 @@ fn close(writer: DiskWriter) -> Result<Written, FailureCause> {
 
 /// Gives the store its name. Where what was stored before was refused, that refusal counts, or the system's that
 /// brought it about.
-pub fn finish(
+pub fn finish<F: Folder>(
     rt: &HostRuntime,
     path: &str,
-    writer: DiskWriter,
+    writer: StoreWriter<Publication<F>>,
     stored: Result<(), Failure>,
 ) -> Result<Written, Failure> {
     if !writer.has_failed() {

@@ -16,12 +16,13 @@ returns-in_err-end-clause-refused c =
     c.saturating_add-bytes.ensures
     (subst (λ (b : BlockEnd). RefusesEnd b (c.args.writer.now.docs + 1) c.saturating_add-bytes.result c.in_err-end.field-0.0) c.start_of-start.ensures c.in_err-end.ensures.refused))
 
-pub returns-then-bytes-writer-clause-put : goal.returns-then-bytes-writer-clause-put
-returns-then-bytes-writer-clause-put c written w document size h =
+pub returns-then-weight_of-writer-clause-put : goal.returns-then-weight_of-writer-clause-put
+returns-then-weight_of-writer-clause-put c written w document size h =
     let old : Memory = memory c.args.writer.now c.args.starts.now c.args.table.now in
     let sum = exact_sum old c.args.len _ _ _ c.saturating_add-bytes.ensures c.in_ok-end.ensures.end in
     let ends = exact_end old c.args.len _ _ _ sum c.start_of-start.ensures c.in_ok-end.ensures.end in
-    let heavy = c.if-bytes-writer.true in
+    let heavy = c.if-weight_of-writer.true in
+    let weighed = c.weight_of.ensures in
     let room = c.if-saturating_add-starts.false in
     let two = c.saturating_add.ensures in
     let rows = c.if-writer-table.false in
@@ -29,20 +30,21 @@ returns-then-bytes-writer-clause-put c written w document size h =
     let count : c.finish.result ≡ c.args.writer.now.docs + 2 = omega (arith, c.finish.ensures.count) in
     rw (count, c.finish.ensures.writer, c.finish.ensures.starts, c.finish.ensures.table) done
 
-pub returns-else-bytes-writer-clause-put : goal.returns-else-bytes-writer-clause-put
-returns-else-bytes-writer-clause-put c written w document size h =
+pub returns-else-weight_of-writer-clause-put : goal.returns-else-weight_of-writer-clause-put
+returns-else-weight_of-writer-clause-put c written w document size h =
     let old : Memory = memory c.args.writer.now c.args.starts.now c.args.table.now in
     let sum = exact_sum old c.args.len _ _ _ c.saturating_add-bytes.ensures c.in_ok-end.ensures.end in
     let ends = exact_end old c.args.len _ _ _ sum c.start_of-start.ensures c.in_ok-end.ensures.end in
-    let light = c.if-bytes-writer.false in
+    let light = c.if-weight_of-writer.false in
+    let weighed = c.weight_of.ensures in
     let room = c.if-saturating_add-starts.false in
     let two = c.saturating_add.ensures in
     let rows = c.if-writer-table.false in
     let done = put_open old c.args.len c.in_ok-end.end (omega arith) (omega arith) ends (omega arith) written w document size h in
     rw sum done
 
-pub returns-then-bytes-writer-clause-takes : goal.returns-then-bytes-writer-clause-takes
-returns-then-bytes-writer-clause-takes c =
+pub returns-then-weight_of-writer-clause-takes : goal.returns-then-weight_of-writer-clause-takes
+returns-then-weight_of-writer-clause-takes c =
     let old : Memory = memory c.args.writer.now c.args.starts.now c.args.table.now in
     let sum = exact_sum old c.args.len _ _ _ c.saturating_add-bytes.ensures c.in_ok-end.ensures.end in
     let ends = exact_end old c.args.len _ _ _ sum c.start_of-start.ensures c.in_ok-end.ensures.end in
@@ -51,8 +53,8 @@ returns-then-bytes-writer-clause-takes c =
     let rows = c.if-writer-table.false in
     put_takes old c.args.len _ (omega arith, omega arith) ends
 
-pub returns-else-bytes-writer-clause-takes : goal.returns-else-bytes-writer-clause-takes
-returns-else-bytes-writer-clause-takes c =
+pub returns-else-weight_of-writer-clause-takes : goal.returns-else-weight_of-writer-clause-takes
+returns-else-weight_of-writer-clause-takes c =
     let old : Memory = memory c.args.writer.now c.args.starts.now c.args.table.now in
     let sum = exact_sum old c.args.len _ _ _ c.saturating_add-bytes.ensures c.in_ok-end.ensures.end in
     let ends = exact_end old c.args.len _ _ _ sum c.start_of-start.ensures c.in_ok-end.ensures.end in

@@ -11,7 +11,7 @@ returns g c =
     let size = length_permutation c.args.sizes.items items c.sort_unstable.ensures.permutation in
     let count : vec_len c.sort_unstable.new.self ≡ length items = sym c.deref.ensures.len ∙ ap length c.deref.ensures.value in
     record {
-      version = c.number_of.ensures ∙ ap version_number c.version.ensures;
+      version = c.number.ensures ∙ ap version_number c.version.ensures;
       period = c.period.ensures.period;
       documents = c.num_docs.ensures.count;
       blocks = c.len.ensures ∙ count ∙ size;

@@ -2,7 +2,7 @@ use Rattle.std.proofs.Common.{◌≡◌, ℕ, take, Bool, Bor, Option, Some, Non
 use Rattle.std.specs.Prelude.{IfErr}
 use Rattle.std.proofs.lemmas.Result.{err_from_is_err_and}
 use Rattle.store_reader.specs.Reading.{Reading, IsSameStore}
-use Rattle.store_reader.specs.Walking.{set_of, set_in, LooksAlong, GivesNext}
+use Rattle.store_reader.specs.Walking.{taken_last, set_of, set_in, LooksAlong, GivesNext}
 use Rattle.store_reader.specs.declared.walk.Walk.{Walk}
 use Rattle.layered_index.specs.declared.checkpoint.Checkpoint.{Checkpoint}
 use Rattle.store_reader.proofs.AskedLemmas.{asked_within}
@@ -29,12 +29,12 @@ loop-document-init g c =
     (subst (IsBegun first (set_of c.args.alive) c.args.writer.now items.result.reader.now) (sym walk_is) start) in
     let taken : take items.result.walk.place first.checkpoints ≡ take 1 first.checkpoints =
     ap (λ (n : ℕ). take n first.checkpoints) items.ensures.place ∙ take_length_one first.checkpoints in
-    let began : LooksAlong (take items.result.walk.place first.checkpoints) first None items.result.reader.now items.result.walk.block =
-    subst (λ (cs : List Checkpoint). LooksAlong cs first None items.result.reader.now items.result.walk.block) (sym taken) items.ensures.first_block in
+    let began : LooksAlong (take items.result.walk.place first.checkpoints) first None items.result.reader.now (taken_last items.result.walk) =
+    subst (λ (cs : List Checkpoint). LooksAlong cs first None items.result.reader.now (taken_last items.result.walk)) (sym taken) items.ensures.first_block in
     let looks : LooksAlong (take c.into_iter-document-iterator.result.walk.place first.checkpoints) first None c.into_iter-document-iterator.result.reader.now
-    c.into_iter-document-iterator.result.walk.block =
-    subst (λ (r : Reading). LooksAlong (take c.into_iter-document-iterator.result.walk.place first.checkpoints) first None r c.into_iter-document-iterator.result.walk.block) (sym reader_is)
-    (subst (λ (w : Walk). LooksAlong (take w.place first.checkpoints) first None items.result.reader.now w.block) (sym walk_is) began) in
+    (taken_last c.into_iter-document-iterator.result.walk) =
+    subst (λ (r : Reading). LooksAlong (take c.into_iter-document-iterator.result.walk.place first.checkpoints) first None r (taken_last c.into_iter-document-iterator.result.walk)) (sym reader_is)
+    (subst (λ (w : Walk). LooksAlong (take w.place first.checkpoints) first None items.result.reader.now (taken_last w)) (sym walk_is) began) in
     record {
       name = refl;
       same = subst (IsSameStore first) (sym reader_is) items.ensures.same_store;
@@ -115,7 +115,7 @@ returns-clause-asked g c =
     let gives : GivesNext set old.reader.now old.walk None new.reader.now new.walk =
     subst (λ (x : Option (ℕ → Bool)). GivesNext x old.reader.now old.walk None new.reader.now new.walk) inv.set (c.in-None.ensures.steps.0) in
     let asked : IsAskedOnce first new.reader.now =
-    asked_within new.walk.place first None new.reader.now new.walk.block c.num_docs.ensures.covers
+    asked_within new.walk.place first None new.reader.now (taken_last new.walk) c.num_docs.ensures.covers
     (looks_joined first old.reader.now old.walk set gives.last new.reader.now new.walk inv.same.checkpoints inv.looks gives.walks) in
     search rules
 
@@ -130,6 +130,6 @@ returns-in_err-take_document-clause-asked g c =
     let gives : GivesNext set old.reader.now old.walk (Some c.in-Some.document) new.reader.now new.walk =
     subst (λ (x : Option (ℕ → Bool)). GivesNext x old.reader.now old.walk (Some c.in-Some.document) new.reader.now new.walk) inv.set steps.0 in
     let asked : IsAskedOnce first new.reader.now =
-    asked_within new.walk.place first None new.reader.now new.walk.block c.num_docs.ensures.covers
+    asked_within new.walk.place first None new.reader.now (taken_last new.walk) c.num_docs.ensures.covers
     (looks_joined first old.reader.now old.walk set gives.last new.reader.now new.walk inv.same.checkpoints inv.looks gives.walks) in
     search rules

@@ -8,7 +8,7 @@ use Rattle.store_reader.specs.CallAnswers.{IsNotPast}
 use Rattle.store_reader.specs.CallList.{AreItems}
 use Rattle.store_reader.specs.Reading.{num_docs, store_of}
 use Rattle.store_format.specs.Slots.{slots}
-use Rattle.store_reader.specs.Walking.{set_of, set_in, GivesNext}
+use Rattle.store_reader.specs.Walking.{taken_last, set_of, set_in, GivesNext}
 use Rattle.store_reader.proofs.CallAnswersLemmas.{walked_not_past, items_not_past}
 use Rattle.store_reader.proofs.FailedLemmas.{item_failed}
 use Rattle.store_reader.proofs.IterationLookUpLemmas.{IsListedTo, listed_on, looked_enough, looked_all}
@@ -29,7 +29,7 @@ loop-iter-preserved g c =
     let pushed = c.in_ok-push.ensures.items in
     let listed : IsListedTo first set (length c.loop-iter.items.items + 1) new.reader.now new.walk =
     listed_on first set (length c.loop-iter.items.items) old.reader.now old.walk c.in-Some.item new.reader.now new.walk c.loop-iter.invariant.same.checkpoints c.loop-iter.invariant.looks gives in
-    let not_past = walked_not_past gives.last (gives.last - new.walk.first) new.walk.block c.in-Some.item gives.walk.only gives.gives.answers in
+    let not_past = walked_not_past gives.last (gives.last - new.walk.first) (taken_last new.walk) c.in-Some.item gives.walk.only gives.gives.answers in
     record {
       name = steps.2 ∙ c.loop-iter.invariant.name;
       walk = c.in-Some.ensures.goes.keeps;

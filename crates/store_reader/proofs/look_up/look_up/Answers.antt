@@ -24,7 +24,7 @@ returns-in_err-block g c =
     let given = err_from_is_err_and c.from_residual.result c.from_residual.ensures.1 in
     rw (given.1, given.2) (
       Err c.in_err-block.field-0.0,
-      look_up_by_miss c.args.checkpoint.now c.args.file.now c.read_part.new.file c.args.cache.now c.look_up.new.self
+      look_up_by_miss c.args.checkpoint.now c.args.file.now c.read_block.new.file c.args.cache.now c.look_up.new.self
           (Err c.in_err-block.field-0.0) true c.in_default.ensures.answer c.in_err-block.ensures (c.in_default.ensures.miss refl),
       unanswered c.args.request c.in_err-block.field-0.0,
     )
@@ -33,7 +33,7 @@ pub returns : goal.returns
 returns g c =
     let block = c.in_ok-block.block in (
       Ok block,
-      look_up_by_miss c.args.checkpoint.now c.args.file.now c.read_part.new.file c.args.cache.now c.put.new.self (Ok block) c.put.ensures.0 c.in_default.ensures.answer c.in_ok-block.ensures
+      look_up_by_miss c.args.checkpoint.now c.args.file.now c.read_block.new.file c.args.cache.now c.put.new.self (Ok block) c.put.ensures.0 c.in_default.ensures.answer c.in_ok-block.ensures
           (c.put.ensures.1 ∙ ap (with_block c.args.checkpoint.now.byte_range.start block c.put.ensures.0) (c.in_default.ensures.miss refl)),
       c.answer_request-answer.ensures,
     )

@@ -1,8 +1,8 @@
-use Rattle.std.proofs.Common.{◌≡◌, ◌+◌, ◌-◌, take, refl, sym, ap, ◌∙◌, arith}
+use Rattle.std.proofs.Common.{◌≡◌, ◌+◌, ◌-◌, take, sym, ap, ◌∙◌, arith}
 use Rattle.layered_index.specs.Checkpoint.{docs_end}
 use Rattle.store_reader.specs.Reading.{Reading}
 use Rattle.store_reader.proofs.SeekLemmas.{docs_grow}
-use Rattle.store_reader.proofs.WalkingLemmas.{IsNextBlock, next_is, holds_next, only_next}
+use Rattle.store_reader.proofs.WalkingLemmas.{IsNextBlock, taken_some, next_is, holds_next, only_next}
 use Rattle.store_reader.proofs.walk.enter_next.Goals as goal
 
 pub overflow_add-walk : goal.overflow_add-walk
@@ -11,7 +11,7 @@ overflow_add-walk g c =
     let end = c.requires.walk.end in let here = c.requires.here in
     omega arith
 
-next : (g : _) (c : goal.Joined-walk g) → IsNextBlock c.args.reader.now.checkpoints c.args.walk.now.place c.args.walk.now.next c.enter-entered.ensures.entered.checkpoint
+next : (g : _) (c : goal.Joined-walk-entered g) → IsNextBlock c.args.reader.now.checkpoints c.args.walk.now.place c.args.walk.now.next c.enter-entered.ensures.entered.checkpoint
 next g c = next_is _ _ _ _ _ c.enter-entered.ensures.covers (c.requires.here ∙ c.requires.walk.end) c.requires.more c.enter-entered.ensures.entered.looked.looked.seeks
 
 pub returns-clause-walk : goal.returns-clause-walk
@@ -22,22 +22,22 @@ returns-clause-walk g c =
     let same : c.enter-entered.new.self.checkpoints ≡ cs = ap (λ (r : Reading). r.checkpoints) e.looked.looked.stays in
     let more = n.more in let inside = n.inside in let start = n.start in let first = e.first in let end = e.end in
     let place : (c.args.walk.now.place + 1) - 1 ≡ c.args.walk.now.place = omega arith in
+    let taken = taken_some (c.args.walk.now.place + 1) c.enter-entered.result.block (omega arith) in
     rw same (record {
       few = omega arith;
       first = e.first ∙ n.start ∙ c.requires.here ∙ c.requires.walk.end ∙ ap (λ k. docs_end 0 (take k cs)) (sym place);
       end = e.end ∙ sym n.end;
       above = omega arith;
       below = omega arith;
-      some = (λ _. omega arith, λ _. refl);
-      holds = λ honest. holds_next c.args.reader.now c.enter-entered.new.self c.args.walk.now.next c.args.walk.now.place
-          ((c.args.walk.now.place + 1) - 1) e.checkpoint c.enter-entered.result.block e.looked n.at place honest;
-      only = only_next c.args.reader.now c.enter-entered.new.self c.args.walk.now.next e.checkpoint c.enter-entered.result.block e.looked;
+      holds = λ honest. rw taken (holds_next c.args.reader.now c.enter-entered.new.self c.args.walk.now.next c.args.walk.now.place
+          ((c.args.walk.now.place + 1) - 1) e.checkpoint c.enter-entered.result.block e.looked n.at place honest);
+      only = rw taken (only_next c.args.reader.now c.enter-entered.new.self c.args.walk.now.next e.checkpoint c.enter-entered.result.block e.looked);
     })
 
 pub returns-clause-taken : goal.returns-clause-taken
 returns-clause-taken g c =
     let n = next g c in
-    (c.enter-entered.ensures.entered.checkpoint, n.at, n.start, c.enter-entered.ensures.entered.looked)
+    rw (taken_some (c.args.walk.now.place + 1) c.enter-entered.result.block (omega arith)) (c.enter-entered.ensures.entered.checkpoint, n.at, n.start, c.enter-entered.ensures.entered.looked)
 
 pub returns-clause-inside : goal.returns-clause-inside
 returns-clause-inside g c = let n = (next g c).inside in let end = c.enter-entered.ensures.entered.end in omega arith

@@ -30,7 +30,7 @@ loop-doc_id-preserved g c =
     let w = c.step_in.ensures.walk in
     let above = w.above in
     record {
-      walk = record { few = w.few; some = w.some; first = w.first; end = w.end; above = omega arith; below = omega arith; holds = w.holds; only = w.only };
+      walk = record { few = w.few; first = w.first; end = w.end; above = omega arith; below = omega arith; holds = w.holds; only = w.only };
       here = refl;
       on = walks_past _ _ _ _ _ _ _ on (sym c.is_alive.ensures ∙ c.if-is_alive.false) refl refl;
     }

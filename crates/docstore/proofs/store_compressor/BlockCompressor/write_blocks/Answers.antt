@@ -1,4 +1,4 @@
-use Rattle.std.proofs.Common.{◌≡◌, ℕ, ◌+◌, ◌<◌, List, ◌++◌, length, map, Option, None, refl, sym, ◌∙◌, ap, subst, arith}
+use Rattle.std.proofs.Common.{◌≡◌, ℕ, ◌+◌, ◌<◌, List, ◌++◌, length, Option, None, refl, sym, ◌∙◌, ap, subst, arith}
 use Rattle.std.proofs.lemmas.Grind.{common_steps}
 use Rattle.std.specs.List.{sum_by}
 use Rattle.store_base.specs.Counts.{raised}
@@ -8,7 +8,7 @@ use Rattle.layered_index.specs.Checkpoint.{doc_count}
 use Rattle.layered_index.specs.Layers.{Index}
 use Rattle.store_format.specs.StoreFile.{docs_in, checkpoints_from, blocks_at}
 use Rattle.docstore.specs.BlockOutput.{BlockOutput, IsCompressing, compressing}
-use Rattle.docstore.specs.Stacking.{shifted}
+use Rattle.docstore.specs.Stacking.{laid_from}
 use Rattle.docstore.proofs.OutputLemmas.{sound, failed, seen_added}
 use Rattle.docstore.proofs.ShiftedCheckpointLemmas.{are_cut}
 use Rattle.docstore.proofs.store_compressor.BlockCompressor.write_blocks.Goals as goal
@@ -18,14 +18,14 @@ returns-then-is_err-clause-sound g c = sound _ _ _ _ _ _ _ _ _ (failed _ _ _ _ _
 
 pub register_all-registered-requires-clause-in_line : goal.register_all-registered-requires-clause-in_line
 register_all-registered-requires-clause-in_line g c =
-    let a = are_cut _ _ _ _ _ _ _ _ _ _ c.args.checkpoints c.args.bytes.now c.self.view_is c.self.invariant c.requires.works c.requires.covers c.requires.few_docs in
+    let a = are_cut _ _ _ _ _ _ _ _ _ _ c.args.checkpoints c.args.bytes.now c.self.view_is c.self.invariant c.requires.works c.requires.cut c.requires.few_docs in
     rw (c.written_bytes-start.ensures, a.places) a.added.runs
 
 pub returns-then-is_err-2-clause-err : goal.returns-then-is_err-2-clause-err
 returns-then-is_err-2-clause-err g c =
     let content_is : g.W.TerminatingWrite.content c.write_all.new.self.output ≡ g.W.TerminatingWrite.content c.self.inside.writer.output ++ c.args.bytes.now = grind (arith, common_steps) in
     let some : 0 < length c.args.checkpoints = grind (arith, common_steps) in
-    let a = are_cut _ _ _ _ _ _ _ _ _ _ c.args.checkpoints c.args.bytes.now c.self.view_is c.self.invariant c.requires.works c.requires.covers c.requires.few_docs in
+    let a = are_cut _ _ _ _ _ _ _ _ _ _ c.args.checkpoints c.args.bytes.now c.self.view_is c.self.invariant c.requires.works c.requires.cut c.requires.few_docs in
     record {
       worked = c.requires.works;
       failure = refl;
@@ -57,15 +57,15 @@ invariant_of-self-else-is_err-2 g c =
     let cs = c.self.inside.index.checkpoints in
     let bytes = c.args.bytes.now in
     let bs = blocks_at c.args.checkpoints bytes in
-    let a = are_cut _ _ _ _ _ _ _ _ _ _ c.args.checkpoints c.args.bytes.now c.self.view_is c.self.invariant c.requires.works c.requires.covers c.requires.few_docs in
+    let a = are_cut _ _ _ _ _ _ _ _ _ _ c.args.checkpoints c.args.bytes.now c.self.view_is c.self.invariant c.requires.works c.requires.cut c.requires.few_docs in
     let content_is : g.W.TerminatingWrite.content c.write_all.new.self.output ≡ content ++ bytes = grind (arith, common_steps) in
     let raised_is : c.write_all.new.self.written ≡ raised written (length bytes) = grind (arith, common_steps) in
     let sum_is : raised written (length bytes) ≡ written + length bytes = omega (arith, a.added.fits) in
     let written_is = raised_is ∙ sum_is in
-    let index_is : c.register_all-registered.new.index ≡ record { period = period; checkpoints = cs ++ map (shifted first c.written_bytes-start.result) c.args.checkpoints } =
+    let index_is : c.register_all-registered.new.index ≡ record { period = period; checkpoints = cs ++ laid_from first c.written_bytes-start.result c.args.checkpoints } =
     grind (arith, common_steps) in
     let cs_is : c.register_all-registered.new.index.checkpoints ≡ cs ++ checkpoints_from first written bs =
-    ap (λ (index : Index). index.checkpoints) index_is ∙ ap (λ (n : ℕ). cs ++ map (shifted first n) c.args.checkpoints) c.written_bytes-start.ensures
+    ap (λ (index : Index). index.checkpoints) index_is ∙ ap (λ (n : ℕ). cs ++ laid_from first n c.args.checkpoints) c.written_bytes-start.ensures
     ∙ ap (λ (xs : List Checkpoint). cs ++ xs) a.places in
     let period_is : c.register_all-registered.new.index.period ≡ period = c.register_all-registered.ensures.period in
     let next : c.register_all-registered.new.next_id ≡ first + docs_in bs = c.register_all-registered.ensures.ids ∙ ap (λ (xs : List Checkpoint). sum_by doc_count xs) cs_is
@@ -83,15 +83,15 @@ returns-clause-written g c =
     let cs = c.self.inside.index.checkpoints in
     let bytes = c.args.bytes.now in
     let bs = blocks_at c.args.checkpoints bytes in
-    let a = are_cut _ _ _ _ _ _ _ _ _ _ c.args.checkpoints c.args.bytes.now c.self.view_is c.self.invariant c.requires.works c.requires.covers c.requires.few_docs in
+    let a = are_cut _ _ _ _ _ _ _ _ _ _ c.args.checkpoints c.args.bytes.now c.self.view_is c.self.invariant c.requires.works c.requires.cut c.requires.few_docs in
     let content_is : g.W.TerminatingWrite.content c.write_all.new.self.output ≡ content ++ bytes = grind (arith, common_steps) in
     let raised_is : c.write_all.new.self.written ≡ raised written (length bytes) = grind (arith, common_steps) in
     let sum_is : raised written (length bytes) ≡ written + length bytes = omega (arith, a.added.fits) in
     let written_is = raised_is ∙ sum_is in
-    let index_is : c.register_all-registered.new.index ≡ record { period = period; checkpoints = cs ++ map (shifted first c.written_bytes-start.result) c.args.checkpoints } =
+    let index_is : c.register_all-registered.new.index ≡ record { period = period; checkpoints = cs ++ laid_from first c.written_bytes-start.result c.args.checkpoints } =
     grind (arith, common_steps) in
     let cs_is : c.register_all-registered.new.index.checkpoints ≡ cs ++ checkpoints_from first written bs =
-    ap (λ (index : Index). index.checkpoints) index_is ∙ ap (λ (n : ℕ). cs ++ map (shifted first n) c.args.checkpoints) c.written_bytes-start.ensures
+    ap (λ (index : Index). index.checkpoints) index_is ∙ ap (λ (n : ℕ). cs ++ laid_from first n c.args.checkpoints) c.written_bytes-start.ensures
     ∙ ap (λ (xs : List Checkpoint). cs ++ xs) a.places in
     let period_is : c.register_all-registered.new.index.period ≡ period = c.register_all-registered.ensures.period in
     let risen = g.W.TerminatingWrite.failures c.write_all.new.self.output in

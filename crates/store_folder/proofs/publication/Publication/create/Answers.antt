@@ -1,5 +1,4 @@
 use Rattle.std.proofs.Common.{◌≡◌, ◌≢◌, ◌++◌, [], List, ℕ, sym, ◌∙◌, subst, string_bytes, IsTrue, rules}
-use Rattle.std.specs.List.{flat_map}
 use Rattle.store_folder.specs.Moments.{LeavesOnly}
 use Rattle.store_folder.specs.Publishing.{part, IsUntouched}
 use Rattle.store_folder.specs.Stages.{IsBeside}
@@ -33,8 +32,8 @@ invariant_of-result g c =
     in (
       apart,
       λ h.
-          subst (λ xs. IsBeside F.seen F.may_leave F.moment F.left_since c.of-first.result.value c.create.new.self beside (flat_map (λ part. part.value.items) xs))
-          (sym c.new-2.ensures.items) (begins h),
+          subst (λ xs. IsBeside F.seen F.may_leave F.moment F.left_since c.of-first.result.value c.create.new.self beside xs)
+          (sym c.new-2.ensures) (begins h),
       λ h none. (begins h).any_moment,
       search rules,
     )

@@ -1,6 +1,5 @@
 use Rattle.std.proofs.Common.{◌≡◌, ◌++◌, List, ℕ, Some, sym, ◌∙◌, ap, subst, string_bytes, rules, arith, length}
 use Rattle.std.proofs.lemmas.List.{append-nil}
-use Rattle.std.specs.List.{flat_map}
 use Rattle.store_folder.specs.Moments.{LeavesOnly}
 use Rattle.store_folder.specs.Folder.{Keeps}
 use Rattle.store_folder.specs.Publishing.{IsOldOrWhole}
@@ -18,7 +17,7 @@ invariant_of-self-in-Err-named g c = (
       let first = s.first.value in
       let beside = string_bytes s.beside in
       let name = string_bytes s.name in
-      let sent = flat_map (λ part. part.value.items) s.handed_over.items in
+      let sent = s.sent.bytes in
       let content = sent ++ s.buffer.items in
       let mid = c.hand_over-sent.new.folder in
       let new = c.publish-named.new.folder in
@@ -38,12 +37,12 @@ invariant_of-self-in-Err-named g c = (
       let run_beside = subst (λ (b : List ℕ). LeavesOnly F.moment F.left_since mid new (IsOldOrWhole (F.may_leave mid) b c.as_str-3.result.now (F.seen mid b))) c.as_str-2.ensures.value run in
       let run_named = subst (λ (n : List ℕ). LeavesOnly F.moment F.left_since mid new (IsOldOrWhole (F.may_leave mid) beside n (F.seen mid beside))) c.as_str-3.ensures.value run_beside in
       let all = named F.seen F.may_leave F.moment F.left_since beside name c.self.invariant.0 first mid content whole new run_named in
-      let content_is : content ≡ flat_map (λ part. part.value.items) c.hand_over-sent.new.handed_over.items ++ c.hand_over-sent.new.buffer.items =
-      sym (ap (λ (b : List ℕ). flat_map (λ part. part.value.items) c.hand_over-sent.new.handed_over.items ++ b) c.in_default.ensures.empty ∙ append-nil _ ∙ c.in_default.ensures.sent)
+      let content_is : content ≡ c.hand_over-sent.new.sent.bytes ++ c.hand_over-sent.new.buffer.items =
+      sym (ap (λ (b : List ℕ). c.hand_over-sent.new.sent.bytes ++ b) c.in_default.ensures.empty ∙ append-nil _ ∙ c.in_default.ensures.sent)
       in
       subst (λ (b : List ℕ). LeavesOnly F.moment F.left_since first new (IsOldOrWhole (F.may_leave first) beside name (Some b))) content_is all,
   λ h none. absurd (omega arith),
-  c.self.invariant.3 ∙ ap length (sym (ap (λ (b : List ℕ). flat_map (λ part. part.value.items) c.hand_over-sent.new.handed_over.items ++ b) c.in_default.ensures.empty ∙ append-nil _ ∙ c.in_default.ensures.sent)),
+  c.self.invariant.3 ∙ ap length (sym (ap (λ (b : List ℕ). c.hand_over-sent.new.sent.bytes ++ b) c.in_default.ensures.empty ∙ append-nil _ ∙ c.in_default.ensures.sent)),
 )
 
 pub invariant_of-self-2 : goal.invariant_of-self-2
@@ -55,7 +54,7 @@ invariant_of-self-2 g c = (
       let first = s.first.value in
       let beside = string_bytes s.beside in
       let name = string_bytes s.name in
-      let sent = flat_map (λ part. part.value.items) s.handed_over.items in
+      let sent = s.sent.bytes in
       let content = sent ++ s.buffer.items in
       let mid = c.hand_over-sent.new.folder in
       let new = c.publish-named.new.folder in
@@ -79,10 +78,10 @@ invariant_of-self-2 g c = (
       let kept_beside = subst (λ (b : List ℕ). Keeps c.as_str-3.result.now (F.seen mid b) (F.may_leave new)) c.as_str-2.ensures.value kept in
       let kept_named = subst (λ (n : List ℕ). Keeps n (F.seen mid beside) (F.may_leave new)) c.as_str-3.ensures.value kept_beside in
       let kept_all = named_kept F.seen F.may_leave F.moment F.left_since beside name c.self.invariant.0 first mid content whole new kept_named in
-      let content_is : content ≡ flat_map (λ part. part.value.items) c.hand_over-sent.new.handed_over.items ++ c.hand_over-sent.new.buffer.items =
-      sym (ap (λ (b : List ℕ). flat_map (λ part. part.value.items) c.hand_over-sent.new.handed_over.items ++ b) c.in_default.ensures.empty ∙ append-nil _ ∙ c.in_default.ensures.sent)
+      let content_is : content ≡ c.hand_over-sent.new.sent.bytes ++ c.hand_over-sent.new.buffer.items =
+      sym (ap (λ (b : List ℕ). c.hand_over-sent.new.sent.bytes ++ b) c.in_default.ensures.empty ∙ append-nil _ ∙ c.in_default.ensures.sent)
       in
       subst (λ (b : List ℕ). IsKept F.may_leave F.moment F.left_since first new beside name b) content_is (record { kept = kept_all; any_moment = all }),
   λ h none. absurd (omega arith),
-  c.self.invariant.3 ∙ ap length (sym (ap (λ (b : List ℕ). flat_map (λ part. part.value.items) c.hand_over-sent.new.handed_over.items ++ b) c.in_default.ensures.empty ∙ append-nil _ ∙ c.in_default.ensures.sent)),
+  c.self.invariant.3 ∙ ap length (sym (ap (λ (b : List ℕ). c.hand_over-sent.new.sent.bytes ++ b) c.in_default.ensures.empty ∙ append-nil _ ∙ c.in_default.ensures.sent)),
 )

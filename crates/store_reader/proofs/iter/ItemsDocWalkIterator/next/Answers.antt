@@ -1,6 +1,6 @@
 use Rattle.std.proofs.Common.{Some, refl, subst, arith}
 use Rattle.store_reader.specs.Documents.{document_version, ReadsFrom}
-use Rattle.store_reader.proofs.WalkingLemmas.{docs_stay, item_is_true, stands_from, read_truly}
+use Rattle.store_reader.proofs.WalkingLemmas.{docs_stay, item_is_true, stands_from, taken_place, read_truly}
 use Rattle.store_reader.proofs.iter.ItemsDocWalkIterator.next.Goals as goal
 
 pub returns-clause-goes : goal.returns-clause-goes
@@ -13,7 +13,7 @@ pub answer_of-bytes-requires-clause-above : goal.answer_of-bytes-requires-clause
 answer_of-bytes-requires-clause-above g c = (stands_from _ _ _ _ c.in_ok-doc_id.ensures.found.4).1
 
 pub answer_of-bytes-requires-clause-block : goal.answer_of-bytes-requires-clause-block
-answer_of-bytes-requires-clause-block g c = (stands_from _ _ _ _ c.in_ok-doc_id.ensures.found.4).0
+answer_of-bytes-requires-clause-block g c = taken_place _ _ (stands_from _ _ _ _ c.in_ok-doc_id.ensures.found.4).0
 
 pub returns-clause-steps : goal.returns-clause-steps
 returns-clause-steps g c =

@@ -1,5 +1,5 @@
 use Rattle.std.proofs.Common.{refl, arith}
-use Rattle.store_reader.proofs.WalkingLemmas.{docs_stay, item_is_true, stands_from}
+use Rattle.store_reader.proofs.WalkingLemmas.{docs_stay, item_is_true, stands_from, taken_place}
 use Rattle.store_reader.proofs.iter.ItemsWalkIterator.next.Goals as goal
 
 pub returns-clause-goes : goal.returns-clause-goes
@@ -12,7 +12,7 @@ pub answer_of-requires-clause-above : goal.answer_of-requires-clause-above
 answer_of-requires-clause-above g c = (stands_from _ _ _ _ c.in_ok-doc_id.ensures.found.4).1
 
 pub answer_of-requires-clause-block : goal.answer_of-requires-clause-block
-answer_of-requires-clause-block g c = (stands_from _ _ _ _ c.in_ok-doc_id.ensures.found.4).0
+answer_of-requires-clause-block g c = taken_place _ _ (stands_from _ _ _ _ c.in_ok-doc_id.ensures.found.4).0
 
 pub returns-clause-steps : goal.returns-clause-steps
 returns-clause-steps g c =
