@@ -3,7 +3,8 @@
 
 usage: refusals.py [--check]
 
-The lists are the header's enum, the texts of the library with their definition, Python's exceptions, and Rust's enum.
+The lists are the enums of the headers, the texts of the library with their definition, those of files by path, Python's
+exceptions, and Rust's enum.
 With --check nothing is written: each list that differs from the table is named, and the status is 1.
 """
 
@@ -13,10 +14,11 @@ import re
 import sys
 from dataclasses import dataclass
 from pathlib import Path
-from typing import Callable, List
+from typing import Callable, List, Tuple
 
 TOP = Path(__file__).resolve().parent.parent
 TABLE = TOP / "bindings/refusals.txt"
+KINDS = ("file", "call", "path")
 # Exceptions of Python that are errors of another kind, too.
 BASES = {"NoDocument": "IndexError", "NoMemory": "MemoryError"}
 
@@ -26,7 +28,7 @@ class Refusal:
     """A row of the table."""
 
     number: int
-    is_of_file: bool
+    kind: str
     name: str
     text: str
 
@@ -48,10 +50,10 @@ def table() -> List[Refusal]:
         if line.startswith("#"):
             continue
         number, kind, name, text = line.split(None, 3)
-        rows.append(Refusal(int(number), {"file": True, "call": False}[kind], name, text))
+        rows.append(Refusal(int(number), kind, name, text))
     numbers = [row.number for row in rows]
-    if numbers != sorted(set(numbers)) or any(len(row.text.encode()) >= 64 for row in rows):
-        sys.exit(f"{TABLE.name}: the numbers are not in order, or a text has 64 bytes or more")
+    if numbers != sorted(set(numbers)) or any(len(row.text.encode()) >= 64 or row.kind not in KINDS for row in rows):
+        sys.exit(f"{TABLE.name}: the numbers are not in order, a kind is unknown, or a text has 64 bytes or more")
     return rows
 
 
@@ -61,9 +63,14 @@ def header(rows: List[Refusal]) -> str:
     lines = []
     for row in rows:
         value = f"ZEVK_{row.name} = {row.number}" + ("," if row is not rows[-1] else "")
-        text = ("file: " if row.is_of_file else "") + row.text
+        text = ("file: " if row.kind == "file" else "") + row.text
         lines.append(f"    {value:{width}}  /* {text} */")
     return "\n".join(lines)
+
+
+def cases(rows: List[Refusal]) -> str:
+    """The cases of the switch over all errors, in C."""
+    return "\n".join(f'    case ZEVK_{row.name}: return "{row.text}";' for row in rows)
 
 
 def texts(rows: List[Refusal]) -> str:
@@ -107,17 +114,18 @@ def texts_of(rows: List[Refusal]) -> str:
 
 @dataclass(frozen=True)
 class Listing:
-    """A place that lists the errors: what stands before it and after it in its file, and how it is made."""
+    """A place that lists errors: what stands before it and after it in its file, how it is made, and of which kinds."""
 
     path: str
     before: str
     after: str
     made: Callable[[List[Refusal]], str]
+    kinds: Tuple[str, ...] = ("file", "call")
 
     def wanted(self, text: str, rows: List[Refusal]) -> str:
         """The file's text with this list as the table has it."""
         pattern = f"({self.before}\n).*?(\n{self.after})"
-        made = self.made(rows)
+        made = self.made([row for row in rows if row.kind in self.kinds])
         found, count = re.subn(pattern, lambda m: m[1] + made + m[2], text, count=1, flags=re.S)
         if not count:
             sys.exit(f"{self.path}: no list after {self.before!r}")
@@ -129,6 +137,8 @@ RUST = "bindings/rust/src/error.rs"
 PYTHON = "bindings/python/src/zevkhadun/refusals.py"
 LISTINGS = [
     Listing("bindings/c/include/zevkhadun.h", r"enum zevk_refusal \{", r"\};", header),
+    Listing("bindings/c/include/zevkhadun_file.h", r"enum zevk_path_error \{", r"\};", header, ("path",)),
+    Listing("bindings/c/src/zevkhadun_file.c", r"    switch \(error\) \{", r"    default:", cases, KINDS),
     Listing(f"{CRATE}/src/refusal_text.rt", r"    match number \{", r'        _ => "unknown', texts),
     Listing(f"{CRATE}/specs/Texts.antt", r"refusal_text number =", '    codes "unknown', definition),
     Listing(PYTHON, r"# From refusals\.txt:\n", r"\n# End of refusals\.txt", exceptions),

@@ -1,11 +1,11 @@
 #!/usr/bin/env bash
-# Builds libzevkhadun.a and libzevkhadun.so and installs them, the header and a pkg-config file.
+# Builds libzevkhadun.a and libzevkhadun.so and installs them, the headers and a pkg-config file.
 #
 # usage: build.sh [--static] PREFIX [LIBRARY]
 #
-# With --static it installs libzevkhadun.a and the header alone. The crate is proved and compiled by `rt lib`, unless
+# With --static it installs libzevkhadun.a and the headers alone. The crate is proved and compiled by `rt lib`, unless
 # LIBRARY is its static library already. Its three functions of the heap are the kit's, over malloc. The calls that take
-# arrays are those of null_arrays.c, over the proved ones.
+# arrays are those of null_arrays.c, over the proved ones; the other sources are the calls of zevkhadun_file.h.
 set -eu
 shared=yes
 if [ "${1:-}" = --static ]; then
@@ -38,18 +38,21 @@ for name in "${proved[@]}"; do
     names+=(--redefine-sym "zevk_${name#zevk_proved_}=$name")
 done
 "${OBJCOPY:-objcopy}" "${names[@]}" "$library" "$work/proved.a"
-"${CC:-cc}" -std=c11 -O2 -fPIC -I"$here/include" -c -o "$work/null_arrays.o" "$calls"
-
 ar -M <<MRI
 create $work/libzevkhadun.a
 addlib $work/proved.a
 addlib $heap
-addmod $work/null_arrays.o
 save
 end
 MRI
+for source in "$here"/src/*.c; do
+    object=$work/$(basename "$source" .c).o
+    "${CC:-cc}" -std=c11 -O2 -fPIC -I"$here/include" -c -o "$object" "$source"
+    ar -q "$work/libzevkhadun.a" "$object"
+done
+ranlib "$work/libzevkhadun.a"
 install -m 644 "$work/libzevkhadun.a" "$prefix/lib/libzevkhadun.a"
-install -m 644 "$here/include/zevkhadun.h" "$prefix/include/zevkhadun.h"
+install -m 644 "$here"/include/* "$prefix/include"
 if [ $shared = no ]; then
     exit 0
 fi
@@ -65,7 +68,7 @@ libdir=\${prefix}/lib
 includedir=\${prefix}/include
 
 Name: zevkhadun
-Description: Document stores: documents by number, read from bytes in memory, and written
+Description: Document stores: documents by number, read and written
 Version: $(cat "$top/VERSION")
 Libs: -L\${libdir} -lzevkhadun
 Cflags: -I\${includedir}

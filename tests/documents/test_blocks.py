@@ -47,10 +47,11 @@ class Blocks(Rules):
         self.assert_no_faults(pages.at(page, block.line, fault) for page, block, fault in faults if fault)
         self.assert_looked_at(len(blocks), 40, "blocks")
 
-    def test_the_example_of_the_header_is_its_program(self):
-        example = re.findall(r"^ \*     .*", pages.text_of(HEADER).partition("#ifndef")[0], re.M)
-        path = "bindings/c/examples/first.c"
-        self.assertTrue(stands(example, path), f"the example of {HEADER} is not {path}")
+    def test_the_example_of_each_header_is_its_program(self):
+        for header, name in ((HEADER, "first.c"), (HEADER.with_name("zevkhadun_file.h"), "print_store.c")):
+            example = re.findall(r"^ \*     .*", pages.text_of(header).partition("#ifndef")[0], re.M)
+            path = f"bindings/c/examples/{name}"
+            self.assertTrue(stands(example, path), f"the example of {header} is not {path}")
 
 
 class Gate(unittest.TestCase):

@@ -23,6 +23,7 @@ VERSIONS = {
     "crates/zevkhadun/src/*.rt": r'\.version\("([^"]*)"\)',
     "bindings/rust/Cargo.toml": r'^version = "([^"]*)"',
     "bindings/rust/Cargo.lock": r'name = "zevkhadun"\nversion = "([^"]*)"',
+    "bindings/c/include/zevkhadun_file.h": r'^#define ZEVK_VERSION "([^"]*)"',
     "bindings/python/src/zevkhadun/__init__.py": r'^__version__ = "([^"]*)"',
     "CHANGELOG.md": r"\A.*?^## (\S+)",
 }

@@ -18,9 +18,12 @@ C = TOP / "bindings/c"
 SOURCES = C / "tests"
 EXAMPLES = C / "examples"
 HEADER = C / "include/zevkhadun.h"
+PATH_HEADER = C / "include/zevkhadun_file.h"
 # A store of 64 documents in 13 blocks, as hexadecimal text.
 HEX = SOURCES / "words.hex"
 ARRAYS = C / "src/null_arrays.c"
+# The sources of the calls by path.
+PATHS = tuple(sorted(path for path in (C / "src").glob("*.c") if path != ARRAYS))
 WARNINGS = ("-Wall", "-Wextra", "-Wpedantic", "-Wconversion", "-Wshadow", "-Werror")
 SECONDS = 900
 
@@ -101,19 +104,24 @@ class LibraryCase(FolderCase):
         self.succeed(command[0], *linked, "-o", program, part, *objects, library)
         return program
 
-    def arrays_object(self, compiler: Compiler) -> Path:
-        """The calls with arrays, compiled as the programs are, in place of the library's."""
-        path = self.folder / "null_arrays.o"
+    def compiled_source(self, compiler: Compiler, source: Path) -> Path:
+        """A source of the library, compiled as the programs are, in place of the library's."""
+        path = self.folder / f"{source.stem}.o"
         include = f"-I{prefix() / 'include'}"
-        self.succeed(compiler.c, "-std=c11", *compiler.flags(), *WARNINGS, include, "-c", "-o", path, ARRAYS)
+        self.succeed(compiler.c, "-std=c11", *compiler.flags(), *WARNINGS, include, "-c", "-o", path, source)
         return path
 
-    def compiled_by(self, compiler: Compiler, name: str, in_cpp: bool) -> Path:
-        """A program of bindings/c/tests in C11 or C++17, with the calls with arrays as they are compiled here."""
-        command = [compiler.c, "-std=c11", "-g", "-O1"]
+    def arrays_object(self, compiler: Compiler) -> Path:
+        """The calls with arrays, compiled as the programs are, in place of the library's."""
+        return self.compiled_source(compiler, ARRAYS)
+
+    def compiled_by(self, compiler: Compiler, name: str, in_cpp: bool, sources: tuple[Path, ...] = (ARRAYS,)) -> Path:
+        """A program of bindings/c/tests in C11 or C++17, with these sources of the library compiled as it is."""
+        command = [compiler.c, "-std=c11", "-D_GNU_SOURCE", "-g", "-O1"]
         if in_cpp:
             command = [compiler.cpp, "-std=c++17", "-g", "-O1", "-x", "c++"]
-        return self.compiled(command, SOURCES / name, compiler.sanitizers, (self.arrays_object(compiler),))
+        objects = tuple(self.compiled_source(compiler, source) for source in sources)
+        return self.compiled(command, SOURCES / name, compiler.sanitizers, objects)
 
     def require_compiler(self, compiler: Compiler) -> None:
         """Skips the test unless the machine has both compilers and their sanitizers."""

@@ -108,7 +108,7 @@ not_all doc (c ∷ cs) zero lt = omega arith
 not_all doc (c ∷ cs) (suc n) lt = omega (arith, not_all c.doc_range.end cs n lt)
 
 -- each block has a document
-pub docs_grow : (doc byte : ℕ) (cs : List Checkpoint) (n : ℕ) → IsInLineFrom doc byte cs → AllByRecursion IsFilled cs → n ≤ length cs → doc + n ≤ docs_end doc (take n cs)
-docs_grow doc byte cs zero r f le = omega arith
-docs_grow doc byte [] (suc n) r f le = absurd (omega arith)
-docs_grow doc byte (c ∷ cs) (suc n) r f le = let on = docs_grow c.doc_range.end c.byte_range.end cs n r.3 f.1 (omega arith) in omega (arith, on, r.0, f.0.0)
+pub docs_at_least : (doc byte : ℕ) (cs : List Checkpoint) (n : ℕ) → IsInLineFrom doc byte cs → AllByRecursion IsFilled cs → n ≤ length cs → doc + n ≤ docs_end doc (take n cs)
+docs_at_least doc byte cs zero r f le = omega arith
+docs_at_least doc byte [] (suc n) r f le = absurd (omega arith)
+docs_at_least doc byte (c ∷ cs) (suc n) r f le = let on = docs_at_least c.doc_range.end c.byte_range.end cs n r.3 f.1 (omega arith) in omega (arith, on, r.0, f.0.0)

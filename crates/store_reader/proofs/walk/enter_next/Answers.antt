@@ -1,13 +1,13 @@
 use Rattle.std.proofs.Common.{◌≡◌, ◌+◌, ◌-◌, take, sym, ap, ◌∙◌, arith}
 use Rattle.layered_index.specs.Checkpoint.{docs_end}
 use Rattle.store_reader.specs.Reading.{Reading}
-use Rattle.store_reader.proofs.SeekLemmas.{docs_grow}
+use Rattle.store_reader.proofs.SeekLemmas.{docs_at_least}
 use Rattle.store_reader.proofs.WalkingLemmas.{IsNextBlock, taken_some, next_is, holds_next, only_next}
 use Rattle.store_reader.proofs.walk.enter_next.Goals as goal
 
 pub overflow_add-walk : goal.overflow_add-walk
 overflow_add-walk g c =
-    let grow = docs_grow 0 0 c.args.reader.now.checkpoints c.args.walk.now.place c.enter-entered.ensures.covers.in_line c.enter-entered.ensures.covers.filled c.requires.walk.few in
+    let grow = docs_at_least 0 0 c.args.reader.now.checkpoints c.args.walk.now.place c.enter-entered.ensures.covers.in_line c.enter-entered.ensures.covers.filled c.requires.walk.few in
     let end = c.requires.walk.end in let here = c.requires.here in
     omega arith
 

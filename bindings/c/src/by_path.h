@@ -1,0 +1,55 @@
+/* What the sources of zevkhadun_file.h share. None of it is for programs. */
+#ifndef ZEVK_BY_PATH_H
+#define ZEVK_BY_PATH_H
+
+#include "zevkhadun_file.h"
+
+struct zevk_file {
+    const uint8_t *bytes;  /* NULL if the file is empty */
+    size_t len;
+    zevk_block *table;     /* NULL with ZEVK_FILE_UNCHECKED, and then only */
+    size_t blocks;
+    uint32_t num_docs;
+};
+
+/* zevk_locate without the look for arrays of length 0 (null_arrays.c): an open file has bytes, and its table a row. */
+uint32_t zevk_proved_locate(const uint8_t *file, size_t file_len, const zevk_block *table, size_t table_len,
+                            uint32_t doc_id, zevk_place *place);
+
+/* Returns an error, and sets errno again to one of the system: calls that clean up may have changed it. */
+int zevk_returned(int error);
+
+/* Opens the file of a name in a folder for reading, and returns its descriptor or -1. A pipe is opened without waiting
+ * for its other end. */
+int zevk_descriptor(int folder, const char *path);
+
+/* Opens the store in an open file, whose descriptor the store doesn't keep. */
+int zevk_open_descriptor(int descriptor, unsigned flags, zevk_file **file);
+
+/* The second file, to which a store is written until it gets its name. */
+typedef struct zevk_part {
+    int folder;    /* the open folder, in which the names are, or -1 */
+    int file;      /* the second file, open and locked, or -1 */
+    char *name;    /* the name that it will get */
+    char *part;    /* the name that it has */
+    int is_owned;  /* whether the file of that name is the one to remove */
+} zevk_part;
+
+/* Begins the second file of a path: locked, empty, and with the access of the file that it will replace. After an error
+ * zevk_part_release frees what there is. */
+int zevk_part_begin(zevk_part *part, const char *path);
+
+/* Writes bytes after those that were written. */
+int zevk_part_write(const zevk_part *part, const uint8_t *bytes, size_t len);
+
+/* Makes the first bytes of an open file, which is mapped too, those of the second file. They are shared if the file
+ * system can share them, or else copied by the system, or else written from the map. */
+int zevk_part_share(const zevk_part *part, int descriptor, const uint8_t *bytes, size_t len);
+
+/* Asks the system to keep the second file, renames it, and asks the system to keep the name. */
+int zevk_part_publish(zevk_part *part);
+
+/* Removes the second file, unless it has got its name or is another writer's, and frees what belongs to it. */
+void zevk_part_release(zevk_part *part);
+
+#endif

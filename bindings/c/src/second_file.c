@@ -1,0 +1,154 @@
+/* The second file of a store that is written by path. It does what the Rattle `DiskSink` does, by the same names and
+ * locks, so that writers of all kinds exclude one another. All names are looked up in the folder that was opened first,
+ * so a program may change its working folder. */
+#define _GNU_SOURCE
+#include <errno.h>
+#include <fcntl.h>
+#include <linux/fs.h>
+#include <stdio.h>
+#include <stdlib.h>
+#include <string.h>
+#include <sys/file.h>
+#include <sys/ioctl.h>
+#include <sys/stat.h>
+#include <unistd.h>
+
+#include "by_path.h"
+
+/* The path where links lead, or NULL with errno. A link that leads nowhere is an error. */
+static char *without_links(const char *path) {
+    struct stat found;
+    if (lstat(path, &found) != 0) {
+        return errno == ENOENT ? strdup(path) : NULL;
+    }
+    return S_ISLNK(found.st_mode) ? realpath(path, NULL) : strdup(path);
+}
+
+/* Sets both names, and opens the folder of a path, which may be cut. */
+static int open_folder(zevk_part *part, char *path) {
+    char *slash = strrchr(path, '/');
+    const char *name = slash == NULL ? path : slash + 1;
+    size_t len = strlen(name);
+    part->name = strdup(name);
+    part->part = malloc(len + sizeof ".part");
+    if (part->name == NULL || part->part == NULL) {
+        return ZEVK_NO_MEMORY;
+    }
+    memcpy(part->part, name, len);
+    memcpy(part->part + len, ".part", sizeof ".part");
+    if (slash != NULL) {
+        slash[slash == path] = '\0';
+    }
+    part->folder = open(slash == NULL ? "." : path, O_RDONLY | O_DIRECTORY | O_CLOEXEC);
+    if (part->folder < 0) {
+        return -errno;
+    }
+    return len > 0 ? 0 : ZEVK_NOT_PLAIN_FILE;
+}
+
+/* Locks the second file. One that another holds, or that took its name in the meantime, is busy. */
+static int lock(const zevk_part *part) {
+    struct stat opened, named;
+    if (flock(part->file, LOCK_EX | LOCK_NB) != 0) {
+        return errno == EWOULDBLOCK ? ZEVK_BUSY : -errno;
+    }
+    if (fstat(part->file, &opened) != 0) {
+        return -errno;
+    }
+    if (fstatat(part->folder, part->part, &named, AT_SYMLINK_NOFOLLOW) != 0) {
+        return errno == ENOENT ? ZEVK_BUSY : -errno;
+    }
+    return opened.st_dev == named.st_dev && opened.st_ino == named.st_ino ? 0 : ZEVK_BUSY;
+}
+
+/* Gives the second file the mode of the file that it will replace, and its group and owner where the system lets us. */
+static int copy_access(const zevk_part *part, const struct stat *replaced) {
+    int is_given = fchown(part->file, (uid_t)-1, replaced->st_gid);
+    is_given = fchown(part->file, replaced->st_uid, (gid_t)-1);
+    (void)is_given;
+    return fchmod(part->file, replaced->st_mode & 0777) == 0 ? 0 : -errno;
+}
+
+/* Opens the second file, and locks it. */
+static int claim(zevk_part *part) {
+    part->file = openat(part->folder, part->part, O_WRONLY | O_CREAT | O_CLOEXEC | O_NOFOLLOW, 0666);
+    if (part->file < 0) {
+        return -errno;
+    }
+    int error = lock(part);
+    part->is_owned = error != ZEVK_BUSY;
+    return error;
+}
+
+int zevk_part_begin(zevk_part *part, const char *path) {
+    struct stat replaced;
+    *part = (zevk_part){.folder = -1, .file = -1};
+    char *whole = without_links(path);
+    if (whole == NULL) {
+        return -errno;
+    }
+    int error = open_folder(part, whole);
+    free(whole);
+    if (error != 0) {
+        return error;
+    }
+    int is_there = fstatat(part->folder, part->name, &replaced, AT_SYMLINK_NOFOLLOW) == 0;
+    if (!is_there && errno != ENOENT) {
+        return -errno;
+    }
+    if (is_there && !S_ISREG(replaced.st_mode)) {
+        return ZEVK_NOT_PLAIN_FILE;
+    }
+    error = claim(part);
+    if (error == 0 && is_there) {
+        error = copy_access(part, &replaced);
+    }
+    return error == 0 && ftruncate(part->file, 0) != 0 ? -errno : error;
+}
+
+int zevk_part_write(const zevk_part *part, const uint8_t *bytes, size_t len) {
+    while (len > 0) {
+        ssize_t written = write(part->file, bytes, len);
+        if (written < 0 && errno != EINTR) {
+            return -errno;
+        }
+        bytes += written < 0 ? 0 : written;
+        len -= written < 0 ? 0 : (size_t)written;
+    }
+    return 0;
+}
+
+int zevk_part_share(const zevk_part *part, int descriptor, const uint8_t *bytes, size_t len) {
+    loff_t done = 0;
+    if (len > 0 && ioctl(part->file, FICLONE, descriptor) == 0) {
+        int is_cut = ftruncate(part->file, (off_t)len) == 0 && lseek(part->file, (off_t)len, SEEK_SET) >= 0;
+        return is_cut ? 0 : -errno;
+    }
+    /* It moves on in both files. Where it fails the rest is written, which meets the same error if there is one. */
+    while ((size_t)done < len && copy_file_range(descriptor, &done, part->file, NULL, len - (size_t)done, 0) > 0) {
+    }
+    return zevk_part_write(part, bytes + done, len - (size_t)done);
+}
+
+int zevk_part_publish(zevk_part *part) {
+    if (fsync(part->file) != 0 || renameat(part->folder, part->part, part->folder, part->name) != 0) {
+        return -errno;
+    }
+    part->is_owned = 0;
+    return fsync(part->folder) == 0 ? 0 : -errno;
+}
+
+void zevk_part_release(zevk_part *part) {
+    if (part->is_owned) {
+        unlinkat(part->folder, part->part, 0);
+    }
+    /* Only now, as the lock goes with it. */
+    if (part->file >= 0) {
+        close(part->file);
+    }
+    if (part->folder >= 0) {
+        close(part->folder);
+    }
+    free(part->name);
+    free(part->part);
+}

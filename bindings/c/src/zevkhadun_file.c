@@ -1,0 +1,227 @@
+/* Stores by path, the reading half: files are mapped, and the proved calls of zevkhadun.h read the bytes. */
+#define _POSIX_C_SOURCE 200809L
+#include <errno.h>
+#include <fcntl.h>
+#include <stdlib.h>
+#include <string.h>
+#include <sys/mman.h>
+#include <sys/stat.h>
+#include <unistd.h>
+
+#include "by_path.h"
+
+/* ---- version and errors */
+
+const char *zevk_version(void) {
+    return ZEVK_VERSION;
+}
+
+const char *zevk_strerror(int error) {
+    if (error < 0) {
+        return strerror(-error);
+    }
+    switch (error) {
+    case ZEVK_DONE: return "done";
+    case ZEVK_SHORT_FILE: return "the file is shorter than a footer";
+    case ZEVK_BAD_VERSION: return "the footer has an unknown version";
+    case ZEVK_BAD_BLOCK_KIND: return "the blocks are compressed";
+    case ZEVK_BAD_OFFSET: return "the index would begin after the footer's first byte";
+    case ZEVK_BAD_INDEX: return "the index is not one of blocks that cover the data";
+    case ZEVK_NO_DOCUMENT: return "the store has no document of this number";
+    case ZEVK_DAMAGED_DOCUMENT: return "the block's table doesn't say where the document is";
+    case ZEVK_NO_MEMORY: return "out of memory";
+    case ZEVK_OLD_VERSION: return "a store of version 1 can't be stacked";
+    case ZEVK_BLOCK_TOO_LARGE: return "a block would have 2^32 bytes or more";
+    case ZEVK_TOO_MANY_DOCS: return "there would be 2^32 documents or more";
+    case ZEVK_BAD_PERIOD: return "the period is below 2 or above 64";
+    case ZEVK_NO_ROOM: return "an array of the caller is too short";
+    case ZEVK_OTHER_TABLE: return "the table is not the one of the file";
+    case ZEVK_OPEN_BLOCK: return "the open block has documents; end it first";
+    case ZEVK_OTHER_WRITER: return "the writer or its table is not as these calls left it";
+    case ZEVK_TAIL_TOO_SHORT: return "the end of the file lacks the footer or a part of the index";
+    case ZEVK_OTHER_BLOCK: return "the block doesn't have the document, or has another length";
+    case ZEVK_BUSY: return "another writer writes this file";
+    case ZEVK_NOT_PLAIN_FILE: return "the name is not that of a plain file";
+    case ZEVK_FAILED: return "an earlier call of this writer failed";
+    default: return "unknown error";
+    }
+}
+
+int zevk_returned(int error) {
+    if (error < 0) {
+        errno = -error;
+    }
+    return error;
+}
+
+/* ---- reading */
+
+enum { FOOTER_LEN = 28 };
+
+/* Maps a plain file. An empty one is not mapped. */
+static int map_file(zevk_file *file, int descriptor) {
+    struct stat found;
+    if (fstat(descriptor, &found) != 0) {
+        return -errno;
+    }
+    if (!S_ISREG(found.st_mode)) {
+        return ZEVK_NOT_PLAIN_FILE;
+    }
+    if (found.st_size == 0) {
+        return 0;
+    }
+    void *bytes = mmap(NULL, (size_t)found.st_size, PROT_READ, MAP_SHARED, descriptor, 0);
+    if (bytes == MAP_FAILED) {
+        return -errno;
+    }
+    file->bytes = bytes;
+    file->len = (size_t)found.st_size;
+    return 0;
+}
+
+/* A number of the footer, whose bytes are in the order of memory. */
+static uint64_t number_at(const uint8_t *bytes, size_t len) {
+    uint64_t number = 0;
+    memcpy(&number, bytes, len);
+    return number;
+}
+
+/* Where the index of the file begins, by its footer. */
+static size_t index_start(const zevk_file *file) {
+    return file->len < FOOTER_LEN ? 0 : (size_t)number_at(file->bytes + file->len - 24, 8);
+}
+
+/* Opens the store and makes its table, which has a row more than it needs: it is never NULL. A block takes at least two
+ * bytes of the index, so a table of half the length of the index has room, and the index is decoded once. Where there is
+ * no memory for that, it is decoded twice. */
+static int fill_table(zevk_file *file) {
+    size_t end = file->len < FOOTER_LEN ? 0 : file->len - FOOTER_LEN;
+    size_t start = index_start(file);
+    size_t room = start < end ? (end - start) / 2 : 0;
+    file->table = malloc((room + 1) * sizeof *file->table);
+    room = file->table == NULL ? 0 : room;
+    uint32_t error = zevk_open(file->bytes, file->len, file->table, room, &file->blocks, &file->num_docs);
+    if (error != ZEVK_DONE && error != ZEVK_NO_ROOM) {
+        return (int)error;
+    }
+    zevk_block *table = realloc(file->table, (file->blocks + 1) * sizeof *table);
+    if (table == NULL) {
+        return ZEVK_NO_MEMORY;
+    }
+    file->table = table;
+    if (error == ZEVK_NO_ROOM) {
+        error = zevk_open(file->bytes, file->len, file->table, file->blocks, &file->blocks, &file->num_docs);
+    }
+    return (int)error;
+}
+
+int zevk_open_descriptor(int descriptor, unsigned flags, zevk_file **opened) {
+    zevk_file *file = calloc(1, sizeof *file);
+    if (file == NULL) {
+        return ZEVK_NO_MEMORY;
+    }
+    int is_unchecked = (flags & ZEVK_FILE_UNCHECKED) != 0;
+    int error = map_file(file, descriptor);
+    if (error == 0) {
+        error = is_unchecked ? (int)zevk_num_docs(file->bytes, file->len, &file->num_docs) : fill_table(file);
+    }
+    if (error != 0) {
+        zevk_file_close(file);
+        return error;
+    }
+    *opened = file;
+    return 0;
+}
+
+int zevk_descriptor(int folder, const char *path) {
+    return openat(folder, path, O_RDONLY | O_CLOEXEC | O_NONBLOCK | O_NOCTTY);
+}
+
+int zevk_file_open(const char *path, unsigned flags, zevk_file **file) {
+    int descriptor = zevk_descriptor(AT_FDCWD, path);
+    if (descriptor < 0) {
+        return -errno;
+    }
+    int error = zevk_open_descriptor(descriptor, flags, file);
+    close(descriptor);
+    return zevk_returned(error);
+}
+
+void zevk_file_close(zevk_file *file) {
+    if (file == NULL) {
+        return;
+    }
+    if (file->bytes != NULL) {
+        munmap((void *)file->bytes, file->len);
+    }
+    free(file->table);
+    free(file);
+}
+
+uint32_t zevk_file_num_docs(const zevk_file *file) {
+    return file->num_docs;
+}
+
+/* Gets a document of a file that has no table. */
+static int get_without_table(const zevk_file *file, uint32_t doc_id, zevk_document *document) {
+    zevk_place place;
+    uint32_t error = zevk_get(file->bytes, file->len, doc_id, &place);
+    if (error == ZEVK_DONE) {
+        *document = (zevk_document){file->bytes + place.start, place.len};
+    }
+    return (int)error;
+}
+
+int zevk_file_get(const zevk_file *file, uint32_t doc_id, zevk_document *document) {
+    zevk_place place;
+    if (file->table == NULL) {
+        return get_without_table(file, doc_id, document);
+    }
+    uint32_t error = zevk_proved_locate(file->bytes, file->len, file->table, file->blocks, doc_id, &place);
+    if (error == ZEVK_DONE) {
+        *document = (zevk_document){file->bytes + place.start, place.len};
+    }
+    return (int)error;
+}
+
+void zevk_cursor_begin(zevk_cursor *cursor, const zevk_file *file, uint32_t first) {
+    *cursor = (zevk_cursor){.file = file, .doc_id = first, .next = first};
+}
+
+/* Finds the next places. After an error there is no place before it. */
+static int find_places(zevk_cursor *cursor) {
+    const zevk_file *file = cursor->file;
+    size_t count = 0;
+    uint32_t error = file->table != NULL
+        ? zevk_locate_run(file->bytes, file->len, file->table, file->blocks, cursor->next, cursor->places,
+                          ZEVK_CURSOR_RUN, &count)
+        : zevk_get_run(file->bytes, file->len, cursor->next, cursor->places, ZEVK_CURSOR_RUN, &count);
+    cursor->at = 0;
+    cursor->count = (uint32_t)count;
+    return count > 0 ? 0 : (int)error;
+}
+
+int zevk_cursor_next(zevk_cursor *cursor, zevk_document *document) {
+    int error = cursor->at < cursor->count ? 0 : find_places(cursor);
+    cursor->doc_id = cursor->next;
+    if (error == 0) {
+        zevk_place place = cursor->places[cursor->at++];
+        *document = (zevk_document){cursor->file->bytes + place.start, place.len};
+    }
+    cursor->next += error == 0 || error == ZEVK_DAMAGED_DOCUMENT;
+    return error;
+}
+
+void zevk_file_facts(const zevk_file *file, zevk_facts *facts) {
+    const uint8_t *footer = file->bytes + file->len - FOOTER_LEN;
+    uint32_t version = (uint32_t)number_at(footer, 4);
+    *facts = (zevk_facts){
+        .bytes = file->bytes,
+        .len = file->len,
+        .data_len = index_start(file),
+        .blocks = file->blocks,
+        .num_docs = file->num_docs,
+        .version = version,
+        .period = version < 3 ? 8 : footer[13],
+    };
+}

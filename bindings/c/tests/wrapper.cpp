@@ -1,0 +1,62 @@
+// The classes for C++: stores are written, appended to and read, and an error is an exception.
+//
+// usage: wrapper FOLDER
+#include <string>
+#include <vector>
+
+#include "stores.h"
+#include "zevkhadun.hpp"
+
+using zevkhadun::Error;
+using zevkhadun::File;
+using zevkhadun::Writer;
+
+// The number of the error that a function throws, or 0.
+template <class Function>
+static int error_of(Function function) {
+    try {
+        function();
+    } catch (const Error &error) {
+        WANT(std::string(error.what()).find(zevk_strerror(error.number())) != std::string::npos);
+        return error.number();
+    }
+    return 0;
+}
+
+static std::vector<std::string> documents_of(const File &file) {
+    std::vector<std::string> documents;
+    file.each([&](std::uint32_t id, std::string_view document) {
+        WANT(id == documents.size() && document == file[id]);
+        documents.emplace_back(document);
+    });
+    WANT(documents.size() == file.size());
+    return documents;
+}
+
+int main(int argc, char **argv) {
+    WANT(argc == 2);
+    const std::string path = std::string(argv[1]) + "/store", other = std::string(argv[1]) + "/other";
+    Writer writer(path);
+    WANT(writer.put("apple") == 0 && writer.put("") == 1);
+    WANT(error_of([&] { Writer second(path); }) == ZEVK_BUSY);
+    WANT(error_of([&] { File file(path); }) < 0);
+    writer.publish();
+    {
+        Writer discarded = Writer::append(path);
+        WANT(discarded.put("lost") == 2);
+    }
+    Writer more = Writer::append(path, 100);
+    WANT(more.put(std::string(200, 'x')) == 2);
+    more.publish();
+    const File file(path), unchecked(path, ZEVK_FILE_UNCHECKED);
+    const std::vector<std::string> wanted = {"apple", "", std::string(200, 'x')};
+    WANT(documents_of(file) == wanted && documents_of(unchecked) == wanted);
+    WANT(error_of([&] { WANT(file[3].empty()); }) == ZEVK_NO_DOCUMENT);
+    Writer stacked(other, 16384, 64);
+    stacked.stack(file);
+    stacked.stack(unchecked);
+    WANT(stacked.put("end") == 6);
+    stacked.publish();
+    WANT(documents_of(File(other)).size() == 7 && File(other)[6] == "end");
+    return 0;
+}

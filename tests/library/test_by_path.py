@@ -1,0 +1,67 @@
+"""Stores by path: programs by two compilers, in C11 and C++17, with and without sanitizers, and under valgrind."""
+
+from library.compiling import ARRAYS, COMPILERS, GCC, PATHS, SOURCES, LibraryCase
+from library.test_checkers import VALGRIND
+
+PROGRAMS = ("by_path.c", "path_errors.c")
+
+
+class ByPathCase(LibraryCase):
+    def end_well(self, program, *before):
+        """The program ends with status 0, in a new folder, and leaves no second file."""
+        folder = self.new_folder()
+        self.succeed(*before, program, folder)
+        left = [path.name for path in folder.rglob("*")]
+        self.assertTrue(left, "the program writes nothing")
+        self.assertEqual([name for name in left if name.endswith(".part")], [])
+
+
+class ByGcc(ByPathCase):
+    compiler = COMPILERS[0]
+
+    def setUp(self):
+        super().setUp()
+        self.require_compiler(self.compiler)
+
+    def run_programs(self, in_cpp):
+        for name in PROGRAMS:
+            with self.subTest(name):
+                self.end_well(self.compiled_by(self.compiler, name, in_cpp, (ARRAYS, *PATHS)))
+
+    def test_stores_by_path_in_c(self):
+        self.run_programs(in_cpp=False)
+
+    def test_stores_by_path_in_cpp(self):
+        self.run_programs(in_cpp=True)
+
+    def test_the_classes_for_cpp(self):
+        self.require(self.compiler.cpp)
+        sources = (ARRAYS, *PATHS)
+        objects = tuple(self.compiled_source(self.compiler, source) for source in sources)
+        self.end_well(self.linked_by_cpp("wrapper.cpp", objects))
+
+    def linked_by_cpp(self, name, objects):
+        """A program in C++17 that is linked with the library of C++."""
+        command = [self.compiler.cpp, "-std=c++17", "-g", "-O1"]
+        return self.compiled(command, SOURCES / name, self.compiler.sanitizers, objects)
+
+
+class ByClang(ByGcc):
+    compiler = COMPILERS[1]
+
+
+class ByGccUnderSanitizers(ByGcc):
+    compiler = COMPILERS[2]
+
+
+class ByClangUnderSanitizers(ByGcc):
+    compiler = COMPILERS[3]
+
+
+class UnderValgrind(ByPathCase):
+    def test_stores_by_path_under_valgrind(self):
+        self.require("gcc", "valgrind")
+        for name in PROGRAMS:
+            with self.subTest(name):
+                program = self.compiled_by(GCC, name, in_cpp=False, sources=())
+                self.end_well(program, *VALGRIND, "--leak-check=full", "--track-fds=no")
