@@ -73,7 +73,7 @@ def _open_folder(path: str) -> int:
     return os.open(os.path.dirname(path) or ".", os.O_RDONLY | os.O_DIRECTORY | os.O_CLOEXEC)
 
 
-def _opener(path: str, _flags: int) -> int:
+def _open_beside(path: str) -> int:
     """Opens a file to write to it, and leaves what it holds: another may have locked it."""
     return os.open(path, os.O_WRONLY | os.O_CREAT | os.O_CLOEXEC, 0o666)
 
@@ -92,7 +92,7 @@ class Output:
         self._is_beside = False
         self._folder = _open_folder(self._path)
         try:
-            self._file = open(self._beside, "wb", buffering=0, opener=_opener)
+            self._file = open(_open_beside(self._beside), "wb", buffering=0)
             self._claim(replaced)
         except BaseException:
             self._close_folder()
