@@ -2,8 +2,15 @@
 """Times the package for Python beside what Python has: sqlite3, dbm.gnu, and a dict of offsets over a mapped file.
 
 Each side does each workload in turn, in as many rounds as asked; one JSON file has every round, and the medians are
-printed as a table. ZEVKHADUN_LIBRARY names the library for C where the system doesn't find it; dbm.gnu is left out
-where Python has none (Debian: python3-gdbm, and /usr/bin/python3).
+printed as a table. The package has to be installed where this runs, as in an environment of its own:
+
+    bash bindings/c/build.sh PREFIX
+    ZEVKHADUN_PREFIX=PREFIX python3 -m pip wheel --no-deps --no-index --wheel-dir FOLDER bindings/python
+    python3 -m venv FOLDER/environment
+    FOLDER/environment/bin/python -m pip install --no-deps --no-index FOLDER/zevkhadun-*.whl
+    FOLDER/environment/bin/python bench/from_python.py
+
+dbm.gnu is left out where Python has none (Debian: python3-gdbm, and an environment of /usr/bin/python3).
 """
 
 import argparse
@@ -14,23 +21,23 @@ import sqlite3
 import struct
 import sys
 import tempfile
+import threading
 import time
 from array import array
+from collections import deque
 from pathlib import Path
 from statistics import median
 from typing import Callable, Dict, Iterable, Iterator, List
 
-HERE = Path(__file__).resolve().parent
-sys.path.insert(0, str(HERE.parent / "bindings" / "python"))
-
-import machine  # noqa: E402 (the package is found by the path above)
-from zevkhadun import Store, Writer  # noqa: E402 (the same)
+import machine
+from zevkhadun import Store, Writer
 
 try:
     import dbm.gnu as gnu
 except ImportError:
     gnu = None
 
+HERE = Path(__file__).resolve().parent
 SEED = 20261123
 
 
@@ -49,8 +56,7 @@ class Zevkhadun:
     @staticmethod
     def write(path: str, given: Iterable[bytes]) -> None:
         with Writer(path) as writer:
-            for document in given:
-                writer.put(document)
+            writer.extend(given)
 
     def __init__(self, path: str) -> None:
         self.store = Store(path)
@@ -195,11 +201,40 @@ def round_of(side: type, folder: Path, count: int, length: int, asked: List[int]
     return told
 
 
-def table_of(sides: List[type], rounds: Dict[str, List[Dict[str, float]]]) -> str:
+def shared(store: Store, numbers: List[int], count: int) -> float:
+    """Nanoseconds for each document, where a number of threads get all of them at once by `get_many`."""
+    threads = [threading.Thread(target=store.get_many, args=(numbers,)) for _ in range(count)]
+
+    def run() -> None:
+        for thread in threads:
+            thread.start()
+        for thread in threads:
+            thread.join()
+
+    return timed(run) / (len(numbers) * count)
+
+
+def calls_of(folder: Path, count: int, length: int, asked: List[int]) -> Dict[str, float]:
+    """Nanoseconds of the calls that only this library has, for a document."""
+    path = str(folder / "calls")
+    Zevkhadun.write(path, documents(count, length))
+    with Store(path) as store:
+        told = {
+            "view": timed(lambda: deque(map(store.view, asked), maxlen=0)) / len(asked),
+            "get_many": shared(store, asked, 1),
+            "get_many, two threads": shared(store, asked, 2),
+            "slice": timed(lambda: store[:]) / count,
+            "verify": timed(store.verify) / count,
+        }
+    Path(path).unlink()
+    return told
+
+
+def table_of(rounds: Dict[str, List[Dict[str, float]]]) -> str:
     """The medians of each side as a Markdown table."""
-    lines = ["| Python, ns | " + " | ".join(side.name for side in sides) + " |", "|---" * (len(sides) + 1) + "|"]
-    for workload in rounds[sides[0].name][0]:
-        middle = [median(told[workload] for told in rounds[side.name]) for side in sides]
+    lines = ["| Python, ns | " + " | ".join(rounds) + " |", "|---" * (len(rounds) + 1) + "|"]
+    for workload in next(iter(rounds.values()))[0]:
+        middle = [median(told[workload] for told in of_side) for of_side in rounds.values()]
         lines.append(f"| {workload} | " + " | ".join(f"{value:.0f}" for value in middle) + " |")
     return "\n".join(lines)
 
@@ -215,16 +250,20 @@ def main() -> int:
     sides = [Zevkhadun, Sqlite] + ([Gnu] if gnu else []) + [Offsets]
     asked = [random.Random(SEED).randrange(given.documents) for _ in range(given.asked)]
     rounds: Dict[str, List[Dict[str, float]]] = {side.name: [] for side in sides}
+    calls: List[Dict[str, float]] = []
     versions = {**machine.versions(), "sqlite3": sqlite3.sqlite_version}
     before = machine.load()
     with tempfile.TemporaryDirectory(dir="/dev/shm") as folder:
         for _ in range(given.rounds):
             for side in sides:
                 rounds[side.name].append(round_of(side, Path(folder), given.documents, given.length, asked))
+            calls.append(calls_of(Path(folder), given.documents, given.length, asked))
     told = {"machine": machine.machine(), "versions": versions, "load": [before, machine.load()], "seed": SEED,
-            "documents": given.documents, "length": given.length, "asked": given.asked, "rounds": rounds}
+            "documents": given.documents, "length": given.length, "asked": given.asked, "rounds": rounds,
+            "calls": calls}
     given.output.write_text(json.dumps(told, indent=1) + "\n")
-    print(table_of(sides, rounds))
+    print(table_of(rounds))
+    print(table_of({"zevkhadun": calls}))
     return 0
 
 

@@ -134,7 +134,7 @@ class Listing:
 
 CRATE = "crates/store_c"
 RUST = "bindings/rust/src/error.rs"
-PYTHON = "bindings/python/zevkhadun/refusals.py"
+PYTHON = "bindings/python/src/zevkhadun/refusals.py"
 LISTINGS = [
     Listing("bindings/c/include/zevkhadun.h", r"enum zevk_refusal \{", r"\};", header),
     Listing("bindings/c/include/zevkhadun_file.h", r"enum zevk_path_error \{", r"\};", header, ("path",)),

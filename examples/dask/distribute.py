@@ -17,15 +17,13 @@ from pathlib import Path
 from typing import Dict, List
 
 import dask
+from corpus import Corpus, Places
 from dask.distributed import Client, Future, LocalCluster, as_completed, wait
+from segments import pack_segment, remove_leftovers
+from tree import stacked_in, stacked_in_turn
+from zevkhadun import Store
 
 HERE = Path(__file__).resolve().parent
-sys.path.insert(0, str(HERE.parent / "python"))
-
-from corpus import Corpus, Places  # noqa: E402 (the package is found by the path above)
-from segments import pack_segment, remove_leftovers  # noqa: E402 (the same)
-from tree import stacked_in, stacked_in_turn  # noqa: E402 (the same)
-from zevkhadun import Store  # noqa: E402 (the same)
 
 
 def arguments() -> argparse.Namespace:
@@ -154,7 +152,7 @@ def scaled(most: int, corpus: Corpus, folder: Path) -> List[Dict[str, float]]:
 def main() -> int:
     given = arguments()
     corpus = Corpus(given.segments, given.documents, given.length)
-    folders = [str(HERE), str(HERE.parent / "python"), os.environ.get("PYTHONPATH", "")]
+    folders = [str(HERE), os.environ.get("PYTHONPATH", "")]
     os.environ["PYTHONPATH"] = os.pathsep.join(folders)
     with tempfile.TemporaryDirectory(dir=given.directory) as name:
         folder = Path(name)

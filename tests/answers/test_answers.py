@@ -8,15 +8,13 @@ from __future__ import annotations
 
 import itertools
 import json
-import os
 import subprocess
-import sys
 from pathlib import Path
 
 from harness import SECONDS, STORETOOL
-from library.compiling import COMPILERS, LibraryCase, prefix
+from library.compiling import COMPILERS
 from packages.cargo import example
-from packages.test_python import PACKAGE
+from packages.installed import InstalledCase, environment, python
 from vectors.files import files
 
 FIRST = 200
@@ -88,7 +86,7 @@ def by_tool(contents: list[bytes], counts: list[int | None]) -> list[list[str]]:
     return answers
 
 
-class Answers(LibraryCase):
+class Answers(InstalledCase):
     def setUp(self):
         super().setUp()
         self.contents = files()
@@ -98,13 +96,8 @@ class Answers(LibraryCase):
         self.expected = by_tool(self.contents, self.counts)
 
     def by_package(self) -> list[list[str]]:
-        """The answers of the package for Python."""
-        names = os.environ | {
-            "PYTHONPATH": str(PACKAGE),
-            "PYTHONDONTWRITEBYTECODE": "1",
-            "ZEVKHADUN_LIBRARY": str(prefix() / "lib/libzevkhadun.so.1"),
-        }
-        return json.loads(self.succeed(sys.executable, "-c", BY_PACKAGE, *self.paths, env=names))
+        """The answers of the package for Python, where it is installed."""
+        return json.loads(self.succeed(python(), "-c", BY_PACKAGE, *self.paths, env=environment()))
 
     def assert_answers(self, name: str, answers: list[list[str]]) -> None:
         """The answers about each file are those of storetool."""

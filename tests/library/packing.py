@@ -24,6 +24,9 @@ MANY = numbers(100_000)
 class PackingTests:
     """The tests of a program, for a test case that has it in `new_program`."""
 
+    # Lines that the program does not keep in memory until the end.
+    many = MANY
+
     def setUp(self) -> None:
         super().setUp()
         self.work = self.new_folder()
@@ -54,7 +57,7 @@ class PackingTests:
         self.assertEqual(os.listdir(self.work), ["store"])
 
     def test_a_full_disk_leaves_the_old_store(self):
-        self.assert_fails("store", MANY, preexec_fn=limited(resource.RLIMIT_FSIZE, 64 << 10))
+        self.assert_fails("store", self.many, preexec_fn=limited(resource.RLIMIT_FSIZE, 64 << 10))
 
     def test_a_missing_folder_is_reported(self):
         self.assert_fails("none/store", numbers(9))
@@ -83,7 +86,7 @@ class PackingTests:
         """Kills the program when it has written a part of its store."""
         how = {"cwd": self.work, "env": self.environment, "stdin": subprocess.PIPE, "stderr": subprocess.DEVNULL}
         with subprocess.Popen([self.program, "store"], **how) as packing:
-            packing.stdin.write(MANY)
+            packing.stdin.write(self.many)
             packing.stdin.flush()
             for _ in range(600):
                 part = self.work / "store.part"

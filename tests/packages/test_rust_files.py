@@ -2,138 +2,30 @@
 
 from __future__ import annotations
 
-import fcntl
 import os
-import re
-import subprocess
-from collections import Counter
-from collections.abc import Iterator
 from pathlib import Path
 
 from harness import numbers
 from library.compiling import LibraryCase
-from library.packing import MANY, THREE, PackingTests
 from packages.cargo import example
-
-NOBODY = 65534
-# Packs over the old store on a device of 1 MiB.
-ON_DEVICE = """
-mount -t tmpfs -o size=1m none "$1" || exit 77
-cp "$2" "$1/store"
-seq 200000 | "$3" "$1/store"
-echo $?
-cmp "$2" "$1/store" && ls "$1"
-"""
+from packages.files import FailingCallTests, PackageTests
 
 
-class PackInRust(PackingTests, LibraryCase):
-    def new_program(self):
+class RustProgram:
+    """The program, for a test case."""
+
+    def new_program(self) -> tuple[Path, dict[str, str]]:
         self.require("cargo")
         return example("pack"), dict(os.environ)
 
-    # A file beside that no writer holds is taken over, so this one has to be locked.
-    def test_a_file_that_another_writes_is_kept(self):
-        part = self.work / "store.part"
-        part.write_bytes(b"another's\n")
-        with open(part, "rb") as locked:
-            fcntl.flock(locked, fcntl.LOCK_EX)
-            self.assert_fails("store", numbers(9), ("store.part",))
-        self.assertEqual(part.read_bytes(), b"another's\n")
 
-    test_what_a_killed_pack_left_is_reported = None
-
-    def test_what_a_killed_pack_left_is_taken_over(self):
-        self.kill_a_pack()
-        self.assert_same((self.work / "store").read_bytes(), THREE, "the store that was there")
-        self.assertEqual(self.pack("store", b"abc\n\nde").returncode, 0)
-        self.assert_same((self.work / "store").read_bytes(), THREE, "the store")
-        self.assertEqual(os.listdir(self.work), ["store"])
-
+class PackInRust(RustProgram, PackageTests, LibraryCase):
     def test_a_message_has_the_path_and_the_reason(self):
         done = self.pack("none/store", numbers(9))
         folder = os.path.join(self.work, "none")
         self.assertEqual(done.stderr.decode(), f"pack: {folder}: No such file or directory (os error 2)\n")
 
-    def test_the_owner_of_the_file_is_kept(self):
-        if os.geteuid():
-            self.skipTest("only root gives files away")
-        os.chown(self.work / "store", NOBODY, NOBODY)
-        self.assertEqual(self.pack("store", MANY).returncode, 0)
-        found = (self.work / "store").stat()
-        self.assertEqual((found.st_uid, found.st_gid), (NOBODY, NOBODY))
 
-    def test_a_full_device_leaves_the_old_store(self):
-        self.require("unshare")
-        device = self.new_folder()
-        space = ["unshare", "-m" if os.geteuid() == 0 else "-rm", "sh", "-c", ON_DEVICE, ""]
-        command = [*space, device, self.work / "store", self.program]
-        done = subprocess.run(command, capture_output=True, timeout=60)
-        if done.returncode == 77 or b"unshare:" in done.stderr:
-            self.skipTest("no device can be mounted here")
-        self.assertIn(b"No space left on device", done.stderr)
-        self.assertEqual((done.returncode, done.stdout), (0, b"1\nstore\n"))
-
-
-class FailingCalls(LibraryCase):
-    """Each call of the system for the file beside fails once, and all others succeed."""
-
-    def setUp(self):
-        super().setUp()
-        self.require("cargo", "strace")
-        self.work = self.new_folder()
-        self.trace = self.folder / "trace"
-        self.pack([], b"abc\n\nde")
-
-    def pack(self, strace: list[str | Path], text: bytes) -> subprocess.CompletedProcess:
-        """Runs the program under strace with these options, or by itself."""
-        tracer = ["strace", "-f", "-o", self.trace, *strace] if strace else []
-        command = [*tracer, example("pack"), "store"]
-        return subprocess.run(command, cwd=self.work, input=text, capture_output=True, timeout=60)
-
-    def calls(self, path: Path) -> Iterator[tuple[str, int]]:
-        """The calls of a run for a path, up to the renaming: the name of each, and how often it came so far."""
-        done = self.pack(["-P", path], MANY)
-        self.assertEqual((done.returncode, done.stderr), (0, b""))
-        seen: Counter[str] = Counter()
-        for name in re.findall(r"^\d+ +(\w+)\(", self.trace.read_text(), re.M):
-            seen[name] += 1
-            yield name, seen[name]
-            if name == "rename":
-                return
-
-    def pack_with_fault(self, path: Path, name: str, count: int) -> subprocess.CompletedProcess:
-        """Runs the program over the old store; the call with this name fails when it comes this often for the path."""
-        (self.work / "store").write_bytes(THREE)
-        fault = f"inject={name}:error=EIO:when={count}"
-        done = self.pack(["-P", path, "-e", fault], MANY)
-        self.assertEqual(self.trace.read_text().count("(INJECTED)"), 1, fault)
-        return done
-
-    def test_a_call_that_fails_leaves_the_old_store_and_nothing_beside(self):
-        beside = self.work / "store.part"
-        calls = list(self.calls(beside))
-        self.assertGreater(Counter(name for name, _ in calls)["write"], 5)
-        self.assertLessEqual(
-            {"openat", "flock", "fchown", "fchmod", "ftruncate", "fsync", "rename"}, {name for name, _ in calls}
-        )
-        for name, count in calls:
-            with self.subTest(call=name, count=count):
-                done = self.pack_with_fault(beside, name, count)
-                is_needed = name != "fchown"
-                self.assertEqual(done.returncode, int(is_needed), done.stderr)
-                self.assertEqual(b"Input/output error" in done.stderr, is_needed, done.stderr)
-                self.assertEqual((self.work / "store").read_bytes() == THREE, is_needed)
-                self.assertEqual(os.listdir(self.work), ["store"])
-
-    def test_a_folder_that_cannot_be_opened_is_refused_at_first(self):
-        done = self.pack_with_fault(self.work, "openat", 1)
-        self.assertEqual((done.returncode, (self.work / "store").read_bytes()), (1, THREE))
-        self.assertNotIn("store.part", self.trace.read_text())
-        self.assertEqual(os.listdir(self.work), ["store"])
-
-    def test_a_folder_that_is_not_synced_is_an_error_and_has_the_new_store(self):
-        done = self.pack_with_fault(self.work, "fsync", 1)
-        self.assertEqual(done.returncode, 1)
-        self.assertIn(b"Input/output error", done.stderr)
-        self.assertGreater((self.work / "store").stat().st_size, len(MANY))
-        self.assertEqual(os.listdir(self.work), ["store"])
+class FailingCalls(RustProgram, FailingCallTests, LibraryCase):
+    CALLS = {"fchown", "fchmod"}
+    NEEDLESS = {("fchown", 1), ("fchown", 2)}

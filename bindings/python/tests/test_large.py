@@ -1,16 +1,12 @@
 """Stores that are larger than memory, and documents that are long."""
 
 import os
-import struct
 import tempfile
 import tracemalloc
 import unittest
 
-from zevkhadun import Store, Writer
-
-# The longest block, and how many blocks a run of the index has at most.
-BLOCK = 2**32 - 1
-PERIOD = 64
+from sparse import BLOCK, PERIOD, last_of, write_sparse
+from zevkhadun import RangedStore, Store, Stores, Writer
 
 
 def memory():
@@ -21,33 +17,6 @@ def memory():
     except OSError:
         return 0
     return 1024 * (int(sizes["MemTotal:"]) + int(sizes["SwapTotal:"]))
-
-
-def number(value):
-    """A number as the format has it (docs/FORMAT.md, Numbers)."""
-    groups = bytearray()
-    while value >= 128:
-        groups.append(value % 128)
-        value //= 128
-    groups.append(value + 128)
-    return bytes(groups)
-
-
-def last_of(block):
-    """The second document of a block."""
-    return b"the last of block %2d" % block
-
-
-def write_sparse(path, blocks):
-    """A store whose blocks have two documents: the first is a hole in the file, as long as can be."""
-    length = BLOCK - len(last_of(0)) - 12
-    with open(path, "wb") as file:
-        for block in range(blocks):
-            file.seek(block * BLOCK + length)
-            file.write(last_of(block) + struct.pack("<III", 0, length, 2))
-        layer = number(blocks) + number(0) + number(0) + (number(2) + number(BLOCK)) * blocks
-        file.write(number(1) + number(len(layer)) + layer)
-        file.write(struct.pack("<IQBB14x", 3, blocks * BLOCK, 0, PERIOD))
 
 
 class Large(unittest.TestCase):
@@ -70,6 +39,20 @@ class Large(unittest.TestCase):
             for block in range(blocks):
                 self.assertEqual(store[2 * block + 1], last_of(block))
             self.assertEqual(store[-1], last_of(blocks - 1))
+            self.assertEqual(store.get_many(range(1, 2 * blocks, 2)), [last_of(block) for block in range(blocks)])
+            self.assertEqual(store[-1::-2], [last_of(block) for block in reversed(range(blocks))])
+            with store.view(-2) as hole:
+                self.assertEqual((hole.nbytes, hole[-1]), (BLOCK - len(last_of(0)) - 12, 0))
+            with Stores([store, store]) as stores:
+                self.assertEqual((len(stores), stores[-1]), (4 * blocks, last_of(blocks - 1)))
+
+    def test_a_range_of_a_store_larger_than_memory_is_read(self):
+        write_sparse(self.path, 10)
+        with open(self.path, "rb") as file, RangedStore(
+            lambda start, length: os.pread(file.fileno(), length, start), os.path.getsize(self.path)
+        ) as store:
+            self.assertEqual((len(store), store.size), (20, os.path.getsize(self.path)))
+            self.assertEqual(store.block_of(19), (18, 20, 9 * BLOCK, BLOCK))
 
     def test_an_iteration_holds_one_document_at_a_time(self):
         count, length = 10, 10 << 20

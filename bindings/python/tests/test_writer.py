@@ -12,6 +12,7 @@ import tempfile
 import unittest
 from unittest import mock
 
+from sparse import end_of
 from zevkhadun import Store, Writer, refusals
 
 HEX = os.path.join(os.path.dirname(__file__), "..", "..", "c", "tests", "words.hex")
@@ -310,12 +311,23 @@ class Ends(InFolder):
             with self.assertRaises(refusals.BlockTooLarge):
                 writer.put(large)
             writer.put(b"a")
-            writer._table[0].end_doc = 2**32 - 1
-            with self.assertRaises(refusals.TooManyDocs):
-                writer.put(b"b")
-            writer._table[0].end_doc = 1
-            self.assertEqual(writer.put(b"c"), 1)
-        self.assertEqual(self.documents(), [b"a", b"c"])
+            with self.assertRaises(refusals.BlockTooLarge):
+                writer.extend([b"b", large, b"not added"])
+            self.assertEqual(writer.put(b"c"), 2)
+        self.assertEqual(self.documents(), [b"a", b"b", b"c"])
+
+    def test_more_documents_than_a_store_can_have_are_refused_and_the_writer_goes_on(self):
+        # A store whose one block claims all documents but one, in four bytes.
+        full = b"full" + end_of([(2**32 - 2, 4)])
+        with Writer(self.path, block_size=0) as writer:
+            writer.stack(full)
+            self.assertEqual(len(writer), 2**32 - 2)
+            self.assertEqual(writer.put(b"last"), 2**32 - 2)
+            for call in [lambda: writer.put(b"b"), lambda: writer.extend([b"b"]), lambda: writer.stack(full)]:
+                with self.assertRaises(refusals.TooManyDocs):
+                    call()
+        with Store(self.path) as store:
+            self.assertEqual((len(store), store[-1]), (2**32 - 1, b"last"))
 
     def failing(self, patched, act):
         """A call of the system fails, and the writer refuses all that follows."""
@@ -332,7 +344,7 @@ class Ends(InFolder):
 
     def test_a_full_disk_is_told_and_the_writer_takes_no_more(self):
         full = OSError(errno.ENOSPC, "full")
-        at_write = mock.patch("zevkhadun.output.Output._hand_over", side_effect=full)
+        at_write = mock.patch("zevkhadun.output.Output.write", side_effect=full)
         self.failing(at_write, lambda writer: writer.put(b"x" * (2 << 20)))
         self.failing(at_write, lambda writer: writer.close())
         self.failing(mock.patch("os.fsync", side_effect=full), lambda writer: writer.close())
@@ -358,7 +370,7 @@ class Ends(InFolder):
             with Writer(self.path) as writer:
                 with mock.patch("zevkhadun.output.Output.write", side_effect=MemoryError):
                     with self.assertRaises(MemoryError):
-                        writer.put(b"a")
+                        writer.put(b"a" * (2 << 20))
         self.assertEqual(os.listdir(self.folder), [])
 
     def test_short_writes_are_gone_on_with(self):

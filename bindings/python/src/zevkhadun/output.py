@@ -8,12 +8,17 @@ from __future__ import annotations
 import fcntl
 import os
 import stat
-from typing import Optional, Tuple, Union
+from typing import Optional, Tuple, Type
 
-from .refusals import Busy, NotPlainFile
+from .refusals import Busy, NotPlainFile, Refused
+from .types import Path
 
-#: how many bytes are gathered before they go to the system
-BUFFER_SIZE = 1 << 20
+
+def _error(kind: Type[Refused], path: str, text: str) -> Refused:
+    """An error of the file of this name."""
+    error = kind(f"{path}: {text}")
+    error.path = path
+    return error
 
 
 def _found_at(path: str) -> Optional[os.stat_result]:
@@ -33,7 +38,7 @@ def _replaced_file(path: str) -> Tuple[str, Optional[os.stat_result]]:
         path = os.path.realpath(path)
         found = _found_at(path)
     if found is not None and not stat.S_ISREG(found.st_mode):
-        raise NotPlainFile(f"{path} is not a plain file")
+        raise _error(NotPlainFile, path, "not a plain file")
     return path, found
 
 
@@ -42,10 +47,10 @@ def _lock(descriptor: int, path: str) -> None:
     try:
         fcntl.flock(descriptor, fcntl.LOCK_EX | fcntl.LOCK_NB)
     except BlockingIOError:
-        raise Busy(f"{path} is being written by another") from None
+        raise _error(Busy, path, "another writes to it") from None
     named = _found_at(path)
     if named is None or not os.path.samestat(named, os.fstat(descriptor)):
-        raise Busy(f"{path} is being written by another")
+        raise _error(Busy, path, "another writes to it")
 
 
 def _owned_by(path: str, user: int, group: int) -> None:
@@ -63,16 +68,12 @@ def _copy_access(beside: str, replaced: os.stat_result) -> None:
     os.chmod(beside, replaced.st_mode & 0o777)
 
 
-def _sync_folder(path: str) -> None:
-    """Asks the system to keep the names of the folder that the file of this name is in."""
-    folder = os.open(os.path.dirname(path) or ".", os.O_RDONLY | os.O_CLOEXEC)
-    try:
-        os.fsync(folder)
-    finally:
-        os.close(folder)
+def _open_folder(path: str) -> int:
+    """Opens the folder that the file of this name is in."""
+    return os.open(os.path.dirname(path) or ".", os.O_RDONLY | os.O_DIRECTORY | os.O_CLOEXEC)
 
 
-def _opener(path: str, _flags: int) -> int:
+def _open_beside(path: str) -> int:
     """Opens a file to write to it, and leaves what it holds: another may have locked it."""
     return os.open(path, os.O_WRONLY | os.O_CREAT | os.O_CLOEXEC, 0o666)
 
@@ -80,51 +81,54 @@ def _opener(path: str, _flags: int) -> int:
 class Output:
     """The file beside, whose name ends in `.part`, until it is published or removed."""
 
-    def __init__(self, path: Union[str, "os.PathLike[str]"]) -> None:
+    def __init__(self, path: Path) -> None:
         """Begins the file beside: locked, empty, and with the access that the replaced file has.
 
-        What a crash left there is taken over. Raises OSError, Busy and NotPlainFile; nothing was changed then.
+        What a crash left there is taken over. The folder is opened, and synced at the end. Raises OSError, Busy and
+        NotPlainFile; nothing was changed then.
         """
         self._path, replaced = _replaced_file(os.fspath(path))
         self._beside = self._path + ".part"
-        self._buffer = bytearray()
-        self._file = open(self._beside, "wb", buffering=0, opener=_opener)
-        self._is_beside = True
+        self._is_beside = False
+        self._folder = _open_folder(self._path)
+        try:
+            self._file = open(_open_beside(self._beside), "wb", buffering=0)
+            self._claim(replaced)
+        except BaseException:
+            self._close_folder()
+            raise
+
+    def _claim(self, replaced: Optional[os.stat_result]) -> None:
+        """Locks the file beside, and empties it. If the system refuses that it is removed."""
         try:
             _lock(self._file.fileno(), self._beside)
-            os.ftruncate(self._file.fileno(), 0)
+            self._is_beside = True
             if replaced is not None:
                 _copy_access(self._beside, replaced)
+            os.ftruncate(self._file.fileno(), 0)
         except Busy:
             self._file.close()
             raise
         except BaseException:
+            self._is_beside = True
             self.remove()
             raise
 
-    def write(self, content: Union[bytes, memoryview]) -> None:
+    def write(self, content: memoryview) -> None:
         """Writes bytes after the others. Raises OSError."""
-        if len(self._buffer) + len(content) < BUFFER_SIZE:
-            self._buffer += content
-            return
-        self._hand_over(self._buffer)
-        self._buffer = bytearray()
-        if len(content) < BUFFER_SIZE:
-            self._buffer += content
-        else:
-            self._hand_over(content)
+        while content:
+            content = content[self._file.write(content):]
 
     def publish(self) -> None:
         """Asks the system to keep the bytes, and then to give them their name.
 
         Raises OSError. The file of the name is the old one then, or is whole.
         """
-        self._hand_over(self._buffer)
         os.fsync(self._file.fileno())
         os.replace(self._beside, self._path)
         self._is_beside = False
-        _sync_folder(self._path)
-        self._file.close()
+        os.fsync(self._folder)
+        self.remove()
 
     def remove(self) -> None:
         """Removes the file beside, if it has not got the name, and lets it go."""
@@ -136,8 +140,9 @@ class Output:
                 pass
         # Only now, as the lock goes with it.
         self._file.close()
+        self._close_folder()
 
-    def _hand_over(self, content: Union[bytes, bytearray, memoryview]) -> None:
-        rest = memoryview(content)
-        while rest:
-            rest = rest[self._file.write(rest):]
+    def _close_folder(self) -> None:
+        folder, self._folder = self._folder, -1
+        if folder >= 0:
+            os.close(folder)

@@ -34,8 +34,11 @@ from .refusals import (
     ShortFile,
     TailTooShort,
     TooManyDocs,
+    ZevkhadunError,
 )
+from .ranged import RangedStore
 from .store import Store
+from .stores import Stores
 from .writer import Writer
 
 __version__ = "0.2.0"
@@ -61,10 +64,13 @@ __all__ = [
     "OtherBlock",
     "OtherTable",
     "OtherWriter",
+    "RangedStore",
     "Refused",
     "ShortFile",
     "Store",
+    "Stores",
     "TailTooShort",
     "TooManyDocs",
     "Writer",
+    "ZevkhadunError",
 ]

@@ -2,7 +2,7 @@
 
 from __future__ import annotations
 
-from typing import Dict, Type
+from typing import Any, Dict, Optional, Type
 
 
 class Refused(Exception):
@@ -10,6 +10,16 @@ class Refused(Exception):
 
     #: the number that the library returns for it, or 0 for an error of this package alone
     number = 0
+    #: the path of the file, if the error is one of a file that was opened by a path
+    path: Optional[str] = None
+    #: the number of the document, if the error is one of a document
+    document: Optional[int] = None
+    #: the offset in the file at which the index breaks, where `verify` found that
+    byte: Optional[int] = None
+
+
+#: the name that others would look for
+ZevkhadunError = Refused
 
 
 # From refusals.txt:
@@ -145,8 +155,16 @@ class NotPlainFile(Refused):
 REFUSALS: Dict[int, Type[Refused]] = {kind.number: kind for kind in Refused.__subclasses__() if kind.number}
 
 
-def check(answer: int) -> None:
-    """Raises the error of a number that the library returned, if it is one."""
-    if answer:
-        refusal = REFUSALS.get(answer, Refused)
-        raise refusal(refusal.__doc__)
+def error_of(number: int, path: Optional[str] = None, **facts: Any) -> Refused:
+    """The error of a number that the library returned, with the path of its file and further facts."""
+    kind = REFUSALS.get(number, Refused)
+    text = kind.__doc__ or ""
+    if "document" in facts:
+        text = f"{text[:-1]}: document {facts['document']}."
+    if "byte" in facts:
+        text = f"{text[:-1]}: byte {facts['byte']}."
+    error = kind(f"{path}: {text}" if path else text)
+    error.path = path
+    for name, value in facts.items():
+        setattr(error, name, value)
+    return error

@@ -1,0 +1,69 @@
+/* The extension module zevkhadun._core: what its sources share.
+ *
+ * It uses the limited interface of CPython 3.11, so that one module serves every later version. */
+#ifndef ZEVKHADUN_CORE_H
+#define ZEVKHADUN_CORE_H
+
+#define PY_SSIZE_T_CLEAN
+#define Py_LIMITED_API 0x030b0000
+#include <Python.h>
+
+#include "zevkhadun.h"
+
+/* An open store: the bytes of its file, and the table of its blocks. */
+typedef struct reader {
+    PyObject_HEAD
+    PyObject *path;      /* the path of its file, or None */
+    Py_buffer buffer;    /* the caller's bytes; without an object if the file is mapped */
+    const uint8_t *file; /* the bytes of the file */
+    size_t len;          /* how many these are; 0 if it was closed */
+    size_t size;         /* how many they were */
+    zevk_block *table;   /* the blocks */
+    size_t rows;         /* how many blocks there are */
+    uint32_t count;      /* how many documents there are */
+    Py_ssize_t views;    /* how many memoryviews of the file there are */
+    Py_ssize_t users;    /* how many calls read without the interpreter's lock */
+    int is_open;         /* whether it was opened and not closed */
+    int is_mapped;       /* whether the file is mapped */
+} reader;
+
+/* What the module keeps: its types. */
+typedef struct core_state {
+    PyObject *reader_type;
+} core_state;
+
+extern PyType_Spec reader_spec;
+extern PyType_Spec documents_spec;
+extern PyType_Spec packer_spec;
+
+/* Raises the exception of an error's number, with a path or None, and a dict of facts or NULL, which it takes. Returns
+ * NULL. */
+void *raise_refusal(uint32_t number, PyObject *path, PyObject *facts);
+
+/* Raises an exception of the package by its name, with this text. Returns NULL. */
+void *raise_named(const char *name, const char *text);
+
+/* Frees an object of a type of this module. */
+void free_object(PyObject *self);
+
+/* Raises Closed and returns 0 unless the store is open. */
+int check_open(const reader *self);
+
+/* Whether a call may read without the interpreter's lock. If so `leave_reader` has to follow. */
+int enter_reader(reader *self);
+void leave_reader(reader *self);
+
+/* A document, as bytes, from its place. */
+PyObject *document_of(const reader *self, const zevk_place *place);
+
+/* The documents of a range from the first one on, each `step` after the one before, as a list. */
+PyObject *documents_of(const reader *self, Py_ssize_t first, Py_ssize_t count, Py_ssize_t step);
+
+/* The documents of many numbers, as a list. Reads without the interpreter's lock. */
+PyObject *get_many(PyObject *self, PyObject *numbers);
+
+/* Functions of the module that read parts of a file. */
+PyObject *block_of(PyObject *module, PyObject *arguments);
+PyObject *get_in(PyObject *module, PyObject *arguments);
+
+#endif

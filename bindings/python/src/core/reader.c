@@ -1,0 +1,347 @@
+/* The type Reader: an open store, of a mapped file or of a buffer. */
+#include "core.h"
+
+#include <errno.h>
+#include <stdlib.h>
+#include <sys/mman.h>
+#include <sys/stat.h>
+
+/* How many blocks the first table has room for. */
+#define FIRST_ROWS 64
+
+/* ---- opening and closing */
+
+int check_open(const reader *self) {
+    if (!self->is_open) {
+        raise_named("Closed", "the store is closed");
+    }
+    return self->is_open;
+}
+
+/* Lets the bytes and the table go. */
+static void release(reader *self) {
+    if (self->is_mapped) {
+        munmap((void *)self->file, self->len);
+        self->is_mapped = 0;
+    }
+    if (self->buffer.obj) {
+        PyBuffer_Release(&self->buffer);
+    }
+    free(self->table);
+    self->table = NULL;
+    self->file = NULL;
+    self->len = 0;
+}
+
+int enter_reader(reader *self) {
+    if (!check_open(self)) {
+        return 0;
+    }
+    self->users++;
+    return 1;
+}
+
+void leave_reader(reader *self) {
+    if (--self->users == 0 && !self->is_open) {
+        release(self);
+    }
+}
+
+/* Fills the table, in memory of its own. Returns the number of an error, or 0. */
+static uint32_t fill_table(reader *self) {
+    size_t room = FIRST_ROWS;
+    for (;;) {
+        zevk_block *table = realloc(self->table, room * sizeof *table);
+        if (!table) {
+            return ZEVK_NO_MEMORY;
+        }
+        self->table = table;
+        uint32_t answer = zevk_open(self->file, self->len, table, room, &self->rows, &self->count);
+        if (answer != ZEVK_NO_ROOM) {
+            return answer;
+        }
+        room = self->rows;
+    }
+}
+
+/* Opens the store of the bytes that were set. */
+static PyObject *open_bytes(reader *self) {
+    uint32_t answer;
+    Py_BEGIN_ALLOW_THREADS
+    answer = fill_table(self);
+    Py_END_ALLOW_THREADS
+    if (answer) {
+        release(self);
+        return raise_refusal(answer, self->path, NULL);
+    }
+    self->size = self->len;
+    self->is_open = 1;
+    Py_RETURN_NONE;
+}
+
+/* Whether nothing was opened yet. */
+static int is_new(const reader *self) {
+    if (self->path) {
+        PyErr_SetString(PyExc_RuntimeError, "the store was opened before");
+        return 0;
+    }
+    return 1;
+}
+
+/* Maps a file. An empty one needs no map. Returns whether that went well. */
+static int map_file(reader *self, int descriptor) {
+    struct stat found;
+    if (fstat(descriptor, &found) < 0) {
+        return 0;
+    }
+    if (S_ISDIR(found.st_mode)) {
+        errno = EISDIR;
+        return 0;
+    }
+    self->len = (size_t)found.st_size;
+    if (self->len == 0) {
+        return 1;
+    }
+    void *map = mmap(NULL, self->len, PROT_READ, MAP_SHARED, descriptor, 0);
+    self->is_mapped = map != MAP_FAILED;
+    self->file = self->is_mapped ? map : NULL;
+    return self->is_mapped;
+}
+
+static PyObject *open_file(PyObject *object, PyObject *arguments) {
+    reader *self = (reader *)object;
+    int descriptor;
+    PyObject *path;
+    if (!is_new(self) || !PyArg_ParseTuple(arguments, "iO", &descriptor, &path)) {
+        return NULL;
+    }
+    Py_INCREF(path);
+    self->path = path;
+    if (!map_file(self, descriptor)) {
+        return PyErr_SetFromErrnoWithFilenameObject(PyExc_OSError, path);
+    }
+    return open_bytes(self);
+}
+
+static PyObject *open_buffer(PyObject *object, PyObject *content) {
+    reader *self = (reader *)object;
+    if (!is_new(self) || PyObject_GetBuffer(content, &self->buffer, PyBUF_SIMPLE) < 0) {
+        return NULL;
+    }
+    Py_INCREF(Py_None);
+    self->path = Py_None;
+    self->file = self->buffer.buf;
+    self->len = (size_t)self->buffer.len;
+    return open_bytes(self);
+}
+
+static PyObject *close_reader(PyObject *object, PyObject *unused) {
+    reader *self = (reader *)object;
+    if (self->views) {
+        return PyErr_Format(PyExc_BufferError, "the store has views that were not released: %zd", self->views);
+    }
+    if (self->is_open) {
+        self->is_open = 0;
+        if (self->users == 0) {
+            release(self);
+        }
+    }
+    Py_RETURN_NONE;
+}
+
+static void deallocate(PyObject *object) {
+    reader *self = (reader *)object;
+    release(self);
+    Py_CLEAR(self->path);
+    free_object(object);
+}
+
+/* ---- reading */
+
+/* Raises NoDocument of the number that was asked for. Returns NULL. */
+static void *raise_missing(const reader *self, Py_ssize_t number) {
+    PyObject *facts = Py_BuildValue("{sn}", "document", number);
+    return facts ? raise_refusal(ZEVK_NO_DOCUMENT, self->path, facts) : NULL;
+}
+
+/* Sets `place` to where a document lies; a negative number counts from the end. */
+static int find(const reader *self, Py_ssize_t number, zevk_place *place) {
+    Py_ssize_t at = number < 0 ? number + (Py_ssize_t)self->count : number;
+    if (at < 0 || at >= (Py_ssize_t)self->count) {
+        raise_missing(self, number);
+        return 0;
+    }
+    if (!check_open(self)) {
+        return 0;
+    }
+    uint32_t answer = zevk_locate(self->file, self->len, self->table, self->rows, (uint32_t)at, place);
+    if (answer) {
+        PyObject *facts = Py_BuildValue("{sn}", "document", at);
+        if (facts) {
+            raise_refusal(answer, self->path, facts);
+        }
+    }
+    return answer == 0;
+}
+
+PyObject *document_of(const reader *self, const zevk_place *place) {
+    return PyBytes_FromStringAndSize((const char *)self->file + place->start, (Py_ssize_t)place->len);
+}
+
+static PyObject *subscript(PyObject *object, PyObject *key) {
+    reader *self = (reader *)object;
+    zevk_place place;
+    if (PySlice_Check(key)) {
+        Py_ssize_t start, stop, step;
+        if (PySlice_Unpack(key, &start, &stop, &step) < 0) {
+            return NULL;
+        }
+        Py_ssize_t count = PySlice_AdjustIndices((Py_ssize_t)self->count, &start, &stop, step);
+        return check_open(self) ? documents_of(self, start, count, step) : NULL;
+    }
+    Py_ssize_t number = PyNumber_AsSsize_t(key, NULL);
+    if (number == -1 && PyErr_Occurred()) {
+        return NULL;
+    }
+    return find(self, number, &place) ? document_of(self, &place) : NULL;
+}
+
+static Py_ssize_t length(PyObject *object) {
+    return (Py_ssize_t)((reader *)object)->count;
+}
+
+static PyObject *view(PyObject *object, PyObject *key) {
+    reader *self = (reader *)object;
+    zevk_place place;
+    Py_ssize_t number = PyNumber_AsSsize_t(key, NULL);
+    if ((number == -1 && PyErr_Occurred()) || !find(self, number, &place)) {
+        return NULL;
+    }
+    PyObject *start = PyLong_FromSize_t(place.start);
+    PyObject *end = PyLong_FromSize_t(place.start + place.len);
+    PyObject *slice = start && end ? PySlice_New(start, end, NULL) : NULL;
+    PyObject *whole = slice ? PyMemoryView_FromObject(object) : NULL;
+    PyObject *part = whole ? PyObject_GetItem(whole, slice) : NULL;
+    Py_XDECREF(whole);
+    Py_XDECREF(slice);
+    Py_XDECREF(end);
+    Py_XDECREF(start);
+    return part;
+}
+
+/* What an error of zevk_check has beside its number. */
+static PyObject *facts_of(uint32_t answer, const zevk_fault *fault) {
+    if (answer == ZEVK_DAMAGED_DOCUMENT) {
+        return Py_BuildValue("{sk}", "document", (unsigned long)fault->doc_id);
+    }
+    if (answer == ZEVK_BAD_INDEX) {
+        return Py_BuildValue("{sn}", "byte", (Py_ssize_t)fault->byte);
+    }
+    return PyDict_New();
+}
+
+static PyObject *verify(PyObject *object, PyObject *unused) {
+    reader *self = (reader *)object;
+    zevk_fault fault = {0, 0, 0};
+    uint32_t answer;
+    if (!enter_reader(self)) {
+        return NULL;
+    }
+    Py_BEGIN_ALLOW_THREADS
+    answer = zevk_check(self->file, self->len, &fault);
+    Py_END_ALLOW_THREADS
+    leave_reader(self);
+    if (answer) {
+        PyObject *facts = facts_of(answer, &fault);
+        return facts ? raise_refusal(answer, self->path, facts) : NULL;
+    }
+    Py_RETURN_NONE;
+}
+
+/* ---- the bytes of the file, as a buffer */
+
+static int get_buffer(PyObject *object, Py_buffer *wanted, int flags) {
+    reader *self = (reader *)object;
+    wanted->obj = NULL;
+    if (!check_open(self) || PyBuffer_FillInfo(wanted, object, (void *)self->file, (Py_ssize_t)self->len, 1, flags) < 0) {
+        return -1;
+    }
+    self->views++;
+    return 0;
+}
+
+static void release_buffer(PyObject *object, Py_buffer *given) {
+    ((reader *)object)->views--;
+}
+
+/* ---- facts */
+
+/* How many bytes a footer has. */
+#define FOOTER_LEN 28
+
+static PyObject *footer(PyObject *object, PyObject *unused) {
+    const reader *self = (const reader *)object;
+    /* An open store has a footer. */
+    return check_open(self) ? PyBytes_FromStringAndSize((const char *)self->file + self->len - FOOTER_LEN, FOOTER_LEN)
+                            : NULL;
+}
+
+static PyObject *get_size(PyObject *object, void *closure) {
+    return PyLong_FromSize_t(((reader *)object)->size);
+}
+
+static PyObject *get_is_open(PyObject *object, void *closure) {
+    return PyBool_FromLong(((reader *)object)->is_open);
+}
+
+static PyObject *get_blocks(PyObject *object, void *closure) {
+    return PyLong_FromSize_t(((reader *)object)->rows);
+}
+
+/* ---- the type */
+
+static PyGetSetDef members[] = {
+    {"is_open", get_is_open, NULL, "Whether it was opened and not closed.", NULL},
+    {"num_blocks", get_blocks, NULL, "How many blocks of documents it has.", NULL},
+    {"size", get_size, NULL, "How many bytes the file has.", NULL},
+    {NULL, NULL, NULL, NULL, NULL},
+};
+
+static PyMethodDef methods[] = {
+    {"_open_file", open_file, METH_VARARGS, "Maps the file of a descriptor, whose path is given, and opens it."},
+    {"_open_buffer", open_buffer, METH_O, "Opens the file that these bytes are."},
+    {"_footer", footer, METH_NOARGS, "The last bytes of the file. Raises Closed."},
+    {"_close", close_reader, METH_NOARGS, "Closes it. Raises BufferError if it has views."},
+    {"get_many", get_many, METH_O,
+     "get_many(numbers)\n--\n\nThe documents of many numbers, in the order of the numbers, as a list.\n\n"
+     "Other threads run in the meantime. Raises NoDocument, DamagedDocument, NoMemory and Closed."},
+    {"__getitems__", get_many, METH_O, "The documents of many numbers: the name by which PyTorch asks for them."},
+    {"view", view, METH_O,
+     "view(number)\n--\n\nA document as a read-only memoryview of the file, without a copy.\n\n"
+     "The file stays open as long as the view is there. Raises NoDocument, DamagedDocument and Closed."},
+    {"verify", verify, METH_NOARGS,
+     "verify()\n--\n\nChecks the whole file: footer, index, and the table of each block.\n\n"
+     "Other threads run in the meantime. Raises DamagedDocument, whose `document` is the number of the first damaged\n"
+     "document; NoMemory and Closed. What a file says of its documents' bytes can't be checked: it has no checksums."},
+    {NULL, NULL, 0, NULL},
+};
+
+static PyType_Slot slots[] = {
+    {Py_tp_doc, "An open store, of a mapped file or of a buffer."},
+    {Py_tp_dealloc, deallocate},
+    {Py_tp_methods, methods},
+    {Py_tp_getset, members},
+    {Py_mp_length, length},
+    {Py_mp_subscript, subscript},
+    {Py_sq_length, length},
+    {Py_bf_getbuffer, get_buffer},
+    {Py_bf_releasebuffer, release_buffer},
+    {0, NULL},
+};
+
+PyType_Spec reader_spec = {
+    .name = "zevkhadun._core.Reader",
+    .basicsize = sizeof(reader),
+    .flags = Py_TPFLAGS_DEFAULT | Py_TPFLAGS_BASETYPE,
+    .slots = slots,
+};

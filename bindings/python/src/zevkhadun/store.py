@@ -1,0 +1,119 @@
+"""Reading a store from a file or from bytes."""
+
+from __future__ import annotations
+
+import os
+import struct
+from collections.abc import Sequence
+from types import TracebackType
+from typing import Any, Iterator, Literal, Optional, Tuple, Type, Union
+
+from ._core import Documents, Reader
+from .types import Buffer, Path
+
+#: what comes in place of a damaged document: an exception, nothing, or None
+Damaged = Literal["raise", "skip", "none"]
+
+# The footer: version, length of the data, block kind, period, and bytes without a meaning.
+_FOOTER = struct.Struct("<IQBB14x")
+# Files of older versions have no place for the period.
+_OLD_PERIOD = 8
+
+
+class Store(Reader, Sequence[bytes]):
+    """A store: a sequence of bytes, in a file that is mapped into memory and may be larger than memory.
+
+    A get copies the document out of the file; `view` doesn't. Any number of threads may use a store at once. It is
+    pickled by its path, so a process that gets it opens the file itself.
+    """
+
+    def __init__(self, source: Union[Path, Buffer]) -> None:
+        """Opens a store, and checks its whole index: of a file, which is mapped, or of any object with bytes.
+
+        Bytes that may change must not change while the store is open.
+
+        Raises OSError; ShortFile, BadVersion, BadBlockKind, BadOffset, BadPeriod or BadIndex if the bytes are not a
+        store; NoMemory.
+        """
+        self._source: Optional[Buffer] = None
+        self._path: Optional[str] = None
+        self._absolute_path = ""
+        if not isinstance(source, (str, os.PathLike)):
+            self._source = source
+            self._open_buffer(source)
+            return
+        self._path = os.fspath(source)
+        self._absolute_path = os.path.abspath(self._path)
+        descriptor = os.open(self._path, os.O_RDONLY | os.O_CLOEXEC)
+        try:
+            self._open_file(descriptor, self._path)
+        finally:
+            os.close(descriptor)
+
+    @property
+    def path(self) -> Optional[str]:
+        """The path that it was opened by; None for bytes."""
+        return self._path
+
+    @property
+    def data_size(self) -> int:
+        """How many bytes the blocks of documents have. Raises Closed."""
+        return self._facts()[1]
+
+    @property
+    def version(self) -> int:
+        """The version of the format: 1, 2 or 3. Raises Closed."""
+        return self._facts()[0]
+
+    @property
+    def period(self) -> int:
+        """How many entries a run of the index has. Raises Closed."""
+        version, _, _, period = self._facts()
+        return period if version == 3 else _OLD_PERIOD
+
+    def iter(self, *, damaged: Damaged = "raise") -> Iterator[bytes]:
+        """The documents in order, one in memory at a time.
+
+        A damaged document raises DamagedDocument and ends the iteration; or it is left out ("skip"); or None comes in
+        its place ("none"). Raises Closed.
+        """
+        return Documents(self, damaged)
+
+    def __iter__(self) -> Iterator[bytes]:
+        """The documents in order, one in memory at a time. Raises DamagedDocument and Closed."""
+        return Documents(self, "raise")
+
+    def close(self) -> None:
+        """Closes the file. A second call does nothing. A get that runs at the same time in another thread ends well.
+
+        Raises BufferError as long as there are views of its documents; the store stays open then.
+        """
+        self._close()
+        self._source = None
+
+    def __enter__(self) -> "Store":
+        return self
+
+    def __exit__(
+        self, kind: Optional[Type[BaseException]], error: Optional[BaseException], trace: Optional[TracebackType]
+    ) -> None:
+        self.close()
+
+    def __reduce__(self) -> Tuple[Any, ...]:
+        if not self.is_open:
+            raise TypeError("a closed store can't be pickled")
+        if self._path is not None:
+            return type(self), (self._absolute_path,)
+        if isinstance(self._source, bytes):
+            return type(self), (self._source,)
+        raise TypeError("only a store of a path or of bytes can be pickled")
+
+    def __repr__(self) -> str:
+        what = repr(self._path) if self._path is not None else "buffer"
+        state = f"{len(self)} documents" if self.is_open else "closed"
+        return f"{type(self).__name__}({what}, {state})"
+
+    def _facts(self) -> Tuple[int, int, int, int]:
+        """Version, length of the data, block kind and period."""
+        version, data_size, kind, period = _FOOTER.unpack(self._footer())
+        return version, data_size, kind, period

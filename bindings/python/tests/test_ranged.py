@@ -1,0 +1,197 @@
+"""A store that is read by ranges: what it gives, and which requests it makes."""
+
+import os
+import tempfile
+import threading
+import unittest
+
+from sparse import end_of
+from test_sequence import DAMAGED, damaged
+from test_zevkhadun import DOCUMENTS, EMPTY, FILE
+from zevkhadun import RangedStore, Store, Writer, refusals
+
+
+class Elsewhere:
+    """A file that is read by ranges, and keeps a list of the requests."""
+
+    def __init__(self, content):
+        self.content = content
+        self.requests = []
+
+    def __call__(self, start, length):
+        self.requests.append((start, length))
+        if not 0 <= start <= start + length <= len(self.content):
+            raise AssertionError(f"a request of {length} bytes at {start}")
+        return self.content[start:start + length]
+
+    def taken(self):
+        """The requests since the last call."""
+        requests, self.requests = self.requests, []
+        return requests
+
+    def open(self, **options):
+        return RangedStore(self, len(self.content), **options)
+
+
+class Ranged(unittest.TestCase):
+    def many(self, count=3000, length=100):
+        """A file of blocks of about 1000 bytes, and its documents."""
+        documents = [b"%d." % number * (length // 5) for number in range(count)]
+        with tempfile.TemporaryDirectory() as folder:
+            path = os.path.join(folder, "a.store")
+            with Writer(path, block_size=1000) as writer:
+                writer.extend(documents)
+            with open(path, "rb") as file:
+                return Elsewhere(file.read()), documents
+
+    def test_it_gives_what_a_store_gives(self):
+        for content in [FILE, EMPTY]:
+            for tail in [1, 28, 40, len(content), 1 << 20]:
+                with Elsewhere(content).open(tail=tail, cache=200, request=300) as store, Store(content) as wanted:
+                    self.assertEqual((len(store), list(store)), (len(wanted), list(wanted)))
+                    self.assertEqual([store[number] for number in range(-len(store), len(store))], list(wanted) * 2)
+                    self.assertEqual(store[::-3], wanted[::-3])
+                    self.assertEqual(store.get_many(range(len(store))), list(wanted))
+
+    def test_one_request_opens_a_short_index_and_two_a_long_one(self):
+        file, documents = self.many()
+        index = len(file.content) - Store(file.content).data_size
+        for tail in [28, index - 1]:
+            self.assertEqual(len(file.open(tail=tail)), len(documents))
+            self.assertEqual(file.taken(), [(len(file.content) - length, length) for length in (tail, index)])
+        for tail in [index, 1 << 20]:
+            self.assertEqual(len(file.open(tail=tail)), len(documents))
+            self.assertEqual(len(file.taken()), 1)
+
+    def test_a_get_takes_one_request_and_none_for_a_block_that_is_cached(self):
+        file, documents = self.many()
+        store = file.open()
+        file.taken()
+        self.assertEqual(store[1000], documents[1000])
+        first, end, start, length = store.block_of(1000)
+        self.assertEqual(file.taken(), [(start, length)])
+        self.assertEqual([store[number] for number in range(first, end)], documents[first:end])
+        self.assertEqual(file.taken(), [])
+
+    def test_neighbouring_blocks_take_one_request(self):
+        file, documents = self.many()
+        store = file.open()
+        file.taken()
+        self.assertEqual(store[100:200], documents[100:200])
+        self.assertEqual(len(file.taken()), 1)
+        self.assertEqual(store.get_many([2000, 500, 2008, 501, 2000]), [
+            documents[number] for number in [2000, 500, 2008, 501, 2000]
+        ])
+        self.assertEqual(len(file.taken()), 2)
+        self.assertEqual(store[100:200], documents[100:200])
+        self.assertEqual(file.taken(), [])
+
+    def test_an_iteration_asks_for_many_blocks_at_once(self):
+        file, documents = self.many()
+        store = file.open(request=50_000, cache=0)
+        file.taken()
+        self.assertEqual(list(store), documents)
+        requests = file.taken()
+        self.assertEqual(len(requests), -(-Store(file.content).data_size // 50_000))
+        self.assertLessEqual(max(length for _, length in requests), 50_000)
+
+    def test_no_request_is_longer_than_asked_unless_a_block_is(self):
+        file, documents = self.many()
+        for request in [1, 2500, 10_000]:
+            store = file.open(request=request)
+            file.taken()
+            self.assertEqual(store[:], documents)
+            longest = max(length for _, length in file.taken())
+            self.assertLessEqual(longest, max(request, 1300))
+
+    def test_the_cache_has_a_limit_and_keeps_what_was_used_last(self):
+        file, documents = self.many()
+        store = file.open(cache=3000)
+        for number in range(0, 3000, 10):
+            store[number]
+            self.assertLessEqual(store.cached, 3000)
+        self.assertGreater(store.cached, 1500)
+        store[0], store[1000], store[0], store[2000]
+        file.taken()
+        store[0]
+        self.assertEqual(file.taken(), [])
+        store[1500]
+        self.assertEqual(len(file.taken()), 1)
+        store.close()
+        self.assertEqual(store.cached, 0)
+
+    def test_a_block_that_is_longer_than_the_cache_is_not_kept(self):
+        store = Elsewhere(FILE).open(cache=10)
+        self.assertEqual((store[0], store[1], store.cached), (DOCUMENTS[0], DOCUMENTS[1], 0))
+
+    def test_damage_is_found_in_what_is_read(self):
+        with Elsewhere(damaged()).open(path="far/a.store") as store:
+            self.assertEqual(store[5:], DOCUMENTS[5:])
+            for call in [lambda: store[3], lambda: store[:9], lambda: list(store)]:
+                with self.assertRaises(refusals.DamagedDocument) as caught:
+                    call()
+                self.assertEqual((caught.exception.document, caught.exception.path), (3, "far/a.store"))
+            self.assertEqual(list(store.iter(damaged="skip")), DOCUMENTS[:3] + DOCUMENTS[5:])
+            self.assertEqual(list(store.iter(damaged="none")), DAMAGED)
+            with self.assertRaises(ValueError):
+                store.iter(damaged="ignore")
+
+    def test_files_that_are_no_store(self):
+        wrong = {b"": refusals.ShortFile, b"x" * 27: refusals.ShortFile, b"x" * 100: refusals.BadVersion}
+        for content, kind in wrong.items():
+            with self.assertRaises(kind) as caught:
+                Elsewhere(content).open(path="far/a.store")
+            self.assertIn("far/a.store", str(caught.exception))
+        with self.assertRaises(refusals.BadIndex):
+            Elsewhere(FILE[:1524] + b"\x00" * (len(FILE) - 1552) + FILE[-28:]).open()
+
+    def test_what_read_raises_comes_through(self):
+        file, documents = self.many()
+        store = file.open()
+        store._read = lambda start, length: b"short"
+        with self.assertRaises(EOFError):
+            store[0]
+        store._read = lambda start, length: 1 // 0
+        with self.assertRaises(ZeroDivisionError):
+            store.get_many([1, 2000])
+        store._read = file
+        self.assertEqual(store[0], documents[0])
+
+    def test_numbers_that_no_document_has_and_a_closed_store(self):
+        store = Elsewhere(FILE).open()
+        for number in [64, -65, 2**32, 2**70]:
+            for call in [store.__getitem__, store.block_of, lambda number: store.get_many([0, number])]:
+                with self.assertRaises(refusals.NoDocument):
+                    call(number)
+        with self.assertRaises(TypeError):
+            store["a"]
+        self.assertEqual(repr(store), "RangedStore(64 documents)")
+        store.close()
+        for call in [lambda: store[0], lambda: list(store), lambda: store.get_many([1])]:
+            with self.assertRaises(refusals.Closed):
+                call()
+
+    def test_the_greatest_number_of_documents_is_counted(self):
+        with Elsewhere(b"full" + end_of([(2**32 - 1, 4)])).open() as store:
+            self.assertEqual(len(store), 2**32 - 1)
+
+    def test_threads_share_a_store(self):
+        file, documents = self.many()
+        store = file.open(cache=5000)
+        wrong = []
+
+        def read(first):
+            numbers = range(first, 3000, 37)
+            if [store[number] for number in numbers] != [documents[number] for number in numbers]:
+                wrong.append(first)
+
+        threads = [threading.Thread(target=read, args=(first,)) for first in range(8)]
+        for thread in threads:
+            thread.start()
+        for thread in threads:
+            thread.join()
+        self.assertEqual(wrong, [])
+
+
+if __name__ == "__main__":
+    unittest.main()
