@@ -12,6 +12,8 @@ import textwrap
 from pathlib import Path
 from typing import Callable, Dict, List, Match, Optional
 
+import front as front_page
+import goals
 import plot
 import ratios as ratio
 import volume
@@ -209,8 +211,11 @@ def paragraph(told: Callable[[Figures], str]) -> Callable[[Figures], Lines]:
 
 PARTS: Dict[str, Callable[[Figures], Lines]] = {
     "front": table(front),
+    "front gets": paragraph(front_page.gets),
+    "front slower": paragraph(front_page.slower),
     "reading": table(read),
     "ratios": table(ratios),
+    "goals": goals.goals,
     "tantivy": table(beside_tantivy),
     "other work": table(other),
     "writing": table(writing),

@@ -72,6 +72,10 @@ def programs_of(given: argparse.Namespace, disk: Path, memory: Path) -> sides.Pr
     )
 
 
+#: the rounds of each row, and how often it was measured again
+Kept = Tuple[Dict[Row, List[Dict[str, object]]], Dict[Row, int]]
+
+
 class Measurements:
     """What was measured so far, and the check of each work."""
 
@@ -103,6 +107,12 @@ class Measurements:
             self.rounds[row] = []
             self.again[row] = self.again.get(row, 0) + 1
 
+    def kept(self) -> Kept:
+        return dict(self.rounds), dict(self.again)
+
+    def restore(self, kept: Kept) -> None:
+        self.rounds, self.again = kept
+
     def rows(self) -> List[Dict[str, object]]:
         return [{**row.told(), "again": self.again.get(row, 0), "rounds": rounds}
                 for row, rounds in self.rounds.items()]
@@ -124,7 +134,10 @@ def take_rounds(programs: sides.Programs, measured: Measurements, rows: List[Row
 
 
 def measure(programs: sides.Programs, rows: List[Row], rounds: int, again: int) -> Measurements:
-    """The rounds of all rows, and then of those works whose rounds lay far apart, which take the place of the first."""
+    """The rounds of all rows, and then of those works whose rounds lay far apart, which take the place of the first.
+
+    An interrupt (Ctrl-C) while works are measured again leaves the rounds that they had.
+    """
     measured = Measurements()
     make_stores(programs, rows, measured)
     take_rounds(programs, measured, rows, rounds)
@@ -132,8 +145,14 @@ def measure(programs: sides.Programs, rows: List[Row], rounds: int, again: int) 
         uneven = measured.uneven()
         if not uneven:
             break
+        before = measured.kept()
         measured.start_over(uneven)
-        take_rounds(programs, measured, uneven, rounds)
+        try:
+            take_rounds(programs, measured, uneven, rounds)
+        except KeyboardInterrupt:
+            measured.restore(before)
+            print("interrupted: the rounds before stay", file=sys.stderr)
+            break
     return measured
 
 
