@@ -4,7 +4,7 @@ from dataclasses import dataclass
 from typing import Dict, List, Optional
 
 from figures import Figures
-from plan import DISK, PROCESS
+from plan import DISK, MEMORY, PROCESS
 
 GETS = {"uniform": "uniform", "hot": "hot", "zipf": "zipf", "sequence": "in sequence"}
 
@@ -43,11 +43,13 @@ def _reads(ours: str, theirs: str, name: str, most: float, workloads: Dict[str, 
 
 
 def _beside_view() -> List[Goal]:
-    """`zevk_locate` over a mapped file beside `StoreView` over memory."""
+    """`zevk_locate` over a mapped file, in the page cache and in a file system in memory, beside `StoreView`."""
+    places = [("read", DISK, "mapped from the page cache"), ("memory", MEMORY, "mapped from memory")]
     return [
-        Goal(f"`zevk_locate` / `StoreView`, get, {told}", 1.2,
-             dict(group="read", place=DISK, side="zevk", workload=workload, length=100),
+        Goal(f"`zevk_locate`, {mapped} / `StoreView`, get, {told}", 1.2,
+             dict(group=group, place=place, side="zevk", workload=workload, length=100),
              dict(group="memory", place=PROCESS, side="view", workload=workload, length=100))
+        for group, place, mapped in places
         for workload, told in GETS.items()
     ]
 
