@@ -21,8 +21,8 @@ def _span(figures: Figures, ours: str) -> str:
 def gets(figures: Figures) -> str:
     """How long gets take beside LMDB's."""
     opened, unopened = _span(figures, "zevk"), _span(figures, "unopened")
-    return (f"For documents of 100 bytes a get from C takes {opened} of LMDB's time in an opened store, and {unopened} by "
-            f"`zevk_get`, which opens nothing (medians of {figures.whole['rounds']} rounds).")
+    return (f"For documents of 100 bytes a get from C takes {opened} of LMDB's time in an opened store, and {unopened} "
+            f"by `zevk_get`, which opens nothing (medians of {figures.whole['rounds']} rounds).")
 
 
 def slower(figures: Figures) -> str:
