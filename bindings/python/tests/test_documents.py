@@ -17,7 +17,7 @@ class Documents(unittest.TestCase):
     """Each page's pieces run in order, in a folder of their own."""
 
     def test_each_piece_of_the_documents_runs(self):
-        names = ["README.md", "docs/GUIDE.md", "bindings/README.md", "bindings/python/README.md"]
+        names = ["README.md", "docs/PYTHON.md", "bindings/README.md", "bindings/python/README.md"]
         count = 0
         for page in map(TOP.joinpath, names):
             for piece in PIECE.findall(page.read_text()):
