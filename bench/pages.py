@@ -230,7 +230,7 @@ PLACE = re.compile(r"^<!-- figures: ([a-z ]+) -->\n.*?^<!-- end of figures -->\n
 
 
 def filled(text: str, figures: Figures) -> str:
-    """The page with each of its parts made anew."""
+    """The page with each of its parts made again."""
     def part(found: Match[str]) -> str:
         lines = "\n".join(PARTS[found[1]](figures))
         return f"<!-- figures: {found[1]} -->\n\n{lines}\n\n<!-- end of figures -->\n"
