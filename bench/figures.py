@@ -50,7 +50,7 @@ def spread_of(values: List[float]) -> Spread:
 
 def each_of(taken: Dict[str, int]) -> float:
     """Nanoseconds for each document, or each open. A write ends when the system was asked to keep it, where that is
-    told apart."""
+    timed by itself."""
     return (taken["ns"] + taken.get("sync_ns", 0)) / max(1, taken["count"])
 
 

@@ -23,7 +23,7 @@ from typing import Callable, Dict, Iterator, List, Optional
 import machine
 
 HERE = Path(__file__).resolve().parent
-# What each side's file is called, behind the name of the text.
+# The ending of each side's file, after the name of the text.
 ENDINGS = {"zevkhadun": "store", "sqlite3": "sqlite", "cat": "copy"}
 IMPORT = """PRAGMA journal_mode = OFF;
 PRAGMA synchronous = OFF;
@@ -57,7 +57,7 @@ def remove(path: str) -> None:
 
 
 def made(path: str, words: List[str], given: bytes = b"") -> float:
-    """The seconds that a command took to make a file anew."""
+    """The seconds that a command took to make a new file."""
     remove(path)
     return ran(words, given)
 

@@ -1,10 +1,10 @@
 """The sentences of README.md about speed."""
 
-from typing import List
+from typing import Dict, List
 
 import ratios
-from figures import Figures
-from plan import DISK, ORDERS
+from figures import Figures, label_of
+from plan import DISK, ORDERS, PEERS, READS
 
 
 def _span(figures: Figures, ours: str) -> str:
@@ -26,11 +26,26 @@ def gets(figures: Figures) -> str:
 
 
 def slower(figures: Figures) -> str:
-    """Where ours takes longer than another, and by how much."""
-    told = [
-        ("`zevk_get` is slower in", ratios.UNOPENED_PANELS),
-        ("`zevk_locate` is slower in", ratios.OPENED_PANELS),
-        ("Of other work ours is slower in", ratios.OTHER_PANELS),
+    """Where ours takes longer than another for documents of 100 bytes, and by how much."""
+    works = [
+        ("gets by `zevk_get`", "unopened", dict(group="read", place=DISK), ORDERS),
+        ("`zevk_get_run`", "unopened", dict(group="read", place=DISK), ["iterate"]),
+        ("`zevk_locate`", "zevk", dict(group="read", place=DISK), READS),
+        ("an open with all checks", "zevk", dict(group="open", documents=1_000_000), ["open"]),
+        ("gets from a file that is not in memory", "zevk", dict(group="cold"), ["cold"]),
     ]
-    found = [(text, ratios.behind(figures, panels)) for text, panels in told]
-    return " ".join(f"{text} {where}." for text, where in found if where)
+    told = [f"{name} ({beside})" for name, ours, common, workloads in works
+            if (beside := _worst(figures, ours, common, workloads))]
+    return f"Slower than others, with the largest ratio: {', '.join(told)}."
+
+
+def _worst(figures: Figures, ours: str, common: Dict[str, object], workloads: List[str]) -> str:
+    """The other libraries that are faster in one of these workloads, with the largest ratio of ours to theirs."""
+    worst: Dict[str, float] = {}
+    for side in PEERS:
+        for workload in workloads:
+            row = dict(workload=workload, length=100, **common)
+            value = figures.ratio(dict(side=ours, **row), dict(side=side, **row))
+            if value is not None and round(value, 2) > 1:
+                worst[side] = max(worst.get(side, 0), value)
+    return ", ".join(f"{label_of(side)} {ratios.factor_text(value)}" for side, value in worst.items())

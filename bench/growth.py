@@ -13,7 +13,7 @@ PANEL, TITLE, GAP = 140, 30, 24
 SIDES = ["zevk", "unopened", "view", "plain", "lmdb", "cdb"]
 NAMES = {"zevk": "zevk_open, zevk_locate", "view": "view, in Rattle"}
 
-#: less memory than a page is told as a page
+#: less memory than a page is reported as a page
 PAGE = 4096
 
 Points = Dict[str, List[Tuple[int, float]]]

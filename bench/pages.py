@@ -211,8 +211,7 @@ def paragraph(told: Callable[[Figures], str]) -> Callable[[Figures], Lines]:
 
 PARTS: Dict[str, Callable[[Figures], Lines]] = {
     "front": table(front),
-    "front gets": paragraph(front_page.gets),
-    "front slower": paragraph(front_page.slower),
+    "front beside others": paragraph(lambda figures: f"{front_page.gets(figures)} {front_page.slower(figures)}"),
     "reading": table(read),
     "ratios": table(ratios),
     "goals": goals.goals,
@@ -235,7 +234,7 @@ PLACE = re.compile(r"^<!-- figures: ([a-z ]+) -->\n.*?^<!-- end of figures -->\n
 
 
 def filled(text: str, figures: Figures) -> str:
-    """The page with each of its parts made anew."""
+    """The page with each of its parts made again."""
     def part(found: Match[str]) -> str:
         lines = "\n".join(PARTS[found[1]](figures))
         return f"<!-- figures: {found[1]} -->\n\n{lines}\n\n<!-- end of figures -->\n"

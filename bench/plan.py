@@ -11,7 +11,7 @@ C_SIDES = PEERS + ["plain"] + OWN_C_SIDES
 #: sides in C that write in a way of their own
 WRITERS = [side for side in C_SIDES if side != "unopened"]
 
-#: sides in Rattle, all ours: bytes at hand, a reader with a cache over them, the same over a file on disk
+#: sides in Rattle, all ours: bytes in memory, a reader with a cache over them, the same over a file on disk
 RATTLE_SIDES = ["view", "reader", "disk"]
 
 ORDERS = ["uniform", "hot", "zipf", "sequence"]
@@ -25,7 +25,7 @@ ONCE = ["size"]
 BLOCK_SIZE = 16384
 BLOCK_EACH = 0
 
-#: one of so many documents is hot
+#: one of this many documents is hot
 HOT_SHARE = 100
 
 #: where the bytes are: a file system in memory, files on a disk, or memory of the process
@@ -112,7 +112,7 @@ def _reads(group: str, place: str, sides: List[str], lengths: List[int], sizes: 
 
 
 def read_rows(sizes: Sizes) -> List[Row]:
-    """Files in the page cache, of every length; and the disk's reader, which writes its file anew each time, of one."""
+    """Files in the page cache, of every length; and the disk's reader, which writes its file each time, of one."""
     lengths = list(sizes.documents)
     return _reads("read", DISK, C_SIDES, lengths, sizes) + _reads("read", DISK, ["disk"], [100], sizes)
 

@@ -26,8 +26,8 @@ def _span(figures: Figures, panels: List[ratios.Panel]) -> str:
 
 
 def sentence(figures: Figures, work: str, panels: List[ratios.Panel]) -> str:
-    slower = ratios.behind(figures, panels)
-    where = f"Ours is behind in {slower}." if slower else "Ours is behind in none of them."
+    slower = ratios.slower_in(figures, panels)
+    where = f"Ours is slower in {slower}." if slower else "Ours is slower in none of them."
     return f"{work} takes {_span(figures, panels)} of the others' time (the floor aside). {where}"
 
 
@@ -81,9 +81,9 @@ def growth_sentence(figures: Figures) -> str:
     unopened = f", one by zevk_get {_goes(gets['unopened'])}" if "unopened" in gets else ""
     slower = [label_of(side) for side, line in opens.items()
               if side != "zevk" and line[-1][1] < opens["zevk"][-1][1]]
-    behind = f", where {listed(slower)} need less" if slower else ""
+    faster = f", where {listed(slower)} need less" if slower else ""
     return (f"From {few} to {many} blocks a get by zevk_locate goes {_goes(gets['zevk'])}{unopened}, and an open by "
-            f"zevk_open {_goes(opens['zevk'])}{behind}; at {many} blocks an opened store keeps "
+            f"zevk_open {_goes(opens['zevk'])}{faster}; at {many} blocks an opened store keeps "
             f"{memory['zevk'][-1][1] / many:.0f} bytes a block.")
 
 
@@ -93,8 +93,8 @@ def _volume_sentence(figures: Figures) -> str:
         taken = volume.excess(figures, length)
         if "zevk" in taken:
             less = [label_of(side) for side in taken if taken[side] < taken["zevk"]]
-            behind = f"less: {', '.join(less)}" if less else "none less"
-            parts.append(f"{taken['zevk']:.1f} bytes for one of {length} ({behind})")
+            others = f"less: {', '.join(less)}" if less else "none less"
+            parts.append(f"{taken['zevk']:.1f} bytes for one of {length} ({others})")
     return "Beyond a document's own bytes our file takes " + ", ".join(parts) + "."
 
 

@@ -133,7 +133,7 @@ def factor_text(value: float) -> str:
     return f"{value:.2f}" if value < 10 else f"{value:.0f}"
 
 
-def behind(figures: Figures, panels: List[Panel]) -> str:
+def slower_in(figures: Figures, panels: List[Panel]) -> str:
     """The works in which ours takes longer than someone, with how much at most; without the floor, which all pay."""
     worst: Dict[str, Dict[str, float]] = {}
     for panel, side, _, value in ratios_of(figures, panels):

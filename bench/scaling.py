@@ -14,7 +14,7 @@ STEPS = [("pack_seconds", "pack"), ("stack_seconds", "stack")]
 
 
 def speeds(rows: List[Dict[str, float]], step: str) -> List[Tuple[int, float]]:
-    """How many times as fast as one worker so many are."""
+    """How many times as fast as one worker each number of workers is."""
     alone = next(row[step] for row in rows if row["workers"] == 1)
     return [(int(row["workers"]), alone / row[step]) for row in rows]
 

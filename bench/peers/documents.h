@@ -28,7 +28,7 @@ enum order {
     SEQUENCE  /* one after the other */
 };
 
-/* So many numbers below `count`, in memory that the caller frees. Each thread has a list of its own. */
+/* `questions` numbers below `count`, in memory that the caller frees. Each thread has a list of its own. */
 uint32_t *numbers_of(enum order order, size_t questions, uint32_t count, uint32_t hot, unsigned thread);
 
 #endif

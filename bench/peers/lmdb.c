@@ -1,4 +1,4 @@
-/* LMDB. A single transaction writes, always behind the last key; every thread reads by its own. */
+/* LMDB. A single transaction writes, always after the last key; every thread reads by its own. */
 #include <lmdb.h>
 #include <stdlib.h>
 
@@ -48,7 +48,7 @@ static void lmdb_write(const char *path, const struct documents *documents, cons
 static void *lmdb_open(const char *path, const struct settings *settings) {
     struct lmdb_store *store = malloc(sizeof *store);
     require(store != NULL, "lmdb", "no memory");
-    /* Without a lock file a transaction belongs to whoever has it, not to a thread. */
+    /* Without a lock file a transaction belongs to its owner, not to a thread. */
     store->environment = environment_of(path, MDB_RDONLY | MDB_NOTLS | (settings->scattered ? MDB_NORDAHEAD : 0));
     return store;
 }

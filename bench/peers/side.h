@@ -13,7 +13,7 @@
 struct settings {
     uint32_t count;      /* documents, numbered from 0 */
     size_t length;       /* bytes of each */
-    size_t block_size;   /* bytes of a block, where a side is told one by whoever chooses: ours */
+    size_t block_size;   /* bytes of a block, for the sides that take one: ours */
     size_t cache_bytes;  /* what a reader may keep of the file in memory of its own */
     unsigned threads;    /* how many read at once */
     bool scattered;      /* reads will be far apart, in a file that is not in memory */

@@ -6,7 +6,7 @@
 #include "files.h"
 #include "memory.h"
 
-/* Of every so many documents one is got before the clock starts, so that tables and inner pages are in memory too. */
+/* One document of every WARM_EVERY is got before the clock starts, so that tables and inner pages are in memory too. */
 enum { WARM_EVERY = 32, MOST_LEFT_OF_A_THOUSAND = 20 };
 
 static struct check walked(const struct work *work, void *reader) {

@@ -1,4 +1,4 @@
-/* What is timed. Each workload does one thing to one side and tells of it. */
+/* What is timed. Each workload does one thing to one side and reports it. */
 #ifndef WORKLOADS_H
 #define WORKLOADS_H
 
@@ -17,7 +17,7 @@ struct work {
 struct told {
     uint64_t count;
     uint64_t nanoseconds;
-    uint64_t open_nanoseconds;  /* from the closed file to a reader, where it is told apart */
+    uint64_t open_nanoseconds;  /* from the closed file to a reader, where it is timed alone */
     uint64_t sync_nanoseconds;
     uint64_t file_bytes;
     uint64_t own_bytes;         /* of memory, more than before the store was opened */

@@ -7,7 +7,7 @@ from typing import Iterator, List
 
 @dataclass(frozen=True)
 class Corpus:
-    """So many documents in each of so many segments, of lengths around a mean."""
+    """Segments with as many documents each, of lengths around a mean."""
 
     segments: int
     documents: int
@@ -27,7 +27,7 @@ class Corpus:
 
 @dataclass(frozen=True)
 class Places:
-    """Where a document of a segment is in the store of all segments, one behind the other."""
+    """Where a document of a segment is in the store of all segments, one after the other."""
 
     counts: List[int]
 

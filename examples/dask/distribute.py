@@ -33,7 +33,7 @@ def arguments() -> argparse.Namespace:
     parser.add_argument("--length", type=int, default=500, help="bytes of a document, on the average")
     parser.add_argument("--workers", type=int, default=len(os.sched_getaffinity(0)))
     parser.add_argument("--directory", type=Path, default=None, help="where the files go for the time")
-    parser.add_argument("--scale", metavar="FILE", type=Path, help="write how one to so many workers take, and no more")
+    parser.add_argument("--scale", metavar="FILE", type=Path, help="only time one worker, two, and so on")
     return parser.parse_args()
 
 
@@ -119,7 +119,7 @@ def whole_run(client: Client, corpus: Corpus, folder: Path) -> bool:
 
 
 def timed(workers: int, corpus: Corpus, folder: Path) -> Dict[str, float]:
-    """Seconds to pack and to stack on so many workers."""
+    """Seconds to pack and to stack on this many workers."""
     with cluster_of(workers) as cluster, Client(cluster) as client:
         start = time.monotonic()
         leaves = packed_segments(client, corpus, folder)
@@ -132,8 +132,8 @@ def timed(workers: int, corpus: Corpus, folder: Path) -> Dict[str, float]:
 
 
 def cluster_of(workers: int) -> LocalCluster:
-    """Workers that are processes. What they say of one that was ended is left out; a task that fails is told all the
-    same. Others wait for one that is gone no longer than a moment."""
+    """Workers that are processes. What they say of one that was ended is left out; a task that fails is reported all
+    the same. Others wait for one that is gone no longer than a moment."""
     dask.config.set({"distributed.comm.timeouts.connect": "3s"})
     return LocalCluster(n_workers=workers, threads_per_worker=1, processes=True, dashboard_address=None,
                         silence_logs=logging.CRITICAL)

@@ -1,4 +1,4 @@
-"""The two steps that a worker does: pack a segment, and stack segments one behind the other.
+"""The two steps that a worker does: pack a segment, and stack segments one after the other.
 
 Both write a file of a name of their own and then give it the name that was asked for. So a step that is done twice, at
 the same time even, or that ended in the middle, changes nothing: a name has the whole file or none.
@@ -13,7 +13,7 @@ from zevkhadun import Store, Writer
 
 
 def pack_segment(path: str, documents: Iterable[bytes]) -> str:
-    """Writes a store of these documents. Answers its path."""
+    """Writes a store of these documents. Returns its path."""
     beside = f"{path}.{uuid.uuid4().hex}"
     with Writer(beside) as writer:
         for document in documents:
@@ -23,7 +23,7 @@ def pack_segment(path: str, documents: Iterable[bytes]) -> str:
 
 
 def stack_segments(path: str, inputs: List[str]) -> str:
-    """Writes the store of these stores' blocks, one behind the other, byte for byte. Answers its path."""
+    """Writes the store of these stores' blocks, one after the other, byte for byte. Returns its path."""
     beside = f"{path}.{uuid.uuid4().hex}"
     with Writer(beside) as writer:
         for name in inputs:

@@ -9,7 +9,7 @@ from segments import stack_segments
 
 
 def stacked_in(client: Client, leaves: List[Future], width: int, folder: Path, name: str) -> Future:
-    """So many neighbours at a time, level by level, until one is left."""
+    """`width` neighbours at a time, level by level, until one is left."""
     level, depth = leaves, 0
     while len(level) > 1:
         groups = [level[at:at + width] for at in range(0, len(level), width)]
@@ -22,7 +22,7 @@ def stacked_in(client: Client, leaves: List[Future], width: int, folder: Path, n
 
 
 def stacked_in_turn(client: Client, leaves: List[Future], folder: Path, name: str) -> Future:
-    """One behind what there is, again and again."""
+    """Each one after the stores before it, one by one."""
     whole = leaves[0]
     for at, leaf in enumerate(leaves[1:]):
         whole = client.submit(stack_segments, str(folder / f"{name}-{at}.store"), [whole, leaf], pure=False)

@@ -36,6 +36,8 @@ def is_run(path: str) -> bool:
         return parts[1] in CRATES
     if parts[0] == "tests" and len(parts) == 3:
         return parts[1] in suites()
+    if parts[0] == "docs":
+        return f'"{path}"' in text_of_suites("documents")
     if parts[:2] == ["bindings", "c"]:
         return f'"{parts[-1]}"' in text_of_suites("library", "packages", "answers")
     if parts[0] == "bindings":

@@ -8,17 +8,12 @@ import sys
 from collections.abc import Iterator
 from pathlib import Path
 
-from documents.case import HEADER, Rules
+from documents.case import Rules
 from documents.pages import at, documents, text_of
 from harness import TOP
 
 README = TOP / "README.md"
 BUILD = TOP / "bindings/c/build.sh"
-# Words that this house no longer uses where users begin to read.
-OLD_WORDS = (
-    "so many", "at hand", "(?:is|are) told", "tells? of", "told of", "behind", "asked of", "hands? on", "want of",
-    "who has", "whoever", "stands? there", "as it stands", "words are wrong", "weighs? more", "owes?",
-)
 VERSIONS = {
     "crates/zevkhadun/src/*.rt": r'\.version\("([^"]*)"\)',
     "bindings/rust/Cargo.toml": r'^version = "([^"]*)"',
@@ -53,20 +48,6 @@ def version_faults(pattern: str, form: str, version: str) -> Iterator[str]:
     yield from (at(path, 1, f"version {one}, not {version}") for path, one in found if one != version)
 
 
-def front() -> Iterator[tuple[Path, str]]:
-    """What users read first: README, the help texts, and the header up to its first declaration."""
-    yield README, text_of(README)
-    yield HEADER, text_of(HEADER).partition("#ifndef")[0]
-    yield from ((path, text_of(path)) for path in sorted((TOP / "tests/program/help").glob("*.txt")))
-
-
-def old_words(path: Path, text: str) -> Iterator[str]:
-    """Where a text has a word of the old ones."""
-    form = re.compile(r"\b(?:" + "|".join(OLD_WORDS).replace(" ", r"\s+(?:\*\s+)?") + r")\b", re.I)
-    for found in form.finditer(text):
-        yield at(path, text[:found.start()].count("\n") + 1, f"an old word: {' '.join(found[0].split())}")
-
-
 class Texts(Rules):
     def test_the_theorem_has_one_text_wherever_it_stands(self):
         home = theorems_of(text_of(README))
@@ -83,11 +64,6 @@ class Texts(Rules):
     def test_the_version_for_pkg_config_is_taken_from_the_file_version(self):
         self.assertNotRegex(text_of(BUILD), re.compile(r"^Version: *\d", re.M))
         self.assertIn("VERSION", text_of(BUILD))
-
-    def test_what_users_read_first_has_no_old_word(self):
-        texts = list(front())
-        self.assert_no_faults(fault for path, text in texts for fault in old_words(path, text))
-        self.assert_looked_at(len(texts), 10, "texts")
 
     def test_no_line_is_longer_than_120_columns(self):
         """Rows of tables and the page that bench/plot.py writes aside."""

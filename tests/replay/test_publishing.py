@@ -71,7 +71,7 @@ class Publishing(OldStoreCase):
         self.assertIn(("sync", ""), calls, "the folder is not synced")
         replay = Replay(self.program, files, "a.store", new, self.OLD if "a.store" in files else None)
         faults, looks = replay.faults(calls)
-        self.assertEqual(faults, [], f"a crash after so many of {calls} leaves neither store")
+        self.assertEqual(faults, [], f"a crash after that many of {calls} leaves neither store")
         self.assertGreater(looks, 10)
         for change in WRONG:
             if change is old_file_removed_first and "a.store" not in files:

@@ -51,10 +51,11 @@ def steps(page: Path) -> list[Step]:
 
 class Sessions(FolderCase):
     def begin_page(self) -> None:
-        """Makes the folder of a page, in which the program and the crates are."""
+        """Makes the folder of a page, in which the program, the crates and the documents are."""
         self.folder = self.new_folder()
         (self.folder / "zevkhadun").symlink_to(PROGRAM.path())
-        (self.folder / "crates").symlink_to(pages.TOP / "crates")
+        for name in ("crates", "docs"):
+            (self.folder / name).symlink_to(pages.TOP / name)
 
     def fault(self, step: Step) -> str:
         """What is wrong with a step; nothing if it prints what the page shows, or succeeds where that isn't shown."""
@@ -81,5 +82,5 @@ class Sessions(FolderCase):
         counts = {}
         for page in pages.documents():
             counts[str(page.relative_to(pages.TOP))] = self.run_page(page)
-        for name in ("README.md", "docs/GUIDE.md", "docs/SCRIPTS.md"):
+        for name in ("README.md", "docs/CLI.md", "docs/OPERATIONS.md", "docs/RATTLE.md", "docs/SCRIPTS.md"):
             self.assertTrue(counts.get(name), f"{name} has no session")

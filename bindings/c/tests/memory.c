@@ -1,5 +1,5 @@
 /* Each allocation of an opening, a stacking and a closing is refused in turn: it answers that there is no memory,
- * changes nothing, and leaves no block behind. Nothing else allocates.
+ * changes nothing, and leaves no block allocated. Nothing else allocates.
  *
  * usage: memory HEX. It is linked with --wrap for malloc, realloc and free.
  */
@@ -43,7 +43,7 @@ void __wrap_free(void *block) {
     __real_free(block);
 }
 
-/* Opens a file with so many allocations. */
+/* Opens a file with this many allocations. */
 static uint32_t open_with(const uint8_t *file, size_t len, long allocations) {
     zevk_block table[BLOCKS];
     zevk_place place, run[DOCUMENTS];
@@ -67,7 +67,7 @@ static uint32_t open_with(const uint8_t *file, size_t len, long allocations) {
     return answer;
 }
 
-/* Stacks a file and closes, with so many allocations for each. */
+/* Stacks a file and closes, with this many allocations for each. */
 static uint32_t write_with(const uint8_t *file, size_t len, long allocations) {
     zevk_block table[BLOCKS + 1];
     uint32_t starts[4];

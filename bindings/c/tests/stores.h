@@ -1,4 +1,4 @@
-/* The store of the tests: its file as hexadecimal text, and documents that are told from their numbers. */
+/* The store of the tests: its file as hexadecimal text, and documents that follow from their numbers. */
 #ifndef STORES_H
 #define STORES_H
 
@@ -26,7 +26,7 @@ static inline size_t document(uint32_t id, char *text) {
     return id % 5 == 0 ? 0 : (size_t)len - id % 3;
 }
 
-/* As many bytes as are asked for, and no more, so that a read behind them is seen. */
+/* As many bytes as are asked for, and no more, so that a read past them is seen. */
 static inline void *tight(const void *bytes, size_t len) {
     void *copy = malloc(len > 0 ? len : 1);
     WANT(copy != NULL);

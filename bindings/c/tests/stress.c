@@ -166,7 +166,7 @@ static void other_bytes(const uint8_t *file, size_t len) {
     free(table);
 }
 
-/* What refusals are told by. */
+/* How refusals are reported. */
 static void texts(void) {
     uint8_t text[ZEVK_TEXT_LEN], other[ZEVK_TEXT_LEN];
     size_t len = zevk_refusal_text(ZEVK_NO_DOCUMENT, text, sizeof text);
