@@ -22,14 +22,15 @@ OLD_WORDS = (
     "handed (?:on|back)", "want of", "who has", "whoever", "stands? there", "as it stands", "words are wrong",
     "weighs? more", "owes?", "anew", "go(?:es|ne)? out",
 )
-# Whether the comments of the Rattle sources are looked at, too.
+# Whether the comments of the Rattle sources and of their definitions are looked at, too.
 COVERS_RATTLE = False
 # What may come between two words: spaces, and the sign of a comment at the beginning of the next line.
-BETWEEN = r"\s+(?:(?:\*|#|//[/!]?)\s+)?"
+BETWEEN = r"\s+(?:(?:\*|#|--|//[/!]?)\s+)?"
 FORM = re.compile(r"\b(?:" + "|".join(OLD_WORDS).replace(" ", BETWEEN) + r")\b", re.I)
 CODE = ("bindings", "bench", "examples", "tests", "tools", ".ci")
 SLASHES = re.compile(r"//.*$")
 HASHES = re.compile(r"(?:^|\s)#.*$")
+DASHES = re.compile(r"^\s*--.*$")
 Line = tuple[int, str]
 
 
@@ -59,6 +60,11 @@ def hash_comments(path: Path) -> list[Line]:
     return parts_of_lines(path, HASHES)
 
 
+def dash_comments(path: Path) -> list[Line]:
+    """The comments of definitions."""
+    return parts_of_lines(path, DASHES)
+
+
 def python_words(path: Path) -> list[Line]:
     """The comments and the docstrings of a module."""
     text = text_of(path)
@@ -74,12 +80,14 @@ def python_words(path: Path) -> list[Line]:
 READERS = {
     ".md": page_lines, ".txt": all_lines, ".h": all_lines, ".hpp": all_lines, ".c": all_lines, ".cpp": all_lines,
     ".py": python_words, ".pyi": python_words, ".rs": slash_comments, ".sh": hash_comments, ".rt": slash_comments,
+    ".antt": dash_comments,
 }
 
 
 def texts() -> Iterator[tuple[Path, list[Line]]]:
     """Each file with the lines of it that people read."""
-    rattle = [path for path in files("crates") if path.suffix == ".rt"] if COVERS_RATTLE else []
+    crates = files("crates") if COVERS_RATTLE else ()
+    rattle = (path for path in crates if path.suffix == ".rt" or path.suffix == ".antt" and "specs" in path.parts)
     for path in dict.fromkeys([*documents(), *files(*CODE), *rattle]):
         if path.suffix in READERS:
             yield path, READERS[path.suffix](path)

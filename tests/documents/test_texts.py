@@ -65,6 +65,9 @@ class Texts(Rules):
         self.assertNotRegex(text_of(BUILD), re.compile(r"^Version: *\d", re.M))
         self.assertIn("VERSION", text_of(BUILD))
 
+    def test_the_first_page_is_short(self):
+        self.assertLessEqual(text_of(README).count("\n"), 120, "lines of README.md")
+
     def test_no_line_is_longer_than_120_columns(self):
         """Rows of tables and the page that bench/plot.py writes aside."""
         lines = [
