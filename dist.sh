@@ -57,7 +57,8 @@ sed "s/@VERSION@/$version/" "$top/bindings/dist.md" >"$made/README.md"
 # One archive of what C, C++ and the shell need.
 find "$made" -exec touch -h -d "@$SOURCE_DATE_EPOCH" {} +
 name=zevkhadun-$version-linux-x86_64
-tar -C "$made" --sort=name --owner=0 --group=0 --numeric-owner --format=gnu --transform "s,^,$name/,S" \
+tar -C "$made" --sort=name --owner=0 --group=0 --numeric-owner --mode=u=rwX,go=rX \
+    --format=gnu --transform "s,^,$name/,S" \
     -cf - README.md LICENSE bin include lib | gzip -9 -n >"$work/$name.tar.gz"
 mv "$work/$name.tar.gz" "$made"
 (cd "$made" && find . -type f -printf '%P\0' | LC_ALL=C sort -z | xargs -0 sha256sum >"$work/SHA256SUMS")

@@ -72,7 +72,7 @@ class DistCase(InstalledCase):
         super().setUp()
         if lack := PROGRAM.lack():
             self.skipTest(lack)
-        self.require("cargo", "git", "pkg-config")
+        self.require("cargo", "pkg-config")
         (self.folder / "dist").symlink_to(dist())
 
     def require_pip(self) -> None:

@@ -164,7 +164,7 @@ static void *raise_missing(const reader *self, Py_ssize_t number) {
     return facts ? raise_refusal(ZEVK_NO_DOCUMENT, self->path, facts) : NULL;
 }
 
-/* Finds the places from a document on: four of them at first, and twice as many each time. */
+/* Finds the places from a document on: four of them after a jump, and twice as many each time after that. */
 static void find_ahead(reader *self, uint32_t number) {
     size_t wanted = self->ahead_len < 4 ? 4 : 2 * (size_t)self->ahead_len;
     size_t found = 0;
@@ -181,6 +181,8 @@ static uint32_t locate(reader *self, uint32_t number, zevk_place *place) {
     if (at >= self->ahead_len && number == self->next) {
         find_ahead(self, number);
         at = 0;
+    } else if (at >= self->ahead_len) {
+        self->ahead_len = 0;
     }
     self->next = number + 1;
     if (at < self->ahead_len) {
