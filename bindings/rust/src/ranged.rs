@@ -216,7 +216,7 @@ impl<F: Fn(u64, usize) -> io::Result<Vec<u8>>> RangedStore<F> {
                 .iter()
                 .take_while(|one| one.is_none())
                 .count();
-            let run = blocks::run(&found[contents.len()..][..missing], self.request);
+            let run = blocks::run(&found[contents.len()..][..missing]);
             contents.extend(self.read_run(run)?);
         }
         Ok(contents)

@@ -90,16 +90,11 @@ pub(crate) fn count(tail: &[u8], size: usize) -> Result<u32, Refusal> {
     Ok(low)
 }
 
-/// The first of these blocks that follow one another in the file and together are no longer than a request, or the
-/// first one.
-pub(crate) fn run(found: &[raw::BlockPlace], request: usize) -> &[raw::BlockPlace] {
-    let mut end = found[0].start + found[0].len;
-    let follows = |block: &&raw::BlockPlace| {
-        let is_next = block.start == end;
-        end = block.start + block.len;
-        is_next && end - found[0].start <= request
-    };
-    &found[..1 + found[1..].iter().take_while(follows).count()]
+/// The first of these blocks that follow one another in the file.
+pub(crate) fn run(found: &[raw::BlockPlace]) -> &[raw::BlockPlace] {
+    let pairs = found.iter().zip(&found[1..]);
+    let following = pairs.take_while(|(before, block)| before.start + before.len == block.start);
+    &found[..1 + following.count()]
 }
 
 /// The bytes of a document, by those of its block.

@@ -287,6 +287,9 @@ fn any_bytes_at_the_end_of_a_file_are_read_without_a_panic() {
                 continue;
             };
             store.iter().take(200).for_each(drop);
+            // An index that is damaged further on is an error, and no end of the store.
+            let past = store.len() as u32;
+            assert_eq!(zevkhadun::get(&changed, past), Err(Refusal::NoDocument));
             let ids: Vec<u32> = (0..store.len().min(70) as u32).collect();
             let _ = store.get_many(&ids);
         }
