@@ -10,7 +10,8 @@ printed as a table. The package has to be installed where this runs, as in an en
     FOLDER/environment/bin/python -m pip install --no-deps --no-index FOLDER/zevkhadun-*.whl
     FOLDER/environment/bin/python bench/from_python.py
 
-dbm.gnu is left out where Python has none (Debian: python3-gdbm, and an environment of /usr/bin/python3).
+dbm.gnu is left out where Python has none (Debian: python3-gdbm, and an environment of /usr/bin/python3). With --prefix
+PREFIX the same gets are timed in C (bench/gets.c): by the call that the package makes, and with a copy that is kept.
 """
 
 import argparse
@@ -19,6 +20,7 @@ import mmap
 import random
 import sqlite3
 import struct
+import subprocess
 import sys
 import tempfile
 import threading
@@ -60,7 +62,13 @@ class Zevkhadun:
 
     def __init__(self, path: str) -> None:
         self.store = Store(path)
-        self.get = self.store.__getitem__
+
+    def get(self, number: int) -> bytes:
+        return self.store[number]
+
+    def gets(self, numbers: Iterable[int]) -> List[bytes]:
+        store = self.store
+        return [store[number] for number in numbers]
 
     def __iter__(self) -> Iterator[bytes]:
         return iter(self.store)
@@ -90,7 +98,11 @@ class Sqlite:
         self.cursor = self.base.cursor()
 
     def get(self, number: int) -> bytes:
-        return self.cursor.execute("SELECT bytes FROM documents WHERE id = ?", (number,)).fetchone()[0]
+        return self.gets([number])[0]
+
+    def gets(self, numbers: Iterable[int]) -> List[bytes]:
+        ask, query = self.cursor.execute, "SELECT bytes FROM documents WHERE id = ?"
+        return [ask(query, (number,)).fetchone()[0] for number in numbers]
 
     def __iter__(self) -> Iterator[bytes]:
         return (row[0] for row in self.base.execute("SELECT bytes FROM documents ORDER BY id"))
@@ -116,6 +128,10 @@ class Gnu:
 
     def get(self, number: int) -> bytes:
         return self.base[str(number)]
+
+    def gets(self, numbers: Iterable[int]) -> List[bytes]:
+        base = self.base
+        return [base[str(number)] for number in numbers]
 
     def __iter__(self) -> Iterator[bytes]:
         # In the order of the numbers, which the hash does not have.
@@ -157,6 +173,10 @@ class Offsets:
         start, end = self.places[number]
         return self.map[start:end]
 
+    def gets(self, numbers: Iterable[int]) -> List[bytes]:
+        content, places = self.map, self.places
+        return [content[places[number][0]:places[number][1]] for number in numbers]
+
     def __iter__(self) -> Iterator[bytes]:
         return (self.map[start:end] for start, end in self.places.values())
 
@@ -190,10 +210,9 @@ def round_of(side: type, folder: Path, count: int, length: int, asked: List[int]
     reader = side(path)
     if summed(reader) != summed(given):
         sys.exit(f"{side.name} gives other documents")
-    get = reader.get
     in_turn = range(len(asked))
     for name, numbers in (("uniform", asked), ("sequence", in_turn)):
-        told[name] = timed(lambda: [get(number) for number in numbers]) / len(asked)
+        told[name] = timed(lambda: reader.gets(numbers)) / len(asked)
     told["iterate"] = timed(lambda: sum(1 for _ in reader)) / count
     reader.close()
     told["bytes"] = float(Path(path).stat().st_size)
@@ -230,6 +249,33 @@ def calls_of(folder: Path, count: int, length: int, asked: List[int]) -> Dict[st
     return told
 
 
+class InC:
+    """The same gets in C, by a program that is compiled over the library below a prefix."""
+
+    def __init__(self, folder: Path, prefix: Path) -> None:
+        self.folder = folder
+        self.program = folder / "gets"
+        command = ["cc", "-std=c11", "-O2", f"-I{prefix / 'include'}", "-o", self.program, HERE / "gets.c"]
+        subprocess.run([*command, prefix / "lib/libzevkhadun.a"], check=True)
+
+    def nanoseconds(self, store: Path, numbers: Iterable[int]) -> List[float]:
+        """Nanoseconds of a get: of the call, and with a copy that is kept."""
+        asked = self.folder / "numbers"
+        asked.write_bytes(array("I", numbers).tobytes())
+        done = subprocess.run([self.program, store, asked], check=True, capture_output=True, text=True)
+        return [float(word) for word in done.stdout.split()]
+
+    def round(self, count: int, length: int, asked: List[int]) -> Dict[str, float]:
+        """Nanoseconds of both workloads."""
+        store = self.folder / "in_c"
+        Zevkhadun.write(str(store), documents(count, length))
+        told = {}
+        for name, numbers in (("uniform", asked), ("sequence", range(len(asked)))):
+            told[name], told[f"{name}, kept"] = self.nanoseconds(store, numbers)
+        store.unlink()
+        return told
+
+
 def table_of(rounds: Dict[str, List[Dict[str, float]]]) -> str:
     """The medians of each side as a Markdown table."""
     lines = ["| Python, ns | " + " | ".join(rounds) + " |", "|---" * (len(rounds) + 1) + "|"]
@@ -245,25 +291,31 @@ def main() -> int:
     parser.add_argument("--length", type=int, default=100)
     parser.add_argument("--asked", type=int, default=100_000)
     parser.add_argument("--rounds", type=int, default=9)
+    parser.add_argument("--prefix", type=Path, help="where bindings/c/build.sh installed the library")
     parser.add_argument("--output", type=Path, default=HERE / "from_python.json")
     given = parser.parse_args()
     sides = [Zevkhadun, Sqlite] + ([Gnu] if gnu else []) + [Offsets]
     asked = [random.Random(SEED).randrange(given.documents) for _ in range(given.asked)]
     rounds: Dict[str, List[Dict[str, float]]] = {side.name: [] for side in sides}
     calls: List[Dict[str, float]] = []
+    in_c: List[Dict[str, float]] = []
     versions = {**machine.versions(), "sqlite3": sqlite3.sqlite_version}
     before = machine.load()
     with tempfile.TemporaryDirectory(dir="/dev/shm") as folder:
+        other = InC(Path(folder), given.prefix) if given.prefix else None
         for _ in range(given.rounds):
+            in_c += [other.round(given.documents, given.length, asked)] if other else []
             for side in sides:
                 rounds[side.name].append(round_of(side, Path(folder), given.documents, given.length, asked))
             calls.append(calls_of(Path(folder), given.documents, given.length, asked))
     told = {"machine": machine.machine(), "versions": versions, "load": [before, machine.load()], "seed": SEED,
             "documents": given.documents, "length": given.length, "asked": given.asked, "rounds": rounds,
-            "calls": calls}
+            "calls": calls, "in_c": in_c}
     given.output.write_text(json.dumps(told, indent=1) + "\n")
     print(table_of(rounds))
     print(table_of({"zevkhadun": calls}))
+    if in_c:
+        print(table_of({"in C": in_c}))
     return 0
 
 

@@ -63,7 +63,7 @@ fi
 install -m 755 "$work/libzevkhadun.so.1" "$prefix/lib/libzevkhadun.so.1"
 ln -sf libzevkhadun.so.1 "$prefix/lib/libzevkhadun.so"
 cat >"$prefix/lib/pkgconfig/zevkhadun.pc" <<PC
-prefix=$prefix
+prefix=\${pcfiledir}/../..
 libdir=\${prefix}/lib
 includedir=\${prefix}/include
 

@@ -22,7 +22,7 @@ NUMBERS = 2**32
 # Prints what the package for Python answers about each file, as lists of lines in JSON.
 BY_PACKAGE = f"""
 import json, sys
-from zevkhadun import Store
+from zevkhadun import RangedStore, Store
 from zevkhadun.refusals import Refused
 
 def document_of(store, doc_id):
@@ -31,12 +31,18 @@ def document_of(store, doc_id):
     except Refused as refusal:
         return f"error {{refusal.number}}"
 
+def by_ranges(path):
+    content = open(path, "rb").read()
+    return RangedStore(lambda start, length: content[start:start + length], len(content))
+
 def answers_of(path):
     try:
-        with Store(path) as store:
+        with Store(path) as store, by_ranges(path) as ranged:
             num_docs = len(store)
             numbers = [*range(min(num_docs, {FIRST})), (num_docs - 1) % {NUMBERS}, num_docs]
-            return [f"docs {{num_docs}}"] + [document_of(store, doc_id) for doc_id in numbers]
+            answers = [document_of(store, doc_id) for doc_id in numbers]
+            assert [document_of(ranged, doc_id) for doc_id in numbers] == answers, path
+            return [f"docs {{num_docs}}"] + answers
     except Refused as refusal:
         return [f"error {{refusal.number}}"]
 

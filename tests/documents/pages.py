@@ -9,7 +9,7 @@ from pathlib import Path
 
 from harness import TOP
 
-BUILT = {"out", "target", ".git", "__pycache__"}
+BUILT = {"out", "target", "dist", ".git", "__pycache__"}
 
 
 @dataclass(frozen=True)

@@ -19,6 +19,7 @@ VERSIONS = {
     "bindings/rust/Cargo.toml": r'^version = "([^"]*)"',
     "bindings/rust/Cargo.lock": r'name = "zevkhadun"\nversion = "([^"]*)"',
     "bindings/c/include/zevkhadun_file.h": r'^#define ZEVK_VERSION "([^"]*)"',
+    "bindings/python/pyproject.toml": r'^version = "([^"]*)"',
     "bindings/python/src/zevkhadun/__init__.py": r'^__version__ = "([^"]*)"',
     "CHANGELOG.md": r"\A.*?^## (\S+)",
 }

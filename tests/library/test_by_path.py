@@ -1,7 +1,7 @@
-"""Stores by path: programs by two compilers, in C11 and C++17, with and without sanitizers, and under valgrind."""
+"""Stores by path: programs by two compilers, in C11 and C++17, under sanitizers and valgrind, and in threads."""
 
-from library.compiling import ARRAYS, COMPILERS, GCC, PATHS, SOURCES, LibraryCase
-from library.test_checkers import VALGRIND
+from library.compiling import ARRAYS, COMPILERS, GCC, PATHS, SOURCES, Compiler, LibraryCase
+from library.test_checkers import DEBUG, VALGRIND
 
 PROGRAMS = ("by_path.c", "path_errors.c")
 
@@ -56,6 +56,23 @@ class ByGccUnderSanitizers(ByGcc):
 
 class ByClangUnderSanitizers(ByGcc):
     compiler = COMPILERS[3]
+
+
+class Threads(ByPathCase):
+    """Eight threads share open files, and write stores of their own."""
+
+    def test_eight_threads_share_files_under_the_sanitizer_of_threads(self):
+        sanitizers = ("-fsanitize=thread",)
+        self.require_library("clang", *sanitizers, "-pthread")
+        compiler = Compiler("clang", "clang++", sanitizers)
+        objects = tuple(self.compiled_source(compiler, source) for source in (ARRAYS, *PATHS))
+        linked = (*sanitizers, "-pthread")
+        self.end_well(self.compiled(["clang", *DEBUG], SOURCES / "threads_by_path.c", linked, objects))
+
+    def test_eight_threads_share_files_under_helgrind(self):
+        self.require("gcc", "valgrind")
+        program = self.compiled(["gcc", *DEBUG], SOURCES / "threads_by_path.c", ("-pthread",))
+        self.end_well(program, *VALGRIND, "--tool=helgrind")
 
 
 class UnderValgrind(ByPathCase):

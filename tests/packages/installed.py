@@ -11,6 +11,7 @@ import subprocess
 import sys
 import sysconfig
 import tempfile
+from collections.abc import Iterator
 from pathlib import Path
 
 from harness import TOP
@@ -18,6 +19,8 @@ from library.compiling import SECONDS, LibraryCase, default_compiler, prefix
 
 PACKAGE = TOP / "bindings/python"
 OLDEST = (3, 11)
+# What an interpreter prints about itself: what it is, its version, and its path.
+TELL = "import sys; print(sys.implementation.name, '%d.%d' % sys.version_info[:2], sys.executable, sep='\\n')"
 # pip and Python take these from the environment.
 OURS = ("PIP_", "PYTHON", "VIRTUAL_ENV", "ZEVKHADUN_")
 
@@ -56,12 +59,33 @@ def new_wheel(source: Path, target: Path, **further: str) -> Path:
     return built
 
 
-def new_environment(place: Path, built: Path) -> Path:
-    """Installs a wheel into a new virtual environment, and returns the interpreter of that."""
-    run(sys.executable, "-m", "venv", "--without-pip", place)
+def new_environment(place: Path, built: Path, interpreter: str = sys.executable) -> Path:
+    """Installs a wheel into a new virtual environment of an interpreter, and returns the interpreter of that."""
+    run(interpreter, "-m", "venv", "--without-pip", place)
     python = place / "bin/python"
     pip("--python", python, "install", "--quiet", "--no-deps", "--no-index", "--no-compile", built)
     return python
+
+
+def candidates() -> Iterator[Path]:
+    """What may be a CPython from 3.11 on: in the folders of PATH, in /usr/bin, and of pyenv."""
+    folders = [*map(Path, os.environ["PATH"].split(os.pathsep)), Path("/usr/bin")]
+    folders += sorted(Path.home().glob(".pyenv/versions/3.*/bin"))
+    for minor in range(OLDEST[1], 100):
+        yield from (path for folder in folders if (path := folder / f"python3.{minor}").is_file())
+
+
+@functools.cache
+def interpreters() -> dict[str, str]:
+    """The CPythons that the machine has, one of each version from 3.11 on, by their versions: 3.12 and so on."""
+    found: dict[str, str] = {}
+    for path in candidates():
+        done = subprocess.run([path, "-c", TELL], env=environment(), capture_output=True, text=True)
+        # A command of pyenv without its version fails.
+        name, version, executable = done.stdout.split("\n")[:3] if done.returncode == 0 else ("", "", "")
+        if name == "cpython":
+            found.setdefault(version, executable)
+    return found
 
 
 @functools.cache

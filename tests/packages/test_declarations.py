@@ -14,6 +14,7 @@ RAW = PACKAGE / "src/raw.rs"
 NUMBERS = {"uint8_t": "u8", "uint32_t": "u32", "size_t": "usize"}
 TYPES = NUMBERS | {
     "zevk_block": "Block",
+    "zevk_block_place": "BlockPlace",
     "zevk_fault": "Fault",
     "zevk_place": "Place",
     "zevk_writer": "Writer",

@@ -10,7 +10,9 @@ import zipfile
 
 from harness import TOP
 from library.compiling import SECONDS, prefix
-from packages.installed import PACKAGE, InstalledCase, environment, new_environment, new_wheel, python, run, wheel
+from packages.installed import (
+    PACKAGE, InstalledCase, environment, interpreters, new_environment, new_wheel, python, run, wheel,
+)
 
 WORDS = """
 from zevkhadun import Store, Writer
@@ -20,6 +22,8 @@ with Writer("words.store") as writer:
 with Store("words.store") as store:
     print(len(store), store[-1])
 """
+# The version of the Python that runs the tests.
+THIS = "%d.%d" % sys.version_info[:2]
 # A program of a user, for a type checker, and a line that has another type.
 TYPED = """
 from typing import List
@@ -51,8 +55,9 @@ print(zevkhadun_build.build_sdist(sys.argv[2]))
 
 
 class Python(InstalledCase):
-    def test_the_tests_of_the_package_pass_where_it_is_installed(self):
-        command = [python(), "-W", "error", "-m", "unittest", "discover", "-v", "-s", PACKAGE / "tests"]
+    def pass_tests(self, interpreter):
+        """The tests of the package pass where an interpreter has it."""
+        command = [interpreter, "-W", "error", "-m", "unittest", "discover", "-v", "-s", PACKAGE / "tests"]
         done = subprocess.run(
             command, cwd=self.folder, env=environment(), capture_output=True, text=True, timeout=SECONDS
         )
@@ -61,6 +66,18 @@ class Python(InstalledCase):
         for name, reason in SKIPPED.findall(done.stderr):
             with self.subTest(name):
                 self.skipTest(reason)
+
+    def test_the_tests_of_the_package_pass_where_it_is_installed(self):
+        self.pass_tests(python())
+
+    def test_they_pass_with_each_other_version_of_python(self):
+        """The one wheel, installed for each CPython from 3.11 on that the machine has."""
+        others = {version: path for version, path in interpreters().items() if version != THIS}
+        if not others:
+            self.skipTest(f"there is no other CPython from 3.11 on than {THIS}")
+        for version, interpreter in others.items():
+            with self.subTest(version):
+                self.pass_tests(new_environment(self.folder / version, wheel(), interpreter))
 
     def test_the_package_is_that_of_the_wheel(self):
         path = self.succeed(python(), "-c", "import zevkhadun; print(zevkhadun.__file__)", env=environment()).decode()

@@ -24,16 +24,20 @@ class OnDisk:
                 data[place:place + len(more)] = more
         return bytes(data)
 
+    def now(self) -> bytes:
+        """The bytes that a read gives."""
+        return self.after(self.changes)
+
     def sync(self) -> None:
         """Keeps all that was done."""
-        self.synced = self.after(self.changes)
+        self.synced = self.now()
         self.changes = []
 
     def forms(self) -> list[bytes]:
         """What a crash may leave: nothing of what was not synced, all of it, a part, and other bytes."""
         if not self.changes:
             return [self.synced]
-        whole = self.after(self.changes)
+        whole = self.now()
         kind, place, more = self.changes[-1]
         part = self.after(self.changes[:-1] + [(kind, place, more[:len(more) // 2])])
         return list(dict.fromkeys([self.synced, whole, part, b"", b"\xff" * len(whole), bytes(len(whole))]))
@@ -71,6 +75,15 @@ class Disk:
     def write(self, name: str, place: int, data: bytes) -> None:
         """Writes bytes at a place of a file."""
         self.names[name].changes.append(("write", place, data))
+
+    def copy(self, name: str, place: int, source: str, start: int, size: int) -> None:
+        """Writes bytes of another file, which the system copied, at a place of a file."""
+        self.write(name, place, self.names[source].now()[start:start + size])
+
+    def clone(self, name: str, source: str) -> None:
+        """Gives a file all bytes of another one, and no others: the file system shares their blocks."""
+        self.cut(name, 0)
+        self.write(name, 0, self.names[source].now())
 
     def sync(self, name: str) -> None:
         """Syncs a file, or the folder where the name is empty."""

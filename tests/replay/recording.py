@@ -13,11 +13,14 @@ from pathlib import Path
 LINE = re.compile(r"^\d+ +(\w+)\((.*)\) += (-?\d+)")
 TEXT = re.compile(r'"((?:\\x[0-9a-f]{2})*)"')
 DESCRIPTOR = re.compile(r"^(\d+)")
+# The arguments of copy_file_range: a place is that of the descriptor if it is not given.
+COPY = re.compile(r"(\d+), (?:\[(\d+)\]|NULL), (\d+), (?:\[(\d+)\]|NULL), ")
+CLONE = re.compile(r"(\d+), [^,]*\bFICLONE\b[^,]*, (\d+)")
 
 # Calls that change no file and no folder.
 READING = {
     "access", "close", "dup", "dup2", "execve", "faccessat", "fadvise64", "fchdir", "fcntl", "flock", "fstat",
-    "fstatfs", "getcwd", "getdents64", "ioctl", "lseek", "lstat", "mmap", "newfstatat", "poll", "pread64", "preadv",
+    "fstatfs", "getcwd", "getdents64", "lstat", "mmap", "newfstatat", "poll", "pread64", "preadv",
     "read", "readlink", "readlinkat", "readv", "stat", "statfs", "statx", "pselect6", "ppoll",
 }
 
@@ -66,6 +69,13 @@ class Recording:
             self.calls.append(("rename", self.name_of(texts[0]), self.name_of(texts[1])))
         elif call in ("unlink", "unlinkat"):
             self.calls.append(("remove", self.name_of(text_of(arguments).decode())))
+        elif call == "lseek":
+            self.places[int(DESCRIPTOR.match(arguments)[1])] = result
+        elif call == "copy_file_range":
+            self.copied(arguments, result)
+        elif call == "ioctl":
+            if found := CLONE.match(arguments):
+                self.calls.append(("clone", *(self.paths[int(descriptor)] for descriptor in found.groups())))
         elif call not in READING | ACCESS:
             raise ValueError(f"the replay does not know the call {call}")
 
@@ -78,6 +88,20 @@ class Recording:
             self.calls.append(("make", name))
         if name and "O_TRUNC" in arguments:
             self.calls.append(("cut", name, 0))
+
+    def place(self, descriptor: int, named: int | None, moved: int) -> int:
+        """The place of a call in a file: the one that the call names, or that of the descriptor, which moves on."""
+        if named is not None:
+            return named
+        self.places[descriptor] += moved
+        return self.places[descriptor] - moved
+
+    def copied(self, arguments: str, result: int) -> None:
+        """Adds what the system copied from one open file to another."""
+        source, start, target, end = (part and int(part) for part in COPY.match(arguments).groups())
+        start, end = self.place(source, start, result), self.place(target, end, result)
+        if result > 0:
+            self.calls.append(("copy", self.paths[target], end, self.paths[source], start, result))
 
     def wrote(self, call: str, arguments: str, result: int) -> None:
         """Adds a change of an open file, or its sync."""
@@ -95,11 +119,14 @@ class Recording:
             self.places[descriptor] += result
 
 
-def recorded(program: Path, folder: Path, *words: str) -> list[tuple]:
-    """Runs the program in the folder, and returns its calls that change the files of this folder."""
+def recorded(program: Path, folder: Path, *words: str, before: tuple[str | Path, ...] = ()) -> list[tuple]:
+    """Runs the program in the folder, and returns its calls that change the files of this folder.
+
+    What stands before the command may run it where the folder has other files.
+    """
     with tempfile.NamedTemporaryFile("r") as trace:
         strace = ["strace", "-f", "-xx", "-s", str(1 << 26), "-e", "trace=%file,%desc", "-o", trace.name]
-        done = subprocess.run([*strace, program, *words], cwd=folder, capture_output=True, timeout=120)
+        done = subprocess.run([*before, *strace, program, *words], cwd=folder, capture_output=True, timeout=120)
         if done.returncode != 0:
             raise ValueError(done.stderr.decode())
         return Recording(folder, trace).calls

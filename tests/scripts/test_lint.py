@@ -9,7 +9,7 @@ from pathlib import Path
 from documents.pages import files, text_of
 from harness import TOP, Case
 
-SCRIPTS = list(files("tests", "tools", "bench", "bindings", "examples", ".ci"))
+SCRIPTS = [*files("tests", "tools", "bench", "bindings", "examples", ".ci"), TOP / "dist.sh"]
 PYTHON = [path for path in SCRIPTS if path.suffix == ".py"]
 SHELL = [path for path in SCRIPTS if path.suffix == ".sh" or re.match(r"#!.*\b(?:ba)?sh\b", text_of(path))]
 LONGEST = 400

@@ -186,8 +186,9 @@ void zevk_file_discard(zevk_file_writer *writer);
 
 /* ---- rules for callers, which no call can check
  *
- * - Any number of threads may read one open file and use cursors of their own, until one of them closes it. One thread
- *   at a time uses a cursor, and one a writer. Different files and writers are independent.
+ * - Any number of threads may use one open file at once, by gets, cursors of their own, facts and zevk_file_stack, until
+ *   one of them closes it. One thread at a time uses a cursor, and one a writer. Different files and writers are
+ *   independent.
  * - After a fork a writer is used by one of the two processes; the second file stays locked until both have ended or
  *   discarded it. A file may be read and closed by both.
  * - A file that is mapped may be replaced, as zevk_file_publish does; the map stays that of the old file. If another

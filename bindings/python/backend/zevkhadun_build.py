@@ -158,7 +158,8 @@ def prepare_metadata_for_build_wheel(metadata_directory: str, config_settings: d
 def build_sdist(sdist_directory: str, config_settings: dict | None = None) -> str:
     """Builds the source archive, with the library inside, and returns its name."""
     prefix = prefix_of(config_settings)
-    paths = [path for folder in ("backend", "src", "tests") for path in (HERE / folder).rglob("*") if path.is_file()]
+    folders = ("backend", "examples", "src", "tests")
+    paths = [path for folder in folders for path in (HERE / folder).rglob("*") if path.is_file()]
     paths = [path for path in paths if "__pycache__" not in path.parts] + [HERE / "README.md", HERE / "pyproject.toml"]
     files = {str(path.relative_to(HERE)): path.read_bytes() for path in paths}
     files |= {f"library/{name}": (prefix / name).read_bytes() for name in (LIBRARY, HEADER)}

@@ -51,6 +51,49 @@ class InFolder(unittest.TestCase):
         return self.path
 
 
+class OneByOne(InFolder):
+    """Documents that are asked for one after the other: their places are found ahead of time."""
+
+    def test_any_order_of_numbers_gives_their_documents(self):
+        documents = [b"%d" % number * (number % 3) for number in range(3000)]
+        with Writer(self.path, block_size=500) as writer:
+            writer.extend(documents)
+        orders = [
+            range(3000), range(2999, -1, -1), range(0, 3000, 2), [0, 0, 1, 1, 2, 2, 0, 1, 2],
+            [number + step for number in range(0, 2900, 100) for step in (0, 1, 2, 3, 50, 4, 5, 6, 7, 8, 9, 7)],
+            [number for pair in zip(range(1500), range(1500, 3000)) for number in pair],
+        ]
+        for order in orders:
+            with Store(self.path) as store:
+                self.assertTrue([store[number] for number in order] == [documents[number] for number in order])
+                self.assertTrue([bytes(store.view(number)) for number in order] == [documents[n] for n in order])
+
+    def test_damage_is_met_where_it_is_and_what_follows_is_read(self):
+        with Store(damaged()) as store:
+            for _ in range(2):
+                found = []
+                for number in range(len(store)):
+                    try:
+                        found.append(store[number])
+                    except refusals.DamagedDocument as error:
+                        self.assertEqual(error.document, number)
+                        found.append(None)
+                self.assertEqual(found, DAMAGED)
+
+    def test_the_last_document_has_none_after_it(self):
+        with Store(FILE) as store:
+            self.assertEqual([store[62], store[63]], DOCUMENTS[62:])
+            with self.assertRaises(refusals.NoDocument):
+                store[64]
+            self.assertEqual([store[63], store[0], store[-1]], [DOCUMENTS[63], DOCUMENTS[0], DOCUMENTS[63]])
+
+    def test_a_store_without_documents_has_none(self):
+        with Writer(self.path):
+            pass
+        with Store(self.path) as store, self.assertRaises(refusals.NoDocument):
+            store[0]
+
+
 class ManyDocuments(InFolder):
     def test_a_store_is_a_sequence(self):
         with Store(FILE) as store:

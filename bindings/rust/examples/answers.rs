@@ -4,7 +4,7 @@
 //! usage: answers FILE..
 
 use std::fmt::Write;
-use zevkhadun::{Refusal, Store};
+use zevkhadun::{RangedStore, ReadError, Refusal, Store};
 
 /// How many of the first documents are printed.
 const FIRST: u32 = 200;
@@ -24,6 +24,14 @@ fn text_of(answer: Result<&[u8], Refusal>) -> String {
     text
 }
 
+/// The answer of a store that is read by ranges.
+fn by_ranges(answer: Result<Vec<u8>, ReadError>) -> Result<Vec<u8>, Refusal> {
+    answer.map_err(|error| match error {
+        ReadError::Refused(refusal) => refusal,
+        error => panic!("{error}"),
+    })
+}
+
 fn main() -> std::io::Result<()> {
     for path in std::env::args_os().skip(1) {
         let file = std::fs::read(path)?;
@@ -31,11 +39,16 @@ fn main() -> std::io::Result<()> {
             Err(refusal) => println!("error {}", refusal.number()),
             Ok(store) => {
                 println!("docs {}", store.len());
+                let read = |start: u64, len: usize| Ok(file[start as usize..][..len].to_vec());
+                let ranged = RangedStore::open(read, file.len() as u64).expect("a store by ranges");
+                assert_eq!(ranged.len(), store.len());
                 let count = store.facts().documents;
                 let first = 0..count.min(FIRST);
                 for doc_id in first.chain([count.wrapping_sub(1), count]) {
                     let answer = store.get(doc_id);
                     assert_eq!(zevkhadun::get(&file, doc_id), answer, "without opening");
+                    let same = answer.map(<[u8]>::to_vec);
+                    assert_eq!(by_ranges(ranged.get(doc_id)), same, "by ranges");
                     println!("{}", text_of(answer));
                 }
             }

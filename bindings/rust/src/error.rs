@@ -221,6 +221,9 @@ pub(crate) const NO_ROOM: u32 = Refusal::NoRoom.number();
 /// What it returns if the open block has to be ended first.
 pub(crate) const OPEN_BLOCK: u32 = Refusal::OpenBlock.number();
 
+/// What it returns if the end of a file lacks a part of the index.
+pub(crate) const TAIL_TOO_SHORT: u32 = Refusal::TailTooShort.number();
+
 /// The error of a number that the library returned, if it is one.
 pub(crate) fn check(answer: u32) -> Result<(), Refusal> {
     match answer {

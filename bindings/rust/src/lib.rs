@@ -38,19 +38,29 @@
 //! a crate such as `memmap2` mapped. A mapped file must not be cut while it is read, or the program ends with SIGBUS.
 //! [`get`] reads one document and opens nothing, and [`verify`] checks a whole file.
 //!
+//! # Read it from elsewhere
+//!
+//! A [`RangedStore`] reads a file in object storage or on a web server by ranges of it: its end, and then the blocks
+//! that the documents are in.
+//!
 //! # Safety
 //!
 //! No bytes make a call crash or read out of bounds, which is proved of the library for C. This crate is tested.
 
 #![warn(missing_docs)]
 
+mod block_cache;
 mod close_error;
 mod documents;
 mod error;
 mod facts;
 mod file_writer;
 mod part;
+mod ranged;
+mod ranged_blocks;
+mod ranged_documents;
 mod raw;
+mod read_error;
 mod store;
 mod unopened;
 mod writer;
@@ -60,6 +70,10 @@ pub use documents::{Documents, SoundDocuments};
 pub use error::{Error, Refusal};
 pub use facts::Facts;
 pub use file_writer::FileWriter;
+pub use ranged::{RangedOptions, RangedStore};
+pub use ranged_blocks::BlockPlace;
+pub use ranged_documents::RangedDocuments;
+pub use read_error::ReadError;
 pub use store::Store;
 pub use unopened::{get, num_docs, verify, Fault, FaultPlace};
 pub use writer::{Options, Writer};

@@ -17,6 +17,16 @@ pub(crate) struct Place {
     pub(crate) len: usize,
 }
 
+/// Where a block of documents lies in its file.
+#[repr(C)]
+#[derive(Clone, Copy, Default)]
+pub(crate) struct BlockPlace {
+    pub(crate) first_doc: u32,
+    pub(crate) end_doc: u32,
+    pub(crate) start: usize,
+    pub(crate) len: usize,
+}
+
 /// Where a file breaks what the format says of it.
 #[repr(C)]
 #[derive(Clone, Copy, Default)]
@@ -73,6 +83,21 @@ extern "C" {
         places_len: usize,
         count: *mut usize,
     ) -> u32;
+    pub(crate) fn zevk_block_of(
+        tail: *const u8,
+        tail_len: usize,
+        file_len: usize,
+        doc_id: u32,
+        block: *mut BlockPlace,
+        wanted: *mut usize,
+    ) -> u32;
+    pub(crate) fn zevk_get_in(
+        block: *const u8,
+        block_len: usize,
+        at: *const BlockPlace,
+        doc_id: u32,
+        place: *mut Place,
+    ) -> u32;
     pub(crate) fn zevk_writer_begin(writer: *mut Writer, block_size: usize);
     pub(crate) fn zevk_writer_put(
         writer: *mut Writer,
@@ -115,5 +140,12 @@ impl Place {
     /// The bytes of the document, in the file in which the library found it.
     pub(crate) fn of(self, file: &[u8]) -> &[u8] {
         &file[self.start..][..self.len]
+    }
+}
+
+impl BlockPlace {
+    /// Where its bytes are: the offset, and how many.
+    pub(crate) fn span(self) -> (usize, usize) {
+        (self.start, self.len)
     }
 }

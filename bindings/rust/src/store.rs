@@ -115,20 +115,8 @@ impl<D: AsRef<[u8]>> Store<D> {
     /// # Ok::<(), Box<dyn std::error::Error>>(())
     /// ```
     pub fn range(&self, doc_ids: impl RangeBounds<u32>) -> Documents<'_> {
-        let count = u64::from(self.facts.documents);
-        let start = match doc_ids.start_bound() {
-            Bound::Included(&first) => u64::from(first),
-            Bound::Excluded(&before) => u64::from(before) + 1,
-            Bound::Unbounded => 0,
-        };
-        let end = match doc_ids.end_bound() {
-            Bound::Included(&last) => u64::from(last) + 1,
-            Bound::Excluded(&end) => u64::from(end),
-            Bound::Unbounded => count,
-        };
-        let end = end.min(count);
-        // Both are at most the count, which is a u32.
-        Documents::new(self.file(), &self.table, start.min(end) as u32, end as u32)
+        let Range { start, end } = numbers_in(doc_ids, self.facts.documents);
+        Documents::new(self.file(), &self.table, start, end)
     }
 
     /// Checks the whole file, each block too, as [`verify`](crate::verify) does.
@@ -178,6 +166,24 @@ impl<'s, D: AsRef<[u8]>> IntoIterator for &'s Store<D> {
     fn into_iter(self) -> Documents<'s> {
         self.iter()
     }
+}
+
+/// Which of this many documents have numbers in a range.
+pub(crate) fn numbers_in(doc_ids: impl RangeBounds<u32>, count: u32) -> Range<u32> {
+    let count = u64::from(count);
+    let start = match doc_ids.start_bound() {
+        Bound::Included(&first) => u64::from(first),
+        Bound::Excluded(&before) => u64::from(before) + 1,
+        Bound::Unbounded => 0,
+    };
+    let end = match doc_ids.end_bound() {
+        Bound::Included(&last) => u64::from(last) + 1,
+        Bound::Excluded(&end) => u64::from(end),
+        Bound::Unbounded => count,
+    };
+    let end = end.min(count);
+    // Both are at most the count, which is a u32.
+    start.min(end) as u32..end as u32
 }
 
 /// The table of a store's file, and its number of documents.

@@ -10,6 +10,9 @@
 
 #include "zevkhadun.h"
 
+/* How many places a reader finds at once where it is asked for one document after the other. */
+#define AHEAD 64
+
 /* An open store: the bytes of its file, and the table of its blocks. */
 typedef struct reader {
     PyObject_HEAD
@@ -25,6 +28,10 @@ typedef struct reader {
     Py_ssize_t users;    /* how many calls read without the interpreter's lock */
     int is_open;         /* whether it was opened and not closed */
     int is_mapped;       /* whether the file is mapped */
+    uint32_t next;       /* one more than the number that was asked for last */
+    uint32_t ahead_from; /* the number of the document whose place is the first one in `ahead` */
+    uint32_t ahead_len;  /* how many places there are in `ahead` */
+    zevk_place ahead[AHEAD];
 } reader;
 
 /* What the module keeps: its types. */

@@ -164,8 +164,46 @@ static void *raise_missing(const reader *self, Py_ssize_t number) {
     return facts ? raise_refusal(ZEVK_NO_DOCUMENT, self->path, facts) : NULL;
 }
 
+/* Finds the places from a document on: four of them after a jump, and twice as many each time after that. */
+static void find_ahead(reader *self, uint32_t number) {
+    size_t wanted = self->ahead_len < 4 ? 4 : 2 * (size_t)self->ahead_len;
+    size_t found = 0;
+    wanted = wanted < AHEAD ? wanted : AHEAD;
+    zevk_locate_run(self->file, self->len, self->table, self->rows, number, self->ahead, wanted, &found);
+    self->ahead_from = number;
+    self->ahead_len = (uint32_t)found;
+}
+
+/* Sets `place` to where a document lies, or returns an error. A document that follows the one before is mostly found
+ * already. */
+static uint32_t locate(reader *self, uint32_t number, zevk_place *place) {
+    uint32_t at = number - self->ahead_from;
+    if (at >= self->ahead_len && number == self->next) {
+        find_ahead(self, number);
+        at = 0;
+    } else if (at >= self->ahead_len) {
+        self->ahead_len = 0;
+    }
+    self->next = number + 1;
+    if (at < self->ahead_len) {
+        *place = self->ahead[at];
+        return 0;
+    }
+    return zevk_locate(self->file, self->len, self->table, self->rows, number, place);
+}
+
+/* The number that a key is, clipped where it is too large; -1 with an exception if it is none. */
+static Py_ssize_t number_of(PyObject *key) {
+    Py_ssize_t number = PyLong_CheckExact(key) ? PyLong_AsSsize_t(key) : -1;
+    if (number == -1) {
+        PyErr_Clear();
+        number = PyNumber_AsSsize_t(key, NULL);
+    }
+    return number;
+}
+
 /* Sets `place` to where a document lies; a negative number counts from the end. */
-static int find(const reader *self, Py_ssize_t number, zevk_place *place) {
+static int find(reader *self, Py_ssize_t number, zevk_place *place) {
     Py_ssize_t at = number < 0 ? number + (Py_ssize_t)self->count : number;
     if (at < 0 || at >= (Py_ssize_t)self->count) {
         raise_missing(self, number);
@@ -174,7 +212,7 @@ static int find(const reader *self, Py_ssize_t number, zevk_place *place) {
     if (!check_open(self)) {
         return 0;
     }
-    uint32_t answer = zevk_locate(self->file, self->len, self->table, self->rows, (uint32_t)at, place);
+    uint32_t answer = locate(self, (uint32_t)at, place);
     if (answer) {
         PyObject *facts = Py_BuildValue("{sn}", "document", at);
         if (facts) {
@@ -199,7 +237,7 @@ static PyObject *subscript(PyObject *object, PyObject *key) {
         Py_ssize_t count = PySlice_AdjustIndices((Py_ssize_t)self->count, &start, &stop, step);
         return check_open(self) ? documents_of(self, start, count, step) : NULL;
     }
-    Py_ssize_t number = PyNumber_AsSsize_t(key, NULL);
+    Py_ssize_t number = number_of(key);
     if (number == -1 && PyErr_Occurred()) {
         return NULL;
     }
@@ -213,7 +251,7 @@ static Py_ssize_t length(PyObject *object) {
 static PyObject *view(PyObject *object, PyObject *key) {
     reader *self = (reader *)object;
     zevk_place place;
-    Py_ssize_t number = PyNumber_AsSsize_t(key, NULL);
+    Py_ssize_t number = number_of(key);
     if ((number == -1 && PyErr_Occurred()) || !find(self, number, &place)) {
         return NULL;
     }

@@ -1,0 +1,45 @@
+"""What a power cut leaves of a store that the packages write: the calls of their examples, cut at each point."""
+
+from __future__ import annotations
+
+from harness import numbers
+from library.compiling import EXAMPLES, LibraryCase, default_compiler
+from library.test_replay_by_path import Replaying
+from packages.cargo import example
+from packages.installed import PACKAGE, InstalledCase, python
+
+# Runs the example by the interpreter that has the package.
+RUN = """#!/bin/sh
+PYTHONDONTWRITEBYTECODE=1 exec '{python}' '{example}' "$@"
+"""
+
+
+class PackageReplay(Replaying):
+    """The tests, for a test case that has the program that packs lines in `new_program`."""
+
+    def setUp(self):
+        super().setUp()
+        self.printing = self.compiled([default_compiler(), "-std=c11"], EXAMPLES / "print_store.c")
+        self.packing = self.new_program()
+        self.folder = self.new_folder()
+
+    def test_a_store_is_replaced(self):
+        files = self.pack_old()
+        self.check(self.recorded("", numbers(20000)), numbers(20000), files)
+
+    def test_a_store_is_written_where_there_was_none(self):
+        self.check(self.recorded("", numbers(100)), numbers(100), {})
+
+
+class ReplayInPython(PackageReplay, InstalledCase):
+    def new_program(self):
+        program = self.programs / "pack"
+        program.write_text(RUN.format(python=python(), example=PACKAGE / "examples/pack.py"))
+        program.chmod(0o755)
+        return program
+
+
+class ReplayInRust(PackageReplay, LibraryCase):
+    def new_program(self):
+        self.require("cargo")
+        return example("pack")
