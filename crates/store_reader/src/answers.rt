@@ -65,8 +65,9 @@ pub fn any_lacks_memory(answers: &[Answer]) -> bool
 /// The blocks of the documents and of the iterations are looked up in this order, and the file is read once for each
 /// that the cache doesn't keep. `Memory` comes only where the lists of answers can't grow. A get is answered by
 /// `InvalidArgument` exactly where its id is at or past the count. Where any answer or item is `Read`, the file's
-/// count of failures has risen in the call. Where none is, it has stayed, if each block that is looked up has a document
-/// that is answered: an iteration looks a block up also where none of its documents is alive, and returns nothing of it.
+/// count of failures has risen in the call. Where none is, it has stayed, if each block that is looked up has a
+/// document that is answered: an iteration looks a block up also where none of its documents is alive, and returns
+/// nothing of it.
 pub fn answer_all<H: FileHandle>(
     alloc: Global,
     reader: &mut StoreReader<H>,
