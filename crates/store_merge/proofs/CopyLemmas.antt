@@ -22,7 +22,7 @@ use Rattle.store_reader.specs.LookingUp.{LooksUp, IsShared}
 use Rattle.store_reader.specs.Reading.{Reading, IsSameStore, num_docs, store_of}
 use Rattle.store_format.specs.Slots.{slots}
 use Rattle.docstore.specs.Trace.{weight}
-use Rattle.store_reader.specs.Walking.{taken_last, GivesNext, IsBlockTaken, IsWalk, LooksAlong}
+use Rattle.store_reader.specs.Walking.{taken_last, GivesNext, IsBlockTaken, IsSteadyBetween, IsWalk, LooksAlong}
 use Rattle.docstore.specs.Writer.{Writing, flushed, with_document, with_failures}
 use Rattle.docstore.specs.Laws.{taken}
 use Rattle.store_merge.specs.Bringing.{IsCopied, with_documents}
@@ -156,7 +156,7 @@ none_failed first r is = absurd cc
 -- one look-up of a block
 failed_once : (first r : Reading) (id : ℕ) (c : Checkpoint) (block : Result (List ℕ) StoreError) (mid : Reading) → first.file.failures ≤ r.file.failures → IsBlockTaken r id c block mid
     → HasFailedRead first mid (Some block)
-failed_once first r id c block mid le t is = by block t.taken (cc)
+failed_once first r id c block mid le t is = by t.came block refl t.taken (cc)
   where
     came_failed : t.came ≡ Err Read → HasRisen first.file.failures mid.file.failures
     came_failed is = elim t.looked.looks_up.cause [
@@ -164,12 +164,10 @@ failed_once first r id c block mid le t is = by block t.taken (cc)
       | inr miss ↦ let risen = miss.read.failed is in record { no_lower = omega (arith, risen.no_lower); risen = λ few. omega (arith, risen.risen few) }
     ]
 
-    by : (b : Result (List ℕ) StoreError) → IsShared t.came b → b ≡ Err Read → HasRisen first.file.failures mid.file.failures
-    by (Ok bytes) took is = absurd cc
-    by (Err e) took is = elim took [
-      | inl same ↦ came_failed (same ∙ is)
-      | inr memory ↦ absurd (let h : ◌≡◌ {A = Result (List ℕ) StoreError} (Err Memory) (Err Read) = sym (ap (λ (x : StoreError). let r : Result (List ℕ) StoreError = Err x in r) memory) ∙ is in cc)
-    ]
+    by : (came b : Result (List ℕ) StoreError) → t.came ≡ came → IsShared came b → b ≡ Err Read → HasRisen first.file.failures mid.file.failures
+    by (Ok bytes) (Ok b) here took is = absurd cc
+    by (Ok bytes) (Err e) here took is = absurd cc
+    by (Err e) b here took is = came_failed (here ∙ sym took ∙ is)
 
 -- the count of failures never falls
 failures_once : (r : Reading) (c : Checkpoint) (came : Result (List ℕ) StoreError) (mid : Reading) → LooksUp c r.file r.cache came mid.file mid.cache → r.file.failures ≤ mid.file.failures
@@ -188,6 +186,17 @@ failed_along (c ∷ cs) first r b r' b' le h l =
     failed_along cs first mid (Some l.1) r' b' (omega (arith, le, on)) (failed_once first r c.doc_range.start c l.1 mid le l.2) l.3
 
 -- ---- by what an iterator gives
+
+-- an item that is a failed read is refused as one
+pub refused_read : (item : Result (List ℕ) StoreError) (old new : Writing) (e : StoreError) → IsRefused item old new e → item ≡ Err Read → e ≡ Read
+refused_read item old new e refused is = elim refused [
+  | inl x ↦ let same : ◌≡◌ {A = Result (List ℕ) StoreError} (Err e) (Err Read) = sym x.0 ∙ is in cc
+  | inr x ↦ absurd (let same : ◌≡◌ {A = Result (List ℕ) StoreError} (Ok x.bytes) (Err Read) = sym x.is ∙ is in cc)
+]
+
+-- one that is stored is none
+pub stored_no_failure : (item : Result (List ℕ) StoreError) (old new : Writing) → IsItemStored item old new → item ≡ Err Read → ⊥
+stored_no_failure item old new t is = let same : ◌≡◌ {A = Result (List ℕ) StoreError} (Ok t.bytes) (Err Read) = sym t.is ∙ is in cc
 
 -- a damaged document of an honest file
 truly_damaged : (id : ℕ) (s : Option Slot) → AnswersTruly id s (Err (DamagedDocument id)) → s ≡ Some damaged
@@ -253,14 +262,18 @@ module _ (first old new : Reading) (set : Option (ℕ → Bool)) (from to : Walk
 
     -- or it stops here
     pub stops : (e : StoreError) (after : Writing) → start.output.failures ≤ w.output.failures → IsWalk new to → HasFailedRead first new (taken_last to) → IsRefused item w after e
-        → StopsAt set first new start after e
-    stops e after count walk failed refused = record {
+        → (item ≡ Err Read) ⊎ IsSteadyBetween set first new 0 gives.last → StopsAt set first new start after e
+    stops e after count walk failed refused steady = record {
       id = gives.last;
       below = omega (arith, last_below, docs);
       is_alive = gives.gives.is_alive;
       before = w;
       copied = copied_to;
       count = count;
+      steady = elim steady [
+        | inl none ↦ inl (refused_read item w after e refused none)
+        | inr still ↦ inr still
+      ];
       cause = elim refused [
         | inl x ↦ inl (refuses_item e walk failed x.0, x.1)
         | inr x ↦ inr (record { bytes = x.bytes; came = λ honest. truly_as (Ok x.bytes) x.is honest; refused = x.refused })

@@ -14,7 +14,7 @@ use Rattle.docstore.specs.Stacking.{with_store}
 use Rattle.docstore.specs.Writer.{Writing, with_document, with_failures}
 use Rattle.store_merge.specs.declared.input.MergeInput.{MergeInput}
 use Rattle.store_merge.specs.Bringing.{Brought, stacked, copied, with_documents, with_brought, merged, slots_brought, IsBrought, AreBrought}
-use Rattle.store_merge.specs.Inputs.{AreEach, AreInputsKept, IsInputTaken}
+use Rattle.store_merge.specs.Inputs.{AreEach, AreInputsKept, IsInputKept, IsInputTaken, IsSteadyInput}
 use Rattle.store_merge.specs.Merge.{IsMerged}
 use Rattle.store_merge.proofs.CopyLemmas.{counted_document, same_failure}
 use Rattle.store_reader.proofs.RecentLemmas.{same_as_it_is}
@@ -41,9 +41,18 @@ left_is news i y lt = slice_get-get_or (set news i y) i y (omega (arith, lt, len
 
 -- ---- what is kept
 
+pub each_same : {H : Type 0} (Is : MergeInput H → MergeInput H → Type 0) → ((x : MergeInput H) → Is x x) → (xs : List (MergeInput H)) → AreEach Is xs xs
+each_same Is same [] = tt
+each_same Is same (x ∷ xs) = (same x, each_same Is same xs)
+
+kept_same : {H : Type 0} (x : MergeInput H) → IsInputKept x x
+kept_same x = record { store = same_as_it_is x.reader; set = refl; asked = omega arith }
+
 pub all_kept : {H : Type 0} (xs : List (MergeInput H)) → AreInputsKept xs xs
-all_kept [] = tt
-all_kept (x ∷ xs) = (record { store = same_as_it_is x.reader; set = refl; asked = omega arith }, all_kept xs)
+all_kept xs = each_same IsInputKept kept_same xs
+
+pub steady_same : {H : Type 0} (x : MergeInput H) → IsSteadyInput x x
+steady_same x = inl refl
 
 each_push : {H : Type 0} (Is : MergeInput H → MergeInput H → Type 0) (xs ys : List (MergeInput H)) (x y : MergeInput H) → AreEach Is xs ys → Is x y
     → AreEach Is (xs ++ x ∷ []) (ys ++ y ∷ [])
@@ -66,13 +75,18 @@ each_all Is i olds news len le h =
     let new = take_all i news (omega (arith, len, le)) in
     subst (λ xs. AreEach Is xs news) old (subst (AreEach Is (take i olds)) new h)
 
+-- what holds of an input that is as it was, and of those before a place, holds of all, where the others are as they were
+pub rest_all : {H : Type 0} (Is : MergeInput H → MergeInput H → Type 0) → ((x : MergeInput H) → Is x x) → (i : ℕ) (olds news : List (MergeInput H)) → AreEach Is (take i olds) (take i news)
+    → drop i news ≡ drop i olds → AreEach Is olds news
+rest_all Is same zero olds news h rest = subst (AreEach Is olds) (sym rest) (each_same Is same olds)
+rest_all Is same (suc i) [] [] h rest = tt
+rest_all Is same (suc i) (x ∷ olds) (y ∷ news) h rest = (h.0, rest_all Is same i olds news h.1 rest)
+rest_all Is same (suc i) [] (y ∷ news) h rest = absurd h
+rest_all Is same (suc i) (x ∷ olds) [] h rest = absurd h
+
 -- the others are as they were
 pub kept_all : {H : Type 0} (i : ℕ) (olds news : List (MergeInput H)) → AreInputsKept (take i olds) (take i news) → drop i news ≡ drop i olds → AreInputsKept olds news
-kept_all zero olds news h rest = subst (AreInputsKept olds) (sym rest) (all_kept olds)
-kept_all (suc i) [] [] h rest = tt
-kept_all (suc i) (x ∷ olds) (y ∷ news) h rest = (h.0, kept_all i olds news h.1 rest)
-kept_all (suc i) [] (y ∷ news) h rest = absurd h
-kept_all (suc i) (x ∷ olds) [] h rest = absurd h
+kept_all i olds news h rest = rest_all IsInputKept kept_same i olds news h rest
 
 -- ---- what has come
 

@@ -1,13 +1,15 @@
 -- The inputs of a merge, and what the taking of one leaves.
-use Rattle.std.specs.Prelude.{◌≡◌, ◌≢◌, ◌≤◌, ◌+◌, List, [], ◌∷◌, ◌++◌, length, IfSome, None}
+use Rattle.std.specs.Prelude.{◌≡◌, ◌≢◌, ◌≤◌, ◌⊎◌, ◌+◌, false, List, [], ◌∷◌, ◌++◌, length, IfSome, None}
 use Rattle.store_format.specs.declared.version.DocStoreVersion.TheVariants.{V1}
 use Rattle.docstore.specs.Laws.{taken}
 use Rattle.store_reader.specs.Reading.{Reading, IsSameStore, num_docs as docs_of}
+use Rattle.store_reader.specs.Walking.{PassesDead}
 use Rattle.store_format.specs.Slots.{slots}
 use Rattle.docstore.specs.Stacking.{AreRead, with_store}
 use Rattle.store_format.specs.StoreFile.{StoreBlock}
 use Rattle.docstore.specs.Writer.{Writing, with_failures}
 use Rattle.store_merge.specs.declared.input.MergeInput.{MergeInput}
+use Rattle.store_merge.specs.Choice.{flags_of, is_stacked}
 use Rattle.store_merge.specs.Stacking.{IsStackedBy}
 use Rattle.store_merge.specs.Bringing.{Brought, IsBrought, with_brought, slots_brought, WorkedOrIdle}
 
@@ -29,6 +31,11 @@ pub record IsInputKept {H : Type 0} (x left : MergeInput H) : Type 0 where
   pub store : IsSameStore x.reader left.reader
   pub set : left.alive ≡ x.alive
   pub asked : IsAskedOnce x.reader left.reader
+
+-- No read of an input failed, but where it is copied of a block of which no document is alive.
+abbrev pub IsSteadyInput : {H : Type 0} → MergeInput H → MergeInput H → Type 0
+IsSteadyInput x left = (left.reader.file.failures ≡ x.reader.file.failures)
+    ⊎ ((is_stacked x ≡ false) × PassesDead (flags_of x.alive) x.reader.checkpoints 0 (docs_of x.reader))
 
 -- the same said of each input and what is left of it
 abbrev pub AreEach : {H : Type 0} → (MergeInput H → MergeInput H → Type 0) → List (MergeInput H)

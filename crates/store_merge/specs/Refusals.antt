@@ -11,6 +11,7 @@ use Rattle.store_reader.specs.Iteration.{is_in, alive}
 use Rattle.docstore.specs.Laws.{taken}
 use Rattle.store_reader.specs.Reading.{Reading, num_docs as docs_of, store_of}
 use Rattle.store_format.specs.Slots.{slots}
+use Rattle.store_reader.specs.Walking.{IsSteadyBetween}
 use Rattle.docstore.specs.Stacking.{HasTooMany}
 use Rattle.docstore.specs.Writer.{Writing, num_docs, IsTooLarge, AfterFailed}
 use Rattle.store_merge.specs.declared.input.MergeInput.{MergeInput}
@@ -39,7 +40,8 @@ pub record RefusesDocument (id : ℕ) (reader : Reading) (old new : Writing) (e 
   pub came : IsTrue reader.file.honest → slice_get (slots (store_of reader)) id ≡ Some (doc bytes)
   pub refused : RefusesBytes bytes old new e
 
--- The copying of a store stops at a document that is alive, behind all that are alive before it.
+-- The copying of a store stops at a document that is alive, behind all that are alive before it. Where that is not for a
+-- failed read, no read failed, but of a block before it of which no document is alive.
 pub record StopsAt (set : Option (ℕ → Bool)) (reader read : Reading) (old new : Writing) (e : StoreError)
     : Type 0 where
   pub id : ℕ
@@ -49,6 +51,7 @@ pub record StopsAt (set : Option (ℕ → Bool)) (reader read : Reading) (old ne
   pub copied : IsCopied reader.file.honest (alive (take id (slots (store_of reader))) set) old before
   pub count : old.output.failures ≤ before.output.failures
   pub cause : (RefusesItem id reader read e × (new ≡ before)) ⊎ RefusesDocument id reader before new e
+  pub steady : (e ≡ Read) ⊎ IsSteadyBetween set reader read 0 id
 
 -- Why a store was not stacked, and what that leaves of the writer: this where its data was refused.
 abbrev pub RefusesStore : (Reading → Writing → Writing → Type 0) → Reading → Reading → Writing

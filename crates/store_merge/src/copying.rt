@@ -2,7 +2,7 @@
 ghost use Rattle.std.specs.Prelude.{◌≡◌, ◌≤◌, ◌⊎◌, Ok, Err, OnOk, IfErr, IfSome, IsErrOf, length};
 ghost use Rattle.store_reader.specs.Reading.{IsSameStore, num_docs, store_of};
 ghost use Rattle.store_format.specs.Slots.{slots};
-ghost use Rattle.store_reader.specs.Walking.{set_of};
+ghost use Rattle.store_reader.specs.Walking.{set_of, IsSteadyBetween};
 ghost use Rattle.docstore.specs.Writer.{IsStoreWriter};
 ghost use Rattle.store_merge.specs.Bringing.{IsCopied};
 ghost use Rattle.store_merge.specs.Choice.{alive_of};
@@ -49,6 +49,8 @@ pub fn copy_documents<W: TerminatingWrite, H: FileHandle>(
     ensures stopped { IfErr result (StopsAt (set_of alive.entry) reader.old reader.new writer.old writer.new) }
     ensures same_store { IsSameStore reader.old reader.new }
     ensures asked { IsAskedOnce reader.old reader.new }
+    ensures faults { IsErrOf result StoreError.Read
+        ⊎ IsSteadyBetween (set_of alive.entry) reader.old reader.new 0 (num_docs reader.old) }
     ensures count { writer.old.output.failures ≤ writer.new.output.failures }
     ensures steady { IsErrOf result (StoreError.Failed Cause.Write)
         ⊎ (writer.new.output.failures ≡ writer.old.output.failures) }

@@ -6,7 +6,8 @@ ghost use Rattle.docstore.specs.StackingInParts.{BeginsStack};
 ghost use Rattle.docstore.specs.Writer.{IsStoreWriter};
 ghost use Rattle.store_reader.specs.Reading.{IsReadWhole};
 ghost use Rattle.store_merge.specs.Choice.{first_old, alive_slots};
-ghost use Rattle.store_merge.specs.Inputs.{HasWholeSet, CanBeTaken, AreInputsKept, AreStackedBy};
+ghost use Rattle.store_merge.specs.Inputs.{HasWholeSet, CanBeTaken, AreEach, AreInputsKept, AreStackedBy};
+ghost use Rattle.store_merge.specs.Inputs.{IsSteadyInput};
 ghost use Rattle.store_merge.specs.Stacking.{Leaves, LeavesFlushed, IsReadBy, IsReadInParts};
 ghost use Rattle.store_merge.specs.Merge.{IsHonest, IsMerged, IsEnded, IsFailed, HasBegun};
 
@@ -31,6 +32,8 @@ fn take_inputs<W: TerminatingWrite, H: FileHandle>(
     ensures ended { IfErr result (IsEnded (Leaves stacking) inputs.old inputs.new writer.old writer.new) }
     ensures read { OnOk result (AreStackedBy (IsReadBy stacking) inputs.old inputs.new) }
     ensures kept { AreInputsKept inputs.old inputs.new }
+    ensures faults { IsErrAnd result (λ e. e.error ≡ StoreError.Read)
+        ⊎ AreEach IsSteadyInput inputs.old inputs.new }
     ensures count { writer.old.output.failures ≤ writer.new.output.failures }
     ensures steady { IsErrAnd result (λ e. e.error ≡ StoreError.Failed Cause.Write)
         ⊎ (writer.new.output.failures ≡ writer.old.output.failures) }
@@ -82,6 +85,10 @@ fn merge_by<W: TerminatingWrite, H: FileHandle>(
 
     // The inputs keep their stores and sets. Each was asked for no more bytes than its data has, stacked or copied.
     ensures kept { AreInputsKept inputs.old inputs.new }
+
+    // Where no failed read ends it, no read failed, but of blocks that are passed over in an input that is copied.
+    ensures faults { IsErrAnd result (λ e. e.error ≡ StoreError.Read)
+        ⊎ AreEach IsSteadyInput inputs.old inputs.new }
 
     ensures count { writer.old.output.failures ≤ writer.new.output.failures }
     ensures steady { IsErrAnd result (λ e. e.error ≡ StoreError.Failed Cause.Write)
@@ -142,6 +149,10 @@ pub fn merge<W: TerminatingWrite, H: FileHandle>(
     // The inputs keep their stores and sets. Each was asked for no more bytes than its data has, stacked or copied.
     ensures kept { AreInputsKept inputs.old inputs.new }
 
+    // Where no failed read ends it, no read failed, but of blocks that are passed over in an input that is copied.
+    ensures faults { IsErrAnd result (λ e. e.error ≡ StoreError.Read)
+        ⊎ AreEach IsSteadyInput inputs.old inputs.new }
+
     ensures count { writer.old.output.failures ≤ writer.new.output.failures }
     ensures steady { IsErrAnd result (λ e. e.error ≡ StoreError.Failed Cause.Write)
         ⊎ (writer.new.output.failures ≡ writer.old.output.failures) }
@@ -187,6 +198,10 @@ pub fn merge_in_parts<W: TerminatingWrite, H: FileHandle>(
 
     // The inputs keep their stores and sets. Each was asked for no more bytes than its data has, stacked or copied.
     ensures kept { AreInputsKept inputs.old inputs.new }
+
+    // Where no failed read ends it, no read failed, but of blocks that are passed over in an input that is copied.
+    ensures faults { IsErrAnd result (λ e. e.error ≡ StoreError.Read)
+        ⊎ AreEach IsSteadyInput inputs.old inputs.new }
 
     ensures count { writer.old.output.failures ≤ writer.new.output.failures }
     ensures steady { IsErrAnd result (λ e. e.error ≡ StoreError.Failed Cause.Write)

@@ -3,7 +3,8 @@ ghost use Rattle.std.specs.Prelude.{◌≡◌, ◌≢◌, ◌≤◌, ◌⊎◌, 
 ghost use Rattle.docstore.specs.Laws.{taken};
 ghost use Rattle.store_reader.specs.Reading.{IsSameStore};
 ghost use Rattle.docstore.specs.Writer.{IsStoreWriter};
-ghost use Rattle.store_merge.specs.Inputs.{CanBeTaken, IsAskedOnce, IsInputKept, IsInputTaken, IsStacked};
+ghost use Rattle.store_merge.specs.Inputs.{CanBeTaken, IsAskedOnce, IsInputKept, IsInputTaken};
+ghost use Rattle.store_merge.specs.Inputs.{IsStacked, IsSteadyInput};
 ghost use Rattle.store_merge.specs.Refusals.{RefusesInput, RefusesStore, HasGrown};
 ghost use Rattle.store_merge.specs.Stacking.{Leaves, IsReadBy, IsStackedBy, BeginsSlots};
 
@@ -32,6 +33,7 @@ fn stack_store<W: TerminatingWrite, H: FileHandle>(
     ensures read { OnOk result (IsReadBy stacking reader.old reader.new) }
     ensures same_store { IsSameStore reader.old reader.new }
     ensures asked { IsAskedOnce reader.old reader.new }
+    ensures faults { IsErrOf result StoreError.Read ⊎ (reader.new.file.failures ≡ reader.old.file.failures) }
     ensures count { writer.old.output.failures ≤ writer.new.output.failures }
     ensures steady { IsErrOf result (StoreError.Failed Cause.Write)
         ⊎ (writer.new.output.failures ≡ writer.old.output.failures) }
@@ -60,6 +62,7 @@ pub fn take_input<W: TerminatingWrite, H: FileHandle>(
         → HasGrown input.old writer.old writer.new) }
     ensures read { OnOk result (IsStackedBy (IsReadBy stacking) input.old input.new) }
     ensures kept { IsInputKept input.old input.new }
+    ensures faults { IsErrOf result StoreError.Read ⊎ IsSteadyInput input.old input.new }
     ensures count { writer.old.output.failures ≤ writer.new.output.failures }
     ensures steady { IsErrOf result (StoreError.Failed Cause.Write)
         ⊎ (writer.new.output.failures ≡ writer.old.output.failures) }

@@ -14,7 +14,7 @@ use Rattle.store_reader.specs.declared.answers.Answer.{Answer}
 use Rattle.store_reader.specs.declared.answers.ReadCall.{ReadCall}
 use Rattle.store_reader.specs.declared.walk.Walk.{Walk}
 use Rattle.store_reader.specs.GetAnswer.{IsLookedUp, AnswersFrom}
-use Rattle.store_reader.specs.CallAnswers.{IsGet, HasRefusal, results_of}
+use Rattle.store_reader.specs.CallAnswers.{ShowsEachBlock, HasRefusal, results_of}
 use Rattle.store_reader.specs.LookingUp.{IsShared}
 use Rattle.store_reader.specs.Reading.{Reading, IsSameStore}
 use Rattle.store_reader.specs.Walking.{taken_last, IsBlockTaken, LooksAlong, GivesNext}
@@ -27,11 +27,11 @@ risen_on : (a b c : ℕ) → HasRisen a b → b ≤ c → HasRisen a c
 risen_on a b c h le = record { no_lower = omega (arith, h.no_lower); risen = λ few. omega (arith, h.risen (omega (arith, few))) }
 
 failed_once : (r : Reading) (id : ℕ) (c : Checkpoint) (block : Result (List ℕ) StoreError) (mid : Reading) → IsBlockTaken r id c block mid → block ≡ Err Read → HasRisen r.file.failures mid.file.failures
-failed_once r id c block mid t is = came (subst (λ (b : Result (List ℕ) StoreError). IsShared t.came b) is t.taken)
+failed_once r id c block mid t is = by t.came t.looked (subst (λ (b : Result (List ℕ) StoreError). IsShared t.came b) is t.taken)
   where
-    came : IsShared t.came (Err Read) → HasRisen r.file.failures mid.file.failures
-    came (inl same) = has_failed r mid id c (subst (λ (x : Result (List ℕ) StoreError). IsLookedUp r id c x mid) same t.looked)
-    came (inr memory) = absurd cc
+    by : (came : Result (List ℕ) StoreError) → IsLookedUp r id c came mid → IsShared came (Err Read) → HasRisen r.file.failures mid.file.failures
+    by (Ok bytes) looked taken = absurd cc
+    by (Err e) looked taken = has_failed r mid id c (subst (λ (x : Result (List ℕ) StoreError). IsLookedUp r id c x mid) (sym taken) looked)
 
 -- look-ups one after the other: a failed read that is taken at the end was taken at the beginning, or the count has risen
 failed_along : (cs : List Checkpoint) (r : Reading) (b : Option (Result (List ℕ) StoreError)) (r' : Reading) (b' : Option (Result (List ℕ) StoreError)) → LooksAlong cs r b r' b'
@@ -83,17 +83,19 @@ all_but_last : {A : Type 0} (P : A → Type 0) (xs : List A) (x : A) → AllByRe
 all_but_last P [] x all = (tt, all.0)
 all_but_last P (y ∷ xs) x all = let on = all_but_last P xs x all.1 in ((all.0, on.0), on.1)
 
--- one more get that is not a failed read
-pub gets_steady : (first old new : Reading) (calls : List ReadCall) (i : ℕ) (call : ReadCall) (answers : List Answer) (answer : Answer) → i < length calls → call ≡ get_or calls i call
-    → (AllByRecursion IsGet (take i calls) → (HasRefusal answers Read → ⊥) → old.file.failures ≡ first.file.failures)
-    → (IsGet call → (Contains (results_of answer) (Err Read) → ⊥) → new.file.failures ≡ old.file.failures)
-    → AllByRecursion IsGet (take (i + 1) calls) → (HasRefusal (answers ++ answer ∷ []) Read → ⊥) → new.file.failures ≡ first.file.failures
-gets_steady first old new calls i call answers answer lt at so_far here gets none =
+-- one more call that is answered by no failed read
+pub answers_steady : (first old new : Reading) (calls : List ReadCall) (i : ℕ) (call : ReadCall) (answers : List Answer) (answer : Answer) → i < length calls → call ≡ get_or calls i call
+    → old.checkpoints ≡ first.checkpoints
+    → (AllByRecursion (ShowsEachBlock first.checkpoints) (take i calls) → (HasRefusal answers Read → ⊥) → old.file.failures ≡ first.file.failures)
+    → (ShowsEachBlock old.checkpoints call → (Contains (results_of answer) (Err Read) → ⊥) → new.file.failures ≡ old.file.failures)
+    → AllByRecursion (ShowsEachBlock first.checkpoints) (take (i + 1) calls) → (HasRefusal (answers ++ answer ∷ []) Read → ⊥) → new.file.failures ≡ first.file.failures
+answers_steady first old new calls i call answers answer lt at same so_far here shown none =
+    let shows : ReadCall → Type 0 = ShowsEachBlock first.checkpoints in
     let next : take (i + 1) calls ≡ take i calls ++ call ∷ [] = take_more calls i call lt ∙ ap (λ (c : ReadCall). take i calls ++ c ∷ []) (sym at) in
-    let each = all_but_last IsGet (take i calls) call (subst (λ (cs : List ReadCall). AllByRecursion IsGet cs) next gets) in
+    let each = all_but_last shows (take i calls) call (subst (λ (cs : List ReadCall). AllByRecursion shows cs) next shown) in
     let joined : flat_map results_of (answers ++ answer ∷ []) ≡ flat_map results_of answers ++ results_of answer =
     flat_map-append results_of answers (answer ∷ []) ∙ ap (λ (xs : List (Result (List ℕ) StoreError)). flat_map results_of answers ++ xs) (append-nil (results_of answer)) in
     let told : Contains (flat_map results_of answers ++ results_of answer) (Err Read) → ⊥ =
     λ some. none (subst (λ (xs : List (Result (List ℕ) StoreError)). Contains xs (Err Read)) (sym joined) some) in
-    here each.1 (λ some. told (Contains-append_right (flat_map results_of answers) (results_of answer) (Err Read) some))
+    here (subst (λ (cs : List Checkpoint). ShowsEachBlock cs call) (sym same) each.1) (λ some. told (Contains-append_right (flat_map results_of answers) (results_of answer) (Err Read) some))
     ∙ so_far each.0 (λ some. told (Contains-append_left (flat_map results_of answers) (results_of answer) (Err Read) some))

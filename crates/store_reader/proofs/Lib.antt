@@ -19,6 +19,7 @@ pub mod AlikeLemmas
 pub mod GivenLemmas
 pub mod HandedLemmas
 pub mod ItemsSoFarLemmas
+pub mod SteadyLemmas
 pub mod IterationLookUpLemmas
 pub mod CallAnswersLemmas
 pub mod DecidedAnswerLemmas

@@ -6,7 +6,6 @@ use Rattle.std.proofs.lemmas.List.{append-nil}
 use Rattle.store_format.specs.FooterLemmas.{kind_zero}
 use Rattle.store_base.proofs.ListLemmas.{length-slice}
 use Rattle.store_base.specs.Files.{Part}
-use Rattle.store_format.specs.declared.kinds.Decompressor.TheVariants as unpacked
 use Rattle.store_base.specs.declared.error.StoreError.{StoreError}
 use Rattle.store_format.specs.declared.footer.DocStoreFooter.{DocStoreFooter}
 use Rattle.store_format.specs.declared.version.DocStoreVersion.{DocStoreVersion}

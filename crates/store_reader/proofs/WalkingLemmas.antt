@@ -40,7 +40,7 @@ pub record IsNextBlock (cs : List Checkpoint) (n target : ℕ) (c : Checkpoint) 
   pub inside : target < c.doc_range.end
   pub end : docs_end 0 (take (n + 1) cs) ≡ c.doc_range.end
 
-start_at : (doc byte : ℕ) (cs : List Checkpoint) (n : ℕ) (c : Checkpoint) → IsInLineFrom doc byte cs → slice_get cs n ≡ Some c → c.doc_range.start ≡ docs_end doc (take n cs)
+pub start_at : (doc byte : ℕ) (cs : List Checkpoint) (n : ℕ) (c : Checkpoint) → IsInLineFrom doc byte cs → slice_get cs n ≡ Some c → c.doc_range.start ≡ docs_end doc (take n cs)
 start_at doc byte [] n c r e = absurd cc
 start_at doc byte (x ∷ cs) zero c r e = let same : x ≡ c = cc in ap (λ (y : Checkpoint). y.doc_range.start) (sym same) ∙ r.0
 start_at doc byte (x ∷ cs) (suc n) c r e = start_at x.doc_range.end x.byte_range.end cs n c r.3 e
@@ -177,7 +177,7 @@ seek_inside doc byte (x ∷ cs) (suc n) id c r e lo hi =
     docs_from doc byte [] (suc n) r = omega arith
     docs_from doc byte (c ∷ cs) (suc n) r = omega (arith, docs_from c.doc_range.end c.byte_range.end cs n r.3, r.0, r.2.doc_order)
 
-there : (cs : List Checkpoint) (n : ℕ) → n < length cs → (c : Checkpoint) × (slice_get cs n ≡ Some c)
+pub there : (cs : List Checkpoint) (n : ℕ) → n < length cs → (c : Checkpoint) × (slice_get cs n ≡ Some c)
 there [] n lt = absurd (omega arith)
 there (x ∷ cs) zero lt = (x, refl)
 there (x ∷ cs) (suc n) lt = there cs n (omega arith)
@@ -222,9 +222,10 @@ file_along (c ∷ cs) r b r' b' l =
 
 -- what was taken is the data's
 taken_part : (old : Reading) (c : Checkpoint) (came block : Result (List ℕ) StoreError) → IsShared came block → IfOk came (λ b. b ≡ part_of old.file.content c) → HoldsPart old.file.content block c
-taken_part old c (Ok bytes) (Ok b) t part = let same : bytes ≡ b = cc in sym same ∙ part
+taken_part old c (Ok bytes) (Ok b) t part = t ∙ part
+taken_part old c (Ok bytes) (Err e) t part = tt
 taken_part old c (Err e) (Ok b) t part = absurd cc
-taken_part old c came (Err e) t part = tt
+taken_part old c (Err e) (Err f) t part = tt
 
 pub holds_next : (old new : Reading) (id n k : ℕ) (c : Checkpoint) (block : Result (List ℕ) StoreError) → IsBlockTaken old id c block new → slice_get old.checkpoints n ≡ Some c → k ≡ n
     → IsTrue new.file.honest → IfSome (slice_get old.checkpoints k) (HoldsPart new.file.content block)
@@ -235,7 +236,11 @@ holds_next old new id n k c block t at same honest =
 
 pub only_next : (old new : Reading) (id : ℕ) (c : Checkpoint) (block : Result (List ℕ) StoreError) → IsBlockTaken old id c block new → IfErr block (λ e. (e ≡ Read) ⊎ (e ≡ Memory))
 only_next old new id c (Ok b) t = tt
-only_next old new id c (Err e) t = elim t.taken [ inl same ↦ why_none old new id c e (subst (λ r. IsLookedUp old id c r new) same t.looked) | inr memory ↦ inr memory ]
+only_next old new id c (Err e) t = by t.came t.looked t.taken
+  where
+    by : (came : Result (List ℕ) StoreError) → IsLookedUp old id c came new → IsShared came (Err e) → (e ≡ Read) ⊎ (e ≡ Memory)
+    by (Ok bytes) looked taken = inr taken
+    by (Err f) looked taken = let same : e ≡ f = cc in elim (why_none old new id c f looked) [ inl read ↦ inl (same ∙ read) | inr memory ↦ inr (same ∙ memory) ]
 
 -- where a document of the block stands that was taken last
 stands_there : (old new : Reading) (id first place : ℕ) (block : Option (Result (List ℕ) StoreError)) (c : Checkpoint) → IsIn old.checkpoints place first id c

@@ -1,5 +1,5 @@
 -- What a list of reading calls answers.
-use Rattle.std.specs.Prelude.{◌≡◌, ◌↔◌, ℕ, ◌≤◌, Bool, nat_lt, if◌then◌else◌, List, [], ◌∷◌, length, map, slice_get}
+use Rattle.std.specs.Prelude.{◌≡◌, ◌↔◌, ℕ, ◌≤◌, ◌<◌, Bool, true, nat_lt, if◌then◌else◌, List, [], ◌∷◌, length, map, slice_get}
 use Rattle.std.specs.Prelude.{Contains, Option, Some, None, IfSome, Result, Ok, Err, IsErrOf}
 use Rattle.std.specs.List.{AllByRecursion, flat_map}
 use Rattle.store_base.specs.AliveBitSet.{is_alive_at}
@@ -13,7 +13,7 @@ use Rattle.layered_index.specs.declared.checkpoint.Checkpoint.{Checkpoint}
 use Rattle.layered_index.specs.Checkpoint.{docs_end, first_past}
 use Rattle.store_reader.specs.GetAnswer.{AnswersTruly}
 use Rattle.store_format.specs.Block.{Slot, doc, damaged}
-use Rattle.store_reader.specs.Iteration.{looked_along}
+use Rattle.store_reader.specs.Iteration.{is_in, looked_along}
 use Rattle.store_reader.specs.CallList.{first_alive, AreItems}
 
 -- the set of a call, or none
@@ -26,10 +26,18 @@ abbrev pub CanAnswer : ℕ → ReadCall → Type 0
 CanAnswer count (Bytes id) = Unit {0}
 CanAnswer count (Iter alive take) = IfSome alive (λ set. count ≤ length set)
 
--- It is a get.
-abbrev pub IsGet : ReadCall → Type 0
-IsGet (Bytes id) = Unit {0}
-IsGet (Iter alive take) = ⊥
+-- A document of a block is alive.
+pub record HasAlive (set : Option (ℕ → Bool)) (c : Checkpoint) : Type 0 where
+  pub id : ℕ
+  pub from : c.doc_range.start ≤ id
+  pub to : id < c.doc_range.end
+  pub alive : is_in set id ≡ true
+
+-- Each block that the call looks up has a document that is answered: it is a get, or an iteration that takes an item,
+-- in whose set each block has a document.
+abbrev pub ShowsEachBlock : List Checkpoint → ReadCall → Type 0
+ShowsEachBlock cs (Bytes id) = Unit {0}
+ShowsEachBlock cs (Iter alive take) = (0 < take) × AllByRecursion (HasAlive (set_here alive)) cs
 
 -- A document's slot answers a get; the first slots whose ids are alive answer an iteration, one by one; failed reads
 -- and want of memory aside.

@@ -39,7 +39,8 @@ pub record LooksUp (c : Checkpoint) (file : Part) (cache : CachedBlocks) (came :
   pub step : state_of cache' ≡ look_up cache.capacity (state_of cache)
       (record { key = c.byte_range.start; kept = is_kept })
 
--- what came, or no memory for a share of it
+-- A share of the block that came, or no memory for one; where none came, the reason why.
 abbrev pub IsShared : Result (List ℕ) StoreError → Result (List ℕ) StoreError → Type 0
-IsShared came (Ok block) = came ≡ Ok block
-IsShared came (Err e) = (came ≡ Err e) ⊎ (e ≡ Memory)
+IsShared (Ok bytes) (Ok block) = block ≡ bytes
+IsShared (Ok bytes) (Err e) = e ≡ Memory
+IsShared (Err e) result = result ≡ Err e

@@ -1,6 +1,6 @@
 -- How an iteration goes over the documents of a store.
 use Rattle.std.specs.Prelude.{◌≡◌, ◌⊎◌, ℕ, zero, suc, ◌+◌, ◌-◌, ◌≤◌, ◌<◌, Bool, true, false, List, [], ◌∷◌, length, take}
-use Rattle.std.specs.Prelude.{slice_range, slice_get, IsTrue, IfErr, IfOk, IfSome, Option, Some, None, Result}
+use Rattle.std.specs.Prelude.{slice_range, slice_get, IsTrue, IfErr, IfOk, IfSome, Option, Some, None, Result, Err}
 use Rattle.std.specs.Prelude.{IsSomeAnd, MatchOption}
 use Rattle.std.specs.Borrow.{Bor}
 use Rattle.store_base.specs.AliveBitSet.{is_alive_at}
@@ -98,6 +98,20 @@ pub record WalksTo (set : Option (ℕ → Bool)) (old : Reading) (from : Walk) (
 abbrev pub AnswersOf : ℕ → Walk → Result (List ℕ) StoreError → Type 0
 AnswersOf id w result = IsSomeAnd (taken_last w) (λ block. AnswersFrom id (id - w.first) block result)
 
+-- A block was passed over of which no document is alive: its documents are from one id on, and before another.
+pub record PassesDead (set : Option (ℕ → Bool)) (cs : List Checkpoint) (from to : ℕ) : Type 0 where
+  pub place : ℕ
+  pub block : Checkpoint
+  pub is_at : slice_get cs place ≡ Some block
+  pub after : from ≤ block.doc_range.start
+  pub before : block.doc_range.end ≤ to
+  pub dead : (k : ℕ) → block.doc_range.start ≤ k → k < block.doc_range.end → is_in set k ≡ false
+
+-- No read failed on the way from one id to another, but of a block that was passed over.
+abbrev pub IsSteadyBetween : Option (ℕ → Bool) → Reading → Reading → ℕ → ℕ → Type 0
+IsSteadyBetween set old new from to = (new.file.failures ≡ old.file.failures)
+    ⊎ PassesDead set old.checkpoints from to
+
 -- The item of an id: it is alive, and its slot answers; failed reads and want of memory aside.
 pub record IsItem (set : Option (ℕ → Bool)) (old : Reading) (id : ℕ) (to : Walk)
     (answer : Result (List ℕ) StoreError) : Type 0 where
@@ -108,7 +122,8 @@ pub record IsItem (set : Option (ℕ → Bool)) (old : Reading) (id : ℕ) (to :
   pub answers : AnswersOf id to answer
   pub honest : IsTrue old.file.honest → AnswersTruly id (slice_get (slots (store_of old)) id) answer
 
--- One item, of the next id that is alive; or none, where no further one below the count is.
+-- One item, of the next id that is alive; or none, where no further one below the count is. Where the item is no failed
+-- read, no read failed for it.
 pub record GivesNext (set : Option (ℕ → Bool)) (old : Reading) (from : Walk)
     (item : Option (Result (List ℕ) StoreError)) (new : Reading) (to : Walk) : Type 0 where
   pub last : ℕ
@@ -116,6 +131,7 @@ pub record GivesNext (set : Option (ℕ → Bool)) (old : Reading) (from : Walk)
   pub walk : IsWalk new to
   pub same : IsSameStore old new
   pub gives : MatchOption item ((last ≡ num_docs old) × (to.next ≡ last)) (λ answer. IsItem set old last to answer)
+  pub steady : IsSomeAnd item (λ answer. answer ≡ Err Read) ⊎ IsSteadyBetween set old new from.next last
 
 -- what is read of an item, if there is one
 abbrev pub ReadsItem : {D : Type 0} → (List ℕ → Option D) → Option (Result (List ℕ) StoreError)

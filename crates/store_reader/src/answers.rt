@@ -1,8 +1,8 @@
 //! Whole lists of reading calls.
-ghost use Rattle.std.specs.Prelude.{◌≡◌, ◌≤◌, ◌↔◌, Contains, IsTrue, IfOk, IfSome, IsErrOf, IsOkUnless, length};
+ghost use Rattle.std.specs.Prelude.{◌≡◌, ◌≤◌, ◌<◌, ◌↔◌, Contains, IsTrue, IfOk, IfSome, IsErrOf, IsOkUnless, length};
 ghost use Rattle.std.specs.List.{AllByRecursion, AllZip};
 ghost use Rattle.store_base.specs.Counts.{HasRisen};
-ghost use Rattle.store_reader.specs.CallAnswers.{CanAnswer, IsGet, IsAnswer, AreAnswers, HasRefusal};
+ghost use Rattle.store_reader.specs.CallAnswers.{CanAnswer, HasAlive, ShowsEachBlock, IsAnswer, AreAnswers, HasRefusal};
 ghost use Rattle.store_reader.specs.CallAnswers.{IsNotPast, RefusesPast, keys_of_call, keys_of_calls, results_of};
 ghost use Rattle.store_reader.specs.Iteration.{looked_along};
 ghost use Rattle.store_reader.specs.CallList.{AreItems, first_alive};
@@ -65,7 +65,9 @@ pub fn any_lacks_memory(answers: &[Answer]) -> bool
 /// The blocks of the documents and of the iterations are looked up in this order, and the file is read once for each
 /// that the cache doesn't keep. `Memory` comes only where the lists of answers can't grow. A get is answered by
 /// `InvalidArgument` exactly where its id is at or past the count. Where any answer or item is `Read`, the file's
-/// count of failures has risen in the call; where all calls are gets and no answer is, it has stayed.
+/// count of failures has risen in the call. Where none is, it has stayed, if each block that is looked up has a
+/// document that is answered: an iteration looks a block up also where none of its documents is alive, and returns
+/// nothing of it.
 pub fn answer_all<H: FileHandle>(
     alloc: Global,
     reader: &mut StoreReader<H>,
@@ -77,8 +79,8 @@ pub fn answer_all<H: FileHandle>(
     ensures past { IfOk result (λ v. AllZip (RefusesPast (num_docs reader.old)) calls.now v.items) }
     ensures failed { IfOk result (λ v. HasRefusal v.items StoreError.Read
         → HasRisen reader.old.file.failures reader.new.file.failures) }
-    ensures steady { IfOk result (λ v. AllByRecursion IsGet calls.now → (HasRefusal v.items StoreError.Read → ⊥)
-        → reader.new.file.failures ≡ reader.old.file.failures) }
+    ensures steady { IfOk result (λ v. AllByRecursion (ShowsEachBlock reader.old.checkpoints) calls.now
+        → (HasRefusal v.items StoreError.Read → ⊥) → reader.new.file.failures ≡ reader.old.file.failures) }
     ensures looks { IfOk result (λ v.
         AreLookUps (keys_of_calls reader.old.checkpoints calls.now) reader.old reader.new) }
     ensures memory { IsOkUnless result StoreError.Memory }
@@ -104,7 +106,8 @@ fn answer_one<H: FileHandle>(
     ensures past { IfOk result (RefusesPast (num_docs reader.old) call.now) }
     ensures failed { IfOk result (λ answer. Contains (results_of answer) (Err StoreError.Read)
         → HasRisen reader.old.file.failures reader.new.file.failures) }
-    ensures steady { IfOk result (λ answer. IsGet call.now → (Contains (results_of answer) (Err StoreError.Read) → ⊥)
+    ensures steady { IfOk result (λ answer. ShowsEachBlock reader.old.checkpoints call.now
+        → (Contains (results_of answer) (Err StoreError.Read) → ⊥)
         → reader.new.file.failures ≡ reader.old.file.failures) }
     ensures looks { IfOk result (λ answer.
         AreLookUps (keys_of_call reader.old.checkpoints call.now) reader.old reader.new) }
@@ -133,6 +136,8 @@ fn list_items<H: FileHandle>(
     ensures past { IfOk result (λ v. AllByRecursion IsNotPast v.items) }
     ensures failed { IfOk result (λ v. Contains v.items (Err StoreError.Read)
         → HasRisen reader.old.file.failures reader.new.file.failures) }
+    ensures steady { IfOk result (λ v. 0 < count → AllByRecursion (HasAlive (set_of alive.entry)) reader.old.checkpoints
+        → (Contains v.items (Err StoreError.Read) → ⊥) → reader.new.file.failures ≡ reader.old.file.failures) }
     ensures looks { IfOk result (λ v. AreLookUps (looked_along reader.old.checkpoints (set_of alive.entry) count)
         reader.old reader.new) }
     ensures memory { IsOkUnless result StoreError.Memory }

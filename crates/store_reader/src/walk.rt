@@ -1,10 +1,11 @@
 //! Where an iteration over a reader's documents stands, and how it goes on.
-ghost use Rattle.std.specs.Prelude.{◌≡◌, ◌≤◌, ◌<◌, ◌+◌, true, Some, length, slice_get, slice_range, take};
+ghost use Rattle.std.specs.Prelude.{◌≡◌, ◌≤◌, ◌<◌, ◌⊎◌, ◌+◌, true, Some, Err, length, slice_get, slice_range, take};
 ghost use Rattle.std.specs.Prelude.{IsSome, IsSomeAnd, MatchOption};
 ghost use Rattle.layered_index.specs.declared.checkpoint.Checkpoint.{Checkpoint};
 ghost use Rattle.store_reader.specs.Iteration.{is_in};
 ghost use Rattle.store_reader.specs.Reading.{IsSameStore, num_docs};
-ghost use Rattle.store_reader.specs.Walking.{set_in, taken_last, IsBlockTaken, StandsIn, IsWalk, LooksAlong, WalksTo, AnswersOf};
+ghost use Rattle.store_reader.specs.Walking.{set_in, taken_last, IsBlockTaken, StandsIn, IsWalk, LooksAlong, WalksTo};
+ghost use Rattle.store_reader.specs.Walking.{IsSteadyBetween, AnswersOf};
 
 use crate::reader::StoreReader;
 use crate::slot::document_in;
@@ -121,6 +122,10 @@ pub(crate) fn walk_on<H: FileHandle>(
         (λ id. WalksTo (set_in alive.now) reader.old walk.old id reader.new walk.new
         × (id < num_docs reader.old) × (is_in (set_in alive.now) id ≡ true) × (walk.new.next ≡ id + 1)
         × IsSomeAnd (taken_last walk.new) (StandsIn reader.old id walk.new.first)) }
+    ensures steady { MatchOption result
+        (IsSteadyBetween (set_in alive.now) reader.old reader.new walk.old.next (num_docs reader.old))
+        (λ id. (taken_last walk.new ≡ Some (Err StoreError.Read))
+        ⊎ IsSteadyBetween (set_in alive.now) reader.old reader.new walk.old.next id) }
 {
     for doc_id in walk.next..reader.num_docs() {
         step_in(reader, alloc, walk);

@@ -6,6 +6,8 @@ mod failing_files;
 #[cfg(test)]
 mod folder;
 #[cfg(test)]
+mod loading;
+#[cfg(test)]
 mod outputs;
 #[cfg(test)]
 mod reading;

@@ -39,7 +39,8 @@ impl<W: TerminatingWrite> BlockCompressor<W> {
         ensures err { IfErr result (AfterStacking reader.old reader.new self.old self.new) }
 
         ensures read { self.old.failure ≡ None → IsReadWhole reader.old reader.new }
-        ensures reader { OnOk result (reader.new.file.failures ≡ reader.old.file.failures) }
+        ensures reader { IsErrOf result StoreError.Read
+            ⊎ (reader.new.file.failures ≡ reader.old.file.failures) }
         ensures termination { self.new.termination ≡ self.old.termination }
         ensures count { self.old.failures ≤ self.new.failures }
         ensures steady { IsErrOf result (StoreError.Failed Cause.Write)
@@ -75,7 +76,8 @@ impl<W: TerminatingWrite> BlockCompressor<W> {
         ensures read { OnOk result
             (IsReadInPieces (number_of_parts part_bytes reader.old.checkpoints) reader.old reader.new) }
         ensures kept { IsReadAtMost (number_of_parts part_bytes reader.old.checkpoints) reader.old reader.new }
-        ensures reader { OnOk result (reader.new.file.failures ≡ reader.old.file.failures) }
+        ensures reader { IsErrOf result StoreError.Read
+            ⊎ (reader.new.file.failures ≡ reader.old.file.failures) }
         ensures termination { self.new.termination ≡ self.old.termination }
         ensures count { self.old.failures ≤ self.new.failures }
         ensures steady { IsErrOf result (StoreError.Failed Cause.Write)

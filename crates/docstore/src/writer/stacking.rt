@@ -54,7 +54,8 @@ impl<W: TerminatingWrite> StoreWriter<W> {
         // The reader keeps its store.
         ensures read { OnOk result (IsReadWhole reader.old reader.new) }
         ensures kept { IsReadAtMostOnce reader.old reader.new }
-        ensures reader { OnOk result (reader.new.file.failures ≡ reader.old.file.failures) }
+        ensures reader { IsErrOf result StoreError.Read
+            ⊎ (reader.new.file.failures ≡ reader.old.file.failures) }
 
         ensures termination { self.new.output.termination ≡ self.old.output.termination }
         ensures count { self.old.output.failures ≤ self.new.output.failures }
@@ -94,7 +95,8 @@ impl<W: TerminatingWrite> StoreWriter<W> {
         ensures read { OnOk result
             (IsReadInPieces (number_of_parts part_bytes reader.old.checkpoints) reader.old reader.new) }
         ensures kept { IsReadAtMost (number_of_parts part_bytes reader.old.checkpoints) reader.old reader.new }
-        ensures reader { OnOk result (reader.new.file.failures ≡ reader.old.file.failures) }
+        ensures reader { IsErrOf result StoreError.Read
+            ⊎ (reader.new.file.failures ≡ reader.old.file.failures) }
 
         ensures termination { self.new.output.termination ≡ self.old.output.termination }
         ensures count { self.old.output.failures ≤ self.new.output.failures }

@@ -1,8 +1,8 @@
-use Rattle.std.proofs.Common.{◌≡◌, ℕ, take, Bool, Bor, Option, Some, None, Err, List, refl, sym, ◌∙◌, ap, subst, arith, rules}
+use Rattle.std.proofs.Common.{◌≡◌, inl, inr, ℕ, take, Bool, Bor, Option, Some, None, Err, List, refl, sym, ◌∙◌, ap, subst, arith, rules}
 use Rattle.std.specs.Prelude.{IfErr}
 use Rattle.std.proofs.lemmas.Result.{err_from_is_err_and}
-use Rattle.store_reader.specs.Reading.{Reading, IsSameStore}
-use Rattle.store_reader.specs.Walking.{taken_last, set_of, set_in, LooksAlong, GivesNext}
+use Rattle.store_reader.specs.Reading.{Reading, IsSameStore, num_docs}
+use Rattle.store_reader.specs.Walking.{taken_last, set_of, set_in, IsSteadyBetween, IsWalk, LooksAlong, GivesNext}
 use Rattle.store_reader.specs.declared.walk.Walk.{Walk}
 use Rattle.layered_index.specs.declared.checkpoint.Checkpoint.{Checkpoint}
 use Rattle.store_reader.proofs.AskedLemmas.{asked_within}
@@ -10,8 +10,10 @@ use Rattle.store_reader.proofs.BlocksAlongLemmas.{take_length_one}
 use Rattle.store_reader.proofs.IterationLookUpLemmas.{looks_joined}
 use Rattle.store_merge.specs.Inputs.{IsAskedOnce}
 use Rattle.store_merge.specs.Refusals.{StopsAt}
-use Rattle.store_merge.proofs.CopyLemmas.{IsBegun, begins, copied_next, below_next, failed_next, copied_all, stops}
+use Rattle.store_merge.proofs.CopyLemmas.{IsBegun, begins, copied_next, below_next, failed_next, copied_all, refused_read, stored_no_failure, stops}
+use Rattle.store_reader.proofs.ItemsSoFarLemmas.{same_count}
 use Rattle.store_reader.proofs.RecentLemmas.{same_on}
+use Rattle.store_reader.proofs.SteadyLemmas.{steady_begins, steady_more, steady_later, steady_all}
 use Rattle.store_base.proofs.Steady.{still}
 use Rattle.store_merge.proofs.copying.copy_documents.Goals as goal
 
@@ -39,6 +41,11 @@ loop-document-init g c =
       name = refl;
       same = subst (IsSameStore first) (sym reader_is) items.ensures.same_store;
       set = ap (λ x. set_in x.alive.now) here ∙ items.ensures.alive;
+      walk = subst (λ (r : Reading). IsWalk r c.into_iter-document-iterator.result.walk) (sym reader_is) (subst (IsWalk items.result.reader.now) (sym walk_is) items.ensures.walk);
+      so_far = steady_begins (set_of c.args.alive) first c.into_iter-document-iterator.result.reader.now c.into_iter-document-iterator.result.walk
+          (ap (λ (w : Walk). w.next) walk_is ∙ items.ensures.next)
+          (subst (λ (r : Reading). LooksAlong (take 1 first.checkpoints) first None r (taken_last c.into_iter-document-iterator.result.walk)) (sym reader_is)
+          (subst (λ (w : Walk). LooksAlong (take 1 first.checkpoints) first None items.result.reader.now (taken_last w)) (sym walk_is) items.ensures.first_block));
       copied = begun.copied;
       below = begun.below;
       failed = begun.failed;
@@ -63,6 +70,11 @@ loop-document-preserved g c =
       name = steps.2 ∙ inv.name;
       same = same_on first old.reader.now new.reader.now inv.same gives.same;
       set = ap (λ (a : Bor (List (List Bool))). set_in a.now) steps.1 ∙ inv.set;
+      walk = c.in-Some.ensures.goes.keeps;
+      so_far = elim (steady_more set first old.reader.now old.walk inv.same c.num_docs.ensures.covers inv.walk inv.so_far c.in-Some.document new.reader.now new.walk gives) [
+        | inl failed ↦ absurd (stored_no_failure c.in-Some.document w c.take_document.new.writer c.in_ok-take_document.ensures.taken failed)
+        | inr steady ↦ inl (steady_later set first new.reader.now gives.last new.walk.next (omega (arith, gives.gives.next)) steady)
+      ];
       copied = copied_next first old.reader.now new.reader.now set old.walk new.walk c.in-Some.document c.requires.docs inv.same gives c.args.writer.now w inv.copied c.take_document.new.writer
           c.in_ok-take_document.ensures.taken;
       below = below_next first old.reader.now new.reader.now set old.walk new.walk c.in-Some.document c.requires.docs inv.same gives;
@@ -99,7 +111,8 @@ returns-in_err-take_document-clause-stopped g c =
     let failed = failed_next first old.reader.now new.reader.now set old.walk new.walk c.in-Some.document c.requires.docs inv.same gives inv.same.failures inv.failed in
     let stopped : StopsAt set first new.reader.now c.args.writer.now after e =
     stops first old.reader.now new.reader.now set old.walk new.walk c.in-Some.document c.requires.docs inv.same gives c.args.writer.now c.loop-document.writer inv.copied e after inv.count
-    c.in-Some.ensures.goes.keeps failed c.in_err-take_document.ensures.err in
+    c.in-Some.ensures.goes.keeps failed c.in_err-take_document.ensures.err
+    (steady_more set first old.reader.now old.walk inv.same c.num_docs.ensures.covers inv.walk inv.so_far c.in-Some.document new.reader.now new.walk gives) in
     let given = err_from_is_err_and c.from_residual.result c.from_residual.ensures.1 in
     let told : IfErr c.from_residual.result (StopsAt set first new.reader.now c.args.writer.now after) =
     subst (λ r. IfErr r (StopsAt set first new.reader.now c.args.writer.now after)) (sym (given.1 ∙ ap Err given.2)) stopped in
@@ -133,3 +146,37 @@ returns-in_err-take_document-clause-asked g c =
     asked_within new.walk.place first None new.reader.now (taken_last new.walk) c.num_docs.ensures.covers
     (looks_joined first old.reader.now old.walk set gives.last new.reader.now new.walk inv.same.checkpoints inv.looks gives.walks) in
     search rules
+
+pub returns-clause-faults : goal.returns-clause-faults
+returns-clause-faults g c =
+    let first = c.args.reader.now in
+    let set = set_of c.args.alive in
+    let old = c.loop-document.document-iterator in
+    let new = c.next.new.self in
+    let inv = c.loop-document.invariant in
+    let gives : GivesNext set old.reader.now old.walk None new.reader.now new.walk =
+    subst (λ (x : Option (ℕ → Bool)). GivesNext x old.reader.now old.walk None new.reader.now new.walk) inv.set (c.in-None.ensures.steps.0) in
+    let steady : IsSteadyBetween set first new.reader.now 0 (num_docs first) =
+    steady_all set first old.reader.now old.walk inv.same c.num_docs.ensures.covers inv.walk inv.so_far new.reader.now new.walk gives in
+    search rules
+
+pub returns-in_err-take_document-clause-faults : goal.returns-in_err-take_document-clause-faults
+returns-in_err-take_document-clause-faults g c =
+    let first = c.args.reader.now in
+    let set = set_of c.args.alive in
+    let old = c.loop-document.document-iterator in
+    let new = c.next.new.self in
+    let inv = c.loop-document.invariant in
+    let e = c.in_err-take_document.field-0.0 in
+    let steps = c.in-Some.ensures.steps in
+    let gives : GivesNext set old.reader.now old.walk (Some c.in-Some.document) new.reader.now new.walk =
+    subst (λ (x : Option (ℕ → Bool)). GivesNext x old.reader.now old.walk (Some c.in-Some.document) new.reader.now new.walk) inv.set steps.0 in
+    let given = err_from_is_err_and c.from_residual.result c.from_residual.ensures.1 in
+    elim (steady_more set first old.reader.now old.walk inv.same c.num_docs.ensures.covers inv.walk inv.so_far c.in-Some.document new.reader.now new.walk gives) [
+      | inl failed ↦ inl (given.1 ∙ ap Err given.2
+          ∙ ap Err (refused_read c.in-Some.document c.loop-document.writer c.take_document.new.writer e c.in_err-take_document.ensures.err failed))
+      | inr steady ↦ inr (elim (steady_later set first new.reader.now gives.last (num_docs first) (omega (arith, gives.gives.below, same_count first old.reader.now inv.same)) steady) [
+        | inl same ↦ inl (let stays : new.reader.now.file.failures ≡ first.file.failures = same in search (rules, stays))
+        | inr p ↦ inr p
+      ])
+    ]

@@ -1,13 +1,14 @@
-use Rattle.std.proofs.Common.{◌≡◌, ◌⊎◌, List, ◌++◌, sym, ◌∙◌, ap}
+use Rattle.std.proofs.Common.{◌≡◌, ◌⊎◌, inr, List, ◌++◌, sym, ◌∙◌, ap}
 use Rattle.std.specs.List.{AllByRecursion, flat_map}
 use Rattle.store_format.specs.Block.{Slot}
 use Rattle.docstore.specs.Laws.{taken}
 use Rattle.store_merge.specs.declared.input.MergeInput.{MergeInput}
 use Rattle.store_merge.specs.Choice.{alive_slots}
+use Rattle.store_merge.specs.Inputs.{IsSteadyInput}
 use Rattle.store_merge.specs.Stacking.{Leaves}
 use Rattle.store_merge.specs.Merge.{IsHonest, IsMerged, IsEnded, IsFailed, HasBegun}
 use Rattle.store_merge.proofs.HonestLemmas.{can_be_taken, all_slots}
-use Rattle.store_merge.proofs.MergeLemmas.{all_kept}
+use Rattle.store_merge.proofs.MergeLemmas.{all_kept, each_same, steady_same}
 use Rattle.store_merge.proofs.TakeLemmas.{ok_then, err_then}
 use Rattle.store_merge.proofs.EndLemmas.{IsUnfailed, unfailed_end, begun}
 use Rattle.store_merge.proofs.merging.merge_by.Goals as goal
@@ -43,3 +44,6 @@ returns-clause-works g c =
     let new = c.take_inputs.new.writer in
     err_then (IsEnded (Leaves c.args.stacking) inputs left old new) (λ e. IsUnfailed e.error old new) c.take_inputs.result
     (unfailed_end c.args.stacking inputs left old new) c.take_inputs.ensures.ended
+
+pub returns-in-Some-clause-faults : goal.returns-in-Some-clause-faults
+returns-in-Some-clause-faults g c = inr (each_same IsSteadyInput steady_same c.args.inputs.now)

@@ -1,14 +1,23 @@
-use Rattle.std.proofs.Common.{◌<◌, ◌+◌, List, length, get_or, set, refl, sym, ◌∙◌, subst, arith}
+use Rattle.std.proofs.Common.{◌≡◌, ◌⊎◌, inl, inr, Result, Ok, Err, ◌<◌, ◌+◌, List, length, get_or, set, refl, sym, ◌∙◌, subst, arith}
 use Rattle.store_base.proofs.ListLemmas.{rest_more}
 use Rattle.store_base.proofs.Steady.{still}
+use Rattle.store_base.specs.declared.error.StoreError.{StoreError}
+use Rattle.store_base.specs.declared.error.StoreError.TheVariants.{Read}
 use Rattle.store_merge.specs.declared.input.MergeInput.{MergeInput}
-use Rattle.store_merge.specs.Inputs.{CanBeTaken, IsInputKept}
+use Rattle.store_merge.specs.Inputs.{CanBeTaken, IsInputKept, IsSteadyInput}
 use Rattle.store_merge.specs.Stacking.{IsReadBy, IsStackedBy}
-use Rattle.store_merge.proofs.MergeLemmas.{all_at, named_is, left_is, each_more, each_all, kept_all, none_merged, merged_more, merged_all, next_same}
+use Rattle.store_merge.proofs.MergeLemmas.{all_at, named_is, left_is, each_more, each_all, rest_all, steady_same, kept_all, none_merged, merged_more, merged_all, next_same}
 use Rattle.store_merge.proofs.merging.take_inputs.Goals as goal
 
+no_read : {P : Type 0} → (◌≡◌ {A = Result (Unit {0}) StoreError} (Ok tt) (Err Read)) ⊎ P → P
+no_read (inl read) = absurd cc
+no_read (inr p) = p
+
+same_error : {e : StoreError} → ◌≡◌ {A = Result (Unit {0}) StoreError} (Err e) (Err Read) → e ≡ Read
+same_error is = cc
+
 pub loop-place-init : goal.loop-place-init
-loop-place-init g c = record { merged = none_merged c.args.writer.now; kept = tt; read = tt; rest = refl; count = omega arith; steady = refl; sound = c.requires.sound }
+loop-place-init g c = record { merged = none_merged c.args.writer.now; kept = tt; read = tt; faults = tt; rest = refl; count = omega arith; steady = refl; sound = c.requires.sound }
 
 pub take_input-requires-clause-input : goal.take_input-requires-clause-input
 take_input-requires-clause-input g c =
@@ -47,6 +56,20 @@ returns-in-Err-clause-kept g c =
     (each_more IsInputKept olds news i c.index-inputs-place.result y c.loop-place.auto.inputs c.loop-place-test.true c.loop-place.invariant.rest c.take_input.ensures.kept c.loop-place.invariant.kept)
     (rest_more olds news i y c.loop-place.invariant.rest)
 
+pub returns-in-Err-clause-faults : goal.returns-in-Err-clause-faults
+returns-in-Err-clause-faults g c =
+    let olds : List (MergeInput g.row.H.Denot) = c.args.inputs.now in
+    let news : List (MergeInput g.row.H.Denot) = c.loop-place.inputs in
+    let i = c.loop-place.place in
+    let d = c.index-inputs-place.result in
+    let y = c.take_input.new.input in
+    let inv = c.loop-place.invariant in
+    elim c.in-Err.ensures.faults [
+      | inl read ↦ inl (same_error read)
+      | inr steady ↦ inr (rest_all IsSteadyInput steady_same (i + 1) olds (set news i y)
+          (each_more IsSteadyInput olds news i d y c.loop-place.auto.inputs c.loop-place-test.true inv.rest steady inv.faults) (rest_more olds news i y inv.rest))
+    ]
+
 pub loop-place-preserved : goal.loop-place-preserved
 loop-place-preserved g c =
     let olds : List (MergeInput g.row.H.Denot) = c.args.inputs.now in
@@ -59,6 +82,7 @@ loop-place-preserved g c =
       merged = merged_more olds news i d c.args.writer.now c.loop-place.writer c.take_input.new.writer c.loop-place-test.true inv.rest inv.merged c.in_default.ensures.taken;
       kept = each_more IsInputKept olds news i d y c.loop-place.auto.inputs c.loop-place-test.true inv.rest c.take_input.ensures.kept inv.kept;
       read = each_more (IsStackedBy (IsReadBy c.args.stacking)) olds news i d y c.loop-place.auto.inputs c.loop-place-test.true inv.rest c.in_default.ensures.read inv.read;
+      faults = each_more IsSteadyInput olds news i d y c.loop-place.auto.inputs c.loop-place-test.true inv.rest (no_read c.in_default.ensures.faults) inv.faults;
       rest = rest_more olds news i y inv.rest;
       count = omega (arith, inv.count, c.take_input.ensures.count);
       steady = still c.in_default.ensures.steady ∙ inv.steady;
@@ -74,3 +98,6 @@ returns-clause-kept g c = kept_all c.loop-place.place c.args.inputs.now c.loop-p
 
 pub returns-clause-read : goal.returns-clause-read
 returns-clause-read g c = each_all (IsStackedBy (IsReadBy c.args.stacking)) c.loop-place.place c.args.inputs.now c.loop-place.inputs c.loop-place.auto.inputs (omega arith) c.loop-place.invariant.read
+
+pub returns-clause-faults : goal.returns-clause-faults
+returns-clause-faults g c = inr (each_all IsSteadyInput c.loop-place.place c.args.inputs.now c.loop-place.inputs c.loop-place.auto.inputs (omega arith) c.loop-place.invariant.faults)

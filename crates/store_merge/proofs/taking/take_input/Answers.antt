@@ -1,5 +1,6 @@
-use Rattle.std.proofs.Common.{◌≡◌, sym}
-use Rattle.store_reader.specs.Walking.{set_of as set_of_lent}
+use Rattle.std.proofs.Common.{◌≡◌, inl, inr, ℕ, Bool, Option, sym, subst}
+use Rattle.store_reader.specs.Walking.{set_of as set_of_lent, PassesDead}
+use Rattle.store_reader.specs.Reading.{num_docs}
 use Rattle.store_merge.specs.Bringing.{IsCopied}
 use Rattle.store_merge.specs.Choice.{alive_of}
 use Rattle.store_merge.specs.Inputs.{IsStacked, IsInputTaken}
@@ -41,3 +42,21 @@ returns-then-is_stacked-clause-grown g c =
     let new = c.stack_store.new.writer in
     err_then (λ _. new.output.failure ≡ old.output.failure → BeginsSlots x.reader old new) (λ _. new.output.failure ≡ old.output.failure → HasGrown x old new) c.stack_store.result
     (λ e grown same. begun_grown x old new (sym c.if-is_stacked.ensures.stacked) c.if-is_stacked.ensures.count (grown same)) c.stack_store.ensures.grown
+
+pub returns-then-is_stacked-clause-faults : goal.returns-then-is_stacked-clause-faults
+returns-then-is_stacked-clause-faults g c = elim c.stack_store.ensures.faults [ inl read ↦ inl read | inr same ↦ inr (inl same) ]
+
+pub returns-else-is_stacked-clause-faults : goal.returns-else-is_stacked-clause-faults
+returns-else-is_stacked-clause-faults g c =
+    let x = c.args.input.now in
+    let same = lent c.as_ref.result x.alive c.as_ref.ensures.value in
+    elim c.copy_documents.ensures.faults [
+      | inl read ↦ inl read
+      | inr steady ↦ inr (elim steady [
+        | inl still ↦ inl still
+        | inr p ↦ inr (
+          sym c.if-is_stacked.ensures.stacked,
+          subst (λ (s : Option (ℕ → Bool)). PassesDead s x.reader.checkpoints 0 (num_docs x.reader)) same p,
+        )
+      ])
+    ]

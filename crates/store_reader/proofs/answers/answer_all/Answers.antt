@@ -3,11 +3,11 @@ use Rattle.std.specs.List.{AllByRecursion, AllZip}
 use Rattle.store_base.specs.Counts.{HasRisen}
 use Rattle.store_base.specs.declared.error.StoreError.TheVariants.{Read}
 use Rattle.store_reader.specs.declared.answers.Answer.{Answer}
-use Rattle.store_reader.specs.CallAnswers.{IsGet, AreAnswers, HasRefusal, RefusesPast}
+use Rattle.store_reader.specs.CallAnswers.{ShowsEachBlock, AreAnswers, HasRefusal, RefusesPast}
 use Rattle.store_reader.specs.Reading.{num_docs, store_of}
 use Rattle.store_format.specs.Slots.{slots}
 use Rattle.store_reader.proofs.CallAnswersLemmas.{answers_more, looks_more, past_more}
-use Rattle.store_reader.proofs.FailedLemmas.{answer_failed, gets_steady}
+use Rattle.store_reader.proofs.FailedLemmas.{answer_failed, answers_steady}
 use Rattle.store_reader.proofs.RecentLemmas.{same_on}
 use Rattle.store_reader.proofs.answers.answer_all.Goals as goal
 
@@ -26,9 +26,9 @@ loop-call-preserved g c =
           (omega arith) c.call-item.is c.loop-call.invariant.same c.loop-call.invariant.so_far c.in_ok-answer.ensures.answer honest);
       past = subst (AllZip (RefusesPast (num_docs first)) (take (i + 1) calls)) (sym c.in_ok-push.ensures.items)
           (past_more first old calls i c.call-item.result answers c.in_ok-answer.answer (omega arith) c.call-item.is c.loop-call.invariant.same c.loop-call.invariant.past c.in_ok-answer.ensures.past);
-      steady = subst (λ (xs : List Answer). AllByRecursion IsGet (take (i + 1) calls) → (HasRefusal xs Read → ⊥) → c.answer_one.new.reader.file.failures ≡ first.file.failures)
+      steady = subst (λ (xs : List Answer). AllByRecursion (ShowsEachBlock first.checkpoints) (take (i + 1) calls) → (HasRefusal xs Read → ⊥) → c.answer_one.new.reader.file.failures ≡ first.file.failures)
           (sym c.in_ok-push.ensures.items)
-          (gets_steady first old c.answer_one.new.reader calls i c.call-item.result answers c.in_ok-answer.answer (omega arith) c.call-item.is
+          (answers_steady first old c.answer_one.new.reader calls i c.call-item.result answers c.in_ok-answer.answer (omega arith) c.call-item.is c.loop-call.invariant.same.checkpoints
           c.loop-call.invariant.steady c.in_ok-answer.ensures.steady);
       failed = subst (λ (xs : List Answer). HasRefusal xs Read → HasRisen first.file.failures c.answer_one.new.reader.file.failures) (sym c.in_ok-push.ensures.items)
           (answer_failed first old c.answer_one.new.reader answers c.in_ok-answer.answer c.loop-call.invariant.same c.answer_one.ensures.same_store

@@ -1,4 +1,4 @@
-use Rattle.std.proofs.Common.{rules, ◌≡◌, ◌+◌, ◌-◌, ℕ, Bool, Bor, Option, Some, None, List, [], ◌∷◌, length, min, sym, ◌∙◌, ap, subst, arith, length-append}
+use Rattle.std.proofs.Common.{rules, ◌≡◌, inr, ◌+◌, ◌-◌, ℕ, Bool, Bor, Option, Some, None, List, [], ◌∷◌, length, min, sym, ◌∙◌, ap, subst, arith, length-append}
 use Rattle.std.specs.List.{AllByRecursion, Contains}
 use Rattle.std.specs.Prelude.{Result, Err}
 use Rattle.store_base.specs.Counts.{HasRisen}
@@ -14,6 +14,7 @@ use Rattle.store_reader.proofs.FailedLemmas.{item_failed}
 use Rattle.store_reader.proofs.IterationLookUpLemmas.{IsListedTo, listed_on, looked_enough, looked_all}
 use Rattle.store_reader.proofs.ItemsSoFarLemmas.{alive_so_far, listed_more, below_more, listed_end, listed_enough}
 use Rattle.store_reader.proofs.RecentLemmas.{same_on}
+use Rattle.store_reader.proofs.SteadyLemmas.{IsSteadySoFar, steady_next, steady_all, steady_enough, steady_where_alive}
 use Rattle.store_reader.proofs.answers.list_items.Goals as goal
 
 pub loop-iter-preserved : goal.loop-iter-preserved
@@ -41,6 +42,10 @@ loop-iter-preserved g c =
       past = subst (AllByRecursion IsNotPast) (sym pushed) (items_not_past c.loop-iter.items.items c.in-Some.item c.loop-iter.invariant.past not_past);
       failed = subst (λ (xs : List (Result (List ℕ) StoreError)). Contains xs (Err Read) → HasRisen first.file.failures new.reader.now.file.failures) (sym pushed)
           (item_failed first old.reader.now new.reader.now set (length c.loop-iter.items.items + 1) old.walk new.walk c.in-Some.item c.loop-iter.items.items listed gives c.loop-iter.invariant.failed);
+      steady = subst (λ (xs : List (Result (List ℕ) StoreError)). (Contains xs (Err Read) → ⊥) → IsSteadySoFar set first new.reader.now new.walk) (sym pushed)
+          (steady_next set first old.reader.now old.walk c.loop-iter.invariant.same c.num_docs.ensures.covers c.loop-iter.invariant.walk c.in-Some.item new.reader.now new.walk gives c.loop-iter.items.items
+          c.loop-iter.invariant.steady);
+      begun = inr (omega (arith, gives.gives.next));
       below = below_more first old.reader.now new.reader.now set old.walk new.walk c.in-Some.item docs c.loop-iter.invariant.same gives;
       few = omega (arith, ap length pushed, length-append c.loop-iter.items.items (c.in-Some.item ∷ []));
     }
@@ -92,3 +97,29 @@ returns-in_default-clause-looks g c =
     let looks = looked_all first set (length items) c.args.count old.reader.now old.walk new.reader.now new.walk invariant.same c.num_docs.ensures.covers invariant.looks gives
     (same_on first old.reader.now new.reader.now invariant.same gives.same) (omega (arith, most)) in
     search (rules, looks)
+
+pub returns-clause-steady : goal.returns-clause-steady
+returns-clause-steady g c = λ some all none.
+    let first = c.args.reader.now in
+    let set = set_of c.args.alive in
+    let invariant = c.loop-iter.invariant in
+    let now = c.loop-iter.iter.reader.now in
+    let most : c.min-most.result ≡ min c.args.count (num_docs first) = omega (arith, c.min-most.ensures, c.num_docs.ensures.count) in
+    let stays : now.file.failures ≡ first.file.failures =
+    steady_enough set first now c.loop-iter.iter.walk (length c.loop-iter.items.items) c.args.count invariant.same c.num_docs.ensures.covers invariant.walk some
+    (omega (arith, most, invariant.few)) invariant.begun all (invariant.steady none) in
+    search (rules, stays)
+
+pub returns-in_default-clause-steady : goal.returns-in_default-clause-steady
+returns-in_default-clause-steady g c = λ some all none.
+    let first = c.args.reader.now in
+    let set = set_of c.args.alive in
+    let old = c.loop-iter.iter in
+    let new = c.next.new.self in
+    let invariant = c.loop-iter.invariant in
+    let gives : GivesNext set old.reader.now old.walk None new.reader.now new.walk =
+    subst (λ (x : Option (ℕ → Bool)). GivesNext x old.reader.now old.walk None new.reader.now new.walk) invariant.set (c.in_default.ensures.steps.0) in
+    let stays : new.reader.now.file.failures ≡ first.file.failures =
+    steady_where_alive set first new.reader.now 0 (num_docs first) all
+    (steady_all set first old.reader.now old.walk invariant.same c.num_docs.ensures.covers invariant.walk (invariant.steady none) new.reader.now new.walk gives) in
+    search (rules, stays)

@@ -1,4 +1,4 @@
-use Rattle.std.proofs.Common.{◌≡◌, ◌≤◌, ◌-◌, length}
+use Rattle.std.proofs.Common.{◌≡◌, ◌⊎◌, ◌≤◌, ◌<◌, ◌-◌, length}
 use Rattle.std.specs.List.{AllByRecursion, Contains}
 use Rattle.std.specs.Prelude.{IsTrue, Err}
 use Rattle.store_base.specs.Counts.{HasRisen}
@@ -10,6 +10,7 @@ use Rattle.store_format.specs.Slots.{slots}
 use Rattle.store_reader.specs.Walking.{set_of, set_in, IsWalk}
 use Rattle.store_reader.proofs.IterationLookUpLemmas.{IsListedTo}
 use Rattle.store_reader.proofs.ItemsSoFarLemmas.{alive_so_far}
+use Rattle.store_reader.proofs.SteadyLemmas.{IsSteadySoFar}
 use Rattle.store_reader.proofs.answers.list_items.Given as goal
 
 abbrev pub invariant-loop-iter : goal.invariant-loop-iter
@@ -23,6 +24,8 @@ invariant-loop-iter g l = record {
   looks : IsListedTo l.fn.reader (set_of l.alive) (length l.items.items) l.iter.reader.now l.iter.walk;
   past : AllByRecursion IsNotPast l.items.items;
   failed : Contains l.items.items (Err Read) → HasRisen l.fn.reader.file.failures l.iter.reader.now.file.failures;
+  steady : (Contains l.items.items (Err Read) → ⊥) → IsSteadySoFar (set_of l.alive) l.fn.reader l.iter.reader.now l.iter.walk;
+  begun : (length l.items.items ≡ 0) ⊎ (0 < l.iter.walk.next);
   few : length l.items.items ≤ l.most;
 }
 

@@ -1,4 +1,4 @@
-use Rattle.std.proofs.Common.{refl, ap, ◌∙◌, true, inl}
+use Rattle.std.proofs.Common.{refl, ap, ◌∙◌, true}
 use Rattle.std.specs.Prelude.{Ok, Err}
 use Rattle.std.proofs.lemmas.Result.{err_from_is_err_and}
 use Rattle.store_base.specs.declared.error.StoreError.{StoreError}
@@ -12,7 +12,7 @@ use Rattle.store_reader.proofs.look_up.look_up.Goals as goal
 -- where no block came, no request gets one
 unanswered : (request : BlockRequest) (e : StoreError) → AnswersRequest request (Err e) (Err e)
 unanswered (Document doc_id doc_pos) e = refl
-unanswered Whole e = inl refl
+unanswered Whole e = refl
 
 pub returns-in-Some : goal.returns-in-Some
 returns-in-Some g c =

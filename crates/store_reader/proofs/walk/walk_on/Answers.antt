@@ -2,6 +2,7 @@ use Rattle.std.proofs.Common.{◌≡◌, refl, sym, ◌∙◌, subst, arith}
 use Rattle.store_reader.specs.Reading.{num_docs}
 use Rattle.store_reader.specs.Walking.{WalksTo, set_in}
 use Rattle.store_reader.proofs.RecentLemmas.{same_on, same_along}
+use Rattle.store_reader.proofs.SteadyLemmas.{steady_to, steady_end}
 use Rattle.store_reader.proofs.WalkingLemmas.{walks_past, walks_along, walks_same, docs_of_some, docs_stay, stands_in}
 use Rattle.store_reader.proofs.walk.walk_on.Goals as goal
 
@@ -48,3 +49,20 @@ returns-then-is_alive-clause-same g c = same_on _ _ _ (same_along _ _ _ _ _ c.lo
 
 pub returns-clause-same : goal.returns-clause-same
 returns-clause-same g c = same_along _ _ _ _ _ c.loop-doc_id.invariant.on.looks
+
+pub returns-then-is_alive-clause-steady : goal.returns-then-is_alive-clause-steady
+returns-then-is_alive-clause-steady g c =
+    let on = walks_along _ _ _ _ _ _ c.step_in.new.reader c.step_in.new.walk c.loop-doc_id.invariant.on c.step_in.ensures.later c.step_in.ensures.looks in
+    let w = c.step_in.ensures.walk in
+    let next = c.step_in.ensures.next in
+    steady_to _ _ _ _ _ _ _ c.num_docs-doc_id-end.ensures.covers c.requires on w (omega (arith, w.above, next, c.loop-doc_id.invariant.here))
+
+pub returns-clause-steady : goal.returns-clause-steady
+returns-clause-steady g c =
+    let count = c.num_docs-doc_id-end.ensures.count in let here = c.loop-doc_id.invariant.here in
+    let some = docs_of_some 0 0 c.args.reader.now.checkpoints c.args.walk.now.place c.num_docs-doc_id-end.ensures.covers.in_line in
+    let below = c.requires.below in let end = c.requires.end in
+    let all : c.loop-doc_id.doc_id ≡ num_docs c.args.reader.now = omega (arith, c.loop-doc_id.auto.doc_id-end) in
+    let on : WalksTo (set_in c.args.alive.now) c.args.reader.now c.args.walk.now (num_docs c.args.reader.now) c.loop-doc_id.reader c.loop-doc_id.walk =
+    subst (λ n. WalksTo (set_in c.args.alive.now) c.args.reader.now c.args.walk.now n c.loop-doc_id.reader c.loop-doc_id.walk) all c.loop-doc_id.invariant.on in
+    steady_end _ _ _ _ _ _ _ c.num_docs-doc_id-end.ensures.covers c.requires on c.loop-doc_id.invariant.walk refl

@@ -1,5 +1,6 @@
-use Rattle.std.proofs.Common.{Some, refl, subst, arith}
+use Rattle.std.proofs.Common.{inl, inr, Some, refl, subst, arith}
 use Rattle.store_reader.specs.Documents.{document_version, ReadsFrom}
+use Rattle.store_reader.proofs.SteadyLemmas.{failed_item}
 use Rattle.store_reader.proofs.WalkingLemmas.{docs_stay, item_is_true, stands_from, taken_place, read_truly}
 use Rattle.store_reader.proofs.iter.ItemsDocWalkIterator.next.Goals as goal
 
@@ -28,6 +29,7 @@ returns-clause-steps g c =
           walk = c.walk_on.ensures.walk;
           same = c.walk_on.ensures.same;
           gives = record { below = found.1; is_alive = found.2; next = found.3; above = (stands_from _ _ _ _ found.4).1; answers = c.answer_of-bytes.ensures; honest = truly };
+          steady = elim c.in_ok-doc_id.ensures.steady [ inl failed ↦ inl (failed_item _ _ _ _ c.answer_of-bytes.ensures failed) | inr steady ↦ inr steady ];
         };
         reads = reads;
         honest = λ honest. read_truly _ _ _ c.answer_of-bytes.result c.read_document.result (truly honest) reads;

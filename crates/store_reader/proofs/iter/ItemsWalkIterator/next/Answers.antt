@@ -1,4 +1,5 @@
-use Rattle.std.proofs.Common.{refl, arith}
+use Rattle.std.proofs.Common.{inl, inr, refl, arith}
+use Rattle.store_reader.proofs.SteadyLemmas.{failed_item}
 use Rattle.store_reader.proofs.WalkingLemmas.{docs_stay, item_is_true, stands_from, taken_place}
 use Rattle.store_reader.proofs.iter.ItemsWalkIterator.next.Goals as goal
 
@@ -23,6 +24,7 @@ returns-clause-steps g c =
         walk = c.walk_on.ensures.walk;
         same = c.walk_on.ensures.same;
         gives = record { below = found.1; is_alive = found.2; next = found.3; above = (stands_from _ _ _ _ found.4).1; answers = c.answer_of.ensures; honest = item_is_true _ _ _ _ _ found.4 c.answer_of.ensures };
+        steady = elim c.in_ok-doc_id.ensures.steady [ inl failed ↦ inl (failed_item _ _ _ _ c.answer_of.ensures failed) | inr steady ↦ inr steady ];
       },
       refl,
       refl,
