@@ -1,10 +1,10 @@
 use Rattle.std.proofs.Common.{◌<◌, ◌+◌, List, length, get_or, set, refl, sym, ◌∙◌, subst, arith}
-use Rattle.store_base.proofs.ListLemmas.{rest_more}
+use Rattle.store_base.proofs.ListLemmas.{rest_more, next_same}
 use Rattle.store_base.proofs.Steady.{still}
 use Rattle.store_merge.specs.declared.input.MergeInput.{MergeInput}
 use Rattle.store_merge.specs.Inputs.{CanBeTaken, IsInputKept}
 use Rattle.store_merge.specs.Stacking.{IsReadBy, IsStackedBy}
-use Rattle.store_merge.proofs.MergeLemmas.{all_at, named_is, left_is, each_more, each_all, kept_all, none_merged, merged_more, merged_all, next_same}
+use Rattle.store_merge.proofs.MergeLemmas.{all_at, named_is, left_is, each_more, each_all, kept_all, none_merged, merged_more, merged_all}
 use Rattle.store_merge.proofs.merging.take_inputs.Goals as goal
 
 pub loop-place-init : goal.loop-place-init
