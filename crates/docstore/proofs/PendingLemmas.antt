@@ -63,11 +63,9 @@ weight-pending starts bytes limit capacity h =
 pub length-concat-pending : (starts bytes : List ℕ) (limit capacity : ℕ) → IsPending starts bytes limit capacity → length (concat (documents_at starts bytes)) ≡ length bytes
 length-concat-pending starts bytes limit capacity h = ap length (sym h.joined)
 
--- the length of the block with one more document
-pub length-block-pushed : (starts bytes : List ℕ) (limit capacity : ℕ) (d : List ℕ) → IsPending starts bytes limit capacity
-    → length (block (documents_at starts bytes ++ d ∷ [])) ≡ length bytes + length d + 4 * (length starts + 2)
-length-block-pushed starts bytes limit capacity d h =
-    let docs = documents_at starts bytes in
+-- the length of the block of documents and one more
+length-block-more : (docs : List (List ℕ)) (d : List ℕ) → length (block (docs ++ d ∷ [])) ≡ length (concat docs) + length d + 4 * (length docs + 2)
+length-block-more docs d =
     omega (
       arith,
       length-block (docs ++ d ∷ []),
@@ -75,9 +73,19 @@ length-block-pushed starts bytes limit capacity d h =
       length-append (concat docs) (d ++ []),
       length-append d [],
       length-append docs (d ∷ []),
-      ap length h.joined,
-      length-documents_at starts bytes,
     )
+
+-- the same of pending documents
+pub length-block-pushed : (starts bytes : List ℕ) (limit capacity : ℕ) (d : List ℕ) → IsPending starts bytes limit capacity
+    → length (block (documents_at starts bytes ++ d ∷ [])) ≡ length bytes + length d + 4 * (length starts + 2)
+length-block-pushed starts bytes limit capacity d h =
+    let docs = documents_at starts bytes in
+    omega (arith, length-block-more docs d, ap length h.joined, length-documents_at starts bytes)
+
+-- the same of the documents that are seen
+pub length-block-seen : (docs : List (List ℕ)) (starts bytes : List ℕ) (limit capacity : ℕ) (d : List ℕ) → documents_at starts bytes ≡ docs → IsPending starts bytes limit capacity
+    → length (block (docs ++ d ∷ [])) ≡ length bytes + length d + 4 * (length starts + 2)
+length-block-seen docs starts bytes limit capacity d seen h = ap (λ (ds : List (List ℕ)). length (block (ds ++ d ∷ []))) (sym seen) ∙ length-block-pushed starts bytes limit capacity d h
 
 pub documents_pushed : (starts bytes : List ℕ) (limit capacity : ℕ) (d : List ℕ) → IsPending starts bytes limit capacity
     → documents_at (starts ++ length bytes ∷ []) (bytes ++ d) ≡ documents_at starts bytes ++ d ∷ []
@@ -141,16 +149,7 @@ length-block-pending starts bytes limit capacity h =
 
 -- a document of which no block can be made weighs, with eight bytes, what the block size leaves to 2^32
 pub limit : (docs : List (List ℕ)) (doc : List ℕ) (size : ℕ) → weight docs ≤ size → 2 ^ 32 ≤ length (block (docs ++ doc ∷ [])) → 2 ^ 32 ≤ size + length doc + 8
-limit docs doc size light large =
-    omega (
-      arith,
-      length-block (docs ++ doc ∷ []),
-      ap length (concat-append docs (doc ∷ [])),
-      length-append (concat docs) (doc ++ []),
-      length-append doc [],
-      length-append docs (doc ∷ []),
-      length-concat docs,
-    )
+limit docs doc size light large = omega (arith, length-block-more docs doc, length-concat docs)
 
 -- what a clause says of an Ok, where the result is one
 pub from_ok : {T E P : Type 0} (r : Result T E) → is_err r ≡ false → OnOk r P → P

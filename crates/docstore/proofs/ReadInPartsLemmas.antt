@@ -5,6 +5,7 @@ use Rattle.std.specs.List.{sum_by, AllByRecursion}
 use Rattle.std.proofs.lemmas.List.{append-nil, map-append, take_all, take-map, take-append-drop}
 use Rattle.std.proofs.lemmas.List.Sums.{sum_by-append}
 use Rattle.std.proofs.Math.Seq.{take-add}
+use Rattle.layered_index.proofs.OuterLayersLemmas.{docs_end-append}
 use Rattle.layered_index.proofs.LayerLemmas.{docs_grow}
 use Rattle.store_base.specs.Counts.{HasRisen, raised}
 use Rattle.store_base.specs.declared.error.Cause.{Cause}
@@ -116,10 +117,6 @@ read_in_pieces size n reader read covers all up =
     subst (λ (k : ℕ). IsReadTimes k (length reader.file.content) reader read) times (subst (λ (k : ℕ). IsReadTimes up.times k reader read) end up.read)
 
 -- ---- some of the checkpoints that follow one another
-
-docs_end-append : (doc : ℕ) (xs ys : List Checkpoint) → docs_end doc (xs ++ ys) ≡ docs_end (docs_end doc xs) ys
-docs_end-append doc [] ys = refl
-docs_end-append doc (x ∷ xs) ys = docs_end-append x.doc_range.end xs ys
 
 bytes_end-append : (byte : ℕ) (xs ys : List Checkpoint) → bytes_end byte (xs ++ ys) ≡ bytes_end (bytes_end byte xs) ys
 bytes_end-append byte [] ys = refl

@@ -33,6 +33,6 @@ pub use store_reader::{
     AliveDocuments, AliveSliceDocuments, Answer, BlockSlice, BlockSlices, CacheStats,
     DOCSTORE_CACHE_CAPACITY, DataPart, DocIter, DocWalk, Documents, Items, RawIter, ReadCall,
     SeekingReader, SliceDocuments, StorePart, StoreReader, StoreSlice, StoreTail, StoreView,
-    TailError, Walk, answer_all, any_lacks_memory, check_index,
+    TailError, Walk, answer_all, any_lacks_memory, check_index, document_at,
 };
 pub use writer::StoreWriter;

@@ -88,6 +88,14 @@ impl<W: TerminatingWrite> BlockCompressor<W> {
         self.alloc
     }
 
+    /// Why it has failed, if it has.
+    #[inline]
+    pub(crate) fn failure(&self) -> Option<Cause>
+        ensures { result ≡ self.now.failure }
+    {
+        self.failure
+    }
+
     /// Refuses with the cause if it has failed.
     #[inline]
     pub(crate) fn check_works(&self) -> Result<(), Cause>

@@ -112,7 +112,7 @@ impl<W: TerminatingWrite> StoreWriter<W> {
     pub fn has_failed(&self) -> bool
         ensures { result ≡ is_some self.now.output.failure }
     {
-        self.block_compressor.check_works().is_err()
+        self.block_compressor.failure().is_some()
     }
 
     /// A lower bound of the memory that is taken, in bytes.
@@ -122,11 +122,14 @@ impl<W: TerminatingWrite> StoreWriter<W> {
         self.current_block.mem_usage()
     }
 
-    // Refuses where the writer has failed, and where there is no id for one more document.
+    // Refuses where the writer has failed, and where there is no id for one more document. It runs for each document, and
+    // takes fewer instructions so than by `check_works`.
     fn check_id_left(&self) -> Result<(), StoreError>
         ensures { MatchResult result (λ _. HasIdLeft self.now) (HasNoIdLeft self.now) }
     {
-        self.block_compressor.check_works()?;
+        if let Some(cause) = self.block_compressor.failure() {
+            return Err(StoreError::from(cause));
+        }
         if self.num_docs() == u32::MAX {
             return Err(StoreError::TooManyDocs);
         }

@@ -41,18 +41,6 @@ pass_both true true x y e = cc
 pass_both true false x y e = absurd cc
 pass_both false c x y e = absurd cc
 
-pub step_shorter : (doc byte : ℕ) (bytes : List ℕ) (x : Checkpoint × List ℕ) → step_at doc byte bytes ≡ Some x → length x.1 < length bytes
-unfolding step_at
-step_shorter doc byte bytes x e =
-    let a = bind_some (number_below (2 ^ 32) bytes) (λ docs. number_below (2 ^ 32) docs.1 >>= λ len. cond (ltb (doc + docs.0) (2 ^ 32))
-    (cond (ltb (byte + len.0) (2 ^ 64)) (Some (checkpoint doc (doc + docs.0) byte (byte + len.0), len.1)) None) None) x e in
-    let docs = a.0.0 in
-    let b = bind_some (number_below (2 ^ 32) a.0.1) (λ len. cond (ltb (doc + docs) (2 ^ 32))
-    (cond (ltb (byte + len.0) (2 ^ 64)) (Some (checkpoint doc (doc + docs) byte (byte + len.0), len.1)) None) None) x a.2 in
-    let len = b.0.0 in
-    let p = pass_both (ltb (doc + docs) (2 ^ 32)) (ltb (byte + len) (2 ^ 64)) (checkpoint doc (doc + docs) byte (byte + len), b.0.1) x b.2 in
-    omega (arith, below_shorter (2 ^ 32) bytes a.0 a.1, below_shorter (2 ^ 32) a.0.1 b.0 b.1, ap (λ (y : Checkpoint × List ℕ). length y.1) p)
-
 -- a checkpoint takes two bytes
 pub step_takes : (doc byte : ℕ) (bytes : List ℕ) (x : Checkpoint × List ℕ) → step_at doc byte bytes ≡ Some x → 2 + length x.1 ≤ length bytes
 unfolding step_at
@@ -65,6 +53,9 @@ step_takes doc byte bytes x e =
     let len = b.0.0 in
     let p = pass_both (ltb (doc + docs) (2 ^ 32)) (ltb (byte + len) (2 ^ 64)) (checkpoint doc (doc + docs) byte (byte + len), b.0.1) x b.2 in
     omega (arith, below_shorter (2 ^ 32) bytes a.0 a.1, below_shorter (2 ^ 32) a.0.1 b.0 b.1, ap (λ (y : Checkpoint × List ℕ). length y.1) p)
+
+step_shorter : (doc byte : ℕ) (bytes : List ℕ) (x : Checkpoint × List ℕ) → step_at doc byte bytes ≡ Some x → length x.1 < length bytes
+step_shorter doc byte bytes x e = omega (arith, step_takes doc byte bytes x e)
 
 pub heading_shorter : (bytes : List ℕ) (x : Heading × List ℕ) → heading_at bytes ≡ Some x → length x.1 < length bytes
 unfolding heading_at

@@ -16,10 +16,10 @@ use Rattle.layered_index.proofs.IndexLemmas.{digit_count_zero, no_layers}
 use Rattle.layered_index.proofs.DigitLemmas.{below_digits}
 use Rattle.layered_index.proofs.LayerLemmas.{layer_above_is_in_line, length-groups, length-layer_above}
 use Rattle.layered_index.proofs.PassLemmas.{turn, above_some}
-use Rattle.layered_index.proofs.OpenLemmas.{opens_again}
+use Rattle.layered_index.proofs.OpenLemmas.{small_texts, opens_again}
 use Rattle.layered_index.proofs.PointedLemmas.{none_pointed}
 use Rattle.layered_index.proofs.RestOfLayerLemmas.{rest_found}
-use Rattle.layered_index.proofs.IndexHeadLemmas.{is_next, none_left, none_is_some, head_left, small_texts}
+use Rattle.layered_index.proofs.IndexHeadLemmas.{is_next, none_left, none_is_some, head_left}
 
 -- ---- from the top down
 

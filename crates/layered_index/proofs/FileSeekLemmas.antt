@@ -16,10 +16,10 @@ use Rattle.layered_index.specs.declared.checkpoint.Checkpoint.{Checkpoint}
 use Rattle.layered_index.specs.Checkpoint.{first_past}
 use Rattle.layered_index.specs.Layers.{digit_count}
 use Rattle.layered_index.specs.IndexReading.{IsIndexPart}
-use Rattle.layered_index.specs.IndexHeads.{longest_head, longest_run, HeadBytes, index_in, ReadsAtMost, ReadsRuns, RefusesRead, AnswersByReads}
+use Rattle.layered_index.specs.IndexHeads.{longest_head, longest_run, HeadBytes, IsHead, index_in, ReadsAtMost, ReadsRuns, ReadsLayers, RefusesRead, AnswersByReads}
 use Rattle.layered_index.specs.Sought.{IndexBytes, next_layer, after_numbers, found_in, found_in_index}
 use Rattle.layered_index.proofs.CutOffLemmas.{below_grown}
-use Rattle.layered_index.proofs.FileHeadLemmas.{Heads}
+use Rattle.layered_index.proofs.FileHeadLemmas.{Heads, seen_head}
 use Rattle.layered_index.proofs.FoundAnswerLemmas.{found_answer}
 use Rattle.layered_index.proofs.FoundLemmas.{Finds, found_first, found_no_layer, found_next, found_nothing, found_goes_on, found_last}
 use Rattle.layered_index.proofs.IndexHeadLemmas.{head_digits, pass_ends, none_is_some}
@@ -207,6 +207,11 @@ reads_more period inner i old mid new same p q =
 pub runs_fewer : (period i j : ℕ) (old new : Part) → i ≤ j → ReadsRuns period i old new → ReadsRuns period j old new
 runs_fewer period i j old new le r =
     reads_fewer i j (i * longest_run period) (j * longest_run period) old new le (mul-le i (longest_run period) j (longest_run period) le (omega arith)) r
+
+-- a run of some of the layers
+pub runs_of_layers : (u v : HeadBytes) (count ends texts i : ℕ) (old new : Part) → u ≡ v → IsHead u count ends texts → i ≤ count → ReadsRuns v.period i old new → ReadsLayers v old new
+runs_of_layers u v count ends texts i old new same is le r =
+    record { count = count; ends = ends; texts = texts; is = seen_head u v count ends texts same is; reads = runs_fewer v.period i count old new le r }
 
 -- no run of a shorter period is longer
 pub runs_shorter : (period most i : ℕ) (old new : Part) → period ≤ most → ReadsRuns period i old new → ReadsRuns most i old new

@@ -1,18 +1,16 @@
 -- The head of an index: how many layers there are, where each ends, and what is cut off by it.
-use Rattle.std.proofs.Common.{◌≡◌, ℕ, suc, ◌+◌, ◌-◌, ◌<◌, ◌≤◌, ◌^◌, false, cond, eqb, ltb, List, [], ◌∷◌, ◌++◌, length, take, drop, map, Option, Some, None, refl, sym, ◌∙◌, ap, subst, arith, length-append}
+use Rattle.std.proofs.Common.{◌≡◌, ℕ, suc, ◌+◌, ◌-◌, ◌<◌, ◌≤◌, ◌^◌, false, cond, eqb, ltb, List, [], ◌∷◌, ◌++◌, length, take, drop, Option, Some, None, refl, sym, ◌∙◌, ap, subst, arith}
 use Rattle.std.proofs.lemmas.Bool.{eqb-true, ltb-true}
-use Rattle.std.proofs.lemmas.List.{reverse-reverse}
-use Rattle.std.specs.List.{flat_map, concat, AllByRecursion}
+use Rattle.std.specs.List.{flat_map, concat}
 use Rattle.store_base.proofs.ListLemmas.{pass_none}
 use Rattle.store_base.specs.VInt.{number, ◌>>=◌, number_at, number_below}
 use Rattle.store_base.specs.ReadingLemmas.{bind_some, some_is, pass_some, numbers_are_read}
 use Rattle.layered_index.specs.declared.checkpoint.Checkpoint.{Checkpoint}
-use Rattle.layered_index.specs.Layers.{layer_text, digit_count, layers, ends_from, texts_down}
+use Rattle.layered_index.specs.Layers.{digit_count, ends_from, texts_down}
 use Rattle.layered_index.specs.IndexReading.{numbers_at, texts_at, ends_at, split_at, IsIndexPart, HasIndex}
 use Rattle.layered_index.specs.Sought.{layers_left, next_layer, after_numbers, IndexBytes, IsHeaded}
 use Rattle.layered_index.proofs.IndexLemmas.{index_parts}
-use Rattle.layered_index.proofs.OpenLemmas.{all_reverse, texts_fit, is_joined, opens_again}
-use Rattle.layered_index.proofs.SplitLemmas.{joined}
+use Rattle.layered_index.proofs.OpenLemmas.{opens_again}
 
 -- ---- the head of an index
 
@@ -166,21 +164,6 @@ head_digits period bytes count ends texts cs head is =
     let read : number_at bytes ≡ Some (digits, rest) = ap number_at whole ∙ numbers_are_read digits rest in
     let found = some_is a.0 (digits, rest) (sym a.1 ∙ read) in
     sym (ap (λ (x : ℕ × List ℕ). x.0) p.1) ∙ ap (λ (x : ℕ × List ℕ). x.0) found
-
--- the texts of an index can be addressed
-pub small_texts : (period : ℕ) (bytes : List ℕ) (cs : List Checkpoint) → length bytes < 2 ^ 64 → IsIndexPart period bytes cs
-    → AllByRecursion (λ t. length t < 2 ^ 64) (map (layer_text period) (layers period cs))
-small_texts period bytes cs fits is =
-    let ts = texts_down period cs in
-    let up = map (layer_text period) (layers period cs) in
-    let whole : bytes ≡ joined ts = is.1 ∙ is_joined period cs in
-    let size : length (concat ts) < 2 ^ 64 = omega (
-      arith,
-      ap length whole,
-      length-append (number (length ts)) (flat_map number (ends_from 0 ts) ++ concat ts),
-      length-append (flat_map number (ends_from 0 ts)) (concat ts),
-    ) in
-    subst (AllByRecursion (λ t. length t < 2 ^ 64)) (reverse-reverse up) (all_reverse (λ t. length t < 2 ^ 64) ts (texts_fit ts size))
 
 -- what holds of the bytes that are seen holds of those inside
 pub inside : (u v : IndexBytes) (cs : List Checkpoint) → u ≡ v → IsIndexPart v.period v.bytes cs → IsIndexPart u.period u.bytes cs

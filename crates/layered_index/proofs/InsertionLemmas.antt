@@ -1,5 +1,5 @@
 -- An insertion among layers, one layer at a time.
-use Rattle.std.proofs.Common.{◌≡◌, ◌⊎◌, ℕ, suc, ◌+◌, ◌-◌, ◌^◌, ◌<◌, ◌≤◌, List, [], ◌∷◌, ◌++◌, length, take, drop, get_or, set, sym, ◌∙◌, ap, subst, arith}
+use Rattle.std.proofs.Common.{◌≡◌, ℕ, suc, ◌+◌, ◌-◌, ◌^◌, ◌<◌, ◌≤◌, List, [], ◌∷◌, ◌++◌, length, take, drop, get_or, set, sym, ◌∙◌, ap, subst, arith}
 use Rattle.std.proofs.Common.{append_assoc}
 use Rattle.std.proofs.lemmas.List.{take_all, drop_all, take_at, drop_more, take_more_set, drop-set-lt, set_split, set_at, set-set, set-get_or, get_or_at, get_or-set_same, get_or_default, length-take}
 use Rattle.std.proofs.lemmas.List.{length_push}

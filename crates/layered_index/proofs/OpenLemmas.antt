@@ -48,24 +48,32 @@ opens_read period bytes ts two small fits e are =
     let down : ts ≡ texts_down period cs = sym (reverse-reverse ts) ∙ ap reverse (read.1 ∙ ap (λ (xs : List Checkpoint). map (layer_text period) (layers period xs)) (sym same)) in
     (subst IsInLine (sym same) read.0, split.0 ∙ ap joined down ∙ sym (is_joined period cs))
 
--- The texts of the index of a list in line are layers.
-pub opens_again : (period : ℕ) (bytes : List ℕ) (cs : List Checkpoint) → 2 ≤ period → period ≤ 64 → length bytes < 2 ^ 64 → IsIndexPart period bytes cs
-    → (split_at bytes ≡ Some (texts_down period cs)) × AreLayers period (texts_down period cs)
-opens_again period bytes cs two small fits is =
-    let whole : bytes ≡ joined (texts_down period cs) = is.1 ∙ is_joined period cs in
+-- the texts of an index can be addressed
+pub small_texts : (period : ℕ) (bytes : List ℕ) (cs : List Checkpoint) → length bytes < 2 ^ 64 → IsIndexPart period bytes cs
+    → AllByRecursion (λ t. length t < 2 ^ 64) (map (layer_text period) (layers period cs))
+small_texts period bytes cs fits is =
     let ts = texts_down period cs in
+    let up = map (layer_text period) (layers period cs) in
+    let whole : bytes ≡ joined ts = is.1 ∙ is_joined period cs in
     let size : length (concat ts) < 2 ^ 64 = omega (
       arith,
       ap length whole,
       length-append (number (length ts)) (flat_map number (ends_from 0 ts) ++ concat ts),
       length-append (flat_map number (ends_from 0 ts)) (concat ts),
     ) in
-    let up = map (layer_text period) (layers period cs) in
-    let same : reverse ts ≡ up = reverse-reverse up in
-    let small_texts : AllByRecursion (λ t. length t < 2 ^ 64) up = subst (AllByRecursion (λ t. length t < 2 ^ 64)) same (all_reverse (λ t. length t < 2 ^ 64) ts (texts_fit ts size)) in
-    let again = above_again period cs two small is.0 small_texts in
+    subst (AllByRecursion (λ t. length t < 2 ^ 64)) (reverse-reverse up) (all_reverse (λ t. length t < 2 ^ 64) ts (texts_fit ts size))
+
+-- The texts of the index of a list in line are layers.
+pub opens_again : (period : ℕ) (bytes : List ℕ) (cs : List Checkpoint) → 2 ≤ period → period ≤ 64 → length bytes < 2 ^ 64 → IsIndexPart period bytes cs
+    → (split_at bytes ≡ Some (texts_down period cs)) × AreLayers period (texts_down period cs)
+opens_again period bytes cs two small fits is =
+    let whole : bytes ≡ joined (texts_down period cs) = is.1 ∙ is_joined period cs in
+    let ts = texts_down period cs in
+    let same : reverse ts ≡ map (layer_text period) (layers period cs) = reverse-reverse (map (layer_text period) (layers period cs)) in
+    let texts = small_texts period bytes cs fits is in
+    let again = above_again period cs two small is.0 texts in
     let last : last_items [] ts ≡ cs = last_is_first ts ∙ ap first_items same ∙ again.1 in (
-      ap split_at whole ∙ split_again ts (omega (arith, length-texts_down period cs, few_layers period cs two small_texts)) (omega (arith, ap length whole)),
+      ap split_at whole ∙ split_again ts (omega (arith, length-texts_down period cs, few_layers period cs two texts)) (omega (arith, ap length whole)),
       record {
         below = (turned period ts).1 (subst (AreLayersAbove period) (sym same) again.0);
         count = ap (λ (xs : List Checkpoint). digit_count period (length xs)) last ∙ sym (length-texts_down period cs);

@@ -22,8 +22,8 @@ use Rattle.layered_index.proofs.PassLemmas.{turn, above_some, first_items, last_
 use Rattle.layered_index.proofs.CursorLemmas.{items_none}
 use Rattle.layered_index.proofs.GroupLemmas.{groups_joined}
 use Rattle.layered_index.proofs.RunLemmas.{IsRun, groups_are_runs}
-use Rattle.layered_index.proofs.OpenLemmas.{opens_again}
-use Rattle.layered_index.proofs.IndexHeadLemmas.{is_next, none_left, none_is_some, head_left, head_digits, small_texts}
+use Rattle.layered_index.proofs.OpenLemmas.{small_texts, opens_again}
+use Rattle.layered_index.proofs.IndexHeadLemmas.{is_next, none_left, none_is_some, head_left, head_digits}
 use Rattle.layered_index.proofs.DescentLemmas.{few_above}
 
 -- ---- where the documents end

@@ -1,5 +1,5 @@
 -- What a seek reads of one block, and of the layers that are left.
-use Rattle.std.proofs.Common.{◌≡◌, ℕ, zero, suc, ◌+◌, ◌-◌, ◌<◌, ◌≤◌, inl, inr, Bool, true, false, cond, eqb, ltb, List, [], ◌∷◌, ◌++◌, length, take, drop, Option, Some, None, refl, sym, ◌∙◌, ap, subst, arith, append_assoc}
+use Rattle.std.proofs.Common.{◌≡◌, ℕ, zero, suc, ◌+◌, ◌-◌, ◌^◌, ◌<◌, ◌≤◌, inl, inr, Bool, true, false, cond, eqb, ltb, List, [], ◌∷◌, ◌++◌, length, take, drop, Option, Some, None, refl, sym, ◌∙◌, ap, subst, arith, append_assoc}
 use Rattle.std.proofs.lemmas.Bool.{lt-ltb, le-ltb, cases_lt, cond-true, cond-false}
 use Rattle.std.proofs.lemmas.List.{append-nil, take-append-drop}
 use Rattle.std.specs.Prelude.{IfSome, slice_range}
@@ -10,7 +10,6 @@ use Rattle.store_base.specs.VInt.{◌>>=◌}
 use Rattle.store_base.specs.ReadingLemmas.{bind_some, some_is, pass_some, bytes_behind}
 use Rattle.store_base.specs.Serialize.{IsBytes}
 use Rattle.layered_index.specs.declared.checkpoint.Checkpoint.{Checkpoint}
-use Rattle.layered_index.specs.declared.run_reading.Heading.{Heading}
 use Rattle.layered_index.specs.declared.run_seek.Sought.{Sought}
 use Rattle.layered_index.specs.Checkpoint.{docs_end, IsInLineFrom, IsInLine, step, checkpoint_block, first_past}
 use Rattle.layered_index.specs.Layers.{layer_text, docs_start}
@@ -71,15 +70,18 @@ seek_is_done target found count i doc byte bytes total le so_far =
 
 -- ---- one block
 
+-- the block of a run begins with its heading
+heading_of_run : (c : Checkpoint) (cs : List Checkpoint) → IsInLine (c ∷ cs) → length (c ∷ cs) < 2 ^ 64
+    → heading_at (checkpoint_block (c ∷ cs)) ≡ Some (record { count = length (c ∷ cs); doc = c.doc_range.start; byte = c.byte_range.start }, flat_map step (c ∷ cs) ++ [])
+heading_of_run c cs h few = ap heading_at (sym (append-nil (checkpoint_block (c ∷ cs)))) ∙ heading_again c cs [] h few
+
 -- the block of a run tells what is first in it
 pub block_sought : (most target : ℕ) (g : List Checkpoint) → 0 < length g → length g ≤ most → most ≤ 64 → IsInLine g
     → sought_at most target (checkpoint_block g) ≡ Some (record { found = first_past g target; doc = docs_start g; doc_end = docs_end 0 g })
 unfolding sought_at
 block_sought most target [] some few small h = absurd (omega arith)
 block_sought most target (c ∷ cs) some few small h =
-    let same : checkpoint_block (c ∷ cs) ++ [] ≡ checkpoint_block (c ∷ cs) = append-nil (checkpoint_block (c ∷ cs)) in
-    let heading : Heading = record { count = length (c ∷ cs); doc = c.doc_range.start; byte = c.byte_range.start } in
-    let head : heading_at (checkpoint_block (c ∷ cs)) ≡ Some (heading, flat_map step (c ∷ cs) ++ []) = ap heading_at (sym same) ∙ heading_again c cs [] h (omega arith) in
+    let head = heading_of_run c cs h (omega arith) in
     let test : ltb most (length (c ∷ cs)) ≡ false = le-ltb _ _ few in
     let steps : steps_at (length (c ∷ cs)) c.doc_range.start c.byte_range.start (flat_map step (c ∷ cs) ++ []) ≡ Some (c ∷ cs, []) = steps_again c.doc_range.start c.byte_range.start (c ∷ cs) [] h in
     rw (head, test, steps) refl
@@ -204,9 +206,7 @@ pub block_scanned : (most target : ℕ) (g : List Checkpoint) → 0 < length g �
 unfolding scanned_at
 block_scanned most target [] some few small h = absurd (omega arith)
 block_scanned most target (c ∷ cs) some few small h =
-    let same : checkpoint_block (c ∷ cs) ++ [] ≡ checkpoint_block (c ∷ cs) = append-nil (checkpoint_block (c ∷ cs)) in
-    let heading : Heading = record { count = length (c ∷ cs); doc = c.doc_range.start; byte = c.byte_range.start } in
-    let head : heading_at (checkpoint_block (c ∷ cs)) ≡ Some (heading, flat_map step (c ∷ cs) ++ []) = ap heading_at (sym same) ∙ heading_again c cs [] h (omega arith) in
+    let head = heading_of_run c cs h (omega arith) in
     let test : ltb most (length (c ∷ cs)) ≡ false = le-ltb _ _ few in
     let found : scanned target (length (c ∷ cs)) c.doc_range.start c.byte_range.start (flat_map step (c ∷ cs) ++ []) ≡ Some (first_past (c ∷ cs) target) =
     scan_again target c.doc_range.start c.byte_range.start (c ∷ cs) [] h in

@@ -77,6 +77,14 @@ pub record ReadsAtMost (most bytes : ℕ) (old new : Part) : Type 0 where
 abbrev pub ReadsRuns : ℕ → ℕ → Part → Part → Type 0
 ReadsRuns period count old new = ReadsAtMost count (count * longest_run period) old new
 
+-- The head has so many layers, and at most one run of each was read.
+pub record ReadsLayers (head : HeadBytes) (old new : Part) : Type 0 where
+  pub count : ℕ
+  pub ends : ℕ
+  pub texts : ℕ
+  pub is : IsHead head count ends texts
+  pub reads : ReadsRuns head.period count old new
+
 -- a read failed, or memory ran out
 abbrev pub RefusesRead : StoreError → Type 0
 RefusesRead e = (e ≡ Read) ⊎ (e ≡ Memory)

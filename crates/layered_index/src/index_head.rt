@@ -8,7 +8,7 @@ ghost use Rattle.layered_index.specs.Checkpoint.{docs_end, first_past};
 ghost use Rattle.layered_index.specs.Layers.{digit_count};
 ghost use Rattle.layered_index.specs.IndexReading.{IsIndexPart, HasIndex};
 ghost use Rattle.layered_index.specs.IndexHeads.{index_in, head_bytes, longest_run, IsHeadOf, HasNoHead};
-ghost use Rattle.layered_index.specs.IndexHeads.{ReadsAtMost, ReadsRuns};
+ghost use Rattle.layered_index.specs.IndexHeads.{ReadsAtMost, ReadsRuns, ReadsLayers};
 ghost use Rattle.layered_index.specs.IndexHeads.{end_in_index, RefusesRead, RefusesSeek, AnswersByReads};
 ghost use Rattle.layered_index.specs.Sought.{found_in_index, IsPast};
 
@@ -172,6 +172,25 @@ impl IndexHead {
         ensures reads { IsTrue file.old.honest → IsHeadOf file.old.content self.now
             → (cs : List Checkpoint) → IsIndexPart self.now.period (index_in file.old.content self.now) cs
             → ReadsRuns self.now.period (digit_count self.now.period (length cs)) file.old file.new }
+    {
+        self.seek_down(alloc, file, target)
+    }
+
+    // The same, by at most one run of each layer that the head has.
+    fn seek_down<H: FileHandle>(
+        &self,
+        alloc: Global,
+        file: &mut FileSlice<H>,
+        target: DocId,
+    ) -> Result<Option<Checkpoint>, StoreError>
+        requires within { self.now.end ≤ length file.old.content }
+        ensures exact { IsTrue file.old.honest → IsHeadOf file.old.content self.now → AnswersByReads
+            (found_in_index false self.now.period target (index_in file.old.content self.now)) result }
+        ensures past { IfOk result (λ found. IfSome found (IsPast target)) }
+        ensures refused { IfErr result RefusesSeek }
+        ensures device { IsErrOf result StoreError.Read → HasRisen file.old.failures file.new.failures }
+        ensures steady { IsErrOf result StoreError.Read ⊎ (file.new.failures ≡ file.old.failures) }
+        ensures runs { ReadsLayers self.now file.old file.new }
     {
         let period = self.period as usize;
         let texts_len = self.end - self.texts;

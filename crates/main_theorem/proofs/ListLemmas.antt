@@ -6,8 +6,8 @@ use Rattle.store_base.specs.declared.error.StoreError.TheVariants.{ShortFile, Ba
 use Rattle.store_base.specs.declared.error.StoreError.TheVariants.{Unserializable, BlockTooLarge, TooManyDocs, Failed, BadPeriod}
 use Rattle.layered_index.specs.declared.checkpoint.Checkpoint.{Checkpoint}
 use Rattle.layered_index.specs.Checkpoint.{docs_end}
-use Rattle.store_reader.specs.declared.answers.ReadCall.{ReadCall}
-use Rattle.store_reader.specs.declared.answers.ReadCall.TheVariants.{Bytes as Get, Iter}
+use Rattle.store_reader.specs.declared.call_list.ReadCall.{ReadCall}
+use Rattle.store_reader.specs.declared.call_list.ReadCall.TheVariants.{Bytes as Get, Iter}
 use Rattle.store_reader.specs.CallAnswers.{CanAnswer}
 use Rattle.store_reader.specs.Reading.{Reading, IsSeen, num_docs, store_of}
 use Rattle.store_format.specs.Block.{Slot}

@@ -3,7 +3,7 @@ use Rattle.std.specs.Prelude.{◌≡◌, ℕ, ◌+◌, List, [], ◌∷◌, map,
 use Rattle.store_format.specs.Block.{Slot}
 use Rattle.store_format.specs.Footer.{version_number}
 use Rattle.store_format.specs.StoreFile.{IsStore}
-use Rattle.store_reader.specs.declared.answers.ReadCall.{ReadCall}
+use Rattle.store_reader.specs.declared.call_list.ReadCall.{ReadCall}
 use Rattle.store_reader.specs.CallAnswers.{exact_results, keys_of_calls, results_of}
 use Rattle.store_reader.specs.CachedBlocks.{no_blocks}
 use Rattle.store_reader.specs.LookLaws.{AreLookUps}

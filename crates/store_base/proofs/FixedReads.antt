@@ -1,14 +1,12 @@
 -- Fixed numbers of the widths of the types, read exactly.
-use Rattle.std.proofs.Common.{◌≡◌, ℕ, zero, suc, ◌-◌, ◌^◌, ◌<◌, ◌≤◌, List, [], ◌∷◌, ◌++◌, length, get_or, take, drop, Option, Some, None, Result, Ok, Err, refl, sym, ap, arith, inl, inr}
-use Rattle.std.specs.Option.{option_map, ok_or}
+use Rattle.std.proofs.Common.{◌≡◌, ℕ, zero, suc, ◌-◌, ◌^◌, ◌<◌, ◌≤◌, List, [], ◌∷◌, ◌++◌, length, get_or, take, drop, Ok, Err, refl, sym, ap, arith, inl, inr}
 use Rattle.std.specs.Int.{Width, w8, w32, w64, byte_len, from_le_bytes}
-use Rattle.std.proofs.lemmas.Bool.{cases_lt, le-ltb, lt-ltb}
+use Rattle.std.proofs.lemmas.Bool.{cases_lt}
 use Rattle.std.proofs.lemmas.List.{take-append-drop, length-append, length-take, get_or-take, get_or_past}
 use Rattle.std.proofs.lemmas.Nat.{le_bytes_4, le_bytes_8}
 use Rattle.store_base.specs.declared.fault.DecodeFault.TheVariants.{Short}
-use Rattle.store_base.specs.declared.fault.DecodeFault.{DecodeFault}
-use Rattle.store_base.specs.Serialize.{fixed, fixed_at}
-use Rattle.store_base.specs.Reading.{IsBelow, Reads, ReadsPart, seen_by}
+use Rattle.store_base.specs.Serialize.{fixed}
+use Rattle.store_base.specs.Reading.{IsBelow, Reads}
 
 abbrev pub AreOctets : List ℕ → Type 0
 AreOctets bytes = (i : ℕ) → get_or bytes i 0 < 256
@@ -102,16 +100,11 @@ fixed_short w limit wide bytes fits few =
       refl,
     )
 
--- what a split gave, or Short
-abbrev pub or_short : {A : Type 0} → Option A → Result A DecodeFault
-or_short o = ok_or o Short
+-- ---- what is read, of the bytes that are taken
 
-pub seen_or_short : {A B : Type 0} (view : A → B) (o : Option A) → seen_by view (or_short o) ≡ or_short (option_map view o)
-seen_or_short view (Some x) = refl
-seen_or_short view None = refl
+pub found_reads : (w : Width) (limit : ℕ) → IsWide w limit → (old front rest : List ℕ) (n : ℕ) → AreOctets old → byte_len w ≤ length old → front ≡ take (byte_len w) old
+    → rest ≡ drop (byte_len w) old → n ≡ from_le_bytes w front → Reads (IsBelow limit) (fixed (byte_len w)) old (Ok n) rest
+found_reads w limit wide old front rest n fits enough f r is = rw (is, f, r) (fixed_found w limit wide old fits enough)
 
-pub fixed_reads : (w : Width) (limit : ℕ) → IsWide w limit → (bytes : List ℕ) → AreOctets bytes → ReadsPart (IsBelow limit) (fixed (byte_len w)) bytes (or_short (fixed_at w bytes))
-fixed_reads w limit wide bytes fits = elim (cases_lt (length bytes) (byte_len w)) [
-  | inl lt ↦ rw (lt-ltb (length bytes) (byte_len w) lt) (fixed_short w limit wide bytes fits lt)
-  | inr le ↦ rw (le-ltb (length bytes) (byte_len w) le) (fixed_found w limit wide bytes fits le)
-]
+pub short_reads : (w : Width) (limit : ℕ) → IsWide w limit → (old rest : List ℕ) → AreOctets old → length old < byte_len w → rest ≡ old → Reads (IsBelow limit) (fixed (byte_len w)) old (Err Short) rest
+short_reads w limit wide old rest fits few same = rw same (fixed_short w limit wide old fits few)

@@ -41,7 +41,7 @@ all_behind P (x ∷ xs) ys h = all_behind P xs ys h.1
 
 -- ---- lists whose rest is the same from a place on
 
-next_same : {A : Type 0} (olds news : List A) (i : ℕ) (d : A) → drop i news ≡ drop i olds → get_or news i d ≡ get_or olds i d
+pub next_same : {A : Type 0} (olds news : List A) (i : ℕ) (d : A) → drop i news ≡ drop i olds → get_or news i d ≡ get_or olds i d
 next_same olds news i d rest =
     let here : i + 0 ≡ i = omega arith in
     ap (λ (n : ℕ). get_or news n d) (sym here) ∙ sym (get_or-drop i news 0 d) ∙ ap (λ xs. get_or xs 0 d) rest ∙ get_or-drop i olds 0 d ∙ ap (λ (n : ℕ). get_or olds n d) here

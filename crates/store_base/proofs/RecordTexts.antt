@@ -16,12 +16,12 @@ use Rattle.store_base.proofs.FixedReads.{AreOctets, wide32}
 
 -- ---- numbers of four bytes
 
-octets : (bytes : List ℕ) → IsBytes bytes → AreOctets bytes
+pub octets : (bytes : List ℕ) → IsBytes bytes → AreOctets bytes
 octets [] h i = omega arith
 octets (b ∷ bytes) h zero = h.0
 octets (b ∷ bytes) h (suc i) = octets bytes h.1 i
 
-bytes_front : (n : ℕ) (bytes : List ℕ) → IsBytes bytes → IsBytes (take n bytes)
+pub bytes_front : (n : ℕ) (bytes : List ℕ) → IsBytes bytes → IsBytes (take n bytes)
 bytes_front zero bytes h = tt
 bytes_front (suc n) [] h = tt
 bytes_front (suc n) (b ∷ bytes) h = (h.0, bytes_front n bytes h.1)

@@ -23,8 +23,7 @@ pub record IsCutShort {A : Type 0} (IsValue : A → Type 0) (text : A → List �
   pub parts : text value ≡ bytes ++ more
 
 -- A value is read from the front of old, or refused: Ok exactly if a front is the text of a value, Short exactly if old
--- is a
--- proper beginning of such a text, else Malformed. Ok leaves what follows the text, a refusal the whole input.
+-- is a proper beginning of such a text, else Malformed. Ok leaves what follows the text, a refusal the whole input.
 abbrev pub Reads : {A : Type 0} → (A → Type 0) → (A → List ℕ) → List ℕ → Result A DecodeFault → List ℕ → Type 0
 Reads IsValue text old (Ok x) new = IsValue x × (old ≡ text x ++ new) × (IsCutShort IsValue text old → ⊥)
 Reads IsValue text old (Err Short) new = IsCutShort IsValue text old × (HasFront IsValue text old → ⊥) × (new ≡ old)

@@ -33,11 +33,20 @@ impl MemFile {
         ensures reads { IfOk result (λ f. f.reads ≡ 0) }
         ensures asked { IfOk result (λ f. f.asked ≡ 0) }
     {
-        Ok(MemFile {
-            bytes: OwnedBytes::new(alloc, bytes)?,
+        Ok(MemFile::of_shared(OwnedBytes::new(alloc, bytes)?))
+    }
+
+    /// The file of bytes that others may share. It takes no memory.
+    pub fn of_shared(bytes: OwnedBytes) -> MemFile
+        ensures content { result.content ≡ bytes }
+        ensures reads { result.reads ≡ 0 }
+        ensures asked { result.asked ≡ 0 }
+    {
+        MemFile {
+            bytes,
             reads: 0,
             asked: 0,
-        })
+        }
     }
 }
 

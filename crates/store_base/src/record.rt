@@ -4,15 +4,16 @@
 //! the three kinds of number as [`VInt`]s, version 1 in four bytes each.
 
 ghost use Rattle.std.specs.Prelude.{◌≡◌, ◌≤◌, ◌++◌, ◌∷◌, [], true, None, OnOk, OnErr, IfSome, IsErrOf, vec_capacity};
+ghost use Rattle.std.specs.Int.{w32};
 ghost use Rattle.std.specs.Option.{option_map};
 ghost use Rattle.store_base.specs.Documents.{Appends, BeginsWith, Gives};
 ghost use Rattle.store_base.specs.Record.{fields_seen, field_bytes, has_spelling, spelling_of, field_at, fields_at};
 ghost use Rattle.store_base.specs.Record.{record_at, doc_bytes, reading};
+ghost use Rattle.store_base.specs.Serialize.{fixed_at};
 
 use crate::document::{Document, DocumentDeserialize, StoredDocument};
 use crate::fault::{DocFault, NoMemory};
 use crate::schema::{Field, Schema};
-use crate::serialize::split_u32;
 use crate::vint::{VInt, first_number};
 use std::alloc::Global;
 use std::marker::Model;
@@ -126,6 +127,14 @@ impl Document for RecordDocument {
 }
 
 // ---- reading
+
+// The number of four bytes at the front, and what follows it.
+fn split_u32(bytes: &[u8]) -> Option<(u32, &[u8])>
+    ensures { option_map (λ x. (x.0, x.1.now)) result ≡ fixed_at w32 bytes.now }
+{
+    let (front, rest) = bytes.split_first_chunk::<4>()?;
+    Some((u32::from_le_bytes(*front), rest))
+}
 
 // The number of a field at the front, and what follows it.
 fn split_field_id(version: u32, bytes: &[u8]) -> Option<(u32, &[u8])>

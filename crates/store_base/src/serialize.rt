@@ -2,13 +2,11 @@
 //!
 //! Fixed numbers are little-endian. A list of numbers is their count and then each, as [`VInt`](crate::VInt)s.
 
-ghost use Rattle.std.specs.Prelude.{◌≡◌, ◌≤◌, ◌<◌, ◌+◌, ◌^◌, ◌++◌, ℕ, List, Result, Ok, Err, length, IfOk, IfSome};
-ghost use Rattle.std.specs.Prelude.{IsOk, OnOk, OnErr};
-ghost use Rattle.std.specs.Int.{w8, w32, w64};
-ghost use Rattle.std.specs.Option.{option_map};
+ghost use Rattle.std.specs.Prelude.{◌≡◌, ◌≤◌, ◌<◌, ◌+◌, ◌^◌, ◌++◌, ℕ, List, Result, Ok, Err, length, take, drop, get_or};
+ghost use Rattle.std.specs.Prelude.{IsOk, IfOk, IfErr, OnOk, OnErr};
 ghost use Rattle.store_base.specs.Counts.{HasRisen};
-ghost use Rattle.store_base.specs.Serialize.{fixed, fixed_at};
-ghost use Rattle.store_base.specs.Reading.{IsBelow, Reads, ReadsPart, seen_by};
+ghost use Rattle.store_base.specs.Serialize.{fixed};
+ghost use Rattle.store_base.specs.Reading.{IsBelow, Reads};
 
 use crate::fault::{DecodeFault, WriteFault};
 use crate::vint::{VInt, read_number};
@@ -62,22 +60,19 @@ pub trait FixedSize: BinarySerializable {
     ghost sized: { (x : Self) → length (Self.encoding x) ≡ SIZE_IN_BYTES };
 }
 
-// ---- numbers of one byte
+// ---- numbers of a fixed number of bytes
 
-fn split_u8(bytes: &[u8]) -> Option<(u8, &[u8])>
-    ensures read { option_map (λ x. (x.0, x.1.now)) result ≡ fixed_at w8 bytes.now }
-    ensures taken { IfSome result (λ x. 1 + length x.1.now ≡ length bytes.now) }
+// The first N bytes, and what follows them.
+fn split_front<const N: usize>(bytes: &[u8]) -> Result<([u8; N], &[u8]), DecodeFault>
+    ensures enough { OnOk result (N ≤ length bytes.now) }
+    ensures front { IfOk result (λ x. x.0 ≡ take N bytes.now) }
+    ensures rest { IfOk result (λ x. x.1.now ≡ drop N bytes.now) }
+    ensures short { OnErr result (length bytes.now < N) }
+    ensures cause { IfErr result (λ e. e ≡ DecodeFault.Short) }
+    ensures octets { (i : ℕ) → get_or bytes.now i 0 < 256 }
 {
-    let (front, rest) = bytes.split_first_chunk::<1>()?;
-    Some((u8::from_le_bytes(*front), rest))
-}
-
-fn read_u8(bytes: &[u8]) -> Result<(u8, &[u8]), DecodeFault>
-    ensures text { ReadsPart (IsBelow (2 ^ 8)) (fixed 1) bytes.now (seen_by (λ x. (x.0, x.1.now)) result) }
-    ensures enough { 1 ≤ length bytes.now → IsOk result }
-    ensures taken { IfOk result (λ x. 1 + length x.1.now ≡ length bytes.now) }
-{
-    split_u8(bytes).ok_or(DecodeFault::Short)
+    let (front, rest) = bytes.split_first_chunk::<N>().ok_or(DecodeFault::Short)?;
+    Ok((*front, rest))
 }
 
 impl BinarySerializable for u8 {
@@ -103,9 +98,9 @@ impl BinarySerializable for u8 {
         ensures enough { 1 ≤ length bytes.old.now → IsOk result }
         ensures taken { OnOk result (1 + length bytes.new.now ≡ length bytes.old.now) }
     {
-        let (value, rest) = read_u8(*bytes)?;
+        let (front, rest) = split_front(*bytes)?;
         *bytes = rest;
-        Ok(value)
+        Ok(u8::from_le_bytes(front))
     }
 }
 
@@ -117,25 +112,6 @@ impl FixedSize for u8 {
     const SIZE_IN_BYTES: usize = 1;
 
     ghost sized = { length-fixed 1 };
-}
-
-// ---- numbers of four bytes
-
-// The number of four bytes at the front, and what follows it.
-pub(crate) fn split_u32(bytes: &[u8]) -> Option<(u32, &[u8])>
-    ensures read { option_map (λ x. (x.0, x.1.now)) result ≡ fixed_at w32 bytes.now }
-    ensures taken { IfSome result (λ x. 4 + length x.1.now ≡ length bytes.now) }
-{
-    let (front, rest) = bytes.split_first_chunk::<4>()?;
-    Some((u32::from_le_bytes(*front), rest))
-}
-
-fn read_u32(bytes: &[u8]) -> Result<(u32, &[u8]), DecodeFault>
-    ensures text { ReadsPart (IsBelow (2 ^ 32)) (fixed 4) bytes.now (seen_by (λ x. (x.0, x.1.now)) result) }
-    ensures enough { 4 ≤ length bytes.now → IsOk result }
-    ensures taken { IfOk result (λ x. 4 + length x.1.now ≡ length bytes.now) }
-{
-    split_u32(bytes).ok_or(DecodeFault::Short)
 }
 
 impl BinarySerializable for u32 {
@@ -161,9 +137,9 @@ impl BinarySerializable for u32 {
         ensures enough { 4 ≤ length bytes.old.now → IsOk result }
         ensures taken { OnOk result (4 + length bytes.new.now ≡ length bytes.old.now) }
     {
-        let (value, rest) = read_u32(*bytes)?;
+        let (front, rest) = split_front(*bytes)?;
         *bytes = rest;
-        Ok(value)
+        Ok(u32::from_le_bytes(front))
     }
 }
 
@@ -175,24 +151,6 @@ impl FixedSize for u32 {
     const SIZE_IN_BYTES: usize = 4;
 
     ghost sized = { length-fixed 4 };
-}
-
-// ---- numbers of eight bytes
-
-fn split_u64(bytes: &[u8]) -> Option<(u64, &[u8])>
-    ensures read { option_map (λ x. (x.0, x.1.now)) result ≡ fixed_at w64 bytes.now }
-    ensures taken { IfSome result (λ x. 8 + length x.1.now ≡ length bytes.now) }
-{
-    let (front, rest) = bytes.split_first_chunk::<8>()?;
-    Some((u64::from_le_bytes(*front), rest))
-}
-
-fn read_u64(bytes: &[u8]) -> Result<(u64, &[u8]), DecodeFault>
-    ensures text { ReadsPart (IsBelow (2 ^ 64)) (fixed 8) bytes.now (seen_by (λ x. (x.0, x.1.now)) result) }
-    ensures enough { 8 ≤ length bytes.now → IsOk result }
-    ensures taken { IfOk result (λ x. 8 + length x.1.now ≡ length bytes.now) }
-{
-    split_u64(bytes).ok_or(DecodeFault::Short)
 }
 
 impl BinarySerializable for u64 {
@@ -218,9 +176,9 @@ impl BinarySerializable for u64 {
         ensures enough { 8 ≤ length bytes.old.now → IsOk result }
         ensures taken { OnOk result (8 + length bytes.new.now ≡ length bytes.old.now) }
     {
-        let (value, rest) = read_u64(*bytes)?;
+        let (front, rest) = split_front(*bytes)?;
         *bytes = rest;
-        Ok(value)
+        Ok(u64::from_le_bytes(front))
     }
 }
 

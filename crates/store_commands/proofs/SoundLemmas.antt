@@ -5,28 +5,19 @@ use Rattle.std.specs.List.{concat, flat_map, list_any}
 use Rattle.std.proofs.lemmas.Bool.{lt-ltb, le-ltb, le-leb, leb-true, and_from}
 use Rattle.std.proofs.lemmas.Bool.Decides.{nat_tests}
 use Rattle.store_base.specs.Serialize.{IsBytes, fixed}
-use Rattle.store_base.proofs.FixedReads.{AreOctets, wide32}
+use Rattle.store_base.proofs.FixedReads.{wide32}
+use Rattle.store_base.proofs.RecordTexts.{octets, bytes_front}
 use Rattle.store_format.specs.Block.{slot, doc, damaged, block, starts_from, u32_at, count_of, table_of, start_of, end_of, is_sound as is_slot_sound}
 use Rattle.store_reader.proofs.ReaderStoreLemmas.{slices_joined, all_of}
 use Rattle.store_commands.specs.Checks.{is_damaged, slots_in, has_table}
 use Rattle.store_format.proofs.BlockLemmas.{length-block}
 use Rattle.store_format.proofs.DocumentLemmas.{count_of-block, start_of-block, blocks_hold_documents}
 use Rattle.std.proofs.lemmas.List.{append-nil}
-use Rattle.store_base.proofs.ListLemmas.{length-slice}
+use Rattle.store_base.proofs.ListLemmas.{length-slice, both}
 use Rattle.store_commands.specs.Laws.{SoundBlocksAreOfDocuments, BlocksOfDocumentsAreSound}
 use Rattle.store_commands.proofs.CountLemmas.{one_damaged}
 
 -- ---- numbers of four bytes
-
-octets : (bytes : List ℕ) → IsBytes bytes → AreOctets bytes
-octets [] h i = omega arith
-octets (b ∷ bytes) h zero = h.0
-octets (b ∷ bytes) h (suc i) = octets bytes h.1 i
-
-bytes_front : (n : ℕ) (bytes : List ℕ) → IsBytes bytes → IsBytes (take n bytes)
-bytes_front zero bytes h = tt
-bytes_front (suc n) [] h = tt
-bytes_front (suc n) (b ∷ bytes) h = (h.0, bytes_front n bytes h.1)
 
 bytes_back : (n : ℕ) (bytes : List ℕ) → IsBytes bytes → IsBytes (drop n bytes)
 bytes_back zero bytes h = h
@@ -129,10 +120,6 @@ whole_block bytes n b h first =
 
 -- ---- sound blocks
 
-and_parts : (a b : Bool) → (a && b) ≡ true → (a ≡ true) × (b ≡ true)
-and_parts true b e = (refl, e)
-and_parts false b e = absurd cc
-
 second_of : (a b : Bool) → a ≡ false → (a || b) ≡ true → b ≡ true
 second_of false b f e = e
 second_of true b f e = absurd cc
@@ -150,15 +137,15 @@ none_of true e = absurd cc
 
 tabled : (bytes : List ℕ) (n : ℕ) → has_table bytes n ≡ true → list_any is_damaged (slots_in bytes n) ≡ false → IsTabled bytes n
 tabled bytes n table none =
-    let parts = and_parts (nat_le (4 * (n + 1)) (length bytes) && (count_of bytes == n)) ((n == 0) || (start_of bytes 0 == 0)) table in
-    let front = and_parts (nat_le (4 * (n + 1)) (length bytes)) (count_of bytes == n) parts.0 in
+    let parts = both (nat_le (4 * (n + 1)) (length bytes) && (count_of bytes == n)) ((n == 0) || (start_of bytes 0 == 0)) table in
+    let front = both (nat_le (4 * (n + 1)) (length bytes)) (count_of bytes == n) parts.0 in
     record {
       fits = leb-true (4 * (n + 1)) (length bytes) front.0;
       count = grind (arith, nat_tests, front.1);
       each = λ j lt.
           let sound = slot_is_sound bytes n j none lt in
-          let x = and_parts _ (nat_le (end_of bytes j) (table_of bytes)) sound in
-          let y = and_parts _ (nat_le (start_of bytes j) (end_of bytes j)) x.0 in
+          let x = both _ (nat_le (end_of bytes j) (table_of bytes)) sound in
+          let y = both _ (nat_le (start_of bytes j) (end_of bytes j)) x.0 in
           (leb-true (start_of bytes j) (end_of bytes j) y.1, leb-true (end_of bytes j) (table_of bytes) x.1);
     }
 
@@ -166,14 +153,14 @@ begins : (bytes : List ℕ) (n : ℕ) → 0 < n → has_table bytes n ≡ true �
 unfolding from_here
 begins bytes zero some table = absurd (omega arith)
 begins bytes (suc n) some table =
-    let parts = and_parts (nat_le (4 * (suc n + 1)) (length bytes) && (count_of bytes == suc n)) ((suc n == 0) || (start_of bytes 0 == 0)) table in
+    let parts = both (nat_le (4 * (suc n + 1)) (length bytes) && (count_of bytes == suc n)) ((suc n == 0) || (start_of bytes 0 == 0)) table in
     let more : (suc n == 0) ≡ false = grind (arith, nat_tests) in
     let first = second_of (suc n == 0) (start_of bytes 0 == 0) more parts.1 in
     grind (arith, nat_tests)
 
 pub sound_blocks_are_of_documents : SoundBlocksAreOfDocuments
 sound_blocks_are_of_documents bytes n b some sound =
-    let parts = and_parts (has_table bytes n) (not (list_any is_damaged (slots_in bytes n))) sound in
+    let parts = both (has_table bytes n) (not (list_any is_damaged (slots_in bytes n))) sound in
     let h = tabled bytes n parts.0 (none_of (list_any is_damaged (slots_in bytes n)) parts.1) in
     record { documents = docs_from bytes 0 n; count_is = length-docs_from bytes 0 n; are = whole_block bytes n b h (begins bytes n some parts.0) }
 

@@ -24,25 +24,20 @@ pub end_after_push : (from : ℕ) (spans : List IdSpan) (s : IdSpan) → end_aft
 end_after_push from [] s = refl
 end_after_push from (x ∷ xs) s = end_after_push (x.end + 1) xs s
 
-ends_adjacent : (from : ℕ) (spans : List IdSpan) → AreApartFrom from spans → (k : ℕ) (d : IdSpan) → k + 1 < length spans → (get_or spans k d).end ≤ (get_or spans (k + 1) d).end
-ends_adjacent from [] h k d lt = absurd (omega arith)
-ends_adjacent from (x ∷ []) h k d lt = absurd (omega arith)
-ends_adjacent from (x ∷ y ∷ ys) h zero d lt = omega (arith, h.2.0, h.2.1)
-ends_adjacent from (x ∷ y ∷ ys) h (suc k) d lt =
-    let e : suc k + 1 ≡ suc (k + 1) = omega arith in rw e (ends_adjacent (x.end + 1) (y ∷ ys) h.2 k d (omega arith))
-
-starts_adjacent : (from : ℕ) (spans : List IdSpan) → AreApartFrom from spans → (k : ℕ) (d : IdSpan) → k + 1 < length spans → (get_or spans k d).start ≤ (get_or spans (k + 1) d).start
-starts_adjacent from [] h k d lt = absurd (omega arith)
-starts_adjacent from (x ∷ []) h k d lt = absurd (omega arith)
-starts_adjacent from (x ∷ y ∷ ys) h zero d lt = omega (arith, h.1, h.2.0)
-starts_adjacent from (x ∷ y ∷ ys) h (suc k) d lt =
-    let e : suc k + 1 ≡ suc (k + 1) = omega arith in rw e (starts_adjacent (x.end + 1) (y ∷ ys) h.2 k d (omega arith))
+-- neither begins nor ends after the one behind it
+adjacent : (from : ℕ) (spans : List IdSpan) → AreApartFrom from spans → (k : ℕ) (d : IdSpan) → k + 1 < length spans
+    → ((get_or spans k d).start ≤ (get_or spans (k + 1) d).start) × ((get_or spans k d).end ≤ (get_or spans (k + 1) d).end)
+adjacent from [] h k d lt = absurd (omega arith)
+adjacent from (x ∷ []) h k d lt = absurd (omega arith)
+adjacent from (x ∷ y ∷ ys) h zero d lt = (omega (arith, h.1, h.2.0), omega (arith, h.2.0, h.2.1))
+adjacent from (x ∷ y ∷ ys) h (suc k) d lt =
+    let e : suc k + 1 ≡ suc (k + 1) = omega arith in rw e (adjacent (x.end + 1) (y ∷ ys) h.2 k d (omega arith))
 
 pub ends_rise : (spans : List IdSpan) → AreApartFrom 0 spans → IsNonDecreasingBy (λ (s : IdSpan). s.end) spans
-ends_rise spans h = IsNonDecreasingBy-from_all_adjacent (λ (s : IdSpan). s.end) spans (ends_adjacent 0 spans h)
+ends_rise spans h = IsNonDecreasingBy-from_all_adjacent (λ (s : IdSpan). s.end) spans (λ k d lt. (adjacent 0 spans h k d lt).1)
 
 pub starts_rise : (spans : List IdSpan) → AreApartFrom 0 spans → IsNonDecreasingBy (λ (s : IdSpan). s.start) spans
-starts_rise spans h = IsNonDecreasingBy-from_all_adjacent (λ (s : IdSpan). s.start) spans (starts_adjacent 0 spans h)
+starts_rise spans h = IsNonDecreasingBy-from_all_adjacent (λ (s : IdSpan). s.start) spans (λ k d lt. (adjacent 0 spans h k d lt).0)
 
 -- ---- which range has an id
 

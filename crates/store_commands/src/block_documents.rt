@@ -1,26 +1,7 @@
 //! The documents of a block that was read.
 
-ghost use Rattle.std.specs.Prelude.{◌≡◌, ◌<◌, ◌≤◌, ◌*◌, ℕ, Some, length};
+ghost use Rattle.std.specs.Prelude.{◌≡◌, ◌<◌, ◌≤◌, ◌*◌, ℕ, length};
 ghost use Rattle.store_format.specs.Block.{slot, damaged};
-ghost use Rattle.store_reader.specs.CallAnswers.{exact_result};
-ghost use Rattle.store_reader.specs.Viewing.{given};
-
-use docstore::{DocId, StoreError, block_read_index};
-
-/// The document at a position of a block, or its refusal where it is damaged.
-#[inline(always)]
-pub fn document_at<'a>(
-    block: &'a [u8],
-    doc_id: DocId,
-    position: u32,
-) -> Result<&'a [u8], StoreError>
-    ensures { given result ≡ exact_result doc_id (Some (slot block.entry.now position)) }
-{
-    match block_read_index(block, position) {
-        Some(range) => Ok(&block[range]),
-        None => Err(StoreError::DamagedDocument(doc_id)),
-    }
-}
 
 /// How many of a block's documents may be sound: in a block of few bytes, its table has no room for the others, which
 /// are damaged.

@@ -10,9 +10,8 @@ ghost use Rattle.store_commands.specs.Documents.{kept_by, alive_from, TakesSlots
 ghost use Rattle.store_commands.specs.Giving.{RefusesSlot, EndsBlock, EndsGiving, HasTargetFailed};
 ghost use Rattle.store_commands.specs.LeftOut.{AreApartFrom};
 
-use crate::block_documents::document_at;
 use crate::left_out::{IdSpan, span_with};
-use docstore::{DataPart, DocId, FileHandle, StoreError, StoreReader};
+use docstore::{DataPart, DocId, FileHandle, StoreError, StoreReader, document_at};
 use std::alloc::Global;
 
 /// Takes documents, as an output that prints them does.

@@ -76,10 +76,8 @@ fn part_before_footer<H: FileHandle>(
 ) -> Result<BrokenPart, StoreError>
     ensures breaks { IsTrue file.honest → IfOk result (BreaksFile file.content) }
 {
-    match DocStoreFooter::extract_footer(alloc, file) {
-        Ok((footer, mut body)) => part_before(alloc, &footer, &mut body),
-        Err(refusal) => Err(refusal.error),
-    }
+    let (footer, mut body) = DocStoreFooter::extract_footer(alloc, file)?;
+    part_before(alloc, &footer, &mut body)
 }
 
 /// Which part of this file keeps it from being opened, by the error; or an error, if it is not the file's fault. An

@@ -1,5 +1,5 @@
 -- A file tells its store.
-use Rattle.std.proofs.Common.{◌≡◌, ℕ, ◌≤◌, List, ◌∷◌, ◌++◌, length, replicate, refl, sym, ◌∙◌, ap, arith, length-append, inr}
+use Rattle.std.proofs.Common.{◌≡◌, ℕ, List, ◌∷◌, ◌++◌, length, replicate, refl, sym, ◌∙◌, ap, arith, length-append, inr}
 use Rattle.store_format.specs.FooterLemmas.{form_reserved}
 use Rattle.store_base.specs.VIntLemmas.{tails}
 use Rattle.store_format.specs.Footer.{footer}

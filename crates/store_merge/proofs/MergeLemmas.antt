@@ -1,13 +1,13 @@
 -- How far a merge has come.
 use Rattle.std.proofs.Common.{◌≡◌, ℕ, zero, suc, ◌+◌, ◌<◌, ◌≤◌, inl, inr, List, [], ◌∷◌, ◌++◌, length, take, drop, get_or, set, Some, refl, sym, ◌∙◌, ap, subst}
 use Rattle.std.proofs.Common.{arith, append_assoc}
-use Rattle.std.proofs.lemmas.List.{append-nil, take_more_set, take_all, get_or-drop, get_or-set_same, length-set}
+use Rattle.std.proofs.lemmas.List.{append-nil, take_more_set, take_all, get_or-set_same, length-set}
 use Rattle.std.proofs.lemmas.List.Concat.{flat_map-append}
 use Rattle.std.proofs.lemmas.List.Sums.{fold-append}
 use Rattle.std.proofs.lemmas.Option.{slice_get-get_or}
 use Rattle.std.specs.Prelude.{slice_get}
 use Rattle.std.specs.List.{AllByRecursion, flat_map}
-use Rattle.store_base.proofs.ListLemmas.{front_more}
+use Rattle.store_base.proofs.ListLemmas.{front_more, next_same}
 use Rattle.store_format.specs.Block.{Slot}
 use Rattle.docstore.specs.Laws.{taken}
 use Rattle.docstore.specs.Stacking.{with_store}
@@ -25,12 +25,6 @@ pub all_at : {A : Type 0} (P : A → Type 0) (xs : List A) (i : ℕ) (d : A) →
 all_at P [] i d h lt = absurd (omega (arith, lt))
 all_at P (x ∷ xs) zero d h lt = h.0
 all_at P (x ∷ xs) (suc i) d h lt = all_at P xs i d h.1 (omega (arith, lt))
-
--- where what is left is the same, so is the next
-pub next_same : {A : Type 0} (olds news : List A) (i : ℕ) (d : A) → drop i news ≡ drop i olds → get_or news i d ≡ get_or olds i d
-next_same olds news i d rest =
-    let here : i + 0 ≡ i = omega arith in
-    ap (λ (n : ℕ). get_or news n d) (sym here) ∙ sym (get_or-drop i news 0 d) ∙ ap (λ xs. get_or xs 0 d) rest ∙ get_or-drop i olds 0 d ∙ ap (λ (n : ℕ). get_or olds n d) here
 
 -- the next one, before and after it is written
 pub named_is : {A : Type 0} (olds news : List A) (i : ℕ) (d : A) → drop i news ≡ drop i olds → i < length olds → slice_get olds i ≡ Some (get_or news i d)

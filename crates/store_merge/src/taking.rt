@@ -68,11 +68,9 @@ pub fn take_input<W: TerminatingWrite, H: FileHandle>(
         ⊎ (writer.new.output.failures ≡ writer.old.output.failures) }
     ensures sound { IsStoreWriter writer.new }
 {
-    let is_stacked = is_stacked(input);
-    let MergeInput { reader, alive } = input;
-    if is_stacked {
-        stack_store(writer, reader, stacking)
-    } else {
-        copy_documents(alloc, writer, reader, alive.as_ref())
+    if is_stacked(input) {
+        return stack_store(writer, &mut input.reader, stacking);
     }
+    let MergeInput { reader, alive } = input;
+    copy_documents(alloc, writer, reader, alive.as_ref())
 }

@@ -8,9 +8,9 @@ use Rattle.std.specs.List.{AllByRecursion, AllZip, flat_map}
 use Rattle.store_base.specs.declared.error.StoreError.{StoreError}
 use Rattle.store_base.specs.declared.error.StoreError.TheVariants.{Read, Memory}
 use Rattle.layered_index.specs.declared.checkpoint.Checkpoint.{Checkpoint}
-use Rattle.store_reader.specs.declared.answers.Answer.{Answer}
-use Rattle.store_reader.specs.declared.answers.ReadCall.{ReadCall}
-use Rattle.store_reader.specs.declared.answers.ReadCall.TheVariants.{Bytes}
+use Rattle.store_reader.specs.declared.call_list.Answer.{Answer}
+use Rattle.store_reader.specs.declared.call_list.ReadCall.{ReadCall}
+use Rattle.store_reader.specs.declared.call_list.ReadCall.TheVariants.{Bytes}
 use Rattle.store_reader.specs.GetAnswer.{IsAnswered, AnswersFrom}
 use Rattle.store_format.specs.Block.{Slot}
 use Rattle.store_reader.specs.LookLaws.{AreLookUps}

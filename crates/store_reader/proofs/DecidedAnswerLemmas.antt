@@ -4,10 +4,10 @@ use Rattle.std.specs.List.{AllByRecursion}
 use Rattle.std.specs.Prelude.{Result, Ok, Err, slice_get}
 use Rattle.store_base.specs.declared.error.StoreError.{StoreError}
 use Rattle.store_base.specs.declared.error.StoreError.TheVariants.{InvalidArgument, DamagedDocument}
-use Rattle.store_reader.specs.declared.answers.Answer.{Answer}
-use Rattle.store_reader.specs.declared.answers.Answer.TheVariants.{Got, Listed}
-use Rattle.store_reader.specs.declared.answers.ReadCall.{ReadCall}
-use Rattle.store_reader.specs.declared.answers.ReadCall.TheVariants.{Bytes, Iter}
+use Rattle.store_reader.specs.declared.call_list.Answer.{Answer}
+use Rattle.store_reader.specs.declared.call_list.Answer.TheVariants.{Got, Listed}
+use Rattle.store_reader.specs.declared.call_list.ReadCall.{ReadCall}
+use Rattle.store_reader.specs.declared.call_list.ReadCall.TheVariants.{Bytes, Iter}
 use Rattle.store_reader.specs.GetAnswer.{AnswersTruly}
 use Rattle.store_reader.specs.CallAnswers.{IsAnswer, HasCome, AllCame, IsSameAnswer, SlotsDecideAnswers, set_here}
 use Rattle.store_format.specs.Block.{Slot, doc, damaged}

@@ -10,8 +10,8 @@ use Rattle.store_base.specs.Counts.{HasRisen}
 use Rattle.store_base.specs.declared.error.StoreError.{StoreError}
 use Rattle.store_base.specs.declared.error.StoreError.TheVariants.{Read}
 use Rattle.layered_index.specs.declared.checkpoint.Checkpoint.{Checkpoint}
-use Rattle.store_reader.specs.declared.answers.Answer.{Answer}
-use Rattle.store_reader.specs.declared.answers.ReadCall.{ReadCall}
+use Rattle.store_reader.specs.declared.call_list.Answer.{Answer}
+use Rattle.store_reader.specs.declared.call_list.ReadCall.{ReadCall}
 use Rattle.store_reader.specs.declared.walk.Walk.{Walk}
 use Rattle.store_reader.specs.GetAnswer.{IsLookedUp, AnswersFrom}
 use Rattle.store_reader.specs.CallAnswers.{ShowsEachBlock, HasRefusal, results_of}

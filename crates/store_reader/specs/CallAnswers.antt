@@ -3,10 +3,10 @@ use Rattle.std.specs.Prelude.{◌≡◌, ◌↔◌, ℕ, ◌≤◌, ◌<◌, Boo
 use Rattle.std.specs.Prelude.{Contains, Option, Some, None, IfSome, Result, Ok, Err, IsErrOf}
 use Rattle.std.specs.List.{AllByRecursion, flat_map}
 use Rattle.store_base.specs.AliveBitSet.{is_alive_at}
-use Rattle.store_reader.specs.declared.answers.Answer.{Answer}
-use Rattle.store_reader.specs.declared.answers.Answer.TheVariants.{Got, Listed}
-use Rattle.store_reader.specs.declared.answers.ReadCall.{ReadCall}
-use Rattle.store_reader.specs.declared.answers.ReadCall.TheVariants.{Bytes, Iter}
+use Rattle.store_reader.specs.declared.call_list.Answer.{Answer}
+use Rattle.store_reader.specs.declared.call_list.Answer.TheVariants.{Got, Listed}
+use Rattle.store_reader.specs.declared.call_list.ReadCall.{ReadCall}
+use Rattle.store_reader.specs.declared.call_list.ReadCall.TheVariants.{Bytes, Iter}
 use Rattle.store_base.specs.declared.error.StoreError.{StoreError}
 use Rattle.store_base.specs.declared.error.StoreError.TheVariants.{InvalidArgument, DamagedDocument, Read, Memory}
 use Rattle.layered_index.specs.declared.checkpoint.Checkpoint.{Checkpoint}

@@ -7,7 +7,7 @@ use Rattle.store_base.specs.AliveBitSet.{is_alive_at}
 use Rattle.store_base.specs.declared.error.StoreError.{StoreError}
 use Rattle.store_base.specs.declared.error.StoreError.TheVariants.{Read, Memory}
 use Rattle.layered_index.specs.declared.checkpoint.Checkpoint.{Checkpoint}
-use Rattle.store_reader.specs.declared.look_up.Entered.{Entered}
+use Rattle.store_reader.specs.declared.look_up.EnteredBlock.{EnteredBlock}
 use Rattle.store_reader.specs.declared.walk.Walk.{Walk}
 use Rattle.store_reader.specs.GetAnswer.{AnswersFrom, AnswersTruly, IsLookedUp}
 use Rattle.store_format.specs.Block.{slot}
@@ -44,7 +44,7 @@ pub record IsBlockTaken (old : Reading) (id : ℕ) (checkpoint : Checkpoint) (bl
   pub taken : IsShared came block
 
 -- The block that has a document is looked up once: its ids, and what is taken of it.
-pub record IsEntered (old : Reading) (id : ℕ) (entered : Entered) (new : Reading) : Type 0 where
+pub record IsEntered (old : Reading) (id : ℕ) (entered : EnteredBlock) (new : Reading) : Type 0 where
   pub checkpoint : Checkpoint
   pub looked : IsBlockTaken old id checkpoint entered.block new
   pub first : entered.first ≡ checkpoint.doc_range.start

@@ -1,13 +1,11 @@
 //! Iterations over the documents of a store whose bytes another holds.
-ghost use Rattle.std.specs.Prelude.{◌≡◌, ◌≤◌, ◌<◌, [], Some, true};
+ghost use Rattle.std.specs.Prelude.{◌≡◌, ◌≤◌, ◌<◌, [], true};
 ghost use Rattle.store_base.specs.AliveBitSet.{is_alive_at};
-ghost use Rattle.store_reader.specs.CallAnswers.{exact_result};
-ghost use Rattle.store_format.specs.Block.{slot};
-ghost use Rattle.store_reader.specs.Viewing.{AreDead, IsAt, given};
+ghost use Rattle.store_reader.specs.Viewing.{AreDead, IsAt};
 
+use crate::slot::document_at;
 use crate::view::StoreView;
 use store_base::{AliveBitSet, DocId, StoreError};
-use store_format::{block_read_index, part};
 
 // A block of a store: the ids of its documents, and its bytes.
 #[derive(Clone, Copy)]
@@ -29,21 +27,6 @@ impl<'a> ViewBlock<'a> {
             end: 0,
             bytes: &[],
         }
-    }
-}
-
-// The document at a position of a block.
-#[inline(always)]
-pub(crate) fn document_at<'a>(
-    block: &'a [u8],
-    doc_id: DocId,
-    doc_pos: u32,
-) -> Result<&'a [u8], StoreError>
-    ensures { given result ≡ exact_result doc_id (Some (slot block.entry.now doc_pos)) }
-{
-    match block_read_index(block, doc_pos) {
-        Some(range) => Ok(part(block, range.start, range.end)),
-        None => Err(StoreError::DamagedDocument(doc_id)),
     }
 }
 

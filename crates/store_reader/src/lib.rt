@@ -2,12 +2,12 @@
 #![tactic(auto)]
 
 pub mod alive_slice_documents;
-pub mod answers;
 mod block_request;
 pub mod block_slice;
 pub mod block_slices;
 mod cache;
 pub mod cache_stats;
+pub mod call_list;
 pub mod data_part;
 mod document_reading;
 pub mod documents;
@@ -19,7 +19,7 @@ mod opening;
 pub mod reader;
 pub mod seeking_reader;
 pub mod slice_documents;
-mod slot;
+pub mod slot;
 mod store_index;
 pub mod store_slice;
 pub mod store_tail;
@@ -28,10 +28,10 @@ pub mod view;
 pub mod walk;
 
 pub use alive_slice_documents::AliveSliceDocuments;
-pub use answers::{Answer, ReadCall, answer_all, any_lacks_memory};
 pub use block_slice::BlockSlice;
 pub use block_slices::BlockSlices;
 pub use cache_stats::CacheStats;
+pub use call_list::{Answer, ReadCall, answer_all, any_lacks_memory};
 pub use data_part::DataPart;
 pub use documents::{AliveDocuments, Documents};
 pub use index_check::{IndexCheck, check_index};
@@ -40,6 +40,7 @@ pub use reader::parts::StorePart;
 pub use reader::{DOCSTORE_CACHE_CAPACITY, StoreReader};
 pub use seeking_reader::SeekingReader;
 pub use slice_documents::SliceDocuments;
+pub use slot::document_at;
 pub use store_slice::StoreSlice;
 pub use store_tail::StoreTail;
 pub use tail_error::TailError;

@@ -15,7 +15,7 @@ use store_format::read_part;
 
 // The ids of a block's documents, and its bytes, or why they did not come.
 #[derive(Drop)]
-pub(crate) struct Entered {
+pub(crate) struct EnteredBlock {
     pub(crate) first: DocId,
     pub(crate) end: DocId,
     pub(crate) block: Result<OwnedBytes, StoreError>,

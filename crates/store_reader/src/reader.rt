@@ -21,7 +21,7 @@ use crate::cache::BlockCache;
 use crate::cache_stats::CacheStats;
 use crate::document_reading::read_document;
 use crate::iter::{DocIter, Items, RawIter, sets_of};
-use crate::look_up::{Entered, look_up};
+use crate::look_up::{EnteredBlock, look_up};
 use crate::opening::read_store;
 use crate::store_index::StoreIndex;
 use crate::walk::{DocWalk, first_walk};
@@ -203,7 +203,7 @@ impl<H: FileHandle> StoreReader<H> {
     }
 
     // Looks the block up that has a document, for all of its documents.
-    pub(crate) fn enter(&mut self, alloc: Global, doc_id: DocId) -> Entered
+    pub(crate) fn enter(&mut self, alloc: Global, doc_id: DocId) -> EnteredBlock
         requires { doc_id < num_docs self.old }
         ensures entered { IsEntered self.old doc_id result self.new }
         ensures covers { Covers self.old.checkpoints (length self.old.file.content) }
@@ -216,7 +216,7 @@ impl<H: FileHandle> StoreReader<H> {
             &checkpoint,
             BlockRequest::Whole,
         );
-        Entered {
+        EnteredBlock {
             first: checkpoint.doc_range.start,
             end: checkpoint.doc_range.end,
             block,

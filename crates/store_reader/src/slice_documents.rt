@@ -1,7 +1,7 @@
 //! Iterations over the documents of a store in a slice of bytes.
 use crate::block_slice::BlockSlice;
 use crate::block_slices::BlockSlices;
-use crate::documents::document_at;
+use crate::slot::document_at;
 use store_base::{DocId, StoreError};
 
 /// The documents of a store in the order of their ids: each a part of the file, or `DamagedDocument`. It decodes each

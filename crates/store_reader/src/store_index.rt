@@ -51,14 +51,17 @@ impl StoreIndex {
     {
         let len = bytes.len() as u64;
         let index = SkipIndex::open_with_period(alloc, bytes, period)?;
-        match index.covered_to() {
-            Some((num_docs, end)) if end as u64 == covered => Ok(StoreIndex {
-                index,
-                num_docs,
-                len,
-            }),
-            _ => Err(StoreError::BadIndex),
+        let Some((num_docs, end)) = index.covered_to() else {
+            return Err(StoreError::BadIndex);
+        };
+        if end as u64 != covered {
+            return Err(StoreError::BadIndex);
         }
+        Ok(StoreIndex {
+            index,
+            num_docs,
+            len,
+        })
     }
 
     /// How many documents the blocks have.

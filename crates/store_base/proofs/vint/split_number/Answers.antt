@@ -8,6 +8,7 @@ use Rattle.store_base.specs.VInt.{number_at}
 use Rattle.store_base.proofs.NumberLoops.{low}
 use Rattle.store_base.proofs.NumberLoops.{low_more, below_128_more, low_below, front_found, front_zero, front_short, front_long, found_below, found_above, found_none}
 use Rattle.store_base.proofs.vint.split_number.Goals.{else-high-eq0-via-then-high-eq0+else-i-gt0, else-high-eq0-via-else-high-eq0}
+use Rattle.store_base.proofs.vint.split_number.Goals.{Joined-else-high-eq0}
 use Rattle.store_base.proofs.vint.split_number.Goals as goal
 
 -- the number, as the code computes it
@@ -30,15 +31,20 @@ small bytes i value scale few lt below v s =
 pub returns-then-i-gt0 : goal.returns-then-i-gt0
 returns-then-i-gt0 c = sym (found_none (2 ^ 64) c.args.bytes.now (front_zero c.args.bytes.now c.loop-i.i c.loop-i-test.true c.loop-i.invariant.below (omega arith) c.if-i-gt0.true))
 
-pub returns-in_err-checked_mul : goal.returns-in_err-checked_mul
-returns-in_err-checked_mul c =
+-- the last byte's group is not zero, or it is the only one
+number_is : (c : Joined-else-high-eq0) → number_at c.args.bytes.now ≡ Some (c.from-high.result * c.loop-i.scale + c.loop-i.value, drop (c.loop-i.i + 1) c.args.bytes.now)
+number_is c =
     let inv = c.loop-i.invariant in
     let some : (0 < c.from-high.result) ⊎ (c.loop-i.i ≡ 0) = elim c.else-high-eq0.branch [
       | else-high-eq0-via-then-high-eq0+else-i-gt0 w ↦ inr
           (omega (arith, w.if-i-gt0.false))
       | else-high-eq0-via-else-high-eq0 w ↦ inl (pos_of_ne-zero w.if-high-eq0.false)
     ] in
-    let e = found c.args.bytes.now c.loop-i.i c.loop-i.value c.loop-i.scale c.from-high.result c.loop-i-test.true inv.below inv.value inv.scale c.from-high.ensures c.if-b-ge-STOP_BIT.true some in
+    found c.args.bytes.now c.loop-i.i c.loop-i.value c.loop-i.scale c.from-high.result c.loop-i-test.true inv.below inv.value inv.scale c.from-high.ensures c.if-b-ge-STOP_BIT.true some
+
+pub returns-in_err-checked_mul : goal.returns-in_err-checked_mul
+returns-in_err-checked_mul c =
+    let e = number_is (goal.at.returns-in_err-checked_mul c).Joined-else-high-eq0 in
     let large : 2 ^ 64 ≤ c.from-high.result * c.loop-i.scale + c.loop-i.value = elim (cases_lt (c.from-high.result * c.loop-i.scale) (2 ^ 64)) [
       | inl lt ↦ absurd
           (c.in_err-checked_mul.ensures lt)
@@ -48,13 +54,7 @@ returns-in_err-checked_mul c =
 
 pub returns-in_err-number : goal.returns-in_err-number
 returns-in_err-number c =
-    let inv = c.loop-i.invariant in
-    let some : (0 < c.from-high.result) ⊎ (c.loop-i.i ≡ 0) = elim c.else-high-eq0.branch [
-      | else-high-eq0-via-then-high-eq0+else-i-gt0 w ↦ inr
-          (omega (arith, w.if-i-gt0.false))
-      | else-high-eq0-via-else-high-eq0 w ↦ inl (pos_of_ne-zero w.if-high-eq0.false)
-    ] in
-    let e = found c.args.bytes.now c.loop-i.i c.loop-i.value c.loop-i.scale c.from-high.result c.loop-i-test.true inv.below inv.value inv.scale c.from-high.ensures c.if-b-ge-STOP_BIT.true some in
+    let e = number_is (goal.at.returns-in_err-number c).Joined-else-high-eq0 in
     let product = c.in_ok-checked_mul.ensures.1 in
     let large : 2 ^ 64 ≤ c.from-high.result * c.loop-i.scale + c.loop-i.value = elim (cases_lt (c.in_ok-checked_mul.field-0 + c.loop-i.value) (2 ^ 64)) [
       | inl lt ↦ absurd
@@ -65,13 +65,7 @@ returns-in_err-number c =
 
 pub returns-then-b-ge-STOP_BIT : goal.returns-then-b-ge-STOP_BIT
 returns-then-b-ge-STOP_BIT c =
-    let inv = c.loop-i.invariant in
-    let some : (0 < c.from-high.result) ⊎ (c.loop-i.i ≡ 0) = elim c.else-high-eq0.branch [
-      | else-high-eq0-via-then-high-eq0+else-i-gt0 w ↦ inr
-          (omega (arith, w.if-i-gt0.false))
-      | else-high-eq0-via-else-high-eq0 w ↦ inl (pos_of_ne-zero w.if-high-eq0.false)
-    ] in
-    let e = found c.args.bytes.now c.loop-i.i c.loop-i.value c.loop-i.scale c.from-high.result c.loop-i-test.true inv.below inv.value inv.scale c.from-high.ensures c.if-b-ge-STOP_BIT.true some in
+    let e = number_is (goal.at.returns-then-b-ge-STOP_BIT c).Joined-else-high-eq0 in
     let product = c.in_ok-checked_mul.ensures.1 in
     let total = c.in_ok-number.ensures in
     let value : c.from-high.result * c.loop-i.scale + c.loop-i.value ≡ c.in_ok-number.number = omega (arith, product, total.1) in

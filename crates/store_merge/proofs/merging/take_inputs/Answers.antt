@@ -1,12 +1,12 @@
 use Rattle.std.proofs.Common.{◌≡◌, ◌⊎◌, inl, inr, Result, Ok, Err, ◌<◌, ◌+◌, List, length, get_or, set, refl, sym, ◌∙◌, subst, arith}
-use Rattle.store_base.proofs.ListLemmas.{rest_more}
+use Rattle.store_base.proofs.ListLemmas.{rest_more, next_same}
 use Rattle.store_base.proofs.Steady.{still}
 use Rattle.store_base.specs.declared.error.StoreError.{StoreError}
 use Rattle.store_base.specs.declared.error.StoreError.TheVariants.{Read}
 use Rattle.store_merge.specs.declared.input.MergeInput.{MergeInput}
 use Rattle.store_merge.specs.Inputs.{CanBeTaken, IsInputKept, IsSteadyInput}
 use Rattle.store_merge.specs.Stacking.{IsReadBy, IsStackedBy}
-use Rattle.store_merge.proofs.MergeLemmas.{all_at, named_is, left_is, each_more, each_all, rest_all, steady_same, kept_all, none_merged, merged_more, merged_all, next_same}
+use Rattle.store_merge.proofs.MergeLemmas.{all_at, named_is, left_is, each_more, each_all, rest_all, steady_same, kept_all, none_merged, merged_more, merged_all}
 use Rattle.store_merge.proofs.merging.take_inputs.Goals as goal
 
 no_read : {P : Type 0} → (◌≡◌ {A = Result (Unit {0}) StoreError} (Ok tt) (Err Read)) ⊎ P → P

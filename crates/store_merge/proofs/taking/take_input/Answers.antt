@@ -17,8 +17,8 @@ returns-then-is_stacked-clause-taken g c =
     let new = c.stack_store.new.writer in
     ok_then (IsStacked x.reader old new) (IsInputTaken x old new) c.stack_store.result (stacked_taken x old new (sym c.if-is_stacked.ensures.stacked)) c.stack_store.ensures.stacked
 
-pub returns-else-is_stacked-clause-taken : goal.returns-else-is_stacked-clause-taken
-returns-else-is_stacked-clause-taken g c =
+pub returns-clause-taken : goal.returns-clause-taken
+returns-clause-taken g c =
     let x = c.args.input.now in
     let old = c.args.writer.now in
     let new = c.copy_documents.new.writer in
@@ -26,8 +26,8 @@ returns-else-is_stacked-clause-taken g c =
     ok_then (IsCopied x.reader.file.honest (alive_of x.reader set) old new) (IsInputTaken x old new) c.copy_documents.result
     (copied_taken x set old new (sym c.if-is_stacked.ensures.stacked) (lent c.as_ref.result x.alive c.as_ref.ensures.value)) c.copy_documents.ensures.copied
 
-pub returns-else-is_stacked-clause-grown : goal.returns-else-is_stacked-clause-grown
-returns-else-is_stacked-clause-grown g c =
+pub returns-clause-grown : goal.returns-clause-grown
+returns-clause-grown g c =
     let x = c.args.input.now in
     let old = c.args.writer.now in
     let new = c.copy_documents.new.writer in

@@ -1,28 +1,19 @@
 use Rattle.std.proofs.Common.{◌≡◌, ℕ, List, [], ◌∷◌, ◌++◌, length, ◌∙◌, ap, arith}
 use Rattle.std.specs.Prelude.{vec_capacity}
 use Rattle.std.proofs.lemmas.Grind.{common_steps}
-use Rattle.store_format.specs.Block.{block}
 use Rattle.docstore.specs.Pending.{documents_at}
-use Rattle.docstore.proofs.PendingLemmas.{length-block-pushed, documents_pushed, pushed}
+use Rattle.docstore.proofs.PendingLemmas.{length-block-seen, documents_pushed, pushed}
 use Rattle.docstore.proofs.current_block.CurrentBlock.push.Goals as goal
 
 pub returns-in_err-self-inside-clause-too_large : goal.returns-in_err-self-inside-clause-too_large
 returns-in_err-self-inside-clause-too_large c =
-    let starts = c.self.inside.starts.items in
-    let bytes = c.self.inside.bytes.items in
-    let d = c.args.document.now in
-    let size = ap (λ (docs : List (List ℕ)). length (block (docs ++ d ∷ []))) c.self.view_is in
-    let len = length-block-pushed starts bytes c.self.inside.limit (vec_capacity c.self.inside.bytes) d c.self.invariant in
-    grind (arith, common_steps, size, len)
+    let len = length-block-seen c.args.self.now _ _ _ _ c.args.document.now c.self.view_is c.self.invariant in
+    grind (arith, common_steps, len)
 
 pub returns-in_err-push-clause-too_large : goal.returns-in_err-push-clause-too_large
 returns-in_err-push-clause-too_large c =
-    let starts = c.self.inside.starts.items in
-    let bytes = c.self.inside.bytes.items in
-    let d = c.args.document.now in
-    let size = ap (λ (docs : List (List ℕ)). length (block (docs ++ d ∷ []))) c.self.view_is in
-    let len = length-block-pushed starts bytes c.self.inside.limit (vec_capacity c.self.inside.bytes) d c.self.invariant in
-    grind (arith, common_steps, size, len)
+    let len = length-block-seen c.args.self.now _ _ _ _ c.args.document.now c.self.view_is c.self.invariant in
+    grind (arith, common_steps, len)
 
 pub invariant_of-self-2 : goal.invariant_of-self-2
 invariant_of-self-2 c =
@@ -47,9 +38,5 @@ returns-clause-ok c =
 
 pub returns-clause-too_large : goal.returns-clause-too_large
 returns-clause-too_large c =
-    let starts = c.self.inside.starts.items in
-    let bytes = c.self.inside.bytes.items in
-    let d = c.args.document.now in
-    let size = ap (λ (docs : List (List ℕ)). length (block (docs ++ d ∷ []))) c.self.view_is in
-    let len = length-block-pushed starts bytes c.self.inside.limit (vec_capacity c.self.inside.bytes) d c.self.invariant in
-    grind (arith, common_steps, size, len)
+    let len = length-block-seen c.args.self.now _ _ _ _ c.args.document.now c.self.view_is c.self.invariant in
+    grind (arith, common_steps, len)

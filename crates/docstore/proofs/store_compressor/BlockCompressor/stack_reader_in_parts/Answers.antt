@@ -3,8 +3,16 @@ use Rattle.std.proofs.lemmas.Result.{err_from_is_err_and}
 use Rattle.store_base.proofs.Steady.{still}
 use Rattle.docstore.specs.BlockOutput.{BlockOutput}
 use Rattle.docstore.proofs.OutputLemmas.{length-blocks_at}
-use Rattle.docstore.proofs.ReadInPartsLemmas.{part_taken, taken_stacked, refused_taken, read_at_most, fails_behind, all_stacked, none_came, some_left, same_checkpoints}
+use Rattle.docstore.proofs.ReadInPartsLemmas.{IsPartTaken, part_taken, taken_stacked, refused_taken, read_at_most, fails_behind, all_stacked, none_came, some_left, same_checkpoints}
+use Rattle.docstore.proofs.store_compressor.BlockCompressor.stack_reader_in_parts.Goals.{In-Some}
 use Rattle.docstore.proofs.store_compressor.BlockCompressor.stack_reader_in_parts.Goals as goal
+
+-- the part that was read, and the blocks before it
+part_is : (g : _) (c : In-Some g) → IsPartTaken c.args.part_bytes c.loop-part.next_block c.args.reader.now c.loop-part.reader c.read_part.new.self c.in-Some.part c.loop-part.self
+part_is g c =
+    let e = c.in_ok-part.ensures in
+    let inv = c.loop-part.invariant in
+    part_taken _ _ _ _ c.read_part.new.self _ c.in-Some.part _ c.loop-part.self e.covers inv.read inv.put c.requires.few_docs c.in-Some.is e.part e.once
 
 pub returns-in_err-part-clause-kept : goal.returns-in_err-part-clause-kept
 returns-in_err-part-clause-kept g c =
@@ -13,16 +21,12 @@ returns-in_err-part-clause-kept g c =
 
 pub write_blocks-requires-clause-cut : goal.write_blocks-requires-clause-cut
 write_blocks-requires-clause-cut g c =
-    let e = c.in_ok-part.ensures in
-    let inv = c.loop-part.invariant in
-    let taken = part_taken _ _ _ _ c.read_part.new.self _ c.in-Some.part _ c.loop-part.self e.covers inv.read inv.put c.requires.few_docs c.in-Some.is e.part e.once in
+    let taken = part_is g (goal.at.write_blocks-requires-clause-cut g c).In-Some in
     rw (c.checkpoints_in.ensures, c.as_slice.ensures) taken.cut
 
 pub write_blocks-requires-clause-few_docs : goal.write_blocks-requires-clause-few_docs
 write_blocks-requires-clause-few_docs g c =
-    let e = c.in_ok-part.ensures in
-    let inv = c.loop-part.invariant in
-    let taken = part_taken _ _ _ _ c.read_part.new.self _ c.in-Some.part _ c.loop-part.self e.covers inv.read inv.put c.requires.few_docs c.in-Some.is e.part e.once in
+    let taken = part_is g (goal.at.write_blocks-requires-clause-few_docs g c).In-Some in
     rw c.checkpoints_in.ensures taken.few
 
 pub returns-in_err-write_blocks-clause-err : goal.returns-in_err-write_blocks-clause-err
@@ -34,16 +38,14 @@ returns-in_err-write_blocks-clause-err g c =
 
 pub returns-in_err-write_blocks-clause-kept : goal.returns-in_err-write_blocks-clause-kept
 returns-in_err-write_blocks-clause-kept g c =
-    let e = c.in_ok-part.ensures in
-    let inv = c.loop-part.invariant in
-    let taken = part_taken _ _ _ _ c.read_part.new.self _ c.in-Some.part _ c.loop-part.self e.covers inv.read inv.put c.requires.few_docs c.in-Some.is e.part e.once in
+    let taken = part_is g (goal.at.returns-in_err-write_blocks-clause-kept g c).In-Some in
     read_at_most _ _ _ _ taken.covers taken.up
 
 pub loop-part-preserved-in_ok-write_blocks : goal.loop-part-preserved-in_ok-write_blocks
 loop-part-preserved-in_ok-write_blocks g c =
     let e = c.in_ok-part.ensures in
     let inv = c.loop-part.invariant in
-    let taken = part_taken _ _ _ _ c.read_part.new.self _ c.in-Some.part _ c.loop-part.self e.covers inv.read inv.put c.requires.few_docs c.in-Some.is e.part e.once in
+    let taken = part_is g (goal.at.loop-part-preserved-in_ok-write_blocks g c).In-Some in
     let w = c.in_ok-write_blocks.ensures in
     record {
       put = taken_stacked _ _ _ _ _ _ _ _ _ _ _ inv.read inv.put taken c.checkpoints_in.ensures c.as_slice.ensures w.written;
@@ -61,7 +63,7 @@ pub loop-part-preserved : goal.loop-part-preserved
 loop-part-preserved g c =
     let e = c.in_ok-part.ensures in
     let inv = c.loop-part.invariant in
-    let taken = part_taken _ _ _ _ c.read_part.new.self _ c.in-Some.part _ c.loop-part.self e.covers inv.read inv.put c.requires.few_docs c.in-Some.is e.part e.once in
+    let taken = part_is g (goal.at.loop-part-preserved g c).In-Some in
     let w = c.in_ok-write_blocks.ensures in
     record {
       put = taken_stacked _ _ _ _ _ _ _ _ _ _ _ inv.read inv.put taken c.checkpoints_in.ensures c.as_slice.ensures w.written;

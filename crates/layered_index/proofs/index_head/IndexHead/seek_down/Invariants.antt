@@ -3,7 +3,7 @@ use Rattle.std.specs.Prelude.{IsTrue}
 use Rattle.layered_index.specs.IndexHeads.{IsHeadOf, ReadsRuns}
 use Rattle.layered_index.specs.Sought.{after_numbers, IsPast}
 use Rattle.layered_index.proofs.FileSeekLemmas.{Seeks}
-use Rattle.layered_index.proofs.index_head.IndexHead.seek.Given as goal
+use Rattle.layered_index.proofs.index_head.IndexHead.seek_down.Given as goal
 
 -- what is still to be found is what is found in the index; the numbers that are left can be read
 abbrev pub invariant-loop : goal.invariant-loop

@@ -11,7 +11,7 @@ use Rattle.store_reader.specs.Walking.{set_of, set_in, IsWalk}
 use Rattle.store_reader.proofs.IterationLookUpLemmas.{IsListedTo}
 use Rattle.store_reader.proofs.ItemsSoFarLemmas.{alive_so_far}
 use Rattle.store_reader.proofs.SteadyLemmas.{IsSteadySoFar}
-use Rattle.store_reader.proofs.answers.list_items.Given as goal
+use Rattle.store_reader.proofs.call_list.list_items.Given as goal
 
 abbrev pub invariant-loop-iter : goal.invariant-loop-iter
 invariant-loop-iter g l = record {

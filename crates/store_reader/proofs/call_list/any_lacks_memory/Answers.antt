@@ -5,10 +5,10 @@ use Rattle.std.proofs.lemmas.List.Elements.{Contains-append_left, Contains-appen
 use Rattle.std.specs.List.{AllWithin, Contains, HoldsAt, flat_map}
 use Rattle.std.specs.Prelude.{Err}
 use Rattle.store_base.specs.declared.error.StoreError.TheVariants.{Memory}
-use Rattle.store_reader.specs.declared.answers.Answer.{Answer}
-use Rattle.store_reader.specs.declared.answers.Answer.TheVariants.{Got}
+use Rattle.store_reader.specs.declared.call_list.Answer.{Answer}
+use Rattle.store_reader.specs.declared.call_list.Answer.TheVariants.{Got}
 use Rattle.store_reader.specs.CallAnswers.{HasRefusal, results_of}
-use Rattle.store_reader.proofs.answers.any_lacks_memory.Goals as goal
+use Rattle.store_reader.proofs.call_list.any_lacks_memory.Goals as goal
 
 abbrev Lacks : Answer → Type 0
 Lacks answer = Contains (results_of answer) (Err Memory)

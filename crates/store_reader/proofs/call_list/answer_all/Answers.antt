@@ -2,14 +2,14 @@ use Rattle.std.proofs.Common.{◌≡◌, ◌+◌, List, take, sym, subst, arith}
 use Rattle.std.specs.List.{AllByRecursion, AllZip}
 use Rattle.store_base.specs.Counts.{HasRisen}
 use Rattle.store_base.specs.declared.error.StoreError.TheVariants.{Read}
-use Rattle.store_reader.specs.declared.answers.Answer.{Answer}
+use Rattle.store_reader.specs.declared.call_list.Answer.{Answer}
 use Rattle.store_reader.specs.CallAnswers.{ShowsEachBlock, AreAnswers, HasRefusal, RefusesPast}
 use Rattle.store_reader.specs.Reading.{num_docs, store_of}
 use Rattle.store_format.specs.Slots.{slots}
 use Rattle.store_reader.proofs.CallAnswersLemmas.{answers_more, looks_more, past_more}
 use Rattle.store_reader.proofs.FailedLemmas.{answer_failed, answers_steady}
 use Rattle.store_reader.proofs.RecentLemmas.{same_on}
-use Rattle.store_reader.proofs.answers.answer_all.Goals as goal
+use Rattle.store_reader.proofs.call_list.answer_all.Goals as goal
 
 pub loop-call-preserved : goal.loop-call-preserved
 loop-call-preserved g c =

@@ -1,5 +1,5 @@
 use Rattle.store_reader.proofs.CallAnswersLemmas.{looks_of_get}
-use Rattle.store_reader.proofs.answers.answer_one.Goals as goal
+use Rattle.store_reader.proofs.call_list.answer_one.Goals as goal
 
 pub returns-in-Bytes-clause-looks : goal.returns-in-Bytes-clause-looks
 returns-in-Bytes-clause-looks g c =

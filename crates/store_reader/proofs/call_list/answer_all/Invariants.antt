@@ -7,7 +7,7 @@ use Rattle.store_reader.specs.CallAnswers.{ShowsEachBlock, AreAnswers, HasRefusa
 use Rattle.store_reader.specs.LookLaws.{AreLookUps}
 use Rattle.store_reader.specs.Reading.{IsSameStore, num_docs, store_of}
 use Rattle.store_format.specs.Slots.{slots}
-use Rattle.store_reader.proofs.answers.answer_all.Given as goal
+use Rattle.store_reader.proofs.call_list.answer_all.Given as goal
 
 abbrev pub invariant-loop-call : goal.invariant-loop-call
 invariant-loop-call g l = record {

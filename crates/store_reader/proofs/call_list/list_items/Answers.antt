@@ -15,7 +15,7 @@ use Rattle.store_reader.proofs.IterationLookUpLemmas.{IsListedTo, listed_on, loo
 use Rattle.store_reader.proofs.ItemsSoFarLemmas.{alive_so_far, listed_more, below_more, listed_end, listed_enough}
 use Rattle.store_reader.proofs.RecentLemmas.{same_on}
 use Rattle.store_reader.proofs.SteadyLemmas.{IsSteadySoFar, steady_next, steady_all, steady_enough, steady_where_alive}
-use Rattle.store_reader.proofs.answers.list_items.Goals as goal
+use Rattle.store_reader.proofs.call_list.list_items.Goals as goal
 
 pub loop-iter-preserved : goal.loop-iter-preserved
 loop-iter-preserved g c =
