@@ -11,11 +11,7 @@ const EXAMPLE: &[u8] = b"zevklog\x01\x07\0\0\0\0\0\0\0\
     \x01\x15\0\0\0\x34\xd2\x20\xe5\x9a\x85\x8d\x9e\x05\0\0\0hello\0\0\0\0\
     \x01\x0f\0\0\0\x5e\xf0\x1b\x3e\x14\x7f\x64\x35\x03\0\0\0log";
 
-fn open(
-    alloc: Global,
-    bytes: Vec<u8>,
-    commit: Commit,
-) -> Result<RecordLog<TornDevice>, LogError> {
+fn open(alloc: Global, bytes: Vec<u8>, commit: Commit) -> Result<RecordLog<TornDevice>, LogError> {
     match RecordLog::open(alloc, TornDevice::new(alloc, bytes), commit) {
         Ok(log) => Ok(log),
         Err((error, _)) => Err(error),
@@ -69,7 +65,11 @@ fn a_changed_byte_ends_the_log_before_its_batch(rt: HostRuntime) -> Result<(), F
 #[test]
 fn other_files_are_no_logs(rt: HostRuntime) -> Result<(), Fail> {
     let alloc = rt.alloc();
-    for bytes in [&b""[..], b"zevklog\x01\0\0\0\0\0\0\0", b"zevklog\x02\0\0\0\0\0\0\0\0"] {
+    for bytes in [
+        &b""[..],
+        b"zevklog\x01\0\0\0\0\0\0\0",
+        b"zevklog\x02\0\0\0\0\0\0\0\0",
+    ] {
         let opened = open(alloc, bytes.to_vec(alloc)?, Commit::OneSync);
         assert!(rt; matches!(opened, Err(LogError::NoLog)));
     }

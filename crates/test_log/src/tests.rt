@@ -1,5 +1,7 @@
 //! Logs that crash at each moment, beside a plain list.
 
+ghost use Rattle.std.specs.Prelude.{◌<◌, ◌≤◌};
+
 use crate::crash::{Dice, image};
 use crate::torn::TornDevice;
 use record_log::{Call, Commit, LogError, RecordLog, new_tail, open_and_call};
@@ -15,7 +17,10 @@ const ROUNDS: usize = 12;
 const COMMITS: [Commit; 2] = [Commit::OneSync, Commit::TwoSyncs];
 
 // How many changes of the device a batch is.
-fn changes_of_a_batch(commit: Commit) -> usize {
+fn changes_of_a_batch(commit: Commit) -> usize
+    ensures some { 0 < result }
+    ensures few { result ≤ 4 }
+{
     match commit {
         Commit::OneSync => 2,
         Commit::TwoSyncs => 4,
@@ -89,12 +94,7 @@ fn read_all(alloc: Global, log: &RecordLog<TornDevice>) -> Result<Vec<Vec<u8>>, 
 }
 
 // Opens a file, makes calls, and reads all records.
-fn run(
-    alloc: Global,
-    bytes: Vec<u8>,
-    commit: Commit,
-    calls: &[Call],
-) -> Result<Read, LogError> {
+fn run(alloc: Global, bytes: Vec<u8>, commit: Commit, calls: &[Call]) -> Result<Read, LogError> {
     let log = match open_and_call(alloc, TornDevice::new(alloc, bytes), commit, calls) {
         Ok(log) => log,
         Err((error, _)) => return Err(error),
@@ -118,8 +118,11 @@ fn records_are_read_by_their_numbers(rt: HostRuntime) -> Result<(), Fail> {
         let read = run(alloc, new_tail(alloc, FIRST)?, commit, &calls)?;
         assert_eq!(rt; read.first, FIRST);
         assert!(rt; read.records == joined(alloc, &batches, BATCHES)?);
-        let made = read.device.changes().len() - opened.device.changes().len();
-        assert_eq!(rt; made, changes_of_a_batch(commit) * BATCHES);
+        let made = changes_of_a_batch(commit) * BATCHES;
+        assert_eq!(rt;
+            read.device.changes().len(),
+            opened.device.changes().len() + made
+        );
     }
     Ok(())
 }

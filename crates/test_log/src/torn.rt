@@ -82,12 +82,7 @@ impl TornDevice {
 }
 
 // The bytes with these in place of those that are there.
-fn overwritten(
-    alloc: Global,
-    old: &[u8],
-    at: usize,
-    bytes: &[u8],
-) -> Result<Vec<u8>, AllocError>
+fn overwritten(alloc: Global, old: &[u8], at: usize, bytes: &[u8]) -> Result<Vec<u8>, AllocError>
     requires { at ≤ length old.now }
     ensures { IfOk result (λ new. Holds old.now at bytes.now new.items) }
 {
