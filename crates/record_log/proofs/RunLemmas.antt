@@ -33,23 +33,23 @@ has_or_adds commit pending old new keeps =
     ⊎_elim
     (λ same. let start : HasBeginning commit (pending ∷ []) old new = record { written = []; others = pending ∷ []; all = refl; first = keeps.first; records = inl (same ∙ sym none) } in start)
     (λ others. ⊎_elim
-        (λ more. let both : HasBeginning commit (pending ∷ []) old new = record { written = pending ∷ []; others = []; all = refl; first = keeps.first; records = inl (more ∙ sym all) } in both)
-        (λ forged. let after : HasBeginning commit (pending ∷ []) old new = record {
-          written = [];
-          others = pending ∷ [];
-          all = refl;
-          first = keeps.first;
-          records = inr (record {
-            one_sync = forged.one_sync;
-            batch = pending;
-            others = [];
-            next = refl;
-            bytes = forged.bytes;
-            forged = forged.forged;
-            records = forged.records ∙ ap (λ (l : Records). l ++ records_from forged.bytes) (sym none);
-          });
-        } in after)
-        others)
+    (λ more. let both : HasBeginning commit (pending ∷ []) old new = record { written = pending ∷ []; others = []; all = refl; first = keeps.first; records = inl (more ∙ sym all) } in both)
+    (λ forged. let after : HasBeginning commit (pending ∷ []) old new = record {
+      written = [];
+      others = pending ∷ [];
+      all = refl;
+      first = keeps.first;
+      records = inr (record {
+        one_sync = forged.one_sync;
+        batch = pending;
+        others = [];
+        next = refl;
+        bytes = forged.bytes;
+        forged = forged.forged;
+        records = forged.records ∙ ap (λ (l : Records). l ++ records_from forged.bytes) (sym none);
+      });
+    } in after)
+    others)
     keeps.records
 
 pub has_itself : (commit : Commit) (batches : List Records) (old new : List ℕ) → KeepsRecords old new → HasBeginning commit batches old new

@@ -152,14 +152,14 @@ module _ (end : ℕ) (file body : List ℕ) (rest : IsAtRest OneSync end file) (
               let alone : more ≡ [] = one_alone after body more begins_so (omega (arith, short, n_is)) in
               with_one end file rest.whole OneSync body c after here (begins_so ∙ ap (λ (l : List (List ℕ)). body ∷ l) alone)
           | inr differs ↦ record {
-              header = header;
-              bodies = inr (inr (record {
-                one_sync = refl;
-                bytes = after;
-                forged = record { other = other; more = more; begins = begins; differs = differs; short = omega (arith, short, n_is, length-summed body) };
-                bodies = bodies;
-              }));
-            }
+            header = header;
+            bodies = inr (inr (record {
+              one_sync = refl;
+              bytes = after;
+              forged = record { other = other; more = more; begins = begins; differs = differs; short = omega (arith, short, n_is, length-summed body) };
+              bodies = bodies;
+            }));
+          }
         ]
       ]
 

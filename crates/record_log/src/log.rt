@@ -4,7 +4,7 @@ ghost use Rattle.std.specs.Prelude.{◌≡◌, ◌⊎◌, ◌↔◌, false, ◌�
 ghost use Rattle.std.specs.Prelude.{IfOk, IfErr, OnOk, OnErr, IsErrOf, option_map};
 ghost use Rattle.store_base.specs.Counts.{HasRisen};
 ghost use Rattle.store_folder.specs.Moments.{LeavesOnly};
-ghost use Rattle.record_log.specs.Device.{Only};
+ghost use Rattle.record_log.specs.Device.{Only, IsOfOpenings, IsOfAppends, IsOfSyncs, IsOfReads};
 ghost use Rattle.record_log.specs.Tail.{records_of, first_of, IsAtRest, IsTail};
 ghost use Rattle.record_log.specs.Place.{contents, EndsBy};
 ghost use Rattle.record_log.specs.Log.{KeepsRecords, KeepsOrAdds, record_at};
@@ -51,8 +51,13 @@ impl<D: Device> Model for RecordLog<D> {
 
     ghost Value = { LogView D };
 
-    ghost view = { λ l. record { device = l.device; commit = l.commit; pending = records_in l.pending.items;
-        batch_bytes = length l.pending.items; is_broken = l.is_broken } };
+    ghost view = { λ l. record {
+      device = l.device;
+      commit = l.commit;
+      pending = records_in l.pending.items;
+      batch_bytes = length l.pending.items;
+      is_broken = l.is_broken;
+    } };
 
     ghost invariant = { λ l. OnFalse l.is_broken (IsSettled l.commit (D.seen l.device) (D.may_leave l.device) l.end
         l.places.items l.first l.next l.pending.items) };
@@ -68,11 +73,7 @@ struct Recovered {
 }
 
 // Reads a tail that a crash may have left, and repairs its end. It may crash too.
-fn recover<D: Device>(
-    alloc: Global,
-    device: &mut D,
-    commit: Commit,
-) -> Result<Recovered, LogError>
+fn recover<D: Device>(alloc: Global, device: &mut D, commit: Commit) -> Result<Recovered, LogError>
     // After a restart, what is read is what is on the disk.
     requires { Only (D.seen device.old) (D.may_leave device.old) }
 
@@ -88,7 +89,10 @@ fn recover<D: Device>(
     ensures any_moment { LeavesOnly D.moment D.left_since device.old device.new (KeepsRecords (D.seen device.old)) }
     ensures failures { D.failures device.old ≤ D.failures device.new }
     ensures failed { IsErrOf result LogError.Failed → HasRisen (D.failures device.old) (D.failures device.new) }
+    ensures full { IsErrOf result LogError.Full
+        → 2 ^ 64 ≤ first_of (D.seen device.old) + length (records_of (D.seen device.old)) }
     ensures no_log { IsErrOf result LogError.NoLog → IsTail (D.seen device.old) → ⊥ }
+    ensures kind { IfErr result IsOfOpenings }
 {
     let bytes = device.read(alloc)?;
     let Some(first) = first_number(&bytes) else {
@@ -110,11 +114,7 @@ fn recover<D: Device>(
 impl<D: Device> RecordLog<D> {
     /// Opens a tail that a crash may have left, and repairs its end. A crash during it leaves the same records. An
     /// error hands the device back.
-    pub fn open(
-        alloc: Global,
-        mut device: D,
-        commit: Commit,
-    ) -> Result<RecordLog<D>, (LogError, D)>
+    pub fn open(alloc: Global, mut device: D, commit: Commit) -> Result<RecordLog<D>, (LogError, D)>
         // After a restart, what is read is what is on the disk.
         requires { Only (D.seen device) (D.may_leave device) }
 
@@ -132,7 +132,10 @@ impl<D: Device> RecordLog<D> {
         ensures failures { IfOk result (λ log. D.failures device ≤ D.failures log.device) }
         ensures failures_err { IfErr result (λ e. D.failures device ≤ D.failures e.1) }
         ensures failed { IfErr result (λ e. e.0 ≡ LogError.Failed → HasRisen (D.failures device) (D.failures e.1)) }
+        ensures full { IfErr result (λ e. e.0 ≡ LogError.Full
+            → 2 ^ 64 ≤ first_of (D.seen device) + length (records_of (D.seen device))) }
         ensures no_log { IfErr result (λ e. e.0 ≡ LogError.NoLog → IsTail (D.seen device) → ⊥) }
+        ensures kind { IfErr result (λ e. IsOfOpenings e.0) }
     {
         match recover(alloc, &mut device, commit) {
             Ok(found) => Ok(RecordLog {
@@ -168,7 +171,7 @@ impl<D: Device> RecordLog<D> {
         ensures too_long { IsErrOf result LogError.TooLong → 2 ^ 32 ≤ 12 + length bytes.now }
         ensures batch_full { IsErrOf result LogError.BatchFull
             → 2 ^ 32 ≤ self.old.batch_bytes + 12 + length bytes.now }
-        ensures no_fault { IsErrOf result LogError.Failed → ⊥ }
+        ensures kind { IfErr result IsOfAppends }
         ensures err { OnErr result (self.new ≡ self.old) }
     {
         if self.is_broken {
@@ -213,7 +216,7 @@ impl<D: Device> RecordLog<D> {
         // batch.
         ensures any_moment { self.old.is_broken ≡ false
             → LeavesOnly D.moment D.left_since self.old.device self.new.device
-                (KeepsOrAdds self.old.commit self.old.pending (D.seen self.old.device)) }
+            (KeepsOrAdds self.old.commit self.old.pending (D.seen self.old.device)) }
         ensures same { IsTrue self.old.is_broken → self.new ≡ self.old }
 
         ensures broken { IsErrOf result LogError.Broken ↔ IsTrue self.old.is_broken }
@@ -223,6 +226,7 @@ impl<D: Device> RecordLog<D> {
             → HasRisen (D.failures self.old.device) (D.failures self.new.device) }
         ensures full { IsErrOf result LogError.Full
             → (2 ^ 62 ≤ length (D.seen self.old.device)) × (self.new ≡ self.old) }
+        ensures kind { IfErr result IsOfSyncs }
     {
         if self.is_broken {
             return Err(LogError::Broken);
@@ -255,6 +259,7 @@ impl<D: Device> RecordLog<D> {
             ≡ record_at (first_of (D.seen self.now.device)) (records_of (D.seen self.now.device)) number) }
         ensures broken { IsErrOf result LogError.Broken ↔ IsTrue self.now.is_broken }
         ensures failed { IsTrue (D.is_readable self.now.device) → IsErrOf result LogError.Failed → ⊥ }
+        ensures kind { IfErr result IsOfReads }
     {
         if self.is_broken {
             return Err(LogError::Broken);

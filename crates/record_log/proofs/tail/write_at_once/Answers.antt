@@ -51,4 +51,3 @@ returns-clause-at_rest g c =
     let body = c.args.body.now in
     let batch_is : c.deref.result.now ≡ 1 ∷ summed body = c.deref.ensures.value ∙ c.in_ok-batch.ensures.bytes in
     once_at_rest c.args.end file body c.requires.rest c.requires.small c.in_ok-batch.ensures.fits _ (c.in_ok-append_durably.ensures.written ∙ ap (λ l. file ++ l) batch_is)
-
