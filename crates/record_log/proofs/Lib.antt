@@ -1,0 +1,9 @@
+pub mod Bodies
+pub mod Counts
+pub mod Frames
+pub mod Logs
+pub mod Moments
+pub mod RunLemmas
+pub mod Scans
+pub mod Steps
+pub mod Tails

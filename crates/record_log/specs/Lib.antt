@@ -1,0 +1,6 @@
+pub mod Device
+pub mod Durable
+pub mod Tail
+pub mod Place
+pub mod Log
+pub mod Runs

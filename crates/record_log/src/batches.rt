@@ -1,0 +1,194 @@
+//! Batches of records: how they are written, and how they are read after a crash.
+
+ghost use Rattle.std.specs.Prelude.{◌≡◌, ◌≤◌, ◌<◌, ◌+◌, ◌^◌, ◌++◌, ◌∷◌, [], List, ℕ, true, false, length, drop, take};
+ghost use Rattle.std.specs.Prelude.{IfOk, OnOk, IfSome, IfNone, All, slice_range};
+ghost use Rattle.record_log.specs.Tail.{four_in, framed, sum_of, summed, has_whole, has_sum, has_batch};
+ghost use Rattle.record_log.specs.Tail.{records_in, records_of, bodies_after, IsWholeTo};
+ghost use Rattle.record_log.specs.Place.{contents, EndsBy, AddsRecords};
+
+use std::alloc::{AllocError, Global};
+use std::hash::{DefaultHasher, Hasher};
+
+/// How many bytes stand before the first batch.
+pub const HEADER: usize = 16;
+
+/// How many bytes a batch has before its body: the gate, the length and the sum.
+pub const BATCH_HEADER: usize = 13;
+
+/// Where a record lies in a file.
+#[derive(Clone, Copy, Debug, PartialEq, Eq)]
+pub struct Place {
+    pub start: usize,
+    pub end: usize,
+}
+
+// The sum of a batch's body.
+#[tactic(auto, unfolding(crate::specs::Tail::sum_of))]
+fn sum_over(body: &[u8]) -> u64
+    ensures { result ≡ sum_of body.now }
+{
+    let mut hasher = DefaultHasher::new();
+    hasher.write(body);
+    hasher.finish()
+}
+
+// The number of the first four bytes.
+#[tactic(auto, unfolding(crate::specs::Tail::four_in))]
+fn number_at(bytes: &[u8]) -> Option<u32>
+    ensures some { IfSome result (λ n. (4 ≤ length bytes.now) × (n ≡ four_in bytes.now)) }
+    ensures none { IfNone result (length bytes.now < 4) }
+{
+    let (front, _) = bytes.split_first_chunk::<4>()?;
+    Some(u32::from_le_bytes(*front))
+}
+
+// How long the item at the front is, if it stands there whole.
+fn whole_length(bytes: &[u8]) -> Option<usize>
+    ensures some { IfSome result
+        (λ n. (has_whole bytes.now ≡ true) × (n ≡ four_in bytes.now) × (4 + n ≤ length bytes.now)) }
+    ensures none { IfNone result (has_whole bytes.now ≡ false) }
+{
+    let len = number_at(bytes)? as usize;
+    if len <= bytes.len() - 4 {
+        Some(len)
+    } else {
+        None
+    }
+}
+
+// Whether an item begins with the sum of its other bytes.
+#[tactic(auto, unfolding(crate::specs::Tail::eight_in))]
+fn is_summed(item: &[u8]) -> bool
+    ensures { result ≡ has_sum item.now }
+{
+    match item.split_first_chunk::<8>() {
+        Some((sum, body)) => u64::from_le_bytes(*sum) == sum_over(body),
+        None => false,
+    }
+}
+
+// How long the item of the batch at the front is, after its length, if a batch stands there.
+fn batch_length(bytes: &[u8]) -> Option<usize>
+    ensures some { IfSome result
+        (λ n. (has_batch bytes.now ≡ true) × (n ≡ four_in bytes.now) × (8 ≤ n) × (4 + n ≤ length bytes.now)) }
+    ensures none { IfNone result (has_batch bytes.now ≡ false) }
+{
+    let len = whole_length(bytes)?;
+    if is_summed(&bytes[4..4 + len]) {
+        Some(len)
+    } else {
+        None
+    }
+}
+
+// The same of a batch after its gate, if the gate is open.
+fn open_length(bytes: &[u8]) -> Option<usize>
+    ensures some { IfSome result (λ n. (more : List ℕ) × (bytes.now ≡ 1 ∷ more) × (has_batch more ≡ true)
+        × (n ≡ four_in more) × (8 ≤ n) × (5 + n ≤ length bytes.now)) }
+    ensures none { IfNone result (bodies_after 0 bytes.now ≡ []) }
+{
+    match bytes {
+        [1, rest @ ..] => batch_length(rest),
+        _ => None,
+    }
+}
+
+// Adds the places of the records of a body, which lies at this place of a file.
+pub(crate) fn place_records(
+    body: &[u8],
+    base: usize,
+    places: &mut Vec<Place>,
+) -> Result<(), AllocError>
+    requires { base + length body.now < 2 ^ 64 }
+    ensures records { OnOk result (AddsRecords body.now base places.old.items places.new.items) }
+    ensures within { OnOk result
+        (All (EndsBy base) places.old.items → All (EndsBy (base + length body.now)) places.new.items) }
+{
+    let mut rest = body;
+    let mut at = base;
+    while let Some(len) = whole_length(rest) {
+        places.push(Place {
+            start: at + 4,
+            end: at + 4 + len,
+        })?;
+        at += 4 + len;
+        rest = &rest[4 + len..];
+    }
+    Ok(())
+}
+
+/// What was found in a tail: its records, and where its whole batches end.
+#[derive(Debug, Drop)]
+pub(crate) struct Found {
+    pub(crate) places: Vec<Place>,
+    pub(crate) end: usize,
+}
+
+/// Reads the batches of a tail.
+pub(crate) fn find_records(alloc: Global, bytes: &[u8]) -> Result<Found, AllocError>
+    requires { 16 ≤ length bytes.now }
+    ensures whole { IfOk result (λ found. IsWholeTo found.end bytes.now) }
+    ensures records { IfOk result (λ found. contents bytes.now found.places.items ≡ records_of bytes.now) }
+    ensures within { IfOk result (λ found. All (EndsBy found.end) found.places.items) }
+{
+    let mut places = Vec::new(alloc);
+    let mut end = HEADER;
+    while let Some(len) = open_length(&bytes[end..]) {
+        place_records(
+            &bytes[end + BATCH_HEADER..end + 5 + len],
+            end + BATCH_HEADER,
+            &mut places,
+        )?;
+        end += 5 + len;
+    }
+    Ok(Found { places, end })
+}
+
+// Puts a batch after other bytes, but for its gate: its length, its sum and its body.
+#[tactic(auto, unfolding(crate::specs::Tail::four, crate::specs::Tail::eight))]
+fn add_summed(bytes: &mut Vec<u8>, body: &[u8]) -> Result<(), AllocError>
+    requires { 8 + length body.now < 2 ^ 32 }
+    ensures added { OnOk result (bytes.new.items ≡ bytes.old.items ++ summed body.now) }
+    ensures fits { OnOk result (sum_of body.now < 2 ^ 64) }
+{
+    bytes.extend_from_slice(&(8 + body.len() as u32).to_le_bytes())?;
+    bytes.extend_from_slice(&sum_over(body).to_le_bytes())?;
+    bytes.extend_from_slice(body)?;
+    Ok(())
+}
+
+/// A batch with its open gate.
+pub(crate) fn open_batch(alloc: Global, body: &[u8]) -> Result<Vec<u8>, AllocError>
+    requires { 8 + length body.now < 2 ^ 32 }
+    ensures bytes { IfOk result (λ batch. batch.items ≡ 1 ∷ summed body.now) }
+    ensures fits { OnOk result (sum_of body.now < 2 ^ 64) }
+{
+    let mut batch = Vec::with_capacity(alloc, BATCH_HEADER + body.len())?;
+    batch.push(1)?;
+    add_summed(&mut batch, body)?;
+    Ok(batch)
+}
+
+/// A batch without its gate, and the next gate, which is closed.
+pub(crate) fn staged_batch(alloc: Global, body: &[u8]) -> Result<Vec<u8>, AllocError>
+    requires { 8 + length body.now < 2 ^ 32 }
+    ensures bytes { IfOk result (λ batch. batch.items ≡ summed body.now ++ 0 ∷ []) }
+    ensures fits { OnOk result (sum_of body.now < 2 ^ 64) }
+{
+    let mut batch = Vec::with_capacity(alloc, BATCH_HEADER + body.len())?;
+    add_summed(&mut batch, body)?;
+    batch.push(0)?;
+    Ok(batch)
+}
+
+/// Puts a record after others of a body.
+#[tactic(auto, unfolding(crate::specs::Tail::four))]
+pub(crate) fn add_record(body: &mut Vec<u8>, bytes: &[u8]) -> Result<(), AllocError>
+    requires { length bytes.now < 2 ^ 32 }
+    ensures added { OnOk result (body.new.items ≡ body.old.items ++ framed bytes.now) }
+    ensures kept { take (length body.old.items) body.new.items ≡ body.old.items }
+{
+    body.extend_from_slice(&(bytes.len() as u32).to_le_bytes())?;
+    body.extend_from_slice(bytes)?;
+    Ok(())
+}

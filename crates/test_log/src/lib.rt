@@ -1,0 +1,11 @@
+//! Is a log what a crash at any moment leaves of it? Devices that tear, and tests of the log over them.
+#![tactic(auto)]
+
+#[cfg(test)]
+mod bytes;
+pub mod crash;
+#[cfg(test)]
+mod tests;
+pub mod torn;
+
+pub use torn::{Change, Kind, TornDevice};
