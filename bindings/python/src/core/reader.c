@@ -164,32 +164,33 @@ static void *raise_missing(const reader *self, Py_ssize_t number) {
     return facts ? raise_refusal(ZEVK_NO_DOCUMENT, self->path, facts) : NULL;
 }
 
-/* Finds the places from a document on: four of them after a jump, and twice as many each time after that. */
-static void find_ahead(reader *self, uint32_t number) {
+/* Finds the places from a document on: four of them after a jump, and twice as many each time after that. Returns
+ * whether there is any. */
+static __attribute__((noinline)) int find_ahead(reader *self, uint32_t number) {
     size_t wanted = self->ahead_len < 4 ? 4 : 2 * (size_t)self->ahead_len;
     size_t found = 0;
     wanted = wanted < AHEAD ? wanted : AHEAD;
     zevk_locate_run(self->file, self->len, self->table, self->rows, number, self->ahead, wanted, &found);
     self->ahead_from = number;
     self->ahead_len = (uint32_t)found;
+    return found > 0;
 }
 
 /* Sets `place` to where a document lies, or returns an error. A document that follows the one before is mostly found
  * already. */
 static uint32_t locate(reader *self, uint32_t number, zevk_place *place) {
     uint32_t at = number - self->ahead_from;
-    if (at >= self->ahead_len && number == self->next) {
-        find_ahead(self, number);
-        at = 0;
-    } else if (at >= self->ahead_len) {
-        self->ahead_len = 0;
-    }
+    int follows = number == self->next;
     self->next = number + 1;
-    if (at < self->ahead_len) {
-        *place = self->ahead[at];
-        return 0;
+    if (at >= self->ahead_len) {
+        if (!follows || !find_ahead(self, number)) {
+            self->ahead_len = 0;
+            return zevk_locate(self->file, self->len, self->table, self->rows, number, place);
+        }
+        at = 0;
     }
-    return zevk_locate(self->file, self->len, self->table, self->rows, number, place);
+    *place = self->ahead[at];
+    return 0;
 }
 
 /* The number that a key is, clipped where it is too large; -1 with an exception if it is none. */
