@@ -1,13 +1,15 @@
 -- Batches at the front of bytes.
-use Rattle.std.proofs.Common.{◌≡◌, ◌≢◌, ◌⊎◌, ◌<◌, ◌≤◌, ◌^◌, ◌==◌, ◌&&◌, ℕ, zero, suc, ◌+◌, ◌-◌, List, [], ◌∷◌, ◌++◌, length, take, drop, Bool, true, false, refl, sym, ◌∙◌, ap, arith, length-append, length-take, length-drop, append_assoc, inl, inr}
+use Rattle.std.proofs.Common.{◌≡◌, ◌≢◌, ◌⊎◌, ◌<◌, ◌≤◌, ◌^◌, ◌==◌, ◌&&◌, ℕ, zero, suc, ◌+◌, ◌-◌, List, [], ◌∷◌, ◌++◌}
+use Rattle.std.proofs.Common.{length, take, drop, Bool, true, false, refl, sym, ◌∙◌, ap, arith, length-append, length-take, length-drop, append_assoc, inl, inr}
 use Rattle.std.proofs.lemmas.List.{drop_all, drop_at, take-append-le, take-take, drop-take}
 use Rattle.std.proofs.lemmas.Bool.{cases_eq, cond-true, cond-false}
 use Rattle.std.proofs.lemmas.Bool.Decides.{nat_tests}
 use Rattle.std.proofs.lemmas.Nat.{from_le_bytes-to_le_bytes_8}
 use Rattle.std.specs.Prelude.{nat_le}
 use Rattle.std.specs.Int.{w64, from_le_bytes}
-use Rattle.record_log.specs.Tail.{four, four_in, eight, eight_in, sum_of, framed, summed, has_whole, has_sum, has_batch, front_item, front_body, bodies_after}
-use Rattle.record_log.proofs.Frames.{IsFramed, length-four, four_in_front, le_fits, fits_le, cases_bool, whole_fits, not_whole, front_whole, framed_is, front_framed, framed_whole, framed_item, framed_rest}
+use Rattle.record_log.specs.Tail.{four, four_in, eight, eight_in, sum_of, summed, has_whole, has_sum, has_batch, front_item, front_body, bodies_after}
+use Rattle.record_log.proofs.Frames.{IsFramed, length-four, four_in_front, le_fits, fits_le, cases_bool, whole_fits}
+use Rattle.record_log.proofs.Frames.{not_whole, front_whole, framed_is, front_framed, framed_whole, framed_item, framed_rest}
 
 pub length-eight : (n : ℕ) → length (eight n) ≡ 8
 unfolding eight

@@ -1,5 +1,6 @@
 -- What a log keeps, from what its tail keeps.
-use Rattle.std.proofs.Common.{◌≡◌, ◌<◌, ◌≤◌, ◌^◌, ℕ, ◌+◌, ◌-◌, List, [], ◌∷◌, ◌++◌, length, get_or, take, drop, zero, suc, Some, None, Option, option_map, refl, sym, ◌∙◌, ap, subst, arith, inl, inr, ⊎_elim, append_assoc, length-append}
+use Rattle.std.proofs.Common.{◌≡◌, ◌<◌, ◌≤◌, ◌^◌, ℕ, ◌+◌, ◌-◌, List, [], ◌∷◌, ◌++◌, length, get_or, take, drop, zero}
+use Rattle.std.proofs.Common.{suc, Some, None, Option, option_map, refl, sym, ◌∙◌, ap, subst, arith, inl, inr, ⊎_elim, append_assoc, length-append}
 use Rattle.std.proofs.lemmas.List.{append-nil, take-take, take_at, drop_at, drop-take, length-take-le, length-map}
 use Rattle.std.proofs.lemmas.List.Concat.{flat_map-append}
 use Rattle.std.proofs.lemmas.List.Elements.{All-head, All-tail}
@@ -12,7 +13,8 @@ use Rattle.std.specs.Int.{w64, from_le_bytes}
 use Rattle.record_log.specs.declared.batches.Place.{Place}
 use Rattle.record_log.specs.Place.{content, contents, EndsBy, AddsRecords}
 use Rattle.record_log.specs.declared.tail.Commit.{Commit}
-use Rattle.record_log.specs.Tail.{four, eight, sum_of, framed, summed, records_in, records_of, records_from, body_of, bodies_of, bodies_after, first_of, ending, IsAtRest, IsForged, EndsForged, IsSameTail, IsWithOrWithout}
+use Rattle.record_log.specs.Tail.{four, eight, sum_of, framed, summed, records_in, records_of, body_of}
+use Rattle.record_log.specs.Tail.{bodies_of, bodies_after, first_of, ending, IsAtRest, IsForged, EndsForged, IsSameTail, IsWithOrWithout}
 use Rattle.record_log.specs.Log.{record_at, KeepsRecords, AddsForged, KeepsOrAdds, IsWholeRecords}
 use Rattle.record_log.proofs.Frames.{fits_le, records_framed, framed_is, length-four}
 use Rattle.record_log.proofs.Bodies.{length-eight}
@@ -108,7 +110,14 @@ module _ (commit : Commit) (end : ℕ) (old body new : List ℕ) (rest : IsAtRes
       let item = eight (sum_of body) ++ body in
       let head = take end old ++ (1 ∷ (four (length item) ++ eight (sum_of body))) in
       let long : length head ≡ end + 13 =
-      omega (arith, length-append (take end old) (1 ∷ (four (length item) ++ eight (sum_of body))), length-append (four (length item)) (eight (sum_of body)), length-four (length item), length-eight (sum_of body), size) in
+      omega (
+        arith,
+        length-append (take end old) (1 ∷ (four (length item) ++ eight (sum_of body))),
+        length-append (four (length item)) (eight (sum_of body)),
+        length-four (length item),
+        length-eight (sum_of body),
+        size,
+      ) in
       let parts : new ≡ head ++ (body ++ ending commit) = is ∙ simp append_assoc in
       let width : end + 13 + length body - (end + 13) ≡ length body = omega arith in
       ap (λ (k : ℕ). take k (drop (end + 13) new)) width

@@ -104,7 +104,8 @@ body_at bytes more end n is n_is long =
     ∙ ap (λ (l : List ℕ). take m l) (drop-drop 8 (end + 5) bytes ∙ ap (λ (k : ℕ). drop k bytes) after_sum)
     ∙ ap (λ (k : ℕ). take k (drop (end + 13) bytes)) (sym width)
 
-module _ (bytes more : List ℕ) (end n : ℕ) (so_far : IsReadTo end bytes (bodies_of (take end bytes))) (is : drop end bytes ≡ 1 ∷ more) (batch : has_batch more ≡ true) (n_is : n ≡ four_in more) (long : 8 ≤ n) where
+module _ (bytes more : List ℕ) (end n : ℕ) (so_far : IsReadTo end bytes (bodies_of (take end bytes)))
+    (is : drop end bytes ≡ 1 ∷ more) (batch : has_batch more ≡ true) (n_is : n ≡ four_in more) (long : 8 ≤ n) where
   read_on : IsReadTo (end + (5 + n)) bytes (bodies_of (take end bytes) ++ front_body more ∷ [])
   read_on =
       let sum : end + 5 + four_in more ≡ end + (5 + n) = omega (arith, n_is) in

@@ -1,11 +1,12 @@
 -- What tails stand for, in each step of a change.
-use Rattle.std.proofs.Common.{◌≡◌, ◌⊎◌, ◌<◌, ◌≤◌, ◌^◌, ℕ, zero, suc, ◌+◌, ◌-◌, List, [], ◌∷◌, ◌++◌, length, take, drop, true, refl, sym, ◌∙◌, ap, arith, length-append, length-drop, append_assoc, take-append-drop, inl, inr}
+use Rattle.std.proofs.Common.{◌≡◌, ◌⊎◌, ◌<◌, ◌≤◌, ◌^◌, ℕ, suc, ◌+◌, ◌-◌, List, [], ◌∷◌, ◌++◌, length}
+use Rattle.std.proofs.Common.{take, drop, true, refl, sym, ◌∙◌, ap, arith, length-append, length-drop, append_assoc, take-append-drop, inl, inr}
 use Rattle.std.proofs.lemmas.List.{append-nil, take_all, take_at, drop_all, drop_at, take-append-le, take-take, length-take-le, drop-take, append_cancel_left}
 use Rattle.std.proofs.lemmas.Bool.{cases_eq}
 use Rattle.record_log.specs.declared.tail.Commit.{Commit}
 use Rattle.record_log.specs.declared.tail.Commit.TheVariants.{OneSync, TwoSyncs}
 use Rattle.record_log.specs.Durable.{BeginsWith, IsButFor, IsCutTo}
-use Rattle.record_log.specs.Tail.{four_in, sum_of, summed, has_batch, front_body, bodies_after, bodies_of, IsWholeTo, IsAtRest, IsForged, IsWithOrWithout, IsSameTail}
+use Rattle.record_log.specs.Tail.{four_in, sum_of, summed, has_batch, front_body, bodies_after, bodies_of, IsWholeTo, IsAtRest, IsWithOrWithout, IsSameTail}
 use Rattle.record_log.proofs.Bodies.{bodies_skip, gate_shut, closed_alone, batch_fits, short_nothing, front_nothing, summed_is, front_summed, bodies_summed, length-summed, one_alone, same_bytes}
 
 -- ---- a tail that is read from its beginning

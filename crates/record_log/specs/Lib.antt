@@ -4,3 +4,4 @@ pub mod Tail
 pub mod Place
 pub mod Log
 pub mod Runs
+pub mod View

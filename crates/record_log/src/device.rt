@@ -1,6 +1,7 @@
 //! A file as a log sees it: what a read returns, and what a crash may leave.
 
-ghost use Rattle.std.specs.Prelude.{◌≡◌, ◌≤◌, List, Bool, ℕ, length, take, IfOk, IfErr, OnOk, IsTrue, IsErrOf, slice_range};
+ghost use Rattle.std.specs.Prelude.{◌≡◌, ◌≤◌, List, Bool, ℕ, length, take, IfOk, IfErr, OnOk, IsTrue, IsErrOf};
+ghost use Rattle.std.specs.Prelude.{slice_range};
 ghost use Rattle.store_folder.specs.Moments.{ComesFrom, NoMore, Elapses};
 ghost use Rattle.record_log.specs.Device.{Only, Torn, Cut, Holds, HasCause, IsOfDevices};
 ghost use Rattle.record_log.specs.declared.error.LogError.TheVariants.{Failed};

@@ -10,6 +10,7 @@ pub mod log;
 pub mod records;
 pub mod runs;
 pub mod tail;
+pub mod view;
 
 pub use batches::Place;
 pub use device::Device;
@@ -18,3 +19,4 @@ pub use log::RecordLog;
 pub use records::Records;
 pub use runs::{Call, call_all, open_and_call};
 pub use tail::{Commit, new_tail};
+pub use view::TailView;

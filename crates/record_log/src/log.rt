@@ -202,8 +202,8 @@ impl<D: Device> RecordLog<D> {
 
     /// Puts the pending records on the disk, as one batch. After an Ok they are acknowledged: each crash leaves them.
     ///
-    /// Errors: `Broken`; `Full` where the file is as long as it can be, and the log is as it was; `Memory` and `Failed`,
-    /// after which the log is broken.
+    /// Errors: `Broken`; `Full` where the file is as long as it can be, and the log is as it was; `Memory` and
+    /// `Failed`, after which the log is broken.
     pub fn sync(&mut self) -> Result<(), LogError>
         ensures first { OnOk result (first_of (D.seen self.new.device) ≡ first_of (D.seen self.old.device)) }
         ensures acknowledged { OnOk result (records_of (D.seen self.new.device)

@@ -1,5 +1,6 @@
 -- One change more.
-use Rattle.std.proofs.Common.{◌≡◌, ◌⊎◌, ◌<◌, ◌≤◌, ℕ, zero, suc, ◌+◌, ◌-◌, List, [], ◌∷◌, ◌++◌, length, take, drop, Some, None, Option, append_assoc, refl, sym, ◌∙◌, ap, subst, arith, inl, inr, ⊎_elim, length-append, length-take, length-drop}
+use Rattle.std.proofs.Common.{◌≡◌, ◌⊎◌, ◌<◌, ◌≤◌, ℕ, zero, suc, ◌+◌, ◌-◌, List, [], ◌∷◌, ◌++◌, length, take, drop}
+use Rattle.std.proofs.Common.{Some, None, Option, append_assoc, refl, sym, ◌∙◌, ap, subst, arith, inl, inr, ⊎_elim, length-append, length-take, length-drop}
 use Rattle.std.proofs.lemmas.List.{take_all, take_at, drop_at, take-append-le, length-take-le}
 use Rattle.std.proofs.lemmas.Bool.{cases_lt}
 use Rattle.std.specs.Prelude.{slice_get}
@@ -25,7 +26,8 @@ whole_write at bytes old new within holds =
     omega (arith, ap length holds, length-append (take at old ++ bytes) (drop (at + length bytes) old), length-append (take at old) bytes, length-take-le at old within) in
     record {
       before = ap (λ (l : List ℕ). take at l) (holds ∙ simp append_assoc) ∙ take_at (take at old) (bytes ++ drop (at + length bytes) old) at (length-take-le at old within);
-      after = ap (λ (l : List ℕ). drop (at + length bytes) l) holds ∙ drop_at (take at old ++ bytes) (drop (at + length bytes) old) (at + length bytes) (omega (arith, length-append (take at old) bytes, length-take-le at old within));
+      after = ap (λ (l : List ℕ). drop (at + length bytes) l) holds
+          ∙ drop_at (take at old ++ bytes) (drop (at + length bytes) old) (at + length bytes) (omega (arith, length-append (take at old) bytes, length-take-le at old within));
       no_shorter = omega (arith, size, length-drop (at + length bytes) old);
       no_longer = omega (arith, size, length-drop (at + length bytes) old);
     }

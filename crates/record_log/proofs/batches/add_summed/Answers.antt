@@ -1,4 +1,4 @@
-use Rattle.std.proofs.Common.{◌≡◌, ◌+◌, ◌++◌, length, ◌∙◌, ap, refl}
+use Rattle.std.proofs.Common.{◌≡◌, ◌+◌, ◌++◌, length, ◌∙◌, ap}
 use Rattle.record_log.specs.Tail.{four, eight, sum_of}
 use Rattle.record_log.proofs.Bodies.{summed_after}
 use Rattle.record_log.proofs.batches.add_summed.Goals as goal

@@ -14,7 +14,8 @@ returns-in_err-make_call-clause-any_moment g c = λ works.
     let old = g.D.Device.seen c.args.log.now.device in
     let mid = g.D.Device.seen c.loop-next.log.device in
     let pending = c.args.log.now.pending in
-    then_run g.D.Device.moment g.D.Device.left_since c.args.log.now.device c.loop-next.log.device c.make_call.new.log.device _ _ (HasBeginning c.args.log.now.commit (batches_of pending c.args.calls.now) old)
+    then_run g.D.Device.moment g.D.Device.left_since c.args.log.now.device c.loop-next.log.device c.make_call.new.log.device _ _
+    (HasBeginning c.args.log.now.commit (batches_of pending c.args.calls.now) old)
     before.any_moment c.make_call.ensures.any_moment (λ f has. has)
     (λ f has. begins_all pending c.args.calls.now i c.next-item.result (omega arith) c.next-item.is c.args.log.now.commit c.loop-next.log.commit c.loop-next.log.pending
     old mid f before.commit before.pending before.first before.records has)
@@ -39,7 +40,8 @@ loop-next-preserved g c =
           ∙ ap (λ p. records_of old ++ (joined (batches_of pending (take i c.args.calls.now)) ++ joined (batches_of p (item ∷ [])))) before.pending
           ∙ ap (λ l. records_of old ++ l) (sym (joined_more pending c.args.calls.now i item (omega arith) c.next-item.is));
       pending = after.pending ∙ ap (λ p. pending_after p (item ∷ [])) before.pending ∙ sym (pending_more pending c.args.calls.now i item (omega arith) c.next-item.is);
-      any_moment = then_run g.D.Device.moment g.D.Device.left_since c.args.log.now.device c.loop-next.log.device c.make_call.new.log.device _ _ (HasBeginning c.args.log.now.commit (batches_of pending c.args.calls.now) old)
+      any_moment = then_run g.D.Device.moment g.D.Device.left_since c.args.log.now.device c.loop-next.log.device c.make_call.new.log.device _ _
+          (HasBeginning c.args.log.now.commit (batches_of pending c.args.calls.now) old)
           before.any_moment after.any_moment (λ f has. has)
           (λ f has. begins_all pending c.args.calls.now i item (omega arith) c.next-item.is c.args.log.now.commit c.loop-next.log.commit c.loop-next.log.pending
           old mid f before.commit before.pending before.first before.records has);
@@ -57,6 +59,7 @@ loop-next-init g c =
       records = sym (append-nil (records_of old));
       pending = refl;
       any_moment = begun g.D.Device.moment g.D.Device.left_since c.args.log.now.device (HasBeginning c.args.log.now.commit (batches_of pending c.args.calls.now) old)
-          (λ f left. has_itself c.args.log.now.commit (batches_of pending c.args.calls.now) old f (keeps_itself old f (c.is_broken.ensures.durable c.if-is_broken.false f (g.met.D.Device.only_now c.args.log.now.device f left))));
+          (λ f left. has_itself c.args.log.now.commit (batches_of pending c.args.calls.now) old f
+          (keeps_itself old f (c.is_broken.ensures.durable c.if-is_broken.false f (g.met.D.Device.only_now c.args.log.now.device f left))));
       failures = omega arith;
     }

@@ -1,4 +1,4 @@
-use Rattle.std.proofs.Common.{◌≡◌, [], ◌∙◌, ap, subst, sym}
+use Rattle.std.proofs.Common.{[], subst, sym}
 use Rattle.store_folder.specs.Moments.{LeavesOnly}
 use Rattle.record_log.specs.Log.{KeepsRecords}
 use Rattle.record_log.specs.Runs.{batches_of, HasBeginning}

@@ -1,5 +1,5 @@
 use Rattle.record_log.specs.Tail.{IsSameTail}
-use Rattle.std.proofs.Common.{◌++◌, [], take, ◌∙◌, sym, refl}
+use Rattle.std.proofs.Common.{[], take, ◌∙◌, sym, refl}
 use Rattle.std.proofs.lemmas.List.{append-nil}
 use Rattle.record_log.proofs.Moments.{leaves_weaker}
 use Rattle.record_log.proofs.Tails.{cut_same, cut_at_rest, same_with}

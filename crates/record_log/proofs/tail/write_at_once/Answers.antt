@@ -1,4 +1,4 @@
-use Rattle.std.proofs.Common.{◌≡◌, ◌+◌, ◌++◌, ◌∷◌, [], length, ◌∙◌, ap, arith}
+use Rattle.std.proofs.Common.{◌≡◌, ◌+◌, ◌++◌, ◌∷◌, length, ◌∙◌, ap, arith}
 use Rattle.record_log.specs.Tail.{summed, IsWithOrWithout}
 use Rattle.record_log.specs.declared.tail.Commit.TheVariants.{OneSync}
 use Rattle.record_log.proofs.Moments.{leaves_weaker}

@@ -15,7 +15,8 @@ returns-in_err-write_batch-clause-any_moment g c =
     let body = c.self.inside.pending.items in
     λ works. subst (λ v. LeavesOnly g.D.Device.moment g.D.Device.left_since v.device c.write_batch.new.device (KeepsOrAdds v.commit v.pending (g.D.Device.seen v.device))) c.self.view_is
     (leaves_weaker g.D.Device.moment g.D.Device.left_since c.self.inside.device c.write_batch.new.device _ (KeepsOrAdds c.self.inside.commit (records_in body) old) c.write_batch.ensures.any_moment
-    (λ f has. keeps_or_adds c.self.inside.commit old f body (OnFalse_at c.if-self.false c.self.invariant).whole (subst (λ b. IsWithOrWithout c.self.inside.commit b old f) c.deref-2.ensures.value has)))
+    (λ f has. keeps_or_adds c.self.inside.commit old f body (OnFalse_at c.if-self.false c.self.invariant).whole
+    (subst (λ b. IsWithOrWithout c.self.inside.commit b old f) c.deref-2.ensures.value has)))
 
 pub returns-clause-any_moment : goal.returns-clause-any_moment
 returns-clause-any_moment g c =
@@ -23,7 +24,8 @@ returns-clause-any_moment g c =
     let body = c.self.inside.pending.items in
     λ works. subst (λ v. LeavesOnly g.D.Device.moment g.D.Device.left_since v.device c.write_batch.new.device (KeepsOrAdds v.commit v.pending (g.D.Device.seen v.device))) c.self.view_is
     (leaves_weaker g.D.Device.moment g.D.Device.left_since c.self.inside.device c.write_batch.new.device _ (KeepsOrAdds c.self.inside.commit (records_in body) old) c.write_batch.ensures.any_moment
-    (λ f has. keeps_or_adds c.self.inside.commit old f body (OnFalse_at c.if-self.false c.self.invariant).whole (subst (λ b. IsWithOrWithout c.self.inside.commit b old f) c.deref-2.ensures.value has)))
+    (λ f has. keeps_or_adds c.self.inside.commit old f body (OnFalse_at c.if-self.false c.self.invariant).whole
+    (subst (λ b. IsWithOrWithout c.self.inside.commit b old f) c.deref-2.ensures.value has)))
 
 pub returns-clause-first : goal.returns-clause-first
 returns-clause-first g c =
