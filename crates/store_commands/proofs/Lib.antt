@@ -3,6 +3,7 @@ pub mod BrokenLemmas
 pub mod CheckLemmas
 pub mod CountLemmas
 pub mod EndingLemmas
+pub mod FileLemmas
 pub mod GivingLemmas
 pub mod MergedLemmas
 pub mod PartLemmas

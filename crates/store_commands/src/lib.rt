@@ -9,6 +9,7 @@ pub mod id_range;
 pub mod kept_documents;
 pub mod laws;
 pub mod left_out;
+pub mod merged_stores;
 pub mod merging;
 pub mod request_error;
 pub mod store_numbers;

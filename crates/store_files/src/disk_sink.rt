@@ -5,7 +5,7 @@ ghost use Rattle.store_base.specs.Outputs.{never_terminated};
 
 use crate::create_error::CreateError;
 use crate::os_folder::OsFolder;
-use crate::output_file::{LockFile, begin, open_folder, replaced_file};
+use crate::output_file::LockFile;
 use std::alloc::Global;
 use std::fs::Files;
 use std::io;
@@ -54,12 +54,8 @@ where
     ensures termination { IfOk result (λ p. p.termination ≡ never_terminated) }
     ensures failures { IfOk result (λ p. p.failures ≡ 0) }
 {
-    let (path, replaced) = replaced_file(&rt, alloc, path)?;
-    let beside = format!(in alloc; "{path}.part").map_err(io::Error::from)?;
-    let folder = open_folder(&rt, path.as_str())?;
-    let file = begin(&rt, alloc, beside.as_str(), &replaced)?;
-    let folder = OsFolder::new(rt, folder, file, beside);
-    match Publication::create(alloc, folder, path.as_str()) {
+    let (folder, name) = OsFolder::of_file(alloc, rt, path)?;
+    match Publication::create(alloc, folder, name.as_str()) {
         Ok(output) => Ok(output),
         Err((error, _)) => Err(CreateError::System(error)),
     }

@@ -3,7 +3,9 @@
 ghost use Rattle.std.specs.Prelude.{◌≡◌, ◌≤◌, OnErr};
 ghost use Rattle.store_base.specs.Counts.{HasRisen};
 
-use crate::output_file::LockFile;
+use crate::create_error::CreateError;
+use crate::output_file::{LockFile, begin, open_folder, replaced_file};
+use std::alloc::Global;
 use std::fs::{Files, OpenFile};
 use std::io::Write;
 use std::{fs, io};
@@ -29,16 +31,28 @@ impl<R: Files + Drop> OsFolder<R>
 where
     R::File: LockFile,
 {
-    /// An open folder, and the file beside, which is open in it.
-    pub(crate) fn new(rt: R, folder: R::File, file: R::File, beside: String) -> OsFolder<R> {
-        OsFolder {
+    /// The folder of the file of this name, which is to be replaced in it, and the name that links lead to. It is
+    /// opened, and so is the file beside, which has `.part` after the name: one that a crash left is taken over, and
+    /// one that another writes is refused. Only a plain file is replaced; its mode is kept, and its owner where the
+    /// system lets us.
+    ///
+    /// # Errors
+    ///
+    /// See `CreateError`. Nothing was changed.
+    pub fn of_file(alloc: Global, rt: R, path: &str) -> Result<(OsFolder<R>, String), CreateError> {
+        let (path, replaced) = replaced_file(&rt, alloc, path)?;
+        let beside = format!(in alloc; "{path}.part").map_err(io::Error::from)?;
+        let folder = open_folder(&rt, path.as_str())?;
+        let file = begin(&rt, alloc, beside.as_str(), &replaced)?;
+        let place = OsFolder {
             rt,
             folder,
             file,
             beside,
             is_beside: true,
             failures: 0,
-        }
+        };
+        Ok((place, path))
     }
 
     // Counts a call that failed.

@@ -1,5 +1,7 @@
 //! The file beside, to which an output goes until it is whole.
 
+ghost use Rattle.std.specs.Prelude.{IsTrue, OnOk, IfOk};
+
 use crate::create_error::CreateError;
 use std::alloc::Global;
 use std::fs::{File, Files, Metadata, OpenFile, OpenOptions, Permissions, TryLockError};
@@ -8,11 +10,21 @@ use std::os::unix::fs::{MetadataExt, PermissionsExt};
 
 /// An open file that can be locked.
 pub trait LockFile: OpenFile {
+    ghost use Rattle.std.specs.Prelude.{Bool, IsTrue, OnOk};
+
+    /// Whether it was locked by this open of it. What that keeps others from is the system's.
+    ghost is_locked: { Self → Bool };
+
     /// Locks the file until it is closed, unless another open of it holds a lock.
-    fn try_lock_file(&self) -> Result<(), TryLockError>;
+    fn try_lock_file(&self) -> Result<(), TryLockError>
+        ensures { OnOk result (IsTrue (is_locked self.now)) };
 }
 
 impl LockFile for File {
+    ghost use Rattle.std.specs.Prelude.{true};
+
+    ghost is_locked = { λ _. true };
+
     fn try_lock_file(&self) -> Result<(), TryLockError> {
         self.try_lock()
     }
@@ -74,21 +86,29 @@ fn has_name<R: Files>(rt: &R, file: &R::File, path: &str) -> io::Result<bool> {
     })
 }
 
+// That the file of this name is being written by another.
+fn busy(alloc: Global, path: &str) -> CreateError {
+    match String::from_str(alloc, path) {
+        Ok(name) => CreateError::Busy(name),
+        Err(error) => CreateError::System(error.into()),
+    }
+}
+
 // Locks the file of this name. One that another holds, or that took its name in the meantime, is busy.
 fn lock<R: Files>(rt: &R, file: &R::File, path: &str, alloc: Global) -> Result<(), CreateError>
 where
     R::File: LockFile,
+    ensures { OnOk result (IsTrue (R.File.is_locked file.now)) }
 {
-    let is_locked = match file.try_lock_file() {
-        Ok(()) => has_name(rt, file, path)?,
-        Err(TryLockError::WouldBlock) => false,
+    match file.try_lock_file() {
+        Ok(()) => {}
+        Err(TryLockError::WouldBlock) => return Err(busy(alloc, path)),
         Err(TryLockError::Error(error)) => return Err(CreateError::System(error)),
-    };
-    if is_locked {
+    }
+    if has_name(rt, file, path)? {
         return Ok(());
     }
-    let name = String::from_str(alloc, path).map_err(io::Error::from)?;
-    Err(CreateError::Busy(name))
+    Err(busy(alloc, path))
 }
 
 // Gives the file beside the mode of the one that it will replace, and its group and owner where the system lets us.
@@ -108,6 +128,7 @@ fn claim<R: Files>(
 ) -> Result<(), CreateError>
 where
     R::File: LockFile,
+    ensures { OnOk result (IsTrue (R.File.is_locked file.now)) }
 {
     lock(rt, file, beside, alloc)?;
     if let Some(replaced) = replaced {
@@ -126,6 +147,7 @@ pub(crate) fn begin<R: Files>(
 ) -> Result<R::File, CreateError>
 where
     R::File: LockFile,
+    ensures { IfOk result (λ file. IsTrue (R.File.is_locked file)) }
 {
     let file = OpenOptions::new()
         .write(true)

@@ -1,15 +1,15 @@
 -- What one change does to a folder in memory.
 use Rattle.std.proofs.Common.{◌≡◌, ◌≢◌, ◌⊎◌, inl, inr, ℕ, ◌+◌, ◌≤◌, ◌<◌, get_or, Bool, true, false, List, [], ◌∷◌, ◌++◌, length, take, Option, Some, None}
 use Rattle.std.proofs.Common.{string_bytes, nat_eq, refl, sym, ◌∙◌, ap, subst, arith, length-append}
-use Rattle.std.specs.Prelude.{if◌then◌else◌, IsSome}
-use Rattle.std.proofs.lemmas.List.{take-append-le, take_all, take_more}
+use Rattle.std.specs.Prelude.{if◌then◌else◌, unwrap_or, IsSome}
+use Rattle.std.proofs.lemmas.List.{append-nil, take-append-le, take_all, take_more}
 use Rattle.std.proofs.lemmas.Cmp.{nat_list_eq_equiv}
 use Rattle.std.proofs.lemmas.Bool.{cases_lt}
 use Rattle.std.specs.Cmp.Lexicographic.{same_text}
 use Rattle.store_base.proofs.ListLemmas.{either}
 use lib.Pointwise.{pointwise}
 use Rattle.store_folder.specs.Moments.{ComesFrom, Elapses}
-use Rattle.store_folder.specs.Folder.{Look, Elsewhere, ElsewhereOfBoth, FilesElsewhere, Renamed}
+use Rattle.store_folder.specs.Folder.{Look, Elsewhere, ElsewhereOfBoth, FilesElsewhere, Extends, Written, Renamed}
 use Rattle.store_folder.specs.Changes.{bytes_of, after, changed, nothing, look_of, Is, WasSince}
 use Rattle.store_folder.specs.declared.memory.Change.{Change}
 
@@ -119,3 +119,23 @@ crash_renamed from to old new e there either c is = (
 
     at : (c to ≡ old to) ⊎ ((bytes : List ℕ) × (old from ≡ Some bytes) × (c to ≡ Some bytes))
     at = elim either [ inl same ↦ inr (whole (old from) refl there same) | inr same ↦ inl (is to ∙ same) ]
+
+pub crash_written : (name : List ℕ) (old new : Look) → Elsewhere name old new → ((whole : List ℕ) × (new name ≡ Some whole)) ⊎ (new name ≡ old name)
+    → ComesFrom (Written name (λ bytes. new name ≡ Some bytes)) (Is old) (Is new)
+crash_written name old new e which c is = (
+  old,
+  λ n. refl,
+  record {
+    at_name = elim which [ inl grown ↦ inr (grown.0, grown.1, is name ∙ grown.1) | inr same ↦ inl (is name ∙ same) ];
+    elsewhere = λ n ne. is n ∙ e n ne;
+  },
+)
+
+-- what a file in memory holds after more bytes, or after none
+pub extended : (old new : Option (List ℕ)) (more : List ℕ) → IsSome old → (new ≡ Some (unwrap_or old [] ++ more)) ⊎ (new ≡ old)
+    → Extends (λ bytes. old ≡ Some bytes) (λ bytes. new ≡ Some bytes)
+extended None new more there which bytes holds = let no : ⊥ = cc in absurd no
+extended (Some kept) new more there (inl grown) bytes holds =
+    (kept, more, refl, ap (λ (o : Option (List ℕ)). unwrap_or o []) (sym holds ∙ grown))
+extended (Some kept) new more there (inr same) bytes holds =
+    (kept, [], refl, ap (λ (o : Option (List ℕ)). unwrap_or o []) (sym holds ∙ same) ∙ sym (append-nil kept))

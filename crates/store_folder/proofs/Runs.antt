@@ -1,7 +1,7 @@
 -- What is known of an output's folder, as the output goes from stage to stage.
 use Rattle.std.proofs.Common.{◌≡◌, ◌≢◌, ◌⊎◌, inl, refl, ℕ, List, [], ◌++◌, Option, Some, unwrap_or, sym, ◌∙◌, ap, subst, length, arith, length-append}
 use Rattle.store_folder.specs.Moments.{ComesFrom, Elapses, LeavesOnly}
-use Rattle.store_folder.specs.Folder.{Look, Elsewhere, Keeps}
+use Rattle.store_folder.specs.Folder.{Look, Elsewhere, ElsewhereOfBoth, Keeps}
 use Rattle.store_folder.specs.Publishing.{part, IsUntouched, IsOldOrWhole}
 use Rattle.store_folder.specs.Stages.{IsBeside}
 use Rattle.store_folder.proofs.Steps.{started, goes_on, weaker, joined}
@@ -11,6 +11,17 @@ pub again : (name : List ℕ) (first mid after : Look → Type 0) → ComesFrom 
 again name first mid after one two c left =
     let from = two c left in
     let earlier = one from.0 from.1 in (earlier.0, earlier.1, λ n ne. from.2 n ne ∙ earlier.2 n ne)
+
+-- a call that touches one of two names, and one that touches both
+pub of_both : (beside name : List ℕ) (first mid : Look → Type 0) → ComesFrom (Elsewhere beside) first mid → ComesFrom (ElsewhereOfBoth beside name) first mid
+of_both beside name first mid one c left =
+    let from = one c left in (from.0, from.1, λ n ne _. from.2 n ne)
+
+pub then_both : (beside name : List ℕ) (first mid after : Look → Type 0) → ComesFrom (Elsewhere beside) first mid → ComesFrom (ElsewhereOfBoth beside name) mid after
+    → ComesFrom (ElsewhereOfBoth beside name) first after
+then_both beside name first mid after one two c left =
+    let from = two c left in
+    let earlier = one from.0 from.1 in (earlier.0, earlier.1, λ n ne nn. from.2 n ne nn ∙ earlier.2 n ne)
 
 module _ (beside name : List ℕ) (apart : beside ≢ name) where
   -- what was done beside leaves the name alone

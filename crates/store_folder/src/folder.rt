@@ -5,7 +5,7 @@ ghost use Rattle.std.specs.Prelude.{OnOk, OnErr, unwrap_or};
 ghost use Rattle.store_base.specs.Counts.{HasRisen};
 ghost use Rattle.store_folder.specs.Moments.{ComesFrom, NoMore, Elapses};
 ghost use Rattle.store_folder.specs.Folder.{Elsewhere, ElsewhereOfBoth, FilesElsewhere, FilesElsewhereOfBoth};
-ghost use Rattle.store_folder.specs.Folder.{Renamed, EntriesAreKept};
+ghost use Rattle.store_folder.specs.Folder.{Extends, Written, Renamed, EntriesAreKept};
 
 use std::io;
 
@@ -13,7 +13,7 @@ use std::io;
 ///
 /// A crash may replace bytes that were not synced by any bytes of any length, or leave no file. Until the folder's next
 /// sync it may undo a rename, and leave anything under the old name. A file that was synced and not written since keeps
-/// its bytes, whatever name it has later.
+/// its bytes, whatever name it has later; one that was appended to since begins with them.
 ///
 /// Not in the model: hard links, other processes that change the folder, modes and owners.
 pub trait Folder: Drop {
@@ -50,14 +50,17 @@ pub trait Folder: Drop {
         ensures count { failures self.old ≤ failures self.new }
         ensures fault { OnErr result (HasRisen (failures self.old) (failures self.new)) };
 
-    /// Writes the bytes at the end of a file.
+    /// Writes the bytes at the end of a file. What was synced before stays: a crash leaves in the file what it might
+    /// have left before, and after it any bytes of any length.
     fn append(&mut self, name: &str, bytes: &[u8]) -> io::Result<()>
         requires { IsTrue honest → IsSome (seen self.old name.now) }
         ensures appended { IsTrue honest → OnOk result
             (seen self.new name.now ≡ Some (unwrap_or (seen self.old name.now) [] ++ bytes.now)) }
         ensures elsewhere { IsTrue honest → Elsewhere name.now (seen self.old) (seen self.new) }
+        ensures file { IsTrue honest → Extends (may_hold self.old name.now) (may_hold self.new name.now) }
         ensures files { IsTrue honest → FilesElsewhere name.now (may_hold self.old) (may_hold self.new) }
-        ensures crash { IsTrue honest → ComesFrom (Elsewhere name.now) (may_leave self.old) (may_leave self.new) }
+        ensures crash { IsTrue honest → ComesFrom (Written name.now (may_hold self.new name.now))
+            (may_leave self.old) (may_leave self.new) }
         ensures time { IsTrue honest → Elapses (moment self.old) (moment self.new)
             (left_since self.old) (left_since self.new) (may_leave self.new) }
         ensures count { failures self.old ≤ failures self.new }

@@ -316,11 +316,12 @@ impl<F: Folder> TerminatingWrite for Publication<F> {
     fn terminate(&mut self) -> Result<(), WriteFault>
         ensures termination { self.new.termination
             ≡ terminated_once (is_ok result) self.old.content self.old.termination }
-        ensures content { OnOk result (self.new.content ≡ self.old.content) }
+        ensures content { self.new.content ≡ self.old.content }
         ensures count { self.old.failures ≤ self.new.failures }
         ensures fault { OnErr result (HasRisen self.old.failures self.new.failures) }
 
-        // Beside what every output promises: an Ok call leaves the count of failures, and it is the output of one file.
+        // Beside what every output promises: an Ok call leaves the count of failures, and it is the output of one file;
+        // a call that fails leaves the content, too.
         ensures steady { OnOk result (self.new.failures ≡ self.old.failures) }
         ensures same { IsSameOutput self.old self.new }
     {

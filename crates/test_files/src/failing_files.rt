@@ -78,6 +78,10 @@ impl<'a> OpenFile for FailingFile<'a> {
 }
 
 impl<'a> LockFile for FailingFile<'a> {
+    ghost use Rattle.std.specs.Prelude.{true};
+
+    ghost is_locked = { λ _. true };
+
     fn try_lock_file(&self) -> Result<(), TryLockError> {
         match count(self.calls, self.failing_call) {
             Ok(()) => self.file.try_lock(),

@@ -1,12 +1,12 @@
 -- What a look sees of a folder to which these calls were made, the last of them first, and what a crash may leave of it.
-use Rattle.std.specs.Prelude.{◌≡◌, ◌≢◌, ◌⊎◌, ℕ, ◌≤◌, Bool, true, false, List, [], ◌∷◌, ◌++◌, length, take, reverse, Option, Some, None, if◌then◌else◌, unwrap_or, refl, String, string_bytes, nat_eq}
+use Rattle.std.specs.Prelude.{◌≡◌, ◌≢◌, ◌⊎◌, ℕ, ◌≤◌, Bool, true, false, List, [], ◌∷◌, ◌++◌, length, take, reverse, Option, Some, None, if◌then◌else◌, unwrap_or, refl, Vec, String, string_bytes, nat_eq}
 use lib.Pointwise.{pointwise}
 use Rattle.std.proofs.Common.{sym, ◌∙◌, ap, subst, arith, inl, inr}
 use Rattle.std.proofs.lemmas.List.{take_all}
 use Rattle.std.proofs.lemmas.Cmp.{nat_list_eq_equiv}
 use Rattle.std.specs.Cmp.Lexicographic.{same_text}
 use Rattle.std.specs.declared.alloc.Global.{Global}
-use Rattle.store_folder.specs.Folder.{Look, Elsewhere, Renamed, LeadsTo}
+use Rattle.store_folder.specs.Folder.{Look, Elsewhere, Written, Renamed, LeadsTo}
 use Rattle.torn_folder.specs.declared.Event.{Event}
 use Rattle.torn_folder.specs.declared.Event.TheVariants.{Created, Appended, Moved, Removed, FileSynced, FolderSynced}
 
@@ -32,12 +32,18 @@ abbrev pub moved_holds : Option (List ℕ) → Type 0 → Type 0 → Type 0
 moved_holds None renamed stays = stays
 moved_holds (Some _) renamed stays = renamed
 
--- Which bytes a crash may leave in the file that has the name: any since it was last written to, and once it was synced
--- just its own, under whatever name.
+-- what a file holds that was appended to: what it might have held before, and after it any bytes; any where there was none
+abbrev pub appended_holds : Option (List ℕ) → (List ℕ → Type 0) → List ℕ → Type 0
+appended_holds None held bytes = Unit {0}
+appended_holds (Some _) held bytes = (kept : List ℕ) × (more : List ℕ) × held kept × (bytes ≡ kept ++ more)
+
+-- Which bytes a crash may leave in the file that has the name: any since it was made, any after those that were synced
+-- since it was last appended to, and once it was synced just its own, under whatever name.
 abbrev pub held_by : List Event → List ℕ → List ℕ → Type 0
 held_by [] n bytes = ⊥
 held_by (Created name ∷ events) n bytes = n ≢ string_bytes name → held_by events n bytes
-held_by (Appended name more ∷ events) n bytes = n ≢ string_bytes name → held_by events n bytes
+held_by (Appended name more ∷ events) n bytes =
+    (n ≡ string_bytes name → appended_holds (seen_by events n) (held_by events n) bytes) × (n ≢ string_bytes name → held_by events n bytes)
 held_by (Moved from to ∷ events) n bytes =
     (n ≡ string_bytes to → moved_holds (seen_by events (string_bytes from)) (held_by events (string_bytes from) bytes) (held_by events n bytes)) × (n ≢ string_bytes to → held_by events n bytes)
 held_by (Removed name ∷ events) n bytes = held_by events n bytes
@@ -48,7 +54,7 @@ held_by (FolderSynced ∷ events) n bytes = held_by events n bytes
 abbrev pub left_by : List Event → Look → Type 0
 left_by [] c = (n : List ℕ) → c n ≡ None
 left_by (Created name ∷ events) c = (d : Look) × left_by events d × Elsewhere (string_bytes name) d c
-left_by (Appended name bytes ∷ events) c = (d : Look) × left_by events d × Elsewhere (string_bytes name) d c
+left_by (Appended name bytes ∷ events) c = (d : Look) × left_by events d × Written (string_bytes name) (held_by (Appended name bytes ∷ events) (string_bytes name)) d c
 left_by (Moved from to ∷ events) c = (d : Look) × left_by events d × Renamed (string_bytes from) (string_bytes to) (held_by events (string_bytes from)) d c
 left_by (Removed name ∷ events) c = (d : Look) × left_by events d × Elsewhere (string_bytes name) d c
 left_by (FileSynced name ∷ events) c = left_by events c
@@ -128,6 +134,55 @@ moved_possible from to events was = record {
     held n bytes None e q = was.files n bytes q
     held n bytes (Some other) e q = was.files f bytes (sym e ∙ q)
 
+appended_possible : (name : String Global) (more : Vec ℕ Global) (events : List Event) → IsPossible events → IsPossible (Appended name more ∷ events)
+appended_possible name more events was = record {
+  look = (
+    old,
+    was.look,
+    record {
+      at_name = inr (whole, files m whole at_m, at_m);
+      elsewhere = put_elsewhere m (Some whole) old;
+    },
+  );
+  files = files;
+}
+  where
+    m : List ℕ
+    m = string_bytes name
+
+    old : Look
+    old = seen_by events
+
+    whole : List ℕ
+    whole = unwrap_or (old m) [] ++ more.items
+
+    at_m : put m (Some whole) old m ≡ Some whole
+    at_m = put_there m (Some whole) old
+
+    held : (n bytes : List ℕ) (x : Option (List ℕ)) → x ≡ old n → bytes ≡ unwrap_or x [] ++ more.items → appended_holds x (held_by events n) bytes
+    held n bytes None e is = tt
+    held n bytes (Some kept) e is = (kept, more.items, was.files n kept (sym e), is)
+
+    files : (n bytes : List ℕ) → put m (Some whole) old n ≡ Some bytes → held_by (Appended name more ∷ events) n bytes
+    files n bytes is = (
+      λ e. held n bytes (old n) refl
+          (ap (λ (o : Option (List ℕ)). unwrap_or o []) (sym is ∙ subst (λ (k : List ℕ). put m (Some whole) old k ≡ Some (unwrap_or (old k) [] ++ more.items)) (sym e) at_m)),
+      λ ne. was.files n bytes (sym (put_elsewhere m (Some whole) old n ne) ∙ is),
+    )
+
+-- A file that was made and appended to since may hold any bytes.
+any_holds : (x : Option (List ℕ)) (held : List ℕ → Type 0) (torn : List ℕ) → held [] → appended_holds x held torn
+any_holds None held torn empty = tt
+any_holds (Some _) held torn empty = ([], torn, empty, refl)
+
+pub new_holds : (beside : String Global) (bytes : Vec ℕ Global) (events : List Event) (torn : List ℕ)
+    → held_by (Appended beside bytes ∷ Created beside ∷ events) (string_bytes beside) torn
+new_holds beside bytes events torn =
+    let b = string_bytes beside in (
+      λ _. any_holds (seen_by (Created beside ∷ events) b) (held_by (Created beside ∷ events) b) torn (λ ne. absurd (ne refl)),
+      λ ne. absurd (ne refl),
+    )
+
 leads : (events : List Event) → IsPossible events → (n : List ℕ) (x : Option (List ℕ)) → x ≡ seen_by events n → LeadsTo x (held_by events n) x
 leads events was n None e = refl
 leads events was n (Some bytes) e = (bytes, was.files n bytes (sym e), refl)
@@ -141,14 +196,7 @@ possible (Created name ∷ events) =
       look = (seen_by events, was.look, put_elsewhere m (Some []) (seen_by events));
       files = λ n bytes is ne. was.files n bytes (sym (put_elsewhere m (Some []) (seen_by events) n ne) ∙ is);
     }
-possible (Appended name more ∷ events) =
-    let was = possible events in
-    let m = string_bytes name in
-    let file = Some (unwrap_or (seen_by events m) [] ++ more.items) in
-    record {
-      look = (seen_by events, was.look, put_elsewhere m file (seen_by events));
-      files = λ n bytes is ne. was.files n bytes (sym (put_elsewhere m file (seen_by events) n ne) ∙ is);
-    }
+possible (Appended name more ∷ events) = appended_possible name more events (possible events)
 possible (Moved from to ∷ events) = moved_possible from to events (possible events)
 possible (Removed name ∷ events) =
     let was = possible events in

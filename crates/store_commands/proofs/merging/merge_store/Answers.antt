@@ -7,6 +7,7 @@ use Rattle.store_merge.specs.Choice.{alive_slots}
 use Rattle.store_merge.specs.Merge.{IsHonest}
 use Rattle.store_reader.specs.Reading.{Reading}
 use Rattle.store_commands.specs.Merging.{KeepsDocuments}
+use Rattle.store_commands.proofs.FileLemmas.{merged_in_file}
 use Rattle.store_commands.proofs.MergedLemmas.{kept_alone, items_left, reader_alone, ends_alone}
 use Rattle.store_commands.proofs.merging.merge_store.Goals as goal
 
@@ -36,3 +37,7 @@ returns-in-Ok-clause-grown g c honest =
     let kept = subst (λ (n : ℕ). KeepsDocuments c.args.words.now n x.alive) c.inputs_of.ensures.slots one.3 in
     c.in-Ok.ensures.grown (subst (AllByRecursion IsHonest) (sym all) (good, tt))
     ∙ ap (λ (ys : List Slot). taken c.args.writer.now ++ ys) (ap (flat_map alive_slots) all ∙ kept_alone c.args.words.now c.args.reader x same kept)
+
+pub returns-in-Ok-clause-file : goal.returns-in-Ok-clause-file
+returns-in-Ok-clause-file g c =
+    let m = c.in-Ok.ensures.merged in merged_in_file c.args.writer.now c.merge_in_parts-merged.new.writer m.parts m.after

@@ -1,7 +1,7 @@
 use Rattle.std.proofs.Common.{[], Some}
 use Rattle.std.proofs.lemmas.Result.{on_ok_weaker}
-use Rattle.store_folder.proofs.Steps.{weaker}
-use Rattle.store_folder.proofs.Runs.{begun, not_begun, untouched_old, appended, append_failed, named, named_kept}
+use Rattle.store_folder.proofs.Steps.{weaker, written_elsewhere}
+use Rattle.store_folder.proofs.Runs.{again, of_both, then_both, begun, not_begun, untouched_old, appended, append_failed, named, named_kept}
 use Rattle.store_folder.proofs.publishing.replace.Goals as goal
 
 pub returns-in_err-create-clause-any_moment : goal.returns-in_err-create-clause-any_moment
@@ -21,7 +21,7 @@ returns-in_err-append-clause-any_moment g c = λ h.
     let start = begun F.seen F.may_leave F.moment F.left_since beside old c.create.new.self (g.met.F.Folder.only_now old)
     (c.create.ensures.crash h) (c.create.ensures.time h) (c.in_ok-create.ensures.created h) in
     append_failed F.seen F.may_leave F.moment F.left_since beside c.args.name.now c.requires old c.create.new.self [] start c.append.new.self (Some c.args.bytes.now)
-    (c.append.ensures.crash h) (c.append.ensures.time h)
+    (written_elsewhere _ _ _ _ (c.append.ensures.crash h)) (c.append.ensures.time h)
 
 pub returns-clause-any_moment : goal.returns-clause-any_moment
 returns-clause-any_moment g c = λ h.
@@ -31,7 +31,7 @@ returns-clause-any_moment g c = λ h.
     let start = begun F.seen F.may_leave F.moment F.left_since beside old c.create.new.self (g.met.F.Folder.only_now old)
     (c.create.ensures.crash h) (c.create.ensures.time h) (c.in_ok-create.ensures.created h) in
     let whole = appended F.seen F.may_leave F.moment F.left_since beside old c.create.new.self [] start c.append.new.self c.args.bytes.now
-    (c.append.ensures.crash h) (c.append.ensures.time h)
+    (written_elsewhere _ _ _ _ (c.append.ensures.crash h)) (c.append.ensures.time h)
     (c.in_ok-append.ensures.appended h)
     in
     named F.seen F.may_leave F.moment F.left_since beside c.args.name.now c.requires old c.append.new.self c.args.bytes.now whole c.publish.new.folder (c.publish.ensures.any_moment h)
@@ -44,8 +44,17 @@ returns-clause-published g c = λ h.
     let start = begun F.seen F.may_leave F.moment F.left_since beside old c.create.new.self (g.met.F.Folder.only_now old)
     (c.create.ensures.crash h) (c.create.ensures.time h) (c.in_ok-create.ensures.created h) in
     let whole = appended F.seen F.may_leave F.moment F.left_since beside old c.create.new.self [] start c.append.new.self c.args.bytes.now
-    (c.append.ensures.crash h) (c.append.ensures.time h)
+    (written_elsewhere _ _ _ _ (c.append.ensures.crash h)) (c.append.ensures.time h)
     (c.in_ok-append.ensures.appended h)
     in
     on_ok_weaker c.publish.result (named_kept F.seen F.may_leave F.moment F.left_since beside c.args.name.now c.requires old c.append.new.self c.args.bytes.now whole c.publish.new.folder)
     (c.publish.ensures.published h)
+
+pub returns-in_err-append-clause-crash : goal.returns-in_err-append-clause-crash
+returns-in_err-append-clause-crash g c = λ h.
+    of_both c.args.beside.now c.args.name.now _ _ (again c.args.beside.now _ _ _ (c.create.ensures.crash h) (written_elsewhere _ _ _ _ (c.append.ensures.crash h)))
+
+pub returns-clause-crash : goal.returns-clause-crash
+returns-clause-crash g c = λ h.
+    then_both c.args.beside.now c.args.name.now _ _ _
+    (again c.args.beside.now _ _ _ (c.create.ensures.crash h) (written_elsewhere _ _ _ _ (c.append.ensures.crash h))) (c.publish.ensures.crash h)

@@ -4,7 +4,7 @@ use Rattle.std.specs.declared.alloc.Global.{Global}
 use Rattle.std.specs.Cmp.Lexicographic.{same_text, other_text}
 use lib.Pointwise.{pointwise}
 use Rattle.store_folder.specs.Folder.{Look, LeadsTo}
-use Rattle.torn_folder.specs.Torn.{seen_by, held_by, left_by, moved_holds, or_else, put, put_there, put_elsewhere, possible_look}
+use Rattle.torn_folder.specs.Torn.{seen_by, held_by, left_by, moved_holds, or_else, put, put_there, put_elsewhere, new_holds, possible_look}
 use Rattle.torn_folder.specs.declared.Event.{Event}
 use Rattle.torn_folder.specs.declared.Event.TheVariants.{Created, Appended, Moved, FolderSynced}
 use Rattle.torn_folder.proofs.wrong.folder_sync_alone_tears.Goals as goal
@@ -53,7 +53,7 @@ module _ (events : List Event) (beside name : String Global) (bytes : Vec ℕ Gl
 
   holds : held_by moved n torn
   holds = (
-    λ _. subst (λ (o : Option (List ℕ)). moved_holds o (held_by before b torn) (held_by before n torn)) (sym beside_is) (λ ne. absurd (ne refl)),
+    λ _. subst (λ (o : Option (List ℕ)). moved_holds o (held_by before b torn) (held_by before n torn)) (sym beside_is) (new_holds beside bytes events torn),
     λ ne. absurd (ne refl),
   )
 
@@ -75,7 +75,7 @@ module _ (events : List Event) (beside name : String Global) (bytes : Vec ℕ Gl
         seen_by before,
         possible_look before,
         record {
-          at_new_name = inr (torn, λ ne. absurd (ne refl), put_there n (Some torn) (seen_by moved));
+          at_new_name = inr (torn, new_holds beside bytes events torn, put_there n (Some torn) (seen_by moved));
           elsewhere = λ m nf nt.
               put_elsewhere n (Some torn) (seen_by moved) m nt
               ∙ put_elsewhere n file rest m nt

@@ -1,0 +1,81 @@
+-- What a crash leaves of a store that is filled and then published.
+use Rattle.std.proofs.Common.{◌≡◌, ◌≢◌, inl, inr, ⊎_elim, ℕ, List, ◌++◌, Option, Some, sym, subst, arith}
+use Rattle.store_folder.specs.Moments.{LeavesOnly}
+use Rattle.store_folder.specs.Folder.{Look}
+use Rattle.store_folder.specs.Publishing.{part, Published, IsUntouched, IsOldOrWhole}
+use Rattle.store_folder.proofs.Steps.{weaker}
+use Rattle.store_folder.proofs.Runs.{part_apart}
+use Rattle.store_published.specs.Filling.{IsOldOrNew}
+use Rattle.store_published.specs.Origin.{IsFrom, LeavesOnlySince}
+
+module _ (before : Look → Type 0) (beside name : List ℕ) (is_new : List ℕ → Type 0) where
+  -- what was done beside leaves the name alone
+  pub untouched_is_old : beside ≢ name → (c : Look) → IsUntouched before beside c → IsOldOrNew before beside name is_new c
+  untouched_is_old apart c u = record {
+    old = u.0;
+    was = u.1;
+    at_name = inl (u.2 name (λ e. apart (sym e)));
+    elsewhere = λ n ne _. u.2 n ne;
+  }
+
+  -- a whole file is a new one
+  pub whole_is_new : (content : List ℕ) → is_new content → (c : Look) → IsOldOrWhole before beside name (Some content) c → IsOldOrNew before beside name is_new c
+  whole_is_new content new c o = record {
+    old = o.old;
+    was = o.was;
+    at_name = ⊎_elim (λ e. inl e) (λ e. inr (content, new, e)) o.at_name;
+    elsewhere = o.elsewhere;
+  }
+
+module _ {F : Type 0} (moment : F → ℕ) (left_since : F → ℕ → Look → Type 0) (began : ℕ) (past : ℕ → Look → Type 0) (now : F) where
+  pub since_weaker : (P Q : Look → Type 0) → ((c : Look) → P c → Q c) → LeavesOnlySince moment left_since began past now P → LeavesOnlySince moment left_since began past now Q
+  since_weaker P Q then run = record {
+    later = run.later;
+    each = λ c left. then c (run.each c left);
+    earlier = λ t c le left. ⊎_elim (λ was. inl was) (λ p. inr (then c p)) (run.earlier t c le left);
+  }
+
+-- a run since an output's first folder, by what is known of that
+module _ {F : Type 0} (may_leave : F → Look → Type 0) (moment : F → ℕ) (left_since : F → ℕ → Look → Type 0) (began : ℕ) (before : Look → Type 0) (past : ℕ → Look → Type 0) (beside name : List ℕ) (p : Published F) (from : IsFrom may_leave moment left_since began before past beside name p) (now : F) where
+  since_from : (P Q : Look → Type 0) → ((c : Look) → P c → Q c) → LeavesOnly moment left_since p.first now P → LeavesOnlySince moment left_since began past now Q
+  since_from P Q then run = record {
+    later = omega (arith, run.later, from.moment_is);
+    each = λ c left. then c (run.each c (subst (λ (t : ℕ). left_since now t c) (sym from.moment_is) left));
+    earlier = λ t c le left.
+        ⊎_elim (λ was. inl (from.earlier t c was)) (λ q. inr (then c q)) (run.before t c (omega (arith, le, from.moment_is)) left);
+  }
+
+  pub untouched_since : LeavesOnly moment left_since p.first now (IsUntouched (may_leave p.first) p.beside) → LeavesOnlySince moment left_since began past now (IsUntouched before beside)
+  untouched_since run = since_from (IsUntouched (may_leave p.first) p.beside) (IsUntouched before beside) moved run
+    where
+      moved : (c : Look) → IsUntouched (may_leave p.first) p.beside c → IsUntouched before beside c
+      moved c u = subst (λ (b : List ℕ). IsUntouched before b c) from.beside_is (u.0, from.outcomes u.0 u.1, u.2)
+
+  pub published_since : (whole : Option (List ℕ)) → LeavesOnly moment left_since p.first now (IsOldOrWhole (may_leave p.first) p.beside p.name whole)
+      → LeavesOnlySince moment left_since began past now (IsOldOrWhole before beside name whole)
+  published_since whole run = since_from (IsOldOrWhole (may_leave p.first) p.beside p.name whole) (IsOldOrWhole before beside name whole) moved run
+    where
+      moved : (c : Look) → IsOldOrWhole (may_leave p.first) p.beside p.name whole c → IsOldOrWhole before beside name whole c
+      moved c o =
+          subst (λ (b : List ℕ). IsOldOrWhole before b name whole c) from.beside_is
+          (subst (λ (n : List ℕ). IsOldOrWhole before p.beside n whole c) from.name_is
+          (record { old = o.old; was = from.outcomes o.old o.was; at_name = o.at_name; elsewhere = o.elsewhere }))
+
+module _ {F : Type 0} (may_leave : F → Look → Type 0) (moment : F → ℕ) (left_since : F → ℕ → Look → Type 0) (is_new : List ℕ → Type 0) (now : F) where
+  abbrev Run : F → List ℕ → List ℕ → Type 0
+  Run first beside name = LeavesOnly moment left_since first now (IsOldOrNew (may_leave first) beside name is_new)
+
+  -- a run since an output's first folder, as one since the folder that `create` got
+  pub since_folder : (folder first : F) (beside name other : List ℕ) → first ≡ folder → name ≡ other → beside ≡ other ++ part
+      → LeavesOnlySince moment left_since (moment first) (left_since first) now (IsOldOrNew (may_leave first) beside name is_new) → Run folder (other ++ part) other
+  since_folder folder first beside name other first_is name_is beside_is run =
+      subst (λ (f : F). Run f (other ++ part) other) first_is
+      (subst (λ (b : List ℕ). Run first b other) beside_is
+      (subst (λ (n : List ℕ). Run first beside n) name_is
+      (record { later = run.later; each = run.each; before = run.earlier })))
+
+  -- a folder in which only the file beside was touched
+  pub not_begun : (folder : F) (name : List ℕ) → LeavesOnly moment left_since folder now (IsUntouched (may_leave folder) (name ++ part)) → Run folder (name ++ part) name
+  not_begun folder name run =
+      weaker moment left_since folder now (IsUntouched (may_leave folder) (name ++ part)) (IsOldOrNew (may_leave folder) (name ++ part) name is_new)
+      (untouched_is_old (may_leave folder) (name ++ part) name is_new (part_apart name)) run

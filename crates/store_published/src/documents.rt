@@ -1,0 +1,45 @@
+//! Documents that fill a store.
+
+ghost use Rattle.std.specs.Prelude.{◌≡◌, [], ◌∷◌, OnOk};
+ghost use Rattle.store_published.specs.Filling.{AddsDocuments};
+
+use crate::filling::Filling;
+use docstore::{StoreError, StoreWriter, TerminatingWrite, laws};
+
+/// Puts a document after those of a writer.
+///
+/// # Errors
+///
+/// Those of `StoreWriter::store_bytes`.
+#[inline(always)]
+pub fn store_document<W: TerminatingWrite>(
+    writer: &mut StoreWriter<W>,
+    document: &[u8],
+) -> Result<(), StoreError>
+    ensures { OnOk result (AddsDocuments (document.now ∷ []) writer.old writer.new) }
+{
+    laws::documents_are_taken_in_order();
+    writer.store_bytes(document)
+}
+
+/// Documents in memory, as what fills a store: these, in order.
+#[derive(Clone, Copy, Drop)]
+pub struct DocumentList<'a> {
+    pub documents: &'a [Vec<u8>],
+}
+
+impl<'a> Filling for DocumentList<'a> {
+    ghost use Rattle.std.specs.Prelude.{◌≡◌, map};
+    ghost use Rattle.store_format.specs.Block.{doc};
+
+    type Error = StoreError;
+
+    ghost brings = { λ old new slots. slots ≡ map doc (map (λ d. d.items) old.documents.now) };
+
+    fn fill<W: TerminatingWrite>(&mut self, writer: &mut StoreWriter<W>) -> Result<(), StoreError> {
+        for document in self.documents {
+            store_document(writer, document)?;
+        }
+        Ok(())
+    }
+}

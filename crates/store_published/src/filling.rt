@@ -1,0 +1,31 @@
+//! What fills a store.
+
+ghost use Rattle.std.specs.Prelude.{◌≡◌, [], OnOk};
+ghost use Rattle.docstore.specs.Laws.{taken};
+ghost use Rattle.store_published.specs.Filling.{IsSameFile};
+
+use docstore::{StoreWriter, TerminatingWrite};
+
+/// What fills a new store: documents, or other stores.
+pub trait Filling {
+    ghost use Rattle.std.specs.Prelude.{◌≡◌, [], List, OnOk};
+    ghost use Rattle.store_format.specs.Block.{Slot};
+    ghost use Rattle.docstore.specs.Laws.{taken};
+    ghost use Rattle.store_published.specs.Filling.{IsSameFile};
+
+    /// Why it ends before all came.
+    type Error: Drop;
+
+    /// Which slots a store has that it filled, by what it was before and what it is then.
+    ghost brings: { Self → Self → List Slot → Type 0 };
+
+    /// Puts into a new store what it brings.
+    ///
+    /// # Errors
+    ///
+    /// Why not all came. What came is in the writer.
+    fn fill<W: TerminatingWrite>(&mut self, writer: &mut StoreWriter<W>) -> Result<(), Self::Error>
+        requires new { taken writer.old ≡ [] }
+        ensures brought { OnOk result (brings self.old self.new (taken writer.new)) }
+        ensures file { OnOk result (IsSameFile writer.old writer.new) };
+}
