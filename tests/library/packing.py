@@ -5,6 +5,7 @@ What is tested is the file that it writes, and what it leaves where it fails.
 
 from __future__ import annotations
 
+import fcntl
 import os
 import resource
 import signal
@@ -96,3 +97,24 @@ class PackingTests:
             packing.kill()
         self.assertEqual(packing.returncode, -signal.SIGKILL)
         self.assertTrue((self.work / "store.part").stat().st_size, "the killed program left nothing")
+
+
+class LockedPackingTests(PackingTests):
+    """The same of a program whose writers lock the file beside, so that one that no writer holds is taken over."""
+
+    def test_a_file_that_another_writes_is_kept(self):
+        part = self.work / "store.part"
+        part.write_bytes(b"another's\n")
+        with open(part, "rb") as locked:
+            fcntl.flock(locked, fcntl.LOCK_EX)
+            self.assert_fails("store", numbers(9), ("store.part",))
+            self.assertEqual(part.read_bytes(), b"another's\n")
+
+    test_what_a_killed_pack_left_is_reported = None
+
+    def test_what_a_killed_pack_left_is_taken_over(self):
+        self.kill_a_pack()
+        self.assert_same((self.work / "store").read_bytes(), THREE, "the store that was there")
+        self.assertEqual(self.pack("store", b"abc\n\nde").returncode, 0)
+        self.assert_same((self.work / "store").read_bytes(), THREE, "the store")
+        self.assertEqual(os.listdir(self.work), ["store"])

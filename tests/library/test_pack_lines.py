@@ -1,12 +1,11 @@
 """The example that packs lines by path: full disks, kills, a second writer, links, modes and folders."""
 
-import fcntl
 import os
 import resource
 import subprocess
 
 from harness import limited, numbers
-from library.packing import MANY, PackingTests
+from library.packing import MANY, LockedPackingTests
 from library.test_examples import ExampleCase, with_library
 
 # Packs over the old store on a device of 1 MiB.
@@ -19,24 +18,9 @@ cmp store "$1/store" && ls "$1"
 """
 
 
-class PackLines(PackingTests, ExampleCase):
+class PackLines(LockedPackingTests, ExampleCase):
     def new_program(self):
         return self.example("pack_lines.c"), with_library()
-
-    def test_a_file_that_another_writes_is_kept(self):
-        """The lock decides, and not the file."""
-        part = self.work / "store.part"
-        part.write_bytes(b"another's\n")
-        with open(part, "rb") as held:
-            fcntl.flock(held, fcntl.LOCK_EX)
-            self.assert_fails("store", numbers(9), ("store.part",))
-            self.assertEqual(part.read_bytes(), b"another's\n")
-
-    def test_what_a_killed_pack_left_is_reported(self):
-        """It is taken over."""
-        self.kill_a_pack()
-        self.assertEqual(self.pack("store", numbers(9)).returncode, 0)
-        self.assertEqual(os.listdir(self.work), ["store"])
 
     def test_a_second_writer_is_refused_and_the_first_one_ends(self):
         how = {"cwd": self.work, "env": self.environment, "stdin": subprocess.PIPE}

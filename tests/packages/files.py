@@ -2,7 +2,6 @@
 
 from __future__ import annotations
 
-import fcntl
 import os
 import re
 import subprocess
@@ -10,8 +9,7 @@ from collections import Counter
 from collections.abc import Iterator
 from pathlib import Path
 
-from harness import numbers
-from library.packing import MANY, THREE, PackingTests
+from library.packing import MANY, THREE, LockedPackingTests
 
 NOBODY = 65534
 # Packs over the old store on a device of 1 MiB.
@@ -24,26 +22,8 @@ cmp "$2" "$1/store" && ls "$1"
 """
 
 
-class PackageTests(PackingTests):
+class PackageTests(LockedPackingTests):
     """The tests of the program, for a test case that has it in `new_program`."""
-
-    # A file beside that no writer holds is taken over, so this one has to be locked.
-    def test_a_file_that_another_writes_is_kept(self):
-        part = self.work / "store.part"
-        part.write_bytes(b"another's\n")
-        with open(part, "rb") as locked:
-            fcntl.flock(locked, fcntl.LOCK_EX)
-            self.assert_fails("store", numbers(9), ("store.part",))
-        self.assertEqual(part.read_bytes(), b"another's\n")
-
-    test_what_a_killed_pack_left_is_reported = None
-
-    def test_what_a_killed_pack_left_is_taken_over(self):
-        self.kill_a_pack()
-        self.assert_same((self.work / "store").read_bytes(), THREE, "the store that was there")
-        self.assertEqual(self.pack("store", b"abc\n\nde").returncode, 0)
-        self.assert_same((self.work / "store").read_bytes(), THREE, "the store")
-        self.assertEqual(os.listdir(self.work), ["store"])
 
     def test_the_owner_of_the_file_is_kept(self):
         if os.geteuid():

@@ -3,29 +3,12 @@
  * The program is linked with --wrap for each of these calls.
  */
 #define _POSIX_C_SOURCE 200809L
-#include <errno.h>
+#include "failing.h"
 #include <fcntl.h>
 #include <stdio.h>
-#include <stdlib.h>
 #include <unistd.h>
 
-/* Whether this call fails. */
-static int fails(void) {
-    static long calls = 0;
-    const char *at = getenv("FAIL_AT");
-    if (at == NULL || ++calls != strtol(at, NULL, 10)) {
-        return 0;
-    }
-    errno = ENOSPC;
-    return 1;
-}
-
-#define WRAPPED(result, name, parameters, arguments, failure) \
-    result __real_##name parameters;                          \
-    result __wrap_##name parameters;                          \
-    result __wrap_##name parameters {                         \
-        return fails() ? failure : __real_##name arguments;   \
-    }
+#define FAILS(name) fails()
 
 WRAPPED(void *, malloc, (size_t size), (size), NULL)
 WRAPPED(void *, realloc, (void *block, size_t size), (block, size), NULL)

@@ -6,22 +6,19 @@
  * The program is linked with --wrap for each of these calls.
  */
 #define _GNU_SOURCE
-#include <errno.h>
+#include "failing.h"
 #include <fcntl.h>
 #include <linux/fs.h>
 #include <stdarg.h>
 #include <stdio.h>
-#include <stdlib.h>
 #include <string.h>
 #include <sys/mman.h>
 #include <sys/stat.h>
 #include <unistd.h>
 
-/* Whether this call fails. */
-static int fails(const char *name) {
-    static long calls = 0;
-    const char *at = getenv("FAIL_AT");
-    if (at == NULL || ++calls != strtol(at, NULL, 10)) {
+/* Whether the call of this name fails. */
+static int is_failing(const char *name) {
+    if (!fails()) {
         return 0;
     }
     dprintf(2, "failing: %s\n", name);
@@ -29,12 +26,7 @@ static int fails(const char *name) {
     return 1;
 }
 
-#define WRAPPED(result, name, parameters, arguments, failure) \
-    result __real_##name parameters;                          \
-    result __wrap_##name parameters;                          \
-    result __wrap_##name parameters {                         \
-        return fails(#name) ? failure : __real_##name arguments; \
-    }
+#define FAILS(name) is_failing(#name)
 
 WRAPPED(void *, malloc, (size_t size), (size), NULL)
 WRAPPED(void *, calloc, (size_t count, size_t size), (count, size), NULL)
@@ -72,7 +64,7 @@ int __wrap_flock(int file, int operation) {
         path[len > 0 ? len : 0] = '\0';
         unlink(path);
     }
-    return fails("flock") ? -1 : __real_flock(file, operation);
+    return is_failing("flock") ? -1 : __real_flock(file, operation);
 }
 
 /* Shares the whole of a file, which here is a copy. */
@@ -93,7 +85,7 @@ int __wrap_ioctl(int file, unsigned long request, ...) {
     va_start(more, request);
     int from = va_arg(more, int);
     va_end(more);
-    if (fails("ioctl") || request != FICLONE || !shares_by("clone")) {
+    if (is_failing("ioctl") || request != FICLONE || !shares_by("clone")) {
         errno = EOPNOTSUPP;
         return -1;
     }
@@ -105,7 +97,7 @@ ssize_t __wrap_copy_file_range(int from, off_t *at, int to, off_t *to_at, size_t
 ssize_t __wrap_copy_file_range(int from, off_t *at, int to, off_t *to_at, size_t len, unsigned flags) {
     static int copied = 0;
     int is_part = shares_by("part") && copied++ < 2;
-    if (fails("copy_file_range") || !(is_part || shares_by("copy"))) {
+    if (is_failing("copy_file_range") || !(is_part || shares_by("copy"))) {
         errno = EXDEV;
         return -1;
     }
@@ -116,6 +108,6 @@ ssize_t __wrap_copy_file_range(int from, off_t *at, int to, off_t *to_at, size_t
 int __real_close(int file);
 int __wrap_close(int file);
 int __wrap_close(int file) {
-    int is_failing = fails("close");
-    return __real_close(file) == 0 && !is_failing ? 0 : -1;
+    int fails_here = is_failing("close");
+    return __real_close(file) == 0 && !fails_here ? 0 : -1;
 }

@@ -33,6 +33,20 @@ struct Run {
     taken: u64,
 }
 
+impl Run {
+    // The width of an entry's box.
+    fn box_width(&self) -> u64 {
+        WIDTH / (self.end.saturating_sub(self.first)).max(1)
+    }
+
+    // Where the box of an entry begins.
+    fn box_left(&self, entry: u64) -> u64 {
+        entry
+            .saturating_sub(self.first)
+            .saturating_mul(self.box_width())
+    }
+}
+
 impl<'a> SeekDrawing<'a> {
     /// In an index of this period and with this number of layers.
     pub fn new(starts: &'a BlockStarts, period: u8, layers: u32) -> SeekDrawing<'a> {
@@ -66,8 +80,8 @@ impl<'a> SeekDrawing<'a> {
         entry: u64,
         top: u64,
     ) -> Result<(), AllocError> {
-        let width = WIDTH / (run.end.saturating_sub(run.first)).max(1);
-        let left = entry.saturating_sub(run.first).saturating_mul(width);
+        let width = run.box_width();
+        let left = run.box_left(entry);
         let class = if entry == run.taken { "taken" } else { "entry" };
         let start = self.starts.start(entry.saturating_mul(run.span));
         let end = self
@@ -119,9 +133,8 @@ impl<'a> SeekDrawing<'a> {
 
     // Draws the way from the entry that is taken to the run below.
     fn draw_way(&self, page: &mut String, run: Run, top: u64) -> Result<(), AllocError> {
-        let width = WIDTH / (run.end.saturating_sub(run.first)).max(1);
-        let left = run.taken.saturating_sub(run.first).saturating_mul(width);
-        let right = left.saturating_add(width);
+        let left = run.box_left(run.taken);
+        let right = left.saturating_add(run.box_width());
         let (from, to) = (
             top.saturating_add(BOX_HEIGHT),
             top.saturating_add(ROW_HEIGHT),
