@@ -4,7 +4,7 @@
 //! Bytes are a positive even number of hexadecimal digits of either case, or `-` for none.
 ghost use Rattle.std.specs.Prelude.{◌≤◌};
 
-use docstore::{CHECKPOINT_PERIOD, DocId, Field, NoMemory, RecordDocument};
+use docstore::{DocId, Field, NoMemory, RecordDocument, USUAL_PERIOD};
 use hex::FromHexError;
 use std::alloc::{AllocFailed, Global};
 
@@ -182,7 +182,7 @@ fn with_word(alloc: Global, name: &str, word: &str) -> Result<Command, LineFault
         "new" => Ok(Command::New {
             block_size: number(word)? as usize,
             period: Period {
-                value: CHECKPOINT_PERIOD as u8,
+                value: USUAL_PERIOD,
             },
         }),
         "put" => Ok(Command::Put {

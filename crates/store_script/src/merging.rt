@@ -50,10 +50,7 @@ fn merged_file(
     if let Err(refusal) = merge(alloc, &mut writer, inputs) {
         return Err(refusal.error);
     }
-    match writer.close() {
-        Ok(sink) => Ok(sink.into_bytes()),
-        Err(refusal) => Err(refusal.error),
-    }
+    Ok(writer.close()?.into_bytes())
 }
 
 /// The file of the documents of the named stores, in order, in blocks of this size. What the merge is refused for is
