@@ -125,6 +125,11 @@ def contract_of(call: str, path: Path) -> str | None:
     return text if any(re.search(rf"\b{name}\b", one) for one in exported) else None
 
 
+def is_type(call: str) -> bool:
+    """Whether a name is that of a type or a trait."""
+    return call.rpartition("::")[2][0].isupper()
+
+
 @lru_cache(maxsize=1)
 def defined() -> frozenset[str]:
     """The words that some crate's definitions have."""

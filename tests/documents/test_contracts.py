@@ -13,6 +13,11 @@ from documents.pages import at, text_of
 from harness import TOP
 
 
+def has_one(text: str, clauses: list[str]) -> bool:
+    """Whether a contract has one of these clauses."""
+    return any(contracts.has_clause(text, clause) for clause in clauses)
+
+
 def group_faults(group: Group, files: dict[str, Path]) -> Iterator[str]:
     """What is wrong with calls and their clauses: each call is in its file, and each clause in one of the calls."""
     texts = []
@@ -22,6 +27,9 @@ def group_faults(group: Group, files: dict[str, Path]) -> Iterator[str]:
             yield f"{call} is not in {label}"
         texts.append(text or "")
     calls = ", ".join(call for call, _ in group.calls)
+    if group.clauses and not any(contracts.is_type(call) for call, _ in group.calls):
+        without = [call for (call, _), text in zip(group.calls, texts) if not has_one(text, group.clauses)]
+        yield from (f"{call} has none of the clauses {', '.join(group.clauses)}" for call in without)
     for clause in group.clauses:
         if not any(contracts.has_clause(text, clause) for text in texts):
             yield f"no clause {clause} in {calls or 'no call'}"
