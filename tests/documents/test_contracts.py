@@ -77,7 +77,7 @@ class Contracts(Rules):
         promises = contracts.promises()
         faults = ((promise, fault) for promise in promises for fault in promise_faults(promise))
         self.assert_no_faults(at(one.page, one.line, f"{one.title}: {fault}") for one, fault in faults)
-        self.assert_looked_at(len(promises), 281, "promises")
+        self.assert_looked_at(len(promises), 270, "promises")
 
     def test_each_label_of_a_page_leads_to_the_file_that_it_names(self):
         faults = [(page, fault) for page in contracts.pages() for fault in label_faults(page)]
