@@ -28,13 +28,13 @@ class ByGcc(ByPathCase):
             with self.subTest(name):
                 self.end_well(self.compiled_by(self.compiler, name, in_cpp, (ARRAYS, *PATHS)))
 
-    def test_stores_by_path_in_c(self):
+    def test_programs_in_c_by_path_end_well(self):
         self.run_programs(in_cpp=False)
 
-    def test_stores_by_path_in_cpp(self):
+    def test_programs_in_cpp_by_path_end_well(self):
         self.run_programs(in_cpp=True)
 
-    def test_the_classes_for_cpp(self):
+    def test_a_program_with_the_classes_for_cpp_ends_well(self):
         self.require(self.compiler.cpp)
         sources = (ARRAYS, *PATHS)
         objects = tuple(self.compiled_source(self.compiler, source) for source in sources)
@@ -76,7 +76,7 @@ class Threads(ByPathCase):
 
 
 class UnderValgrind(ByPathCase):
-    def test_stores_by_path_under_valgrind(self):
+    def test_programs_by_path_end_well_under_valgrind(self):
         self.require("gcc", "valgrind")
         for name in PROGRAMS:
             with self.subTest(name):

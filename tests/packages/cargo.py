@@ -53,7 +53,7 @@ def example(name: str) -> Path:
     return target() / "debug/examples" / name
 
 
-def test_program(name: str) -> Path:
+def built_test(name: str) -> Path:
     """A built test program of the package."""
     lines = run_cargo("test", "--no-run", "--message-format=json", "--test", name).splitlines()
     built = [json.loads(line).get("executable") for line in lines]

@@ -60,20 +60,20 @@ class Used(DistCase):
         used = [block for block in pages.blocks(TOP / name) if self.use(block)]
         self.assertTrue(used, f"{name} says nothing of dist")
 
-    def test_the_first_page(self):
+    def test_the_commands_of_the_first_page_run(self):
         self.use_page("README.md")
 
-    def test_the_page_of_the_bindings(self):
+    def test_the_commands_of_the_page_of_the_bindings_run(self):
         self.use_page("bindings/README.md")
 
-    def test_the_page_for_c(self):
+    def test_the_commands_of_the_page_for_c_run(self):
         self.require("c++")
         self.use_page("bindings/c/README.md")
 
-    def test_the_page_for_rust(self):
+    def test_the_commands_of_the_page_for_rust_run(self):
         self.use_page("bindings/rust/README.md")
 
-    def test_the_page_for_python(self):
+    def test_the_commands_of_the_page_for_python_run(self):
         self.require_pip()
         self.use_page("bindings/python/README.md")
         (piece,) = PIECE.findall((PACKAGE / "README.md").read_text())

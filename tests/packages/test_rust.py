@@ -6,7 +6,7 @@ import subprocess
 
 from harness import TOP
 from library.compiling import SECONDS, LibraryCase, prefix
-from packages.cargo import PACKAGE, environment, example, run_cargo, target, test_program
+from packages.cargo import PACKAGE, built_test, environment, example, run_cargo, target
 
 WORDS = b"3 documents, [98, 97, 110, 97, 110, 97]\n"
 # A program that needs the package alone.
@@ -68,7 +68,7 @@ class Rust(RustCase):
     def test_valgrind_finds_no_fault_in_reads_of_any_bytes(self):
         self.require("valgrind")
         words = ["--quiet", "--error-exitcode=9", "--leak-check=full", "--errors-for-leak-kinds=definite"]
-        printed = self.succeed("valgrind", *words, test_program("stores"), "--test-threads=1", cwd=PACKAGE)
+        printed = self.succeed("valgrind", *words, built_test("stores"), "--test-threads=1", cwd=PACKAGE)
         self.assertRegex(printed.decode(), r"test result: ok\. \d\d passed")
 
 

@@ -136,7 +136,7 @@ class Ranged(unittest.TestCase):
             with self.assertRaises(ValueError):
                 store.iter(damaged="ignore")
 
-    def test_files_that_are_no_store(self):
+    def test_files_that_are_no_store_are_refused_by_name(self):
         wrong = {b"": refusals.ShortFile, b"x" * 27: refusals.ShortFile, b"x" * 100: refusals.BadVersion}
         for content, kind in wrong.items():
             with self.assertRaises(kind) as caught:
@@ -157,7 +157,7 @@ class Ranged(unittest.TestCase):
         store._read = file
         self.assertEqual(store[0], documents[0])
 
-    def test_numbers_that_no_document_has_and_a_closed_store(self):
+    def test_numbers_that_no_document_has_and_a_closed_store_are_refused(self):
         store = Elsewhere(FILE).open()
         for number in [64, -65, 2**32, 2**70]:
             for call in [store.__getitem__, store.block_of, lambda number: store.get_many([0, number])]:

@@ -119,7 +119,7 @@ class ManyDocuments(InFolder):
             self.assertTrue(store[1:-1] == documents[1:-1])
             self.assertTrue(store.get_many(numbers) == [documents[number] for number in numbers])
 
-    def test_many_numbers_of_any_kind(self):
+    def test_numbers_of_any_kind_are_got_at_once(self):
         kinds = [[0, -1, 5, 5], (3,), range(0, 64, 9), iter([1, 2]), array.array("I", [7, 0]), [Index(4), True], []]
         with Store(FILE) as store:
             for numbers in kinds:
@@ -129,7 +129,7 @@ class ManyDocuments(InFolder):
             self.assertEqual(store.__getitems__([2, 1]), [DOCUMENTS[2], DOCUMENTS[1]])
             self.assertEqual(store[Index(3)], DOCUMENTS[3])
 
-    def test_numbers_that_no_document_has(self):
+    def test_numbers_that_no_document_has_are_refused(self):
         with Store(FILE) as store:
             for number in [64, -65, 2**32, 2**64, -(2**100)]:
                 for call in [store.__getitem__, store.view, lambda number: store.get_many([0, number])]:
@@ -253,7 +253,7 @@ class Kinds(InFolder):
                 call()
         self.assertEqual(len(unopened), 0)
 
-    def test_facts(self):
+    def test_a_store_has_the_facts_of_its_file(self):
         with Store(self.written()) as store:
             facts = (len(store), store.num_blocks, store.size, store.data_size, store.version, store.period)
             self.assertEqual(facts, (64, 13, len(FILE), 1524, 3, 3))

@@ -38,7 +38,7 @@ class ManyStores(unittest.TestCase):
                 self.assertEqual(PARTS[store][at], document)
             self.assertEqual(stores.locate(-1), (3, 49))
 
-    def test_numbers_that_no_document_has(self):
+    def test_numbers_that_no_document_has_are_refused(self):
         with Stores(self.paths) as stores:
             for number in [len(ALL), -len(ALL) - 1, 2**70]:
                 for call in [stores.__getitem__, stores.locate, lambda number: stores.get_many([number])]:
@@ -47,7 +47,7 @@ class ManyStores(unittest.TestCase):
             with self.assertRaises(TypeError):
                 stores["a"]
 
-    def test_stores_of_any_kind(self):
+    def test_stores_of_any_kind_are_one_sequence(self):
         with open(self.paths[3], "rb") as file:
             content = file.read()
         ranged = RangedStore(lambda start, length: content[start:start + length], len(content))
@@ -55,7 +55,7 @@ class ManyStores(unittest.TestCase):
             self.assertEqual(list(stores), PARTS[0] + PARTS[3] + PARTS[3])
             self.assertEqual([len(store) for store in stores.stores], [2, 50, 50])
 
-    def test_no_stores_at_all(self):
+    def test_no_stores_have_no_documents(self):
         with Stores([]) as stores:
             self.assertEqual((len(stores), list(stores), stores[:], stores.get_many([])), (0, [], [], []))
             with self.assertRaises(NoDocument):
@@ -74,7 +74,7 @@ class ManyStores(unittest.TestCase):
         with Stores(self.paths) as stores, pickle.loads(pickle.dumps(stores)) as others:
             self.assertEqual(list(others), ALL)
 
-    def test_closed_stores(self):
+    def test_closed_stores_are_refused_by_name(self):
         stores = Stores(self.paths)
         stores.close()
         for call in [lambda: stores[0], lambda: list(stores), lambda: stores.get_many([1])]:

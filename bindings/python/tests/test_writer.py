@@ -100,7 +100,7 @@ class Contents(InFolder):
         self.written([])
         self.assertEqual(self.documents(), [])
 
-    def test_a_hundred_thousand_documents(self):
+    def test_a_hundred_thousand_documents_come_back(self):
         documents = [b"%d" % number for number in range(100000)]
         # A block each, so the table grows; and one block of all, so the starts do.
         for block_size in [0, 2**32]:
@@ -108,14 +108,14 @@ class Contents(InFolder):
             # Not assertEqual, which is slow to tell how long lists differ.
             self.assertTrue(self.documents() == documents)
 
-    def test_documents_longer_than_the_buffer(self):
+    def test_documents_longer_than_the_buffer_come_back(self):
         documents = [b"a" * 10, b"b" * (3 << 20), b"c", b"d" * (1 << 20), b"e" * ((1 << 20) - 1), b"f"]
         self.written(documents)
         self.assertTrue(self.documents() == documents)
 
 
 class Stacking(InFolder):
-    def test_the_documents_of_both_in_order(self):
+    def test_stacked_stores_have_the_documents_of_both_in_order(self):
         first, second = documents_of(40, 1), documents_of(50, 77)
         self.written(first, "b", block_size=50)
         self.written(second, "c", block_size=1000, period=3)
@@ -134,7 +134,7 @@ class Stacking(InFolder):
                 self.documents("both"), self.documents(first) + self.documents(second) + self.documents(third)
             )
 
-    def test_documents_before_and_behind_a_store(self):
+    def test_documents_are_put_before_and_after_a_store(self):
         inner = documents_of(300, 5)
         self.written(inner, "b", block_size=1)
         with Writer(self.path) as writer, Store(self.at("b")) as store:
@@ -222,7 +222,7 @@ class Files(InFolder):
             Writer(self.path)
         self.assertEqual(os.listdir(self.folder), ["a.store"])
 
-    def test_the_file_is_kept_before_it_has_its_name_and_the_folder_behind(self):
+    def test_the_file_is_synced_before_it_has_its_name_and_the_folder_after(self):
         seen = []
 
         def kept(descriptor):
@@ -262,7 +262,7 @@ class Files(InFolder):
             Writer(self.at("no/such/folder"))
         self.assertEqual(sorted(os.listdir(self.folder)), ["a.store", "link"])
 
-    def test_a_path_without_a_folder(self):
+    def test_a_path_without_a_folder_is_in_the_current_one(self):
         before = os.getcwd()
         self.addCleanup(os.chdir, before)
         os.chdir(self.folder)
@@ -284,7 +284,7 @@ class Ends(InFolder):
                 call()
         self.assertEqual(self.content(), before)
 
-    def test_discarded_in_a_with(self):
+    def test_a_writer_that_is_discarded_in_a_with_leaves_no_file(self):
         with Writer(self.path) as writer:
             writer.put(b"a")
             writer.discard()
@@ -342,7 +342,7 @@ class Ends(InFolder):
         self.assertEqual(self.documents(), [b"old"])
         self.assertEqual(os.listdir(self.folder), ["a.store"])
 
-    def test_a_full_disk_is_told_and_the_writer_takes_no_more(self):
+    def test_a_full_disk_is_an_error_and_the_writer_takes_no_more(self):
         full = OSError(errno.ENOSPC, "full")
         at_write = mock.patch("zevkhadun.output.Output.write", side_effect=full)
         self.failing(at_write, lambda writer: writer.put(b"x" * (2 << 20)))
@@ -365,7 +365,7 @@ class Ends(InFolder):
         self.assertEqual(self.documents(), [b"old"])
         self.assertEqual(os.listdir(self.folder), ["a.store"])
 
-    def test_a_failure_that_is_caught_in_a_with_is_told_at_its_end(self):
+    def test_a_failure_that_is_caught_in_a_with_is_raised_at_its_end(self):
         with self.assertRaises(refusals.Failed):
             with Writer(self.path) as writer:
                 with mock.patch("zevkhadun.output.Output.write", side_effect=MemoryError):

@@ -63,7 +63,7 @@ fn stacking_in_two_shapes_gives_one_file() {
 }
 
 #[test]
-fn documents_before_and_after_a_store() {
+fn documents_are_put_before_and_after_a_store() {
     let inner = documents(20, 7);
     let file = written(&inner, 1, 8);
     let mut writer = Writer::new(Vec::new());
