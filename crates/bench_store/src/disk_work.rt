@@ -3,7 +3,7 @@ use crate::checks::hash_as_version_2;
 use crate::documents::Documents;
 use crate::measure::{Run, Workload};
 use crate::store_work::{get_all, iterate_all};
-use crate::stores::written;
+use crate::stores::write_store;
 use anyhow::Result;
 use docstore::{DocId, FileSlice, StoreReader};
 use std::rt::Clock;
@@ -14,10 +14,10 @@ use store_files::{DiskFile, DiskSink, OsFile, load};
 pub const PATH: &str = "bench.store";
 
 // Opens the file, with a cache of this many blocks.
-fn opened(rt: &HostRuntime, capacity: usize) -> Result<StoreReader<DiskFile<OsFile>>> {
+fn open(rt: &HostRuntime, capacity: usize) -> Result<StoreReader<DiskFile<OsFile>>> {
     let file = FileSlice::new(DiskFile::new(OsFile::open(rt, PATH)?)?);
-    let opened = StoreReader::open(rt.alloc(), file, capacity);
-    Ok(opened.map_err(|refusal| refusal.error)?)
+    let reader = StoreReader::open(rt.alloc(), file, capacity);
+    Ok(reader.map_err(|refusal| refusal.error)?)
 }
 
 /// Gets documents of the file by their ids.
@@ -30,7 +30,7 @@ pub struct GetDisk<'a> {
 
 impl<'a> Workload for GetDisk<'a> {
     fn run<C: Clock>(&mut self, clock: &C) -> Result<Run> {
-        let mut reader = opened(self.rt, self.capacity)?;
+        let mut reader = open(self.rt, self.capacity)?;
         get_all(clock, self.rt.alloc(), &mut reader, &self.ids)
     }
 }
@@ -44,7 +44,7 @@ pub struct IterateDisk<'a> {
 
 impl<'a> Workload for IterateDisk<'a> {
     fn run<C: Clock>(&mut self, clock: &C) -> Result<Run> {
-        let mut reader = opened(self.rt, self.capacity)?;
+        let mut reader = open(self.rt, self.capacity)?;
         iterate_all(clock, self.rt.alloc(), &mut reader, &[])
     }
 }
@@ -66,7 +66,7 @@ pub fn write_disk(
     block_size: usize,
 ) -> Result<()> {
     let output = DiskSink::create(rt.alloc(), rt.clone()?, PATH)?;
-    written(rt.alloc(), output, documents, count, block_size)?;
+    write_store(rt.alloc(), output, documents, count, block_size)?;
     Ok(())
 }
 

@@ -14,7 +14,6 @@ mod ids;
 mod index_work;
 mod measure;
 mod plans;
-mod shared_file;
 mod store_work;
 mod stores;
 mod view_work;

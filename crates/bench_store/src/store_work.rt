@@ -2,12 +2,11 @@
 use crate::checks::{Slots, hash_as_version_2};
 use crate::documents::Documents;
 use crate::measure::{Run, Workload};
-use crate::shared_file::SharedFile;
-use crate::stores::{closed, opened, written};
+use crate::stores::{open_store, write_store};
 use anyhow::Result;
 use docstore::{
-    AliveBitSet, Compressor, DocId, FileHandle, MemSink, OwnedBytes, StoreError, StoreReader,
-    StoreWriter,
+    AliveBitSet, Compressor, DocId, FileHandle, MemFile, MemSink, OwnedBytes, StoreError,
+    StoreReader, StoreWriter,
 };
 use std::alloc::Global;
 use std::rt::Clock;
@@ -26,7 +25,7 @@ impl Workload for Write {
     fn run<C: Clock>(&mut self, clock: &C) -> Result<Run> {
         let start = Instant::now(clock)?;
         let output = MemSink::new(self.alloc);
-        let output = written(
+        let output = write_store(
             self.alloc,
             output,
             &self.documents,
@@ -54,8 +53,8 @@ pub struct Source {
 
 impl Source {
     /// A fresh reader.
-    pub fn open(&self) -> Result<StoreReader<SharedFile>, StoreError> {
-        opened(self.alloc, &self.file, self.capacity)
+    pub fn open(&self) -> Result<StoreReader<MemFile>, StoreError> {
+        open_store(self.alloc, &self.file, self.capacity)
     }
 }
 
@@ -162,7 +161,7 @@ pub struct Stack {
     pub block_size: usize,
 }
 
-fn open_many(source: &Source, times: u64) -> Result<Vec<StoreReader<SharedFile>>, StoreError> {
+fn open_many(source: &Source, times: u64) -> Result<Vec<StoreReader<MemFile>>, StoreError> {
     let mut readers = Vec::new(source.alloc);
     for _ in 0..times {
         readers.push(source.open()?)?;
@@ -170,16 +169,16 @@ fn open_many(source: &Source, times: u64) -> Result<Vec<StoreReader<SharedFile>>
     Ok(readers)
 }
 
-fn stacked(
+fn stack_all(
     alloc: Global,
-    readers: &mut [StoreReader<SharedFile>],
+    readers: &mut [StoreReader<MemFile>],
     block_size: usize,
 ) -> Result<MemSink, StoreError> {
     let mut writer = StoreWriter::new(alloc, MemSink::new(alloc), Compressor::None, block_size);
     for reader in readers {
         writer.stack(reader)?;
     }
-    closed(writer)
+    Ok(writer.close()?)
 }
 
 impl Workload for Stack {
@@ -188,7 +187,7 @@ impl Workload for Stack {
         let data = self.source.open()?.space_usage().data_usage();
         let mut readers = open_many(&self.source, self.times)?;
         let start = Instant::now(clock)?;
-        let output = stacked(alloc, &mut readers, self.block_size)?;
+        let output = stack_all(alloc, &mut readers, self.block_size)?;
         let time = start.elapsed(clock)?;
         Ok(Run {
             time,

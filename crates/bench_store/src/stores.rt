@@ -1,21 +1,13 @@
 //! The stores that are written and opened.
 use crate::documents::Documents;
-use crate::shared_file::SharedFile;
 use docstore::{
-    Compressor, FileSlice, OwnedBytes, StoreError, StoreReader, StoreWriter, TerminatingWrite,
+    Compressor, FileSlice, MemFile, OwnedBytes, StoreError, StoreReader, StoreWriter,
+    TerminatingWrite,
 };
 use std::alloc::Global;
 
-/// Closes a writer.
-pub fn closed<W: TerminatingWrite>(writer: StoreWriter<W>) -> Result<W, StoreError> {
-    match writer.close() {
-        Ok(output) => Ok(output),
-        Err(refusal) => Err(refusal.error),
-    }
-}
-
-/// The store of the first `count` documents, in this output.
-pub fn written<W: TerminatingWrite>(
+/// Writes the store of the first `count` documents to this output.
+pub fn write_store<W: TerminatingWrite>(
     alloc: Global,
     output: W,
     documents: &Documents,
@@ -26,16 +18,16 @@ pub fn written<W: TerminatingWrite>(
     for i in 0..count {
         writer.store_bytes(documents.get(i))?;
     }
-    closed(writer)
+    Ok(writer.close()?)
 }
 
-/// Opens a file, with a cache of this many blocks.
-pub fn opened(
+/// Opens a file, with a cache of this many blocks. The reader shares its bytes.
+pub fn open_store(
     alloc: Global,
     file: &OwnedBytes,
     capacity: usize,
-) -> Result<StoreReader<SharedFile>, StoreError> {
-    let file = FileSlice::new(SharedFile::of_bytes(file)?);
+) -> Result<StoreReader<MemFile>, StoreError> {
+    let file = FileSlice::new(MemFile::of_shared(file.clone()?));
     match StoreReader::open(alloc, file, capacity) {
         Ok(reader) => Ok(reader),
         Err(refusal) => Err(refusal.error),

@@ -9,10 +9,10 @@ use crate::ids::{Order, deleted, ids};
 use crate::index_work::{Build, OpenIndex, Seek, Walk};
 use crate::measure::{Measure, Telling, Workload, perform};
 use crate::store_work::{Get, Iterate, Open, Source, Stack, Write};
-use crate::stores::written;
+use crate::stores::write_store;
 use crate::view_work::{GetView, IterateView, OpenView};
 use anyhow::{Result, bail};
-use docstore::{MemSink, OwnedBytes};
+use docstore::{DocId, MemSink, OwnedBytes};
 use std::alloc::Global;
 use std::fs;
 
@@ -97,7 +97,7 @@ impl<'a> Bench<'a> {
         let pool = documents_of(alloc, numbers.length())?;
         let block_size = numbers.block_size() as usize;
         let output = MemSink::new(alloc);
-        let output = written(alloc, output, &pool, documents as usize, block_size)?;
+        let output = write_store(alloc, output, &pool, documents as usize, block_size)?;
         Ok(Source {
             alloc,
             file: OwnedBytes::new(alloc, output.into_bytes())?,
@@ -139,17 +139,31 @@ impl<'a> Bench<'a> {
         Ok(format!(in self.alloc; "n={count}/l={length}/bs={block_size}/cap={capacity}")?)
     }
 
-    fn get(&self, kind: &str, order: Order, numbers: &Numbers) -> Result<()> {
-        let count = numbers.documents(1_000_000);
+    // The name of a workload that gets documents of a store of this shape, and the ids that it asks for.
+    fn gets(
+        &self,
+        kind: &str,
+        shape: &str,
+        order: Order,
+        count: u64,
+        numbers: &Numbers,
+    ) -> Result<(String, Vec<DocId>)> {
         let questions = numbers.questions(usual_questions(order, count));
-        let shape = self.shape_of_reader(count, numbers)?;
         let name = format!(in self.alloc; "{kind}/{shape}/q={questions}")?;
         let Some(num_docs) = some_documents(count) else {
             bail!("n is not from 1 to 4294967295: {count}");
         };
+        let ids = ids(self.alloc, order, questions, num_docs)?;
+        Ok((name, ids))
+    }
+
+    fn get(&self, kind: &str, order: Order, numbers: &Numbers) -> Result<()> {
+        let count = numbers.documents(1_000_000);
+        let shape = self.shape_of_reader(count, numbers)?;
+        let (name, ids) = self.gets(kind, shape.as_str(), order, count, numbers)?;
         let mut work = Get {
             source: self.source(count, numbers.capacity(), numbers)?,
-            ids: ids(self.alloc, order, questions, num_docs)?,
+            ids,
         };
         self.measure(name.as_str(), numbers, &mut work)
     }
@@ -174,13 +188,8 @@ impl<'a> Bench<'a> {
     fn get_view(&self, kind: &str, order: Order, numbers: &Numbers) -> Result<()> {
         let alloc = self.alloc;
         let count = numbers.documents(1_000_000);
-        let questions = numbers.questions(usual_questions(order, count));
         let (file, shape) = self.file(count, numbers)?;
-        let name = format!(in alloc; "{kind}/{shape}/q={questions}")?;
-        let Some(num_docs) = some_documents(count) else {
-            bail!("n is not from 1 to 4294967295: {count}");
-        };
-        let ids = ids(alloc, order, questions, num_docs)?;
+        let (name, ids) = self.gets(kind, shape.as_str(), order, count, numbers)?;
         let mut work = GetView { alloc, file, ids };
         self.measure(name.as_str(), numbers, &mut work)
     }
@@ -223,17 +232,13 @@ impl<'a> Bench<'a> {
 
     fn get_disk(&self, kind: &str, order: Order, numbers: &Numbers) -> Result<()> {
         let count = numbers.documents(1_000_000);
-        let questions = numbers.questions(usual_questions(order, count));
         let shape = self.shape_of_reader(count, numbers)?;
-        let name = format!(in self.alloc; "{kind}/{shape}/q={questions}")?;
-        let Some(num_docs) = some_documents(count) else {
-            bail!("n is not from 1 to 4294967295: {count}");
-        };
+        let (name, ids) = self.gets(kind, shape.as_str(), order, count, numbers)?;
         self.make_file(count, numbers)?;
         let mut work = GetDisk {
             rt: self.rt,
             capacity: numbers.capacity() as usize,
-            ids: ids(self.alloc, order, questions, num_docs)?,
+            ids,
         };
         self.measure_disk(name.as_str(), numbers, &mut work)
     }

@@ -1,7 +1,7 @@
 //! The bytes of a tail, as FORMAT.md shows them.
 
 use crate::torn::TornDevice;
-use record_log::{Commit, LogError, RecordLog, new_tail};
+use record_log::{Commit, LogError, RecordLog, TailView, new_tail};
 use std::alloc::Global;
 use std::test::Fail;
 
@@ -59,6 +59,49 @@ fn a_changed_byte_ends_the_log_before_its_batch(rt: HostRuntime) -> Result<(), F
         let kept = if at < 42 { 0 } else { 2 };
         assert_eq!(rt; lengths(alloc, &bytes)?, (kept, kept), "at {at}");
     }
+    Ok(())
+}
+
+#[test]
+fn a_view_has_the_records_of_the_example(rt: HostRuntime) -> Result<(), Fail> {
+    let view = TailView::new(rt.alloc(), EXAMPLE)?;
+    assert_eq!(rt;
+        (view.first(), view.len(), view.whole_len()),
+        (7, 3, EXAMPLE.len())
+    );
+    let found = [
+        view.get(6),
+        view.get(7),
+        view.get(8),
+        view.get(9),
+        view.get(10),
+    ];
+    assert!(rt; found == [None, Some(&b"hello"[..]), Some(b""), Some(b"log"), None]);
+    Ok(())
+}
+
+// The records of a log from a number on.
+fn records_from(alloc: Global, number: u64) -> Result<Vec<Vec<u8>>, LogError> {
+    let log = open(alloc, EXAMPLE.to_vec(alloc)?, Commit::OneSync)?;
+    let mut records = Vec::new(alloc);
+    for record in log.iter_from(number)? {
+        records.push(record?)?;
+    }
+    Ok(records)
+}
+
+#[test]
+fn an_iteration_begins_at_its_number(rt: HostRuntime) -> Result<(), Fail> {
+    let alloc = rt.alloc();
+    let lengths = [(0, 3), (7, 3), (9, 1), (10, 0), (u64::MAX, 0)];
+    for (number, length) in lengths {
+        assert_eq!(rt; records_from(alloc, number)?.len(), length);
+    }
+    assert!(rt;
+        records_from(alloc, 9)?
+            .first()
+            .is_some_and(|record| record.as_slice() == b"log".as_slice())
+    );
     Ok(())
 }
 

@@ -46,8 +46,8 @@ returns-then-is_stacked-clause-grown g c =
 pub returns-then-is_stacked-clause-faults : goal.returns-then-is_stacked-clause-faults
 returns-then-is_stacked-clause-faults g c = elim c.stack_store.ensures.faults [ inl read ↦ inl read | inr same ↦ inr (inl same) ]
 
-pub returns-else-is_stacked-clause-faults : goal.returns-else-is_stacked-clause-faults
-returns-else-is_stacked-clause-faults g c =
+pub returns-clause-faults : goal.returns-clause-faults
+returns-clause-faults g c =
     let x = c.args.input.now in
     let same = lent c.as_ref.result x.alive c.as_ref.ensures.value in
     elim c.copy_documents.ensures.faults [
