@@ -44,7 +44,7 @@ THEOREMS = (
     Theorem("what the program finds out, gives and merges", "store_commands",
             ("give_documents", "check_blocks", "merge_store"), ("memory aside", "usize", "honest file")),
     Theorem("a crash leaves the old store or the new one", "store_published",
-            ("finish_published", "write_published"), ("memory aside", "usize", "honest folder")),
+            ("publish_store", "write_published", "finish_published"), ("memory aside", "usize", "honest folder")),
     Theorem("a call from C gives the document of the bytes", "store_c",
             ("zevk_get", "zevk_locate", "zevk_writer_close"), ("memory aside", "usize", "rules of zevkhadun.h")),
 )

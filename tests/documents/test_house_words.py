@@ -23,7 +23,7 @@ OLD_WORDS = (
     "weighs? more", "owes?", "anew", "go(?:es|ne)? out",
 )
 # Whether the comments of the Rattle sources and of their definitions are looked at, too.
-COVERS_RATTLE = False
+COVERS_RATTLE = True
 # What may come between two words: spaces, and the sign of a comment at the beginning of the next line.
 BETWEEN = r"\s+(?:(?:\*|#|--|//[/!]?)\s+)?"
 FORM = re.compile(r"\b(?:" + "|".join(OLD_WORDS).replace(" ", BETWEEN) + r")\b", re.I)

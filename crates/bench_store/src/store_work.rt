@@ -65,7 +65,7 @@ pub struct Open {
     pub times: u64,
 }
 
-// The sum of what the readers tell of the index's length.
+// The sum of the index's lengths, as the readers return them.
 fn open_again(source: &Source, times: u64) -> Result<u64, StoreError> {
     let mut sum: u64 = 0;
     for _ in 0..times {

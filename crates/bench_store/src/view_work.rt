@@ -15,7 +15,7 @@ pub struct OpenView {
     pub times: u64,
 }
 
-// The sum of what the views tell of the index's length.
+// The sum of the index's lengths, as the views return them.
 fn open_again(alloc: Global, file: &[u8], times: u64) -> Result<u64, StoreError> {
     let mut sum: u64 = 0;
     for _ in 0..times {

@@ -37,7 +37,7 @@ new_output compressor period content termination failures = record {
   failures = failures;
 }
 
--- these blocks behind the finished ones
+-- these blocks after the finished ones
 abbrev pub with_blocks : BlockOutput → List StoreBlock → BlockOutput
 with_blocks out bs = record out { finished = out.finished ++ bs; content = out.content ++ data_of bs }
 
@@ -45,7 +45,7 @@ with_blocks out bs = record out { finished = out.finished ++ bs; content = out.c
 abbrev pub with_risen : ℕ → BlockOutput → BlockOutput
 with_risen n out = record out { failures = n }
 
--- Behind what the output held at first it holds the texts of the blocks and nothing else.
+-- After what the output held at first it holds the texts of the blocks and nothing else.
 pub record HoldsBlocks (out : BlockOutput) : Type 0 where
   pub written : out.content ≡ out.before ++ data_of out.finished
   pub blocks : AreBlocks out.finished
@@ -63,7 +63,7 @@ pub record Grows (old new : List ℕ) : Type 0 where
   pub some : 0 < length more
   pub parts : new ≡ old ++ more
 
--- A failed write is a failure of the output. For want of memory a writer fails only once bytes went out.
+-- A failed write is a failure of the output. For lack of memory a writer fails only once bytes were written.
 abbrev pub HasCause : Cause → ℕ → ℕ → List ℕ → List ℕ → Type 0
 HasCause Write failures risen old new = HasRisen failures risen
 HasCause OutOfMemory failures risen old new = Grows old new
@@ -96,7 +96,7 @@ AfterFailedClose None cause old content termination failures = HasCause cause ol
 AfterFailedClose (Some first) cause old content termination failures = (cause ≡ first) × (content ≡ old.content)
     × (failures ≡ old.failures) × (termination ≡ old.termination)
 
--- For want of memory nothing went out; otherwise the writer had failed, or fails now.
+-- For lack of memory nothing was written; otherwise the writer had failed, or fails now.
 abbrev pub AfterClose : StoreError → BlockOutput → List ℕ → Termination → ℕ → Type 0
 AfterClose Memory old content termination failures = (old.failure ≡ None) × (content ≡ old.content)
     × (failures ≡ old.failures) × (termination ≡ old.termination)
@@ -104,13 +104,13 @@ AfterClose (Failed cause) old content termination failures =
     AfterFailedClose old.failure cause old content termination failures
 AfterClose _ old content termination failures = ⊥
 
--- The end of a file was refused: for want of memory before anything was written, or as the output failed.
+-- The end of a file was refused: for lack of memory before anything was written, or as the output failed.
 abbrev pub IsEndRefusal : StoreError → List ℕ → List ℕ → Termination → Termination → ℕ → ℕ → Type 0
 IsEndRefusal e old new termination ended failures risen =
     ((e ≡ Memory) × (new ≡ old) × (risen ≡ failures) × (ended ≡ termination))
     ⊎ ((e ≡ Failed Write) × HasRisen failures risen × HasNotEnded Write termination ended)
 
--- ---- how the blocks are told from the checkpoints and the output
+-- ---- how the blocks follow from the checkpoints and the output
 
 -- of what the output holds, the part that was written, and the part before it
 abbrev pub data_in : List ℕ → ℕ → List ℕ

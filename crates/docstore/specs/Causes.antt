@@ -20,7 +20,7 @@ pub record Stage : Type 0 where
 abbrev pub first_stage : Stage
 first_stage = record { count = 0; pending = [] }
 
--- the documents that wait after an effect: none where they weigh more than the block size
+-- the documents that wait after an effect: none where they exceed the block size
 abbrev pub pending_after : ℕ → List (List ℕ) → Effect → List (List ℕ)
 pending_after size docs (adds bytes) = if nat_lt size (weight (docs ++ bytes ∷ [])) then [] else docs ++ bytes ∷ []
 pending_after size docs (ends bs) = []

@@ -22,7 +22,7 @@ WrittenDocumentsAreFound = (w : Writing) (period version : ℕ) (bs : List Store
     → IsStore w.output.period (file_of w) 3 (flushed w).output.finished → IsStore period (file_of w) version bs
     → slots bs ≡ taken w
 
--- One more document puts its slot behind, whether it fills a block or not.
+-- One more document appends its slot, whether it fills a block or not.
 abbrev pub DocumentsAreTakenInOrder : Type 0
 DocumentsAreTakenInOrder = (w : Writing) (document : List ℕ) → length (block (w.pending ++ document ∷ [])) < 2 ^ 32
     → taken (with_document w document) ≡ taken w ++ doc document ∷ []
@@ -35,7 +35,7 @@ IdsAreGivenInOrder = (w : Writing) → length (taken w) ≡ num_docs w
 abbrev pub FlushesKeepSlots : Type 0
 FlushesKeepSlots = (w : Writing) → AreBlocks (flushed w).output.finished → taken (flushed w) ≡ taken w
 
--- The slots of a store that is stacked are put behind.
+-- The slots of a store that is stacked are appended.
 abbrev pub StoresAreStackedInOrder : Type 0
 StoresAreStackedInOrder = (w : Writing) (bs : List StoreBlock) → AreBlocks (with_store w bs).output.finished
     → taken (with_store w bs) ≡ taken w ++ slots bs
@@ -50,7 +50,7 @@ abbrev pub stacked : Writing → List (List StoreBlock) → Writing
 stacked w [] = w
 stacked w (bs ∷ stores) = stacked (with_store w bs) stores
 
--- Where nothing is pending, a close behind stackings writes the file of all their blocks, joined.
+-- Where nothing is pending, a close after stackings writes the file of all their blocks, joined.
 abbrev pub StackedFilesAreJoined : Type 0
 StackedFilesAreJoined = (w : Writing) (stores : List (List StoreBlock)) → w.pending ≡ []
     → file_of (stacked w stores) ≡ file w.output.period 3 (w.output.finished ++ flat_map (λ bs. bs) stores)

@@ -44,7 +44,7 @@ pub record HasRoom (long capacity limit : ℕ) : Type 0 where
   pub small : limit < 2 ^ 32
   pub room : limit ≤ capacity
 
--- There is room for a block so long, or it is refused: exactly where its length has no place in 32 bits, want of memory
+-- There is room for a block so long, or it is refused: exactly where its length has no place in 32 bits, memory
 -- aside.
 pub record FindsRoom (long capacity : ℕ) (result : Result ℕ StoreError) : Type 0 where
   pub ok : IfOk result (HasRoom long capacity)

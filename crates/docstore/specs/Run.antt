@@ -76,7 +76,7 @@ AreCommandsKept [] [] = Unit {0}
 AreCommandsKept (old ∷ commands) (new ∷ others) = IsKept old new × AreCommandsKept commands others
 AreCommandsKept _ _ = ⊥
 
--- Behind what it held, the output has the file of the blocks that these calls leave, whose slots are what the calls
+-- After what it held, the output has the file of the blocks that these calls leave, whose slots are what the calls
 -- brought; and each result has its cause.
 pub record IsWritten {D H : Type 0} (period size : ℕ) (doc_bytes : D
     → Option (List ℕ)) (commands left : List (StoreCommand D H)) (results : List (Result (Unit {0}) StoreError))
@@ -90,7 +90,7 @@ pub record IsWritten {D H : Type 0} (period size : ℕ) (doc_bytes : D
   pub slots_are : slots blocks ≡ meaning trace
   pub output : new ≡ old ++ file period 3 blocks
 
--- The calls were made and memory was wanting for the file's end: behind what the output held are the finished blocks of
+-- The calls were made and memory was wanting for the file's end: after what the output held are the finished blocks of
 -- theirs, and at most one block waited.
 pub record IsUnclosed {D H : Type 0} (size : ℕ) (doc_bytes : D
     → Option (List ℕ)) (commands left : List (StoreCommand D H)) (old new : List ℕ) : Type 0 where
@@ -104,7 +104,7 @@ pub record IsUnclosed {D H : Type 0} (size : ℕ) (doc_bytes : D
   pub one : length waiting ≤ 1
   pub output : new ≡ old ++ data_of blocks
 
--- what is told of an output: what it holds, its ends, and how often it failed
+-- what is known of an output: what it holds, its ends, and how often it failed
 pub record Told : Type 0 where
   pub content : List ℕ
   pub termination : Termination

@@ -1,4 +1,4 @@
--- Putting a store behind what a writer has.
+-- Putting a store after what a writer has.
 use Rattle.std.specs.Prelude.{◌≡◌, ◌≢◌, ℕ, ◌+◌, ◌<◌, ◌≤◌, ◌^◌, IsTrue, List, [], ◌∷◌, Some, None}
 use Rattle.std.specs.List.{AllByRecursion}
 use Rattle.store_base.specs.Counts.{HasRisen}
@@ -18,18 +18,18 @@ pub record AreRead (reader : Reading) (bs : List StoreBlock) : Type 0 where
   pub places : checkpoints_of bs ≡ reader.checkpoints
   pub honest : IsTrue reader.file.honest → bs ≡ store_of reader
 
--- a checkpoint so many documents and bytes further on
+-- a checkpoint this many documents and bytes further on
 abbrev pub shifted : ℕ → ℕ → Checkpoint → Checkpoint
 shifted docs bytes c = checkpoint (c.doc_range.start + docs) (c.doc_range.end + docs) (c.byte_range.start + bytes)
     (c.byte_range.end + bytes)
 
--- the checkpoints of blocks of the same sizes, one behind the other from this id and this byte on
+-- the checkpoints of blocks of the same sizes, one after the other from this id and this byte on
 abbrev pub laid_from : ℕ → ℕ → List Checkpoint → List Checkpoint
 laid_from id byte [] = []
 laid_from id byte (c ∷ cs) = checkpoint id (id + doc_count c) byte (byte + byte_len c)
     ∷ laid_from (id + doc_count c) (byte + byte_len c) cs
 
--- The checkpoints follow one another from some document and some byte on, none is empty, and they have so many bytes.
+-- The checkpoints follow one another from some document and some byte on, none is empty, and they have this many bytes.
 pub record CutAll (cs : List Checkpoint) (bytes : ℕ) : Type 0 where
   pub doc : ℕ
   pub byte : ℕ
@@ -46,7 +46,7 @@ AfterStacking reader read old new Read = (old.failure ≡ None) × (new ≡ old)
 AfterStacking reader read old new (Failed cause) = AfterFailedBlock old.failure cause old new
 AfterStacking reader read old new _ = ⊥
 
--- the pending documents as a block, and these blocks behind it
+-- the pending documents as a block, and these blocks after it
 abbrev pub with_store : Writing → List StoreBlock → Writing
 with_store w bs = record w { pending = []; output = with_blocks (flushed w).output bs }
 

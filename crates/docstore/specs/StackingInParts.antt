@@ -1,4 +1,4 @@
--- Putting a store behind what a writer has, a part of its data at a time.
+-- Putting a store after what a writer has, a part of its data at a time.
 use Rattle.std.specs.Prelude.{◌≡◌, ℕ, zero, suc, ◌+◌, ◌<◌, ◌≤◌}
 use Rattle.std.specs.Prelude.{IsTrue, List, length, take, drop, None}
 use Rattle.store_base.specs.Counts.{HasRisen, raised}
@@ -13,12 +13,12 @@ use Rattle.docstore.specs.Writer.{Writing, with_failures, AfterFailed}
 
 -- ---- the file
 
--- what a count is after so many more; none leave it
+-- what a count is after this many more; none leave it
 abbrev pub after_more : ℕ → ℕ → ℕ
 after_more count zero = count
 after_more count (suc more) = raised count (suc more)
 
--- What so many reads of its data, of so many bytes in all, leave of a reader: all but the counts of its file.
+-- What this many reads of its data, of this many bytes in all, leave of a reader: all but the counts of its file.
 pub record IsReadTimes (times bytes : ℕ) (old new : Reading) : Type 0 where
   pub content : new.file.content ≡ old.file.content
   pub honest : new.file.honest ≡ old.file.honest
@@ -35,7 +35,7 @@ pub record IsReadAtMost (most : ℕ) (old new : Reading) : Type 0 where
   pub within : bytes ≤ length old.file.content
   pub read : IsReadTimes times bytes old new
 
--- Its whole data was read, by so many reads.
+-- Its whole data was read, by this many reads.
 abbrev pub IsReadInPieces : ℕ → Reading → Reading → Type 0
 IsReadInPieces times old new = IsReadTimes times (length old.file.content) old new
 
@@ -48,7 +48,7 @@ pub record AreFirstRead (reader : Reading) (bs : List StoreBlock) : Type 0 where
   pub places : checkpoints_of bs ≡ take count reader.checkpoints
   pub honest : IsTrue reader.file.honest → bs ≡ take count (store_of reader)
 
--- The first blocks of a store, not all, are behind the finished ones.
+-- The first blocks of a store, not all, are after the finished ones.
 pub record BeginsStacking (reader : Reading) (old new : BlockOutput) : Type 0 where
   pub works : old.failure ≡ None
   pub blocks : List StoreBlock
@@ -64,7 +64,7 @@ AfterStackingInParts reader read old new Read = BeginsStacking reader old new
 AfterStackingInParts reader read old new (Failed cause) = AfterFailedBlock old.failure cause old new
 AfterStackingInParts reader read old new _ = ⊥
 
--- The pending documents are a finished block, if there were any, and the first blocks of a store, not all, are behind
+-- The pending documents are a finished block, if there were any, and the first blocks of a store, not all, are after
 -- it.
 pub record BeginsStack (reader : Reading) (old new : Writing) : Type 0 where
   pub works : old.output.failure ≡ None
@@ -85,7 +85,7 @@ AfterStackInParts reader read old new _ = ⊥
 
 -- ---- how far a stacking has come
 
--- So many of the first blocks that came of a reader's file are behind the finished ones.
+-- This many of the first blocks that came of a reader's file are after the finished ones.
 pub record StacksFirst (reader : Reading) (count : ℕ) (old new : BlockOutput) : Type 0 where
   pub blocks : List StoreBlock
   pub places : checkpoints_of blocks ≡ take count reader.checkpoints

@@ -34,7 +34,7 @@ blocks_of (doc ∷ docs) = block_of (doc ∷ docs) ∷ []
 abbrev pub flushed : Writing → Writing
 flushed w = record w { pending = []; output = with_blocks w.output (blocks_of w.pending) }
 
--- the same, if they weigh more than the block size
+-- the same, if they exceed the block size
 abbrev pub flushed_if_full : Writing → Writing
 flushed_if_full w = if nat_lt w.block_size (weight w.pending) then flushed w else w
 

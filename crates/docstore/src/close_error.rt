@@ -13,7 +13,7 @@ pub struct CloseError<W> {
 }
 
 impl<W: Drop> CloseError<W> {
-    // The same once bytes went out: want of memory is then a failure.
+    // The same after bytes were written: to run out of memory is then a failure.
     pub(crate) fn behind_bytes(self) -> CloseError<W>
         ensures error { result.error ≡ behind_bytes self.error }
         ensures output { result.output ≡ self.output }
@@ -27,7 +27,7 @@ impl<W: Drop> CloseError<W> {
     }
 }
 
-/// So that `?` hands on the error alone. The output is lost.
+/// So that `?` returns the error alone. The output is lost.
 impl<W: Drop> From<CloseError<W>> for StoreError {
     ghost use Rattle.std.specs.Prelude.{◌≡◌};
 

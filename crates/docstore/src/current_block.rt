@@ -78,7 +78,7 @@ impl CurrentBlock {
     }
 
     /// Adds a document that has bytes in the schema at the end. `Err` leaves the documents as they were,
-    /// whatever the document did to the bytes behind them.
+    /// whatever the document did to the bytes after them.
     pub(crate) fn push_document<D: Document>(
         &mut self,
         document: &D,
@@ -197,8 +197,8 @@ impl FinishedBlock {
     }
 }
 
-// The limit, where it leaves room behind the bytes for so many more and a table; else room is made, and the limit
-// that comes of it.
+// The limit, where it leaves room after the bytes for `more` bytes and a table; else room is made, and the limit
+// that follows from it.
 fn with_room(
     bytes: &mut Vec<u8>,
     limit: usize,
@@ -218,7 +218,7 @@ fn with_room(
     make_room(bytes, more, table)
 }
 
-// Room behind the bytes for so many more and a table, and the limit that comes of it.
+// Room after the bytes for `more` bytes and a table, and the limit that follows from it.
 #[cold]
 fn make_room(bytes: &mut Vec<u8>, more: usize, table: usize) -> Result<usize, StoreError>
     requires { table < 2 ^ 60 }
@@ -243,7 +243,7 @@ fn no_bytes(fault: DocFault) -> StoreError
     }
 }
 
-// Behind the other documents this one, and where it begins. A refusal may leave bytes behind the others.
+// Appends this document to the others, and where it begins. A refusal may leave bytes after the others.
 fn append_document<D: Document>(
     bytes: &mut Vec<u8>,
     starts: &mut Vec<u32>,

@@ -1,4 +1,4 @@
-//! Laws of writers, of stackings and of whole lists; those of files and of reading are handed on.
+//! Laws of writers, of stackings and of whole lists; those of files and of reading are exported again.
 ghost use Rattle.docstore.specs.EndToEnd.{DocumentsHaveTheirIds, WrittenListsAreFound};
 ghost use Rattle.docstore.specs.Run.{BlocksMeanTheirCalls};
 ghost use Rattle.docstore.specs.Laws.{WrittenDocumentsAreFound, DocumentsAreTakenInOrder, IdsAreGivenInOrder};
@@ -18,7 +18,7 @@ pub fn written_documents_are_found()
     ensures { WrittenDocumentsAreFound }
 {}
 
-/// One more document puts its slot behind, whether it fills a block or not.
+/// One more document appends its slot, whether it fills a block or not.
 pub fn documents_are_taken_in_order()
     ensures { DocumentsAreTakenInOrder }
 {}
@@ -33,7 +33,7 @@ pub fn flushes_keep_slots()
     ensures { FlushesKeepSlots }
 {}
 
-/// The slots of a store that is stacked are put behind.
+/// The slots of a store that is stacked are appended.
 pub fn stores_are_stacked_in_order()
     ensures { StoresAreStackedInOrder }
 {}
@@ -43,7 +43,7 @@ pub fn stacked_slots_are_counted()
     ensures { StackedSlotsAreCounted }
 {}
 
-/// Where nothing is pending, a close behind stackings writes the file of all their blocks, joined.
+/// Where nothing is pending, a close after stackings writes the file of all their blocks, joined.
 pub fn stacked_files_are_joined()
     ensures { StackedFilesAreJoined }
 {}

@@ -35,7 +35,7 @@ pub struct WriteReport<W> {
 /// made.
 ///
 /// Where `close` is refused, so is the list; a call that is `Failed` comes to that. Room for the results is taken
-/// first: where there is none, no call is made and the output is as it came. A list refused for want of memory later
+/// first: where there is none, no call is made and the output is as it came. A list that runs out of memory later
 /// leaves the blocks of its calls in the output, but for the last one at most.
 pub fn write_store<W: TerminatingWrite, D: Document, H: FileHandle>(
     alloc: Global,

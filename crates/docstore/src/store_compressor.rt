@@ -1,4 +1,4 @@
-//! Writes blocks one behind the other, and their index behind them.
+//! Writes blocks one after the other, and their index after them.
 
 ghost use Rattle.std.specs.Prelude.{◌≡◌, ◌+◌, ◌<◌, ◌≤◌, ◌^◌, ◌⊎◌, [], ◌∷◌, ◌++◌, length, true, Some, None};
 ghost use Rattle.std.specs.Prelude.{OnOk, IfOk, IfErr, IfSome, IsErrOf, MatchResult};
@@ -188,9 +188,9 @@ impl<W: TerminatingWrite> BlockCompressor<W> {
         Ok(())
     }
 
-    /// Writes the index and the footer, and ends the output: once, behind all that was written.
+    /// Writes the index and the footer, and ends the output: once, after all that was written.
     ///
-    /// `Memory` means that no byte of this call went out.
+    /// `Memory` means that no byte of this call was written.
     pub fn close(self) -> Result<W, CloseError<W>>
         ensures file { IfOk result (λ output. W.content output ≡ self.before ++ file self.period 3 self.finished) }
         ensures store { OnOk result (IsStore self.period (file self.period 3 self.finished) 3 self.finished) }

@@ -24,7 +24,7 @@ use std::mem;
 use store_base::{Cause, Document, Schema, StoreError, TerminatingWrite};
 use store_format::Compressor;
 
-/// Writes a store. Blocks go out while documents are added; the index stays in memory until `close`.
+/// Writes a store. Blocks are written while documents are added; the index stays in memory until `close`.
 #[derive(Drop)]
 pub struct StoreWriter<W: TerminatingWrite> {
     block_size: usize,
@@ -91,7 +91,7 @@ impl<W: TerminatingWrite> StoreWriter<W> {
     pub fn num_docs(&self) -> u32
         ensures count { result ≡ num_docs self.now }
 
-        // What every writer keeps, whoever hands it over.
+        // What every writer keeps, wherever it comes from.
         ensures sound { IsStoreWriter self.now }
     {
         self.block_compressor.num_docs() + self.current_block.len()
@@ -138,7 +138,7 @@ impl<W: TerminatingWrite> StoreWriter<W> {
 
     /// Stores a document. Its id is `num_docs` before the call.
     ///
-    /// It is pending as the bytes that it writes, and goes out as in `store_bytes`. A document that is
+    /// It is pending as the bytes that it writes, and is written as in `store_bytes`. A document that is
     /// refused leaves the writer as it was, whatever it had written.
     pub fn store<D: Document>(&mut self, document: &D, schema: &Schema) -> Result<(), StoreError>
         ensures stored { OnOk result (StoresDocument (D.doc_bytes document.now schema.now) self.old self.new) }
@@ -183,8 +183,8 @@ impl<W: TerminatingWrite> StoreWriter<W> {
 
     /// Stores a document that is bytes already. Its id is `num_docs` before the call.
     ///
-    /// The document waits in memory. Once the waiting documents weigh more than the block size, at
-    /// eight bytes for each beside its own, they go out as one block.
+    /// The document waits in memory. Once the waiting documents exceed the block size, with eight
+    /// bytes for each beside its own, they are written as one block.
     ///
     /// After `Failed` the writer answers only `Failed`, and `close` hands the output back. Any other
     /// error leaves it as it was.
@@ -221,7 +221,7 @@ impl<W: TerminatingWrite> StoreWriter<W> {
         Ok(())
     }
 
-    /// Writes the pending documents, the index and the footer, and ends the output: once, behind all that
+    /// Writes the pending documents, the index and the footer, and ends the output: once, after all that
     /// was written. No other call ends it.
     ///
     /// `Memory` means that no byte of this call went out.
@@ -252,7 +252,7 @@ impl<W: TerminatingWrite> StoreWriter<W> {
     }
 }
 
-// Writes the documents as a block if they weigh more than the block size.
+// Writes the documents as a block if they exceed the block size.
 fn flush_if_full<W: TerminatingWrite>(
     documents: &mut CurrentBlock,
     output: &mut BlockCompressor<W>,

@@ -1,4 +1,4 @@
-//! The tasks of docs/GUIDE.md, one module each: every piece of Rattle that the guide shows stands here.
+//! The tasks of docs/RATTLE.md, one module each: every piece of Rattle that the page shows is here.
 #![tactic(auto)]
 
 mod in_memory;

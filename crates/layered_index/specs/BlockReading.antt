@@ -14,7 +14,7 @@ step_at doc byte bytes =
     if nat_lt (doc + docs.0) (2 ^ 32) then (if nat_lt (byte + len.0) (2 ^ 64) then Some
     (checkpoint doc (doc + docs.0) byte (byte + len.0), len.1) else None) else None
 
--- so many, each from where the one before it ends
+-- this many, each from where the one before it ends
 unfoldable pub steps_at : ℕ → ℕ → ℕ → List ℕ → Option (List Checkpoint × List ℕ)
 steps_at zero doc byte bytes = Some ([], bytes)
 steps_at (suc more) doc byte bytes =

@@ -55,7 +55,7 @@ abbrev pub doc_interval : List Checkpoint → Option (Range ℕ)
 doc_interval [] = None
 doc_interval (c ∷ cs) = Some (record { start = c.doc_range.start; end = docs_end 0 (c ∷ cs) })
 
--- In line from the first id and the first byte on up to these ends. What begins there can be put behind it.
+-- In line from the first id and the first byte on up to these ends. What begins there can be put after it.
 pub record EndsAt (doc byte : ℕ) (cs : List Checkpoint) : Type 0 where
   pub in_line : IsInLineFrom 0 0 cs
   pub docs : docs_end 0 cs ≡ doc
@@ -66,7 +66,7 @@ abbrev pub IsInLine : List Checkpoint → Type 0
 IsInLine [] = Unit {0}
 IsInLine (c ∷ cs) = IsInLineFrom c.doc_range.start c.byte_range.start (c ∷ cs)
 
--- a checkpoint behind another: what it has of both kinds
+-- a checkpoint after another: what it has of both kinds
 abbrev pub step : Checkpoint → List ℕ
 step c = number (doc_count c) ++ number (byte_len c)
 

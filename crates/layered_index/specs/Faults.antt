@@ -10,7 +10,7 @@ use Rattle.layered_index.specs.BlockReading.{heading_at, run_at}
 use Rattle.layered_index.specs.LayerReading.{items, may_stand, IsLayerBelow}
 use Rattle.layered_index.specs.IndexReading.{split_at, AreLayersBelow, last_items}
 
--- What points to the runs that may stand one behind the other, where the first is to begin at this document and this
+-- What points to the runs that may stand one after the other, where the first is to begin at this document and this
 -- byte, and its block lies at this place.
 unfoldable pub standing_within : ℕ → ℕ → ℕ → ℕ → ℕ → List ℕ → List Checkpoint
 standing_within zero period doc byte place bytes = []
@@ -48,7 +48,7 @@ abbrev pub BreaksAt : ℕ → Option (List Checkpoint) → List ℕ → ℕ → 
 BreaksAt period above text byte =
     PassedTo above (option_map_or (λ h. standing_from period h.0.doc h.0.byte 0 text) (heading_at text) []) 0 byte
 
--- the fault at a byte of the first of these layers, which are the last ones of an index of so many bytes
+-- the fault at a byte of the first of these layers, which are the last ones of an index of this many bytes
 abbrev pub fault_in : ℕ → List (List ℕ) → ℕ → IndexFault
 fault_in len layers byte = record { layer = Some (length layers - 1); byte = len - length (concat layers) + byte }
 
@@ -56,7 +56,7 @@ fault_in len layers byte = record { layer = Some (length layers - 1); byte = len
 abbrev pub fault_of_list : IndexFault
 fault_of_list = record { layer = None; byte = 0 }
 
--- The first of these layers, which are the last ones of an index of so many bytes, that is no layer below the one above
+-- The first of these layers, which are the last ones of an index of this many bytes, that is no layer below the one above
 -- it has this fault.
 abbrev pub HasFault : ℕ → ℕ → Option (List Checkpoint) → List (List ℕ) → IndexFault → Type 0
 HasFault period len above [] fault = ⊥

@@ -12,7 +12,7 @@ use Rattle.layered_index.specs.Sought.{sought_at, after_numbers, next_layer}
 abbrev pub longest_head : ℕ
 longest_head = 641
 
--- No run of so many checkpoints has more bytes: numbers of ten, five and ten bytes, and two of five for each.
+-- No run of this many checkpoints has more bytes: numbers of ten, five and ten bytes, and two of five for each.
 abbrev pub longest_run : ℕ → ℕ
 longest_run period = 25 + 10 * period
 
@@ -23,7 +23,7 @@ head_bytes start end = min (end - start) longest_head
 abbrev pub run_bytes : ℕ → ℕ → ℕ → ℕ
 run_bytes period start end = min (end - start) (longest_run period)
 
--- where the documents of a run end, if its bytes are a block of at most so many checkpoints
+-- where the documents of a run end, if its bytes are a block of at most this many checkpoints
 abbrev pub run_end : ℕ → List ℕ → Option ℕ
 run_end most run = sought_at most 0 (take (longest_run most) run) >>= λ s. Some s.doc_end
 
@@ -60,12 +60,12 @@ pub record IsHead (head : HeadBytes) (count ends texts : ℕ) : Type 0 where
   pub behind : after_numbers count (drop ends head.front) ≡ Some rest
   pub placed : texts + length rest ≡ head.start + length head.front
 
--- The bytes don't begin with a number below 65 and then so many numbers.
+-- The bytes don't begin with a number below 65 and then this many numbers.
 abbrev pub HasNoHead : List ℕ → Type 0
 HasNoHead bytes = (count : ℕ) (ends rest : List ℕ) → number_below 65 bytes ≡ Some (count, ends)
     → after_numbers count ends ≡ Some rest → ⊥
 
--- what at most so many reads of at most so many bytes in all leave of a file
+-- what at most this many reads of at most this many bytes in all leave of a file
 pub record ReadsAtMost (most bytes : ℕ) (old new : Part) : Type 0 where
   pub content : new.content ≡ old.content
   pub honest : new.honest ≡ old.honest
@@ -73,11 +73,11 @@ pub record ReadsAtMost (most bytes : ℕ) (old new : Part) : Type 0 where
   pub asked : new.asked ≤ old.asked + bytes
   pub failures : old.failures ≤ new.failures
 
--- what at most so many reads of a run each leave of a file
+-- what at most this many reads of a run each leave of a file
 abbrev pub ReadsRuns : ℕ → ℕ → Part → Part → Type 0
 ReadsRuns period count old new = ReadsAtMost count (count * longest_run period) old new
 
--- The head has so many layers, and at most one run of each was read.
+-- The head has this many layers, and at most one run of each was read.
 pub record ReadsLayers (head : HeadBytes) (old new : Part) : Type 0 where
   pub count : ℕ
   pub ends : ℕ

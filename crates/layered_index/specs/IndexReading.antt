@@ -8,7 +8,7 @@ use Rattle.layered_index.specs.Layers.{digit_count, index_part}
 use Rattle.layered_index.specs.LayerReading.{items, IsLayerBelow}
 use Rattle.layered_index.specs.Tables.{EndLists, no_ends, with_ends}
 
--- so many numbers
+-- this many numbers
 unfoldable pub numbers_at : ℕ → List ℕ → Option (List ℕ × List ℕ)
 numbers_at zero bytes = Some ([], bytes)
 numbers_at (suc more) bytes = number_below (2 ^ 64) bytes >>= λ n. numbers_at more n.1 >>= λ others. Some

@@ -14,12 +14,12 @@ unfoldable pub next_in_block : ℕ → ℕ → ℕ → List ℕ → Option (Chec
 next_in_block zero doc byte bytes = None
 next_in_block (suc left) doc byte bytes = step_at doc byte bytes >>= λ c. Some (c.0, left, c.1)
 
--- the same, where behind a block the next one begins
+-- the same, where after a block the next one begins
 unfoldable pub next_at : ℕ → ℕ → ℕ → List ℕ → Option (Checkpoint × ℕ × List ℕ)
 next_at zero doc byte bytes = heading_at bytes >>= λ h. next_in_block h.0.count h.0.doc h.0.byte h.1
 next_at (suc left) doc byte bytes = next_in_block (suc left) doc byte bytes
 
--- at most so many checkpoints, where so many are left in a block and the next one begins at this document and this byte
+-- at most this many checkpoints, where this many are left in a block and the next one begins at this document and this byte
 unfoldable pub items_within : ℕ → ℕ → ℕ → ℕ → List ℕ → List Checkpoint
 items_within zero left doc byte bytes = []
 items_within (suc more) left doc byte bytes = option_map_or
@@ -29,7 +29,7 @@ items_within (suc more) left doc byte bytes = option_map_or
 unfoldable pub items : ℕ → ℕ → ℕ → List ℕ → List Checkpoint
 items left doc byte bytes = items_within (length bytes) left doc byte bytes
 
--- whether a run may stand here, with so many bytes behind it: only the last one is not full
+-- whether a run may stand here, with this many bytes after it: only the last one is not full
 abbrev pub may_stand : ℕ → ℕ → ℕ → Run → ℕ → Bool
 may_stand period doc byte r behind = (r.doc == doc) && (r.byte == byte) && nat_lt 0 r.count && nat_le r.count period &&
     ((r.count == period) || (behind == 0))

@@ -6,7 +6,7 @@ use Rattle.store_base.specs.VInt.{number}
 use Rattle.layered_index.specs.declared.checkpoint.Checkpoint.{Checkpoint}
 use Rattle.layered_index.specs.Checkpoint.{checkpoint, docs_end, checkpoint_block}
 
--- the runs of a list, of at most so many runs
+-- the runs of a list, of at most this many runs
 unfoldable pub groups_within : {A : Type 0} → ℕ → ℕ → List A → List (List A)
 groups_within zero period xs = []
 groups_within (suc more) period [] = []
@@ -40,7 +40,7 @@ layer_above period cs = pointers 0 (groups period cs)
 unfoldable pub digit_count : ℕ → ℕ → ℕ
 digit_count base n = length (digits_of base n)
 
--- so many layers, this one and those above it
+-- this many layers, this one and those above it
 abbrev pub layers_from : ℕ → ℕ → List Checkpoint → List (List Checkpoint)
 layers_from period zero cs = []
 layers_from period (suc above) cs = cs ∷ layers_from period above (layer_above period cs)
@@ -49,7 +49,7 @@ layers_from period (suc above) cs = cs ∷ layers_from period above (layer_above
 abbrev pub layers : ℕ → List Checkpoint → List (List Checkpoint)
 layers period cs = layers_from period (digit_count period (length cs)) cs
 
--- where each text ends, if they stand one behind the other from this place on
+-- where each text ends, if they stand one after the other from this place on
 abbrev pub ends_from : ℕ → List (List ℕ) → List ℕ
 ends_from place [] = []
 ends_from place (text ∷ texts) = (place + length text) ∷ ends_from (place + length text) texts

@@ -16,7 +16,7 @@ abbrev pub refusal_of : ReadFault → StoreError
 refusal_of Malformed = BadIndex
 refusal_of OutOfMemory = Memory
 
--- It is for want of memory, or the bytes aren't what they should be.
+-- It is for lack of memory, or the bytes aren't what they should be.
 abbrev pub RefusesOnlyUnless : Type 0 → StoreError → Type 0
 RefusesOnlyUnless good e = ((e ≡ BadIndex) × (good → ⊥)) ⊎ (e ≡ Memory)
 

@@ -3,7 +3,7 @@ use Rattle.std.specs.Prelude.{◌≡◌, ℕ, ◌/◌, ◌<◌, ◌≤◌, List,
 use Rattle.layered_index.specs.declared.checkpoint.Checkpoint.{Checkpoint}
 use Rattle.layered_index.specs.Layers.{digit_count}
 
--- none of the first so many ends past the target
+-- none of the first this many ends past the target
 abbrev pub NoneBelow : List Checkpoint → ℕ → ℕ → Type 0
 NoneBelow cs target low = (i : ℕ) (c : Checkpoint) → i < low → slice_get cs i ≡ Some c → c.doc_range.end ≤ target
 
@@ -19,7 +19,7 @@ pub record LiesBetween (cs : List Checkpoint) (target low high : ℕ) : Type 0 w
   pub before : NoneBelow cs target low
   pub past : EndsPast target (slice_get cs high)
 
--- How many looks may be made near a guess among so many, before what is left is halved: one for each two of the binary
+-- How many looks may be made near a guess among this many, before what is left is halved: one for each two of the binary
 -- digits, but the first two.
 abbrev pub looks_to_spare : ℕ → ℕ
 looks_to_spare n = digit_count 4 (n / 8)

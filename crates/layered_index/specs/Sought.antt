@@ -111,7 +111,7 @@ next_layer place ends texts =
     else (if nat_lt (length texts) (n.0 - place) then None else Some
     (take (n.0 - place) texts, n.0, n.1, drop (n.0 - place) texts))
 
--- What is found in the lowest of so many layers, where this was found above them. Where a layer has nothing past the
+-- What is found in the lowest of this many layers, where this was found above them. Where a layer has nothing past the
 -- target, the layers below it are not read; else no byte may follow the lowest.
 unfoldable pub found_down : Bool → ℕ → ℕ → ℕ → ℕ → List ℕ → List ℕ → Option Checkpoint → Option (Option Checkpoint)
 found_down whole most target zero place ends texts found = if length texts == 0 then Some found else None

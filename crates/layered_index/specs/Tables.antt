@@ -42,7 +42,7 @@ between doc byte [] bytes = []
 between doc byte (d ∷ docs) [] = []
 between doc byte (d ∷ docs) (b ∷ bytes) = checkpoint doc d byte b ∷ between d b docs bytes
 
--- As many ends of both kinds, of a list in line, and it is told whether it is filled.
+-- As many ends of both kinds, of a list in line, with a mark whether it is filled.
 pub record AreTables (ends : EndLists) (cs : List Checkpoint) : Type 0 where
   pub as_many : length ends.docs ≡ length ends.bytes
   pub in_line : IsInLine cs

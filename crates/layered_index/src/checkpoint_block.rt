@@ -130,7 +130,7 @@ impl CheckpointBlock {
     }
 }
 
-// Appends the bytes of checkpoints. A want of memory may leave a part of them.
+// Appends the bytes of checkpoints. Where memory runs out a part of them may be left.
 #[tactic(auto, unfolding(crate::specs::Checkpoint::checkpoint_block))]
 fn write_checkpoints(checkpoints: &[Checkpoint], output: &mut Vec<u8>) -> Result<(), StoreError>
     requires { IsInLine checkpoints.now }

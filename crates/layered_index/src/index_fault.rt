@@ -34,7 +34,7 @@ fn total_len(layers: &[OwnedBytes]) -> usize
     total
 }
 
-/// The fault at this byte of the first of these layers, which are the last ones of an index of so many bytes.
+/// The fault at this byte of the first of these layers, which are the last ones of an index of `len` bytes.
 pub(crate) fn fault_in(len: usize, layers: &[OwnedBytes], byte: usize) -> IndexFault
     requires some { 0 < length layers.now }
     requires within { length (concat layers.now) ≤ len }

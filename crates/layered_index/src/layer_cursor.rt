@@ -28,7 +28,7 @@ fn next_in_block(
     Some((checkpoint, left - 1, rest))
 }
 
-// The same, where behind a block the next one begins.
+// The same, where the next block begins after a block.
 #[inline(always)]
 #[tactic(auto, unfolding(crate::specs::LayerReading::next_at))]
 fn next_front(

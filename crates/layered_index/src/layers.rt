@@ -124,7 +124,7 @@ fn run_front<'a>(
     Ok((run, rest))
 }
 
-// Whether a run may stand here, with so many bytes behind it: only the last one is not full.
+// Whether a run may be here, with `behind` bytes after it: only the last one is not full.
 fn may_stand(period: usize, doc: u32, byte: usize, run: &Run, behind: usize) -> bool
     ensures { result ≡ may_stand period doc byte run.now behind }
 {
@@ -237,7 +237,7 @@ fn walk_layer(
     walk_runs(period, heading, text, above, ends)
 }
 
-/// Walks over layers from the top down, the last ones of an index of so many bytes. What is kept in the
+/// Walks over layers from the top down, the last ones of an index of this many bytes. What is kept in the
 /// end is where the checkpoints of the last one end.
 pub(crate) fn walk_down(
     period: usize,

@@ -75,7 +75,7 @@ pub(crate) fn heading_front(bytes: &[u8]) -> Option<(Heading, &[u8])>
     Some((heading, rest))
 }
 
-// So many checkpoints, and what follows them. The heading has told that so many could follow.
+// As many checkpoints as the heading says, and what follows them. There are bytes enough for that many.
 fn steps_front(
     alloc: Global,
     heading: Heading,

@@ -94,7 +94,7 @@ impl SkipIndex {
         SkipIndex::open_with_period(alloc, source, USUAL_PERIOD)
     }
 
-    /// Reads an index whose full blocks have so many checkpoints. It is refused unless the bytes are
+    /// Reads an index whose full blocks have `period` checkpoints. It is refused unless the bytes are
     /// the index of a list in line.
     pub fn open_with_period(
         alloc: Global,
@@ -116,7 +116,7 @@ impl SkipIndex {
         })
     }
 
-    /// Where the bytes first break a rule of an index whose full blocks have so many checkpoints. It is
+    /// Where the bytes first break a rule of an index whose full blocks have `period` checkpoints. It is
     /// `None` exactly if they are the index of a list in line.
     pub fn find_fault(
         alloc: Global,

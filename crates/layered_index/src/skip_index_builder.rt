@@ -163,7 +163,7 @@ fn add_layer(layers: &mut Vec<LayerBuilder>, checkpoint: Checkpoint) -> Result<(
 }
 
 // Inserts a checkpoint in the layer at this index, and the pointers to full blocks in those
-// above. All growths come before what can't be taken back, so a want of memory leaves the layers.
+// above. All growths come before what can't be taken back, so to run out of memory leaves the layers.
 fn insert_at(
     layers: &mut Vec<LayerBuilder>,
     at: usize,
@@ -301,7 +301,7 @@ impl SkipIndexBuilder {
     /// Appends the index part of the inserted checkpoints: how many layers there are, where each
     /// ends, and the layers from the top down. What takes memory comes before the first write.
     ///
-    /// The layers go out as they stand, without a copy. After `Failed` some of the bytes may be out.
+    /// The layers are written as they are, without a copy. After `Failed` some of the bytes may be written.
     pub fn serialize_into<W: TerminatingWrite>(self, output: &mut W) -> Result<(), StoreError>
         ensures ok { OnOk result (W.content output.new ≡
             W.content output.old ++ index_part self.period self.checkpoints) }

@@ -65,7 +65,7 @@ impl Ends {
         (self.docs[i], self.bytes[i])
     }
 
-    /// Forgets all, and makes room for so many.
+    /// Forgets all, and makes room for `most`.
     pub fn start_over(&mut self, most: usize) -> Result<(), NoMemory>
         ensures { IfOk result (λ _. self.new ≡ no_ends) }
     {

@@ -6,7 +6,7 @@ use Rattle.layered_index.specs.Layers.{digit_count}
 use Rattle.layered_index.specs.IndexReading.{IsIndexPart}
 use Rattle.main_theorem.specs.declared.index.IndexAnswer.{IndexAnswer}
 
--- So many looks at a list of this length: some if it has any checkpoint, and in each base no more than the base for
+-- This many looks at a list of this length: some if it has any checkpoint, and in each base no more than the base for
 -- each digit.
 pub record AreLooks (looks len : ℕ) : Type 0 where
   pub least : 0 < len → 0 < looks

@@ -1,4 +1,4 @@
--- A list of writing calls, its file opened twice, and a list of reading calls asked of both readers.
+-- A list of writing calls, its file opened twice, and a list of reading calls for both readers.
 use Rattle.std.specs.Prelude.{◌≡◌, ℕ, ◌+◌, List, [], ◌∷◌, map, Option}
 use Rattle.store_format.specs.Block.{Slot}
 use Rattle.store_format.specs.Footer.{version_number}

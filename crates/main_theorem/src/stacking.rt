@@ -10,7 +10,7 @@ use crate::opening::opened;
 use docstore::{Compressor, MemSink, StoreError, StoreWriter, laws};
 use std::alloc::Global;
 
-// Puts the store of a file behind what the writer has.
+// Appends the store of a file to what the writer has.
 fn stack_file(
     writer: &mut StoreWriter<MemSink>,
     alloc: Global,
@@ -25,7 +25,7 @@ fn stack_file(
     writer.stack(&mut reader)
 }
 
-// The file of two stores, stacked one behind the other.
+// The file of two stores, stacked one after the other.
 fn stacked(
     alloc: Global,
     block_size: usize,

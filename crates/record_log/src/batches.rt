@@ -42,7 +42,7 @@ fn number_at(bytes: &[u8]) -> Option<u32>
     Some(u32::from_le_bytes(*front))
 }
 
-// How long the item at the front is, if it stands there whole.
+// How long the item at the front is, if all of it is there.
 fn whole_length(bytes: &[u8]) -> Option<usize>
     ensures some { IfSome result
         (λ n. (has_whole bytes.now ≡ true) × (n ≡ four_in bytes.now) × (4 + n ≤ length bytes.now)) }
@@ -67,7 +67,7 @@ fn is_summed(item: &[u8]) -> bool
     }
 }
 
-// How long the item of the batch at the front is, after its length, if a batch stands there.
+// How long the item of the batch at the front is, after its length, if a batch is there.
 fn batch_length(bytes: &[u8]) -> Option<usize>
     ensures some { IfSome result
         (λ n. (has_batch bytes.now ≡ true) × (n ≡ four_in bytes.now) × (8 ≤ n) × (4 + n ≤ length bytes.now)) }

@@ -10,7 +10,7 @@ is_alive_at set id = slice_index_or set id false
 abbrev pub is_bit_set : List ℕ → ℕ → Bool
 is_bit_set words id = bit_at (slice_index_or words (id / 64) 0) (id % 64) == 1
 
--- the flags of so many documents, from this one on
+-- the flags of this many documents, from this one on
 unfoldable pub flags_from : ℕ → ℕ → List ℕ → List Bool
 flags_from zero id words = []
 flags_from (suc more) id words = is_bit_set words id ∷ flags_from more (suc id) words

@@ -17,7 +17,7 @@ pub record Part : Type 0 where
   pub reads : ℕ
   pub asked : ℕ
 
--- what one read of so many bytes leaves of a part
+-- what one read of this many bytes leaves of a part
 pub record ReadsOnce (len : ℕ) (old new : Part) : Type 0 where
   pub content : new.content ≡ old.content
   pub honest : new.honest ≡ old.honest

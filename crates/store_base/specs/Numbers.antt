@@ -17,7 +17,7 @@ pub record AreNumbers (ns : List ℕ) : Type 0 where
   pub few : length ns < 2 ^ 64
   pub below : AllByRecursion (IsBelow (2 ^ 64)) ns
 
--- A count stands in front that exceeds the bytes behind it; each number takes a byte.
+-- A count stands in front that exceeds the bytes after it; each number takes a byte.
 pub record ClaimsTooMany (old : List ℕ) : Type 0 where
   pub count : ℕ
   pub rest : List ℕ
@@ -25,7 +25,7 @@ pub record ClaimsTooMany (old : List ℕ) : Type 0 where
   pub parts : old ≡ number count ++ rest
   pub over : length rest < count
 
--- A count stands in front that doesn't, and behind it fewer numbers than that, and then what is refused for this fault.
+-- A count stands in front that doesn't, and after it fewer numbers than that, and then what is refused for this fault.
 pub record FailsAt (old : List ℕ) (e : DecodeFault) : Type 0 where
   pub count : ℕ
   pub before : List ℕ

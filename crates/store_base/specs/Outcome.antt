@@ -29,7 +29,7 @@ number_of TooManyDocs = 14
 number_of (Failed _) = 15
 number_of (BadPeriod _) = 16
 
--- once bytes went out, want of memory is a failure
+-- once bytes went out, lack of memory is a failure
 abbrev pub behind_bytes : StoreError → StoreError
 behind_bytes Memory = Failed OutOfMemory
 behind_bytes e = e

@@ -18,7 +18,7 @@ terminated_once ok content old = record {
       if ok then Some (length content) else old.at;
 }
 
--- It ended, and nothing was written behind its end.
+-- It ended, and nothing was written after its end.
 abbrev pub IsTerminated : List ℕ → Termination → Type 0
 IsTerminated content t = t.at ≡ Some (length content)
 

@@ -63,7 +63,7 @@ spelling_of version = if version == 1 then record { field = fixed_at w32; size =
   size = number_below (2 ^ 64);
 }
 
--- so many bytes
+-- this many bytes
 abbrev pub bytes_at : ℕ → List ℕ → Option (List ℕ × List ℕ)
 bytes_at count bytes = if nat_lt (length bytes) count then None else Some (take count bytes, drop count bytes)
 

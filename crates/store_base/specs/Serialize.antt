@@ -12,7 +12,7 @@ IsBytes bytes = AllByRecursion (λ b. b < 256) bytes
 unfoldable pub fixed : ℕ → ℕ → List ℕ
 fixed bytes n = bytes_low_first 0 bytes n
 
--- the fixed number at the front, and the bytes behind it
+-- the fixed number at the front, and the bytes after it
 abbrev pub fixed_at : Width → List ℕ → Option (ℕ × List ℕ)
 fixed_at w bytes = if nat_lt (length bytes) (byte_len w) then None else Some (
   from_le_bytes w (take (byte_len w) bytes),

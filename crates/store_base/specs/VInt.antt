@@ -2,7 +2,7 @@
 use Rattle.std.specs.Prelude.{ℕ, zero, suc, ◌+◌, ◌-◌, ◌*◌, ◌/◌, ◌%◌, nat_lt, nat_le, ◌==◌, if◌then◌else◌, List, [], ◌∷◌}
 use Rattle.std.specs.Prelude.{Option, Some, None}
 
--- The lowest group first; the last byte alone has 128 added. There are at most so many bytes before the last. What
+-- The lowest group first; the last byte alone has 128 added. There are at most this many bytes before the last. What
 -- `let` names
 -- is not computed before it is needed.
 unfoldable pub number_within : ℕ → ℕ → List ℕ
@@ -15,13 +15,13 @@ number_within (suc bytes) n =
 unfoldable pub number : ℕ → List ℕ
 number n = number_within n n
 
--- Reading gives a value and the bytes behind it.
+-- Reading gives a value and the bytes after it.
 infixl 10 ◌>>=◌
 abbrev pub ◌>>=◌ : {A B : Type 0} → Option A → (A → Option B) → Option B
 (Some x) >>= f = f x
 None >>= f = None
 
--- A number in front, in its one spelling: behind a byte below 128 the rest is not 0.
+-- A number in front, in its one spelling: after a byte below 128 the rest is not 0.
 unfoldable pub number_at : List ℕ → Option (ℕ × List ℕ)
 number_at [] = None
 number_at (b ∷ bytes) = if nat_le 128 b then Some (

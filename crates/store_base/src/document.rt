@@ -9,12 +9,12 @@ use std::alloc::Global;
 
 /// What can be written.
 pub trait Document: Drop {
-    /// The document's bytes in a schema of so many fields, if it has any.
+    /// The document's bytes in a schema of this many fields, if it has any.
     ghost doc_bytes: { Self → ℕ → Option (List ℕ) };
 
     /// Appends the document's bytes.
     ///
-    /// A refusal may leave bytes behind the old end of `out`; `Refused` comes exactly where there are none to write,
+    /// A refusal may leave bytes after the old end of `out`; `Refused` comes exactly where there are none to write,
     /// memory aside. The capacity of `out` never falls.
     fn serialize_doc(&self, schema: &Schema, out: &mut Vec<u8>) -> Result<(), DocFault>
         ensures ok { OnOk result (Appends (doc_bytes self.now schema.now) out.old.items out.new.items) }

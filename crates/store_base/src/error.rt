@@ -14,7 +14,7 @@ pub enum Cause {
     /// The output refused a write, or its end.
     #[error("a write failed")]
     Write,
-    /// Memory ran out after bytes of the call had gone out.
+    /// Memory ran out after bytes of the call were written.
     #[error("no memory")]
     Memory,
 }
@@ -31,7 +31,7 @@ pub enum StoreError {
     /// The footer names a kind of block that isn't read here.
     #[error("block kind {0} is not raw")]
     BadBlockKind(u8),
-    /// The footer's offset lies behind the bytes before it.
+    /// The footer's offset is past the bytes before it.
     #[error("index offset is past the body")]
     BadOffset,
     /// The bytes are not the one spelling of checkpoints in line, or these don't cover the data.

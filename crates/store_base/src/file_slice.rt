@@ -1,7 +1,7 @@
 //! Files that are read in parts.
 //!
-//! A file may lie, and its reads may fail. What it holds, whether it is honest, how often it failed and was read, and
-//! for how many bytes are told by ghost members, so a caller's promise can say "where the file is honest", "only where
+//! A file may lie, and its reads may fail. Ghost members say what it holds, whether it is honest, how often it failed
+//! and was read, and for how many bytes. So a caller's promise can say "where the file is honest", "only where
 //! a read failed" and "no more than this block".
 
 ghost use Rattle.std.specs.Prelude.{◌≡◌, ◌≤◌, ◌-◌, ◌⊎◌, ℕ, List, Bool, length, IfOk, IsTrue, IsErrOf, slice_range};

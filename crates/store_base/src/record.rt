@@ -109,7 +109,7 @@ fn push_record(
 impl Document for RecordDocument {
     ghost doc_bytes = { doc_bytes };
 
-    /// Appends the record's bytes. Unlike what every document promises, a refusal leaves nothing behind.
+    /// Appends the record's bytes. Unlike what every document promises, a refusal leaves `out` as it was.
     fn serialize_doc(&self, schema: &Schema, out: &mut Vec<u8>) -> Result<(), DocFault>
         ensures ok { OnOk result (Appends (doc_bytes self.now schema.now) out.old.items out.new.items) }
         ensures refused { IsErrOf result DocFault.Refused → doc_bytes self.now schema.now ≡ None }

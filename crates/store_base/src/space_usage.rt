@@ -22,7 +22,7 @@ impl Model for StoreSpaceUsage {
 }
 
 impl StoreSpaceUsage {
-    /// A store with so many bytes of data and so many of index.
+    /// A store with this many bytes of data and of index.
     pub fn new(data_bytes: u64, offsets_bytes: u64) -> StoreSpaceUsage
         ensures { result ≡ (data_bytes, offsets_bytes) }
     {

@@ -1,6 +1,6 @@
 //! Numbers in groups of seven bits, the lowest group first. The last byte alone has 128 added.
 //!
-//! Each number has one spelling: 0 is `80`, 127 is `ff`, 128 is `00 81`, 300 is `2c 82`. A last group of zero behind
+//! Each number has one spelling: 0 is `80`, 127 is `ff`, 128 is `00 81`, 300 is `2c 82`. A last group of zero after
 //! another group is no spelling.
 
 ghost use Rattle.std.specs.Prelude.{◌≡◌, ◌+◌, ◌^◌, ◌<◌, ◌≤◌, ◌++◌, ◌↔◌, take, Some, None, IsTrue, OnOk, OnErr, IfOk};
@@ -150,7 +150,7 @@ pub fn read_u32_vint(bytes: &mut &[u8]) -> Result<u32, DecodeFault>
     Ok(value as u32)
 }
 
-// Appends the number's bytes. Want of memory may leave a part of them.
+// Appends the number's bytes. Where memory runs out a part of them may be left.
 fn push_groups(n: u64, output: &mut Vec<u8>) -> Result<(), NoMemory>
     ensures ok { OnOk result (output.new.items ≡ output.old.items ++ number n) }
     ensures err { OnErr result (BeginsWith output.old.items output.new.items) }
@@ -183,7 +183,7 @@ fn groups(n: u64) -> ([u8; 10], usize)
 }
 
 impl VInt {
-    /// Appends the number's bytes. Want of memory leaves the Vec as it was; its capacity never falls.
+    /// Appends the number's bytes. `NoMemory` leaves the Vec as it was; its capacity never falls.
     pub fn serialize_into_vec(&self, output: &mut Vec<u8>) -> Result<(), NoMemory>
         ensures ok { OnOk result (output.new.items ≡ output.old.items ++ number self.now.0) }
         ensures err { OnErr result (output.new.items ≡ output.old.items) }

@@ -14,8 +14,8 @@ pub trait TerminatingWrite: Drop {
     /// What was written.
     ghost content: { Self → List ℕ };
 
-    /// How often `terminate` was called, up to the greatest u64, and how many bytes stood there when it
-    /// last answered Ok. Bytes that are written behind an end leave it where it is, so they are not ended.
+    /// How often `terminate` was called, up to the greatest u64, and how many bytes there were when it
+    /// last returned Ok. Bytes that are written after an end don't move it, so they are not ended.
     ghost termination: { Self → Termination };
 
     /// How often a call failed. A count that stands at its greatest value is taken to have risen.
@@ -29,7 +29,7 @@ pub trait TerminatingWrite: Drop {
         ensures fault { OnErr result (HasRisen (failures self.old) (failures self.new)) }
         ensures steady { OnOk result (failures self.new ≡ failures self.old) };
 
-    /// Ends the output: nothing will be written behind this.
+    /// Ends the output: nothing will be written after this.
     fn terminate(&mut self) -> Result<(), WriteFault>
         ensures termination { termination self.new
             ≡ terminated_once (is_ok result) (content self.old) (termination self.old) }

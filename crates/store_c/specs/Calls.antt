@@ -36,7 +36,7 @@ ends_in table = map end_of table
 abbrev pub ends_of : Checkpoint → BlockEnd
 ends_of c = record { end_doc = c.doc_range.end; end_byte = c.byte_range.end }
 
--- where it ends behind this place
+-- where it ends after this place
 abbrev pub ends_behind : BlockEnd → Checkpoint → BlockEnd
 ends_behind start c = record {
   end_doc = c.doc_range.end + start.end_doc;
@@ -59,8 +59,8 @@ pub record IsTableOf (file : List ℕ) (table : List Block) : Type 0 where
   pub of : IsViewOf file view
   pub ends : ends_in table ≡ map ends_of (checkpoints_of view.store)
 
--- These bytes are the file of a store, which has so many blocks and documents. Its table goes over the front of this
--- one, and the rows behind it stay.
+-- These bytes are the file of a store, which has this many blocks and documents. Its table goes over the front of this
+-- one, and the rows after it stay.
 pub record Fills (file : List ℕ) (old new : List Block) (count num_docs : ℕ) : Type 0 where
   pub view : Viewing
   pub of : IsViewOf file view
@@ -69,7 +69,7 @@ pub record Fills (file : List ℕ) (old new : List Block) (count num_docs : ℕ)
   pub filled : ends_in new ≡ with_front (map ends_of (checkpoints_of view.store)) (ends_in old)
   pub behind : drop count new ≡ drop count old
 
--- These bytes are the file of a store, which has so many blocks and documents.
+-- These bytes are the file of a store, which has this many blocks and documents.
 pub record HasCounts (file : List ℕ) (count num_docs : ℕ) : Type 0 where
   pub view : Viewing
   pub of : IsViewOf file view
@@ -107,7 +107,7 @@ pub record IsPlace (file : List ℕ) (table : List Block) (id : ℕ) (p : Place)
   pub within : p.start + p.len ≤ length file
   pub document : IsTableOf file table → HasSlot file id (Some (doc (slice_range file p.start (p.start + p.len))))
 
--- The first of these are the places of documents, one behind the other from this number on.
+-- The first of these are the places of documents, one after the other from this number on.
 abbrev pub ArePlaces : List ℕ → List Block → ℕ → List Place → ℕ → Type 0
 ArePlaces file table first places count =
     (j : ℕ) → j < count → IfSome (slice_get places j) (IsPlace file table (first + j))

@@ -16,7 +16,7 @@ pub record IsSoundFile (file : List ℕ) : Type 0 where
   pub of : IsViewOf file view
   pub whole : (id : ℕ) → slot_of view id ≡ Some damaged → ⊥
 
--- These bytes are the file of a store, and this is the first of its documents that is damaged. No other number is told.
+-- These bytes are the file of a store, and this is the first of its documents that is damaged. No other number is set.
 pub record IsFirstDamaged (file : List ℕ) (at : Fault) : Type 0 where
   pub view : Viewing
   pub of : IsViewOf file view
@@ -36,7 +36,7 @@ IsPlaceOf start None at = (at.byte ≡ start) × (at.layer ≡ 2 ^ 32 - 2)
 IsPlaceOf start (Some fault) at = (start + fault.byte < 2 ^ 64 → at.byte ≡ start + fault.byte) × IsLayerNumber fault.layer at.layer
 
 -- Where the index of this file first breaks a rule; or its start, where it is the index of a list in line. No document
--- is told.
+-- is set.
 pub record IsIndexFault (file : List ℕ) (at : Fault) : Type 0 where
   pub start : ℕ
   pub fault : Option IndexFault

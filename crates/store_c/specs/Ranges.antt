@@ -22,7 +22,7 @@ IsRefusedByTail file_len tail id e = (file : List ℕ) → IsTailOf file file_le
 abbrev pub RefusesTail : ℕ → List ℕ → ℕ → Type 0
 RefusesTail file_len tail number = (file : List ℕ) → IsTailOf file file_len tail → RefusesUnopened file number
 
--- The place is of no such block: the document is not one of it, these are not so many bytes, or no file is so long.
+-- The place is of no such block: the document is not one of it, these are not this many bytes, or no file is so long.
 abbrev pub IsOtherBlock : BlockPlace → List ℕ → ℕ → Type 0
 IsOtherBlock at block id =
     (id < at.first_doc) ⊎ (at.end_doc ≤ id) ⊎ (length block ≢ at.len) ⊎ (2 ^ 64 ≤ at.start + at.len)

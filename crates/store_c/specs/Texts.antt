@@ -1,4 +1,4 @@
--- What refusals are told by.
+-- The texts of refusals.
 use Rattle.std.specs.Prelude.{ℕ, ◌==◌, if◌then◌else◌, List, codes}
 
 -- the text of a refusal's number

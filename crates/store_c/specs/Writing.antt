@@ -60,23 +60,23 @@ Begins block_size writer =
     (failures : ℕ) → 2 ≤ period → period ≤ 64 → Holds (memory writer starts table) []
     (new_writing block_size (new_output compressor period [] termination failures))
 
--- so many numbers, four bytes each
+-- this many numbers, four bytes each
 abbrev pub bytes_of : ℕ → List ℕ → List ℕ
 bytes_of count starts = flat_map (fixed 4) (take count starts)
 
--- A document of this length is put, once it is written and so many starts behind it.
+-- A document of this length is put, once it is written and this many starts after it.
 abbrev pub PutsDocument : ℕ → ℕ → Memory → Memory → Type 0
 PutsDocument len count old new =
     (written : List ℕ) (w : Writing) (document : List ℕ) → length document ≡ len → Holds old written w
     → Holds new (written ++ document ++ bytes_of count new.starts) (with_document w document)
 
--- The open block is ended, once so many starts are written.
+-- The open block is ended, once this many starts are written.
 abbrev pub EndsBlock : ℕ → Memory → Memory → Type 0
 EndsBlock count old new =
     (written : List ℕ) (w : Writing) → Holds old written w
     → Holds new (written ++ bytes_of count new.starts) (flushed w)
 
--- The blocks of a store are put behind the others, once its data is written.
+-- The blocks of a store are put after the others, once its data is written.
 abbrev pub PutsBlocks : Viewing → Writer → List Block → Writer → List Block → Type 0
 PutsBlocks view old_writer old_table new_writer new_table =
     (starts : List ℕ) (written : List ℕ) (w : Writing) → Holds (memory old_writer starts old_table) written w
@@ -106,13 +106,13 @@ pub record IsEndOf (period : ℕ) (ends : List BlockEnd) (end : List ℕ) : Type
   pub ends_are : ends ≡ map ends_of checkpoints
   pub is : end ≡ index_part period checkpoints ++ footer 3 (bytes_end 0 checkpoints) 0 (reserved_of period 3)
 
--- Behind what was written these bytes make the file.
+-- After what was written these bytes make the file.
 abbrev pub EndsFile : ℕ → List ℕ → Writer → List Block → Type 0
 EndsFile period end writer table =
     (starts : List ℕ) (written : List ℕ) (w : Writing) → Holds (memory writer starts table) written w
     → IsFileOf period (written ++ end) w
 
--- What makes the file behind what was written has this length: the index and the footer of the writer's rows, where no
+-- What makes the file after what was written has this length: the index and the footer of the writer's rows, where no
 -- block is open.
 pub record HasEnd (period len : ℕ) (writer : Writer) (table : List Block) : Type 0 where
   pub least : 2 ≤ period
@@ -158,7 +158,7 @@ HasTooManyWith view writer table =
     (starts : List ℕ) (written : List ℕ) (w : Writing) → Holds (memory writer starts table) written w
     → 2 ^ 32 ≤ num_docs w + count_in view
 
--- A block that begins here and has so many documents of so many bytes ends here, and has its place in 32 bits.
+-- A block that begins here and has this many documents of this many bytes ends here, and has its place in 32 bits.
 pub record EndsBlockAt (start : BlockEnd) (docs bytes : ℕ) (end : BlockEnd) : Type 0 where
   pub doc : end.end_doc ≡ start.end_doc + docs
   pub byte : end.end_byte ≡ start.end_byte + (bytes + 4 * docs + 4)
@@ -227,7 +227,7 @@ HasNumbersWith view writer table =
     (starts : List ℕ) (written : List ℕ) (w : Writing) → Holds (memory writer starts table) written w
     → num_docs w + count_in view < 2 ^ 32
 
--- why the blocks of a store aren't put behind these: the first of the causes
+-- why the blocks of a store aren't put after these: the first of the causes
 abbrev pub RefusesBlocks : Viewing → Writer → List Block → WriterRefusal → Type 0
 RefusesBlocks view writer table OldVersion = view.version ≡ V1
 RefusesBlocks view writer table OpenBlock = (view.version ≢ V1) × (0 < writer.docs)

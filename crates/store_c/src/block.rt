@@ -5,7 +5,7 @@ ghost use Rattle.store_c.specs.Calls.{end_of, row_of};
 /// Where a block of documents ends. It begins where the block before it ends, and the first one at 0.
 #[derive(Clone, Copy)]
 pub(crate) struct BlockEnd {
-    /// The number behind that of its last document.
+    /// One more than the number of its last document.
     pub end_doc: u32,
     /// How many bytes of the file stand before its end.
     pub end_byte: usize,
@@ -15,7 +15,7 @@ pub(crate) struct BlockEnd {
 #[repr(C)]
 #[derive(Clone, Copy)]
 pub struct Block {
-    /// The number behind that of the block's last document.
+    /// One more than the number of the block's last document.
     pub end_doc: u32,
     /// How many blocks end before a stretch of the documents: of those into which a seek parts them, the one with the
     /// row's index. A seek begins there, or at an even share of the blocks where it is 0. It may be anything.

@@ -6,7 +6,7 @@
 pub struct BlockPlace {
     /// The number of its first document.
     pub first_doc: u32,
-    /// The number behind that of its last document.
+    /// One more than the number of its last document.
     pub end_doc: u32,
     /// How many bytes of the file stand before it.
     pub start: usize,

@@ -52,7 +52,7 @@ fn index_of(alloc: Global, ends: &[Block], period: u8) -> Result<SkipIndexBuilde
     Ok(index)
 }
 
-/// What stands behind blocks that end so: their index and the footer.
+/// What follows blocks that end so: their index and the footer.
 pub(crate) fn end_of_file(
     alloc: Global,
     ends: &[Block],

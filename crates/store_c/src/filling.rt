@@ -8,8 +8,8 @@ use crate::block::{Block, BlockEnd};
 use crate::guiding::write_guides;
 use docstore::LayerCursor;
 
-/// Writes where blocks end that stand behind this place to the front of a table, as many as it has room for. It answers
-/// how many there are.
+/// Writes where the blocks after this place end to the front of a table, as many as it has room for. It returns how
+/// many there are.
 pub(crate) fn fill(checkpoints: LayerCursor<'_>, start: BlockEnd, table: &mut [Block]) -> usize
     requires few { length checkpoints < 2 ^ 32 }
     requires in_line { IsInLineFrom start.end_doc start.end_byte

@@ -10,7 +10,7 @@ use docstore::DocId;
 const FEW: usize = 4;
 
 // The documents are parted into stretches of equally many, a power of two: fewer stretches than there are rows, and at
-// least a quarter of that. How many documents a stretch has is told by its exponent.
+// least a quarter of that. The exponent says how many documents a stretch has.
 fn stretch_exponent(rows: usize, docs: DocId) -> u32
     ensures { result < 32 }
 {
@@ -21,7 +21,7 @@ fn stretch_exponent(rows: usize, docs: DocId) -> u32
         .min(u32::BITS - 1)
 }
 
-// How many blocks end before a document or with it, where so many are known to.
+// How many blocks end before a document or with it, where `known` blocks are known to.
 fn ends_before(table: &[Block], known: usize, doc: u64) -> usize {
     let mut count = known;
     while count < table.len() && u64::from(table[count].end_doc) <= doc {

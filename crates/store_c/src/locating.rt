@@ -84,8 +84,8 @@ fn block_for(
     block_of(file, table, doc_id)
 }
 
-/// Where documents lie, one behind the other from a number on: as many as there is room for, up to the first that is
-/// refused. It answers how many were told, and that refusal. It seeks once for each block.
+/// Where documents lie, one after the other from a number on: as many as there is room for, up to the first that is
+/// refused. It returns how many were found, and that refusal. It seeks once for each block.
 pub(crate) fn places_from(
     file: &[u8],
     table: &[Block],

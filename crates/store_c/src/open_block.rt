@@ -10,7 +10,7 @@ use crate::writer::Writer;
 use crate::writer_refusal::WriterRefusal;
 use docstore::{block_len, table_len, weight_of};
 
-/// Where a block ends that begins here and has so many documents of so many bytes.
+/// Where a block ends that begins here and has this many documents and bytes.
 pub(crate) fn end_of(start: BlockEnd, docs: usize, bytes: usize) -> Result<BlockEnd, WriterRefusal>
     requires few { docs < 2 ^ 61 }
     ensures end { IfOk result (EndsBlockAt start docs bytes) }
@@ -62,7 +62,7 @@ pub(crate) fn finish(
     docs + 1
 }
 
-/// Puts a document of so many bytes. It answers how many starts are to be written behind it.
+/// Puts a document of this many bytes. It returns how many starts are to be written after it.
 pub(crate) fn put(
     writer: &mut Writer,
     starts: &mut [u32],

@@ -12,9 +12,9 @@ use crate::{DONE, locating};
 use docstore::StoreView;
 use std::alloc::Global;
 
-/// Opens the store whose file these bytes are: fills the table of its blocks, and tells how many blocks and how many
+/// Opens the store whose file these bytes are: fills the table of its blocks, and sets how many blocks and how many
 /// documents there are. It is refused by 32 where the table has no room for all blocks; then the table has the first of
-/// them, and both numbers are told. It is refused by 10 where memory runs out, and by the number of the first refusal
+/// them, and both numbers are set. It is refused by 10 where memory runs out, and by the number of the first refusal
 /// of the footer or the index.
 #[unsafe(no_mangle)]
 pub extern "C" fn zevk_open(
@@ -78,9 +78,9 @@ pub extern "C" fn zevk_locate(file: &[u8], table: &[Block], doc_id: u32, place: 
     }
 }
 
-/// Tells where documents lie, one behind the other from `first` on, as many as `places` has room for, and how many
-/// these are. It stops before the first that is refused, and answers its refusal, as `zevk_locate` does. It seeks in the
-/// table once for each block.
+/// Finds where documents lie, one after the other from `first` on, as many as `places` has room for, and how many
+/// these are. It stops before the first that is refused, and returns its refusal, as `zevk_locate` does. It seeks in
+/// the table once for each block.
 #[unsafe(no_mangle)]
 pub extern "C" fn zevk_locate_run(
     file: &[u8],

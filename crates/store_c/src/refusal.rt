@@ -2,7 +2,7 @@
 ghost use Rattle.std.specs.Prelude.{◌≡◌};
 ghost use Rattle.store_c.specs.Calls.{refusal_number};
 
-/// Why a call that reads was refused, by the number that C is told. Up to 16 these are those of `StoreError`.
+/// Why a call that reads was refused, by the number that C gets. Up to 16 these are those of `StoreError`.
 #[derive(Clone, Copy, PartialEq, Eq)]
 pub enum Refusal {
     /// The store has no document of this number.
@@ -15,7 +15,7 @@ pub enum Refusal {
     OtherTable = 33,
     /// The end of the file lacks the footer or a part of the index.
     TailTooShort = 36,
-    /// The place is of no block with this document and so many bytes.
+    /// The place is of no block with this document and this many bytes.
     OtherBlock = 37,
 }
 

@@ -1,9 +1,9 @@
-//! What a refusal is told by, as C calls it.
+//! The texts of refusals, as C calls for them.
 
 ghost use Rattle.std.specs.Prelude.{◌≡◌, ◌+◌, ◌<◌, ◌≤◌, ◌∷◌, ◌++◌, length, drop};
 ghost use Rattle.store_c.specs.Texts.{refusal_text};
 
-// What is told of a refusal's number.
+// The text of a refusal's number.
 fn text_of(number: u32) -> &'static str
     ensures told { result.now ≡ refusal_text number }
     ensures few { length result.now < 64 }
@@ -32,7 +32,7 @@ fn text_of(number: u32) -> &'static str
     }
 }
 
-/// Writes what a refusal is told by, of fewer than 64 bytes, and a zero byte behind it. It answers how many bytes stand
+/// Writes the text of a refusal, of fewer than 64 bytes, and a zero byte after it. It returns how many bytes come
 /// before the zero. Where they have no room nothing is written.
 #[unsafe(no_mangle)]
 pub extern "C" fn zevk_refusal_text(number: u32, text: &mut [u8]) -> usize

@@ -1,4 +1,4 @@
-//! A store that is put behind one that is written.
+//! A store that is appended to one that is written.
 ghost use Rattle.std.specs.Prelude.{◌≡◌, ◌≢◌, ◌≤◌, length, take, OnOk, IfErr, OnErr};
 ghost use Rattle.store_format.specs.StoreFile.{checkpoints_of};
 ghost use Rattle.store_format.specs.declared.version.DocStoreVersion.TheVariants.{V1};
@@ -11,8 +11,8 @@ use crate::writer::Writer;
 use crate::writer_refusal::WriterRefusal;
 use docstore::{DocStoreVersion, StoreView};
 
-/// Puts a store's blocks behind those that were ended, and tells how many they are. A refusal for want of room tells it
-/// too, and leaves anything in the rows behind those that were ended.
+/// Appends a store's blocks to those that were ended, and returns how many they are. A refusal for lack of room says so
+/// too, and leaves anything in the rows after those that were ended.
 pub(crate) fn stack(
     writer: &mut Writer,
     table: &mut [Block],

@@ -5,7 +5,7 @@
 #[repr(C)]
 #[derive(Clone, Copy)]
 pub struct Writer {
-    /// A block is ended once its documents weigh more: their bytes and eight for each.
+    /// A block is ended once its documents exceed this: their bytes and eight for each.
     pub block_size: usize,
     /// How many blocks were ended.
     pub blocks: usize,

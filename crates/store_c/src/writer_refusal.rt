@@ -2,7 +2,7 @@
 ghost use Rattle.std.specs.Prelude.{◌≡◌};
 ghost use Rattle.store_c.specs.Writing.{writer_number};
 
-/// Why a call that writes was refused, by the number that C is told. Up to 16 these are those of `StoreError`.
+/// Why a call that writes was refused, by the number that C gets. Up to 16 these are those of `StoreError`.
 #[derive(Clone, Copy, PartialEq, Eq)]
 pub enum WriterRefusal {
     /// A growth was refused.

@@ -1,6 +1,6 @@
 //! Writing, as C calls it. A writer's numbers, the starts of the documents of its open block and the table of its
-//! blocks are the caller's memory, and so are the documents: the caller writes them, and what these calls tell to write
-//! behind them.
+//! blocks are the caller's memory, and so are the documents: the caller writes them, and after them what
+//! these calls return.
 ghost use Rattle.std.specs.Prelude.{◌≡◌, ◌≢◌, ◌⊎◌, ◌↔◌, ◌+◌, ◌-◌, ◌^◌, ◌<◌, ◌≤◌, ℕ, List, length, take, drop};
 ghost use Rattle.store_format.specs.StoreFile.{checkpoints_of};
 ghost use Rattle.store_format.specs.declared.version.DocStoreVersion.TheVariants.{V1};
@@ -18,7 +18,7 @@ use crate::{DONE, open_block, stacking};
 use docstore::StoreView;
 use std::alloc::Global;
 
-/// Begins a store that has nothing yet. A block of documents is ended once they weigh more than the block size: their
+/// Begins a store that has nothing yet. A block of documents is ended once they exceed the block size: their
 /// bytes and eight for each.
 #[unsafe(no_mangle)]
 pub extern "C" fn zevk_writer_begin(writer: &mut Writer, block_size: usize)
@@ -32,7 +32,7 @@ pub extern "C" fn zevk_writer_begin(writer: &mut Writer, block_size: usize)
     };
 }
 
-/// Puts a document of so many bytes, which the caller writes behind what was written, and behind it the first `count`
+/// Puts a document of `len` bytes, which the caller writes after what was written, and after it the first `count`
 /// of the starts, four bytes each from the lowest on: none, or the table of the block that this document ends.
 ///
 /// It is refused by 32 where there is no room for two more starts or for one more block; then by 14 where there is no
@@ -70,7 +70,7 @@ pub extern "C" fn zevk_writer_put(
     }
 }
 
-/// Ends the open block, if it has documents. The caller writes the first `count` of the starts behind what was written,
+/// Ends the open block, if it has documents. The caller writes the first `count` of the starts after what was written,
 /// four bytes each from the lowest on: none, or the block's table.
 ///
 /// It is refused by 32 where there is no room for one more start or for one more block, and by 35 where the numbers are
@@ -106,8 +106,8 @@ pub extern "C" fn zevk_writer_end_block(
     }
 }
 
-/// Puts the blocks of the store whose file these bytes are behind those that were ended. The caller writes its data
-/// behind what was written: the first `len` bytes of the file. It has `count` blocks.
+/// Appends the blocks of the store whose file these bytes are to those that were ended. The caller writes its data
+/// after what was written: the first `len` bytes of the file. It has `count` blocks.
 ///
 /// It is refused, in this order: by the number of the first refusal of the footer or the index, by 10 where memory runs
 /// out, by 11 where its documents may be in an older form, by 34 where the open block has documents, by 14 where the
@@ -158,8 +158,8 @@ pub extern "C" fn zevk_writer_stack(
     }
 }
 
-/// Gives what the caller writes behind what was written, and the file is whole: its index, with so many blocks in a
-/// block of it, and its footer. It tells how many bytes they have.
+/// Gives what the caller writes after what was written, and the file is whole: its index, with `period` entries in a
+/// run of it, and its footer. It sets how many bytes they have.
 ///
 /// It is refused, in this order: by 16 where the period is below 2 or above 64, by 34 where the open block has
 /// documents, by 35 where the numbers or the table are not as these calls left them, and by 32 where they have no room.

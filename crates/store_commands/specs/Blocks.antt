@@ -3,7 +3,7 @@ use Rattle.std.specs.Prelude.{◌≢◌, ◌<◌, ◌-◌, ℕ, List}
 use Rattle.layered_index.specs.declared.checkpoint.Checkpoint.{Checkpoint}
 use Rattle.store_format.specs.Block.{slot, damaged}
 
--- None of the first so many documents of a block is damaged.
+-- None of the first this many documents of a block is damaged.
 abbrev pub AreWhole : List ℕ → ℕ → Type 0
 AreWhole block end = (k : ℕ) → k < end → slot block k ≢ damaged
 

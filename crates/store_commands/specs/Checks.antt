@@ -19,7 +19,7 @@ abbrev pub is_damaged : Slot → Bool
 is_damaged (doc bytes) = false
 is_damaged damaged = true
 
--- the slots of a block of so many documents
+-- the slots of a block of this many documents
 abbrev pub slots_in : List ℕ → ℕ → List Slot
 slots_in block documents = map (slot block) (range_with_len 0 documents)
 
@@ -27,7 +27,7 @@ slots_in block documents = map (slot block) (range_with_len 0 documents)
 abbrev pub damaged_count : List ℕ → ℕ → ℕ
 damaged_count block documents = count_by is_damaged (slots_in block documents)
 
--- ---- one block, whose index promises so many documents
+-- ---- one block, whose index promises this many documents
 
 -- whether its table has as many documents, lies in the block, and lets the first begin at byte 0
 abbrev pub has_table : List ℕ → ℕ → Bool

@@ -20,14 +20,14 @@ names range id = nat_le range.0 id && option_map_or (λ end. nat_lt id end) rang
 abbrev pub is_within : Range ℕ → ℕ → Bool
 is_within ids id = nat_le ids.start id && nat_lt id ids.end
 
--- A range with an end names a document that a store of so many doesn't have. This is the first such id.
+-- A range with an end names a document that a store of this many doesn't have. This is the first such id.
 pub record IsFirstMissing (range : ℕ × Option ℕ) (count id : ℕ) : Type 0 where
   pub ended : IsSome range.1
   pub named : names range id ≡ true
   pub missing : count ≤ id
   pub first : (k : ℕ) → count ≤ k → names range k ≡ true → id ≤ k
 
--- Why a range is refused in a store of so many documents.
+-- Why a range is refused in a store of this many documents.
 abbrev pub RefusesRange : ℕ × Option ℕ → ℕ → RequestError → Type 0
 RefusesRange range count (NoDocument id documents) = (documents ≡ count) × IsFirstMissing range count id
 RefusesRange range count _ = ⊥

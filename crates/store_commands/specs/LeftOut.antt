@@ -47,7 +47,7 @@ word_names word id = list_any (λ part. part_names part id) (parts_of word)
 abbrev pub words_name : List (Bor (List ℕ)) → ℕ → Bool
 words_name words id = list_any (λ word. word_names word.now id) words
 
--- Why a part is refused in a store of so many documents.
+-- Why a part is refused in a store of this many documents.
 abbrev pub RefusesPart : ℕ → RequestError → List ℕ → Type 0
 RefusesPart count (NoRange text) part = range_named part ≡ None
 RefusesPart count (NoDocument id documents) part = (range : ℕ × Option ℕ) × (range_named part ≡ Some range)

@@ -27,18 +27,18 @@ use Rattle.store_commands.specs.LeftOut.{words_name, RefusesWords}
 abbrev pub is_kept : List (Bor (List ℕ)) → ℕ → Bool
 is_kept words id = not (words_name words id)
 
--- The set of the documents that are kept, of a store of so many. It has a place for each, and only those places are
+-- The set of the documents that are kept, of a store of this many. It has a place for each, and only those places are
 -- alive whose id no word names. Without words there is none.
 abbrev pub KeepsDocuments : List (Bor (List ℕ)) → ℕ → Option (List Bool) → Type 0
 KeepsDocuments words count None = words ≡ []
 KeepsDocuments words count (Some set) = (0 < length words) × (length set ≡ count)
     × ((id : ℕ) → id < count → is_alive_at set id ≡ is_kept words id)
 
--- A store of so many bytes has too many documents for a set: eight for each byte, or more.
+-- A store of this many bytes has too many documents for a set: eight for each byte, or more.
 abbrev pub HasTooManyDocuments : ℕ → ℕ → Type 0
 HasTooManyDocuments count bytes = (0 < count) × (8 * bytes ≤ count)
 
--- Why words are refused for a store of so many documents and bytes.
+-- Why words are refused for a store of this many documents and bytes.
 abbrev pub RefusesSet : List (Bor (List ℕ)) → ℕ → ℕ → RequestError → Type 0
 RefusesSet words count bytes (TooManyDocuments documents size) = (documents ≡ count) × (size ≡ bytes)
     × HasTooManyDocuments count bytes

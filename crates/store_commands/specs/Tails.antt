@@ -1,4 +1,4 @@
--- Parts of a file, and what tantivy's directory leaves behind a store.
+-- Parts of a file, and what tantivy's directory leaves after a store.
 use Rattle.std.specs.Prelude.{◌≡◌, ℕ, ◌-◌, ◌<◌, ◌^◌, ◌⊎◌, IsTrue, List, ◌++◌, length, Err}
 use Rattle.store_base.specs.Files.{Part, ReadsOnce}
 use Rattle.store_base.specs.Serialize.{fixed}
@@ -7,7 +7,7 @@ use Rattle.store_format.specs.FileReading.{Comes}
 use Rattle.store_commands.specs.declared.request_error.RequestError.{RequestError}
 use Rattle.store_commands.specs.declared.request_error.RequestError.TheVariants.{NoTantivyTail, Store}
 
--- Bytes from one place to another are no range of so many bytes.
+-- Bytes from one place to another are no range of this many bytes.
 abbrev pub IsNoRange : ℕ → ℕ → ℕ → Type 0
 IsNoRange from to len = (to < from) ⊎ (len < to)
 
@@ -21,7 +21,7 @@ pub record HasTail (file store : List ℕ) : Type 0 where
   pub few : length text < 2 ^ 32
   pub parts : file ≡ store ++ (text ++ tail_of (length text))
 
--- A file has no such tail behind any store.
+-- A file has no such tail after any store.
 abbrev pub HasNoTail : List ℕ → Type 0
 HasNoTail file = (store : List ℕ) → HasTail file store → ⊥
 

@@ -90,9 +90,9 @@ pub struct Verdict {
     pub first: Option<FaultPlace>,
 }
 
-/// Is told of each block that is checked.
+/// Hears of each block that is checked.
 pub trait BlockWatch {
-    /// One block more, of so many documents and bytes.
+    /// One block more, of this many documents and bytes.
     fn add(&mut self, documents: DocId, bytes: u64);
 }
 
@@ -163,7 +163,7 @@ fn fault_in(block: &[u8], first: DocId, documents: u32) -> Option<Fault>
 }
 
 impl Verdict {
-    /// Of a store of so many documents, of which nothing was read yet.
+    /// Of a store of this many documents, of which nothing was read yet.
     pub fn of_documents(documents: DocId) -> Verdict
         ensures documents { result.documents ≡ documents }
         ensures nothing { Judges [] result }

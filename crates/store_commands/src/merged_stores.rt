@@ -51,7 +51,7 @@ pub trait StoreInputs: Drop {
     fn words(&self) -> &[&str]
         ensures { result.now ≡ words self.now };
 
-    /// Is told that this store was merged, of which so many documents were kept.
+    /// Notes that this store was merged, and how many of its documents were kept.
     fn note_merged(&mut self, documents: u32)
         ensures count { number_left self.new ≡ number_left self.old }
         ensures left { slots_left self.new ≡ slots_left self.old };

@@ -20,7 +20,7 @@ use store_merge::{MergeInput, merge_in_parts};
 /// Why a store was not merged.
 #[derive(Drop)]
 pub enum MergeFailure<H: FileHandle> {
-    /// Before anything was read or written: for what the words say, or for want of memory.
+    /// Before anything was read or written: for what the words say, or because memory ran out.
     Request(RequestError),
     /// A call on the store or on the writer was refused. The reader is as that call left it.
     Refused {

@@ -23,7 +23,7 @@ pub struct StoreNumbers {
     pub largest_block: usize,
 }
 
-/// How many layers the index of so many blocks has: as many as their number has digits in the base of the period.
+/// How many layers the index of this many blocks has: as many as their number has digits in the base of the period.
 pub fn layers_over(blocks: usize, period: u8) -> u32
     requires { 2 ≤ period }
     ensures { result ≡ digit_count period blocks }

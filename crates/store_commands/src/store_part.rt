@@ -8,7 +8,7 @@ use crate::request_error::RequestError;
 use docstore::{BinarySerializable, FileHandle, FileSlice, OwnedBytes, StoreError};
 use std::alloc::Global;
 
-// How many bytes stand behind the JSON text of tantivy's directory, and what the last four of them say.
+// How many bytes follow the JSON text of tantivy's directory, and what the last four of them say.
 const TANTIVY_TAIL_LEN: u64 = 8;
 
 const TANTIVY_MAGIC: u32 = 1337;
@@ -49,7 +49,7 @@ fn tail_length(alloc: Global, tail: &[u8]) -> Option<u64>
     Some(u64::from(length))
 }
 
-/// The store that stands before what tantivy's directory leaves behind it, by one read of the file.
+/// The store before what tantivy's directory appends to it, by one read of the file.
 pub fn before_tail<H: FileHandle>(
     alloc: Global,
     mut file: FileSlice<H>,

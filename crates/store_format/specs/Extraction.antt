@@ -21,7 +21,7 @@ abbrev pub SaysFrom : Result (List ℕ) StoreError → Result DocStoreFooter Sto
 SaysFrom (Ok bytes) result = Says bytes result
 SaysFrom (Err e) result = result ≡ Err e
 
--- One read of the last 28 bytes, if there are so many: what they say decides.
+-- One read of the last 28 bytes, if there are this many: what they say decides.
 pub record ExtractsFooter (old : Part) (result : Result DocStoreFooter StoreError) (new : Part) : Type 0 where
   pub short : length old.content < 28 → (result ≡ Err (ShortFile (length old.content))) × (new ≡ old)
   pub long : 28 ≤ length old.content → (came : Result (List ℕ) StoreError)

@@ -1,4 +1,4 @@
--- The bytes behind the index of a file.
+-- The bytes after the index of a file.
 use Rattle.std.specs.Prelude.{ℕ, List, ◌∷◌, ◌++◌}
 use Rattle.store_base.specs.Serialize.{fixed}
 use Rattle.store_format.specs.declared.kinds.Compressor.{Compressor}

@@ -13,7 +13,7 @@ BlocksHoldDocuments = (docs : List (List ℕ)) → length (block docs) < 2 ^ 32 
 abbrev pub BlocksHaveTheirLengths : Type 0
 BlocksHaveTheirLengths = (docs : List (List ℕ)) → length (block docs) ≡ length (concat docs) + 4 * length docs + 4
 
--- So the block of one document, alone or behind an empty one, is short enough up to these lengths of the document.
+-- So the block of one document, alone or after an empty one, is short enough up to these lengths of the document.
 abbrev pub LongestDocuments : Type 0
 LongestDocuments = (doc : List ℕ) → ((length (block (doc ∷ [])) < 2 ^ 32) ↔ (length doc ≤ 4294967287))
     × ((length (block ([] ∷ doc ∷ [])) < 2 ^ 32) ↔ (length doc ≤ 4294967283))

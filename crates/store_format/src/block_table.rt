@@ -1,4 +1,4 @@
-//! The table behind a block's documents: where each begins, and how many there are.
+//! The table after a block's documents: where each begins, and how many there are.
 
 ghost use Rattle.std.specs.Prelude.{◌≡◌, ◌≤◌, ◌<◌, ◌+◌, ◌*◌, ◌^◌, ◌++◌, length, slice_range, MatchOption, IfSome};
 ghost use Rattle.std.specs.Prelude.{vec_len, vec_capacity};
@@ -9,7 +9,7 @@ ghost use Rattle.store_format.specs.Block.{slot, doc, damaged, count_of, start_o
 use byteorder::{ByteOrder, LittleEndian};
 use std::ops::Range;
 
-/// Puts the table behind the documents of a block, by where each begins. Room for it was made before.
+/// Appends the table to the documents of a block, by where each begins. Room for it was made before.
 #[tactic(auto, unfolding(store_base::specs::Serialize::fixed))]
 pub fn append_table(bytes: &mut Vec<u8>, starts: &[u32])
     requires room { vec_len bytes.old + 4 * length starts.now + 4 ≤ vec_capacity bytes.old }
@@ -35,7 +35,7 @@ pub fn u32_at(bytes: &[u8], place: usize) -> u32
     u32::from_le_bytes(*front)
 }
 
-// The same as `block_read_index`, of a block that says that it has so many documents.
+// The same as `block_read_index`, of a block that says that it has this many documents.
 #[inline(always)]
 #[tactic(auto, unfolding(crate::specs::Block::u32_at))]
 fn read_index_among(block: &[u8], count: u32, doc_pos: u32) -> Option<Range<usize>>
@@ -91,7 +91,7 @@ pub fn block_read_index(block: &[u8], doc_pos: u32) -> Option<Range<usize>>
     read_index_among(block, u32_at(block, count_place), doc_pos)
 }
 
-/// The same, of a block that likely has so many documents. The table is sought by that number, so the
+/// The same, of a block that likely has this many documents. The table is sought by that number, so the
 /// processor needn't wait for the one that the block says.
 #[inline(always)]
 #[tactic(auto, unfolding(crate::specs::Block::u32_at))]

@@ -59,7 +59,7 @@ impl DocStoreFooter {
     }
 }
 
-/// Version 3 is written, whatever version the footer names; the period as it stands.
+/// Version 3 is written, whatever version the footer names; the period as it is.
 impl BinarySerializable for DocStoreFooter {
     ghost use Rattle.store_format.specs.FooterReading.{footer_bytes, IsFooter, ReadsFooter};
     ghost use Rattle.store_format.specs.FooterLemmas.{footer_keeps, footer_reads_back};

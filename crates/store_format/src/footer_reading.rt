@@ -45,9 +45,9 @@ pub fn read_footer<H: FileHandle>(
 }
 
 impl DocStoreFooter {
-    /// Reads the footer of a file: the footer, and what stands before it. A refusal hands the file
-    /// back: a file too short for a footer, a read that failed, a want of memory, and then the first
-    /// of a version, a kind and a period that are none.
+    /// Reads the footer of a file: the footer, and what is before it. A refusal returns the file: a
+    /// file too short for a footer, a read that failed, no memory, and then the first of a version, a
+    /// kind and a period that are none.
     pub fn extract_footer<H: FileHandle>(
         alloc: Global,
         mut file: FileSlice<H>,

@@ -8,7 +8,7 @@ pub struct OpenError<H: FileHandle> {
     pub file: FileSlice<H>,
 }
 
-/// So that `?` hands on the error alone. The file is lost.
+/// So that `?` returns the error alone. The file is lost.
 impl<H: FileHandle> From<OpenError<H>> for StoreError {
     ghost use Rattle.std.specs.Prelude.{◌≡◌};
 

@@ -42,7 +42,7 @@ pub record AreDocuments (honest : Bool) (some : List Slot) (docs : List (List �
 abbrev pub WorkedOrIdle : Writing → Writing → Type 0
 WorkedOrIdle old new = (old.output.failure ≡ None) ⊎ (new ≡ old)
 
--- Documents of these slots went behind those of a writer, one after the other.
+-- Documents of these slots come after those of a writer, one after the other.
 pub record IsCopied (honest : Bool) (some : List Slot) (old new : Writing) : Type 0 where
   pub docs : List (List ℕ)
   pub came : AreDocuments honest some docs

@@ -13,7 +13,7 @@ use Rattle.store_merge.specs.Choice.{flags_of, is_stacked}
 use Rattle.store_merge.specs.Stacking.{IsStackedBy}
 use Rattle.store_merge.specs.Bringing.{Brought, IsBrought, with_brought, slots_brought, WorkedOrIdle}
 
--- An input's set, if it has one, tells of each of its documents.
+-- An input's set, if it has one, has a flag for each of its documents.
 abbrev pub HasWholeSet : {H : Type 0} → MergeInput H → Type 0
 HasWholeSet x = IfSome x.alive (λ set. docs_of x.reader ≤ length set)
 
@@ -63,7 +63,7 @@ pub record IsStacked (reader : Reading) (old new : Writing) : Type 0 where
   pub after : new ≡ with_failures new.output.failures (with_store old blocks)
   pub grown : taken new ≡ taken old ++ slots blocks
 
--- An input was taken: what came of it is behind what was taken before.
+-- An input was taken: what came of it is after what was taken before.
 pub record IsInputTaken {H : Type 0} (x : MergeInput H) (old new : Writing) : Type 0 where
   pub part : Brought
   pub came : IsBrought x part

@@ -18,7 +18,7 @@ use Rattle.store_merge.specs.Refusals.{RefusesInput, HasGrown}
 abbrev pub IsHonest : {H : Type 0} → MergeInput H → Type 0
 IsHonest x = IsTrue x.reader.file.honest
 
--- What came of the inputs, in order, is behind what the writer had taken.
+-- What came of the inputs, in order, is after what the writer had taken.
 pub record IsMerged {H : Type 0} (inputs : List (MergeInput H)) (old new : Writing) : Type 0 where
   pub parts : List Brought
   pub came : AreBrought inputs parts

@@ -40,7 +40,7 @@ pub record RefusesDocument (id : ℕ) (reader : Reading) (old new : Writing) (e 
   pub came : IsTrue reader.file.honest → slice_get (slots (store_of reader)) id ≡ Some (doc bytes)
   pub refused : RefusesBytes bytes old new e
 
--- The copying of a store stops at a document that is alive, behind all that are alive before it. Where that is not for a
+-- The copying of a store stops at a document that is alive, after all that are alive before it. Where that is not for a
 -- failed read, no read failed, but of a block before it of which no document is alive.
 pub record StopsAt (set : Option (ℕ → Bool)) (reader read : Reading) (old new : Writing) (e : StoreError)
     : Type 0 where
@@ -71,7 +71,7 @@ RefusesInput Left x left old new e =
     ((is_stacked x ≡ true) × RefusesStore Left x.reader left.reader old new e)
     ⊎ ((is_stacked x ≡ false) × StopsAt (flags_of x.alive) x.reader left.reader old new e)
 
--- A beginning of the alive slots of an input is behind what was taken before.
+-- A beginning of the alive slots of an input is after what was taken before.
 pub record HasGrown {H : Type 0} (x : MergeInput H) (old new : Writing) : Type 0 where
   pub more : List Slot
   pub grown : taken new ≡ taken old ++ more

@@ -22,7 +22,7 @@ abbrev pub Leaves : Stacking → Reading → Writing → Writing → Type 0
 Leaves Whole reader old new = LeavesFlushed reader old new
 Leaves (InParts size) reader old new = BeginsStack reader old new
 
--- The store's whole data was read, once for each of its parts of so many bytes.
+-- The store's whole data was read, once for each of its parts of this many bytes.
 abbrev pub IsReadInParts : ℕ → Reading → Reading → Type 0
 IsReadInParts size old new = IsReadInPieces (number_of_parts size old.checkpoints) old new
 
@@ -35,7 +35,7 @@ IsReadBy (InParts size) old new = IsReadInParts size old new
 abbrev pub IsStackedBy : {H : Type 0} → (Reading → Reading → Type 0) → MergeInput H → MergeInput H → Type 0
 IsStackedBy Reads x left = is_stacked x ≡ true → Reads x.reader left.reader
 
--- A beginning of the slots of a store is behind what was taken before.
+-- A beginning of the slots of a store is after what was taken before.
 pub record BeginsSlots (reader : Reading) (old new : Writing) : Type 0 where
   pub more : List Slot
   pub grown : taken new ≡ taken old ++ more

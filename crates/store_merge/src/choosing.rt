@@ -10,7 +10,7 @@ ghost use Rattle.store_merge.specs.Choice.{is_stacked, first_old};
 use crate::input::MergeInput;
 use docstore::{AliveBitSet, DocId, DocStoreVersion, FileHandle};
 
-/// How many blocks a store has at least that is stacked. A smaller one would leave small blocks behind.
+/// How many blocks a store has at least that is stacked. A smaller one would leave small blocks in the output.
 pub const LEAST_STACKED_BLOCKS: usize = 6;
 
 /// The place of the first input whose documents may be in an older form, which nothing translates.

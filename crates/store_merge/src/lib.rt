@@ -1,4 +1,4 @@
-//! Merges stores with live sets: the documents that are alive in each of some stores, in order, go behind those of a
+//! Merges stores with live sets: appends the documents that are alive in each of some stores, in order, to those of a
 //! writer.
 //!
 //! A store of at least six blocks of which nothing is deleted is stacked, block by block, read as a whole or in parts;

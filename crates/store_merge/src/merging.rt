@@ -108,7 +108,7 @@ fn merge_by<W: TerminatingWrite, H: FileHandle>(
     take_inputs(alloc, writer, inputs, stacking)
 }
 
-/// Puts the documents that are alive in each input behind those of the writer, in order.
+/// Appends the documents that are alive in each input to those of the writer, in order.
 ///
 /// An input whose documents may be in an older form is refused before anything is taken. Then each
 /// input with at least six blocks and nothing deleted is stacked, by `StoreWriter::stack`, and each
@@ -162,7 +162,7 @@ pub fn merge<W: TerminatingWrite, H: FileHandle>(
 }
 
 /// The same, but each input that is stacked is read and written in parts, by `StoreWriter::stack_in_parts`: as
-/// many whole blocks at a time as so many bytes hold, at least one. So of such an input memory has one part and the
+/// many whole blocks at a time as this many bytes hold, at least one. So of such an input memory has one part and the
 /// index. A refused read leaves what came of the input before.
 pub fn merge_in_parts<W: TerminatingWrite, H: FileHandle>(
     alloc: Global,

@@ -5,6 +5,6 @@
 pub enum Stacking {
     /// A store is read by one read of its whole data.
     Whole,
-    /// It is read in parts: as many whole blocks at a time as so many bytes hold, at least one.
+    /// It is read in parts: as many whole blocks at a time as this many bytes hold, at least one.
     InParts(usize),
 }

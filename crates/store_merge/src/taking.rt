@@ -18,7 +18,7 @@ use docstore::{
 };
 use std::alloc::Global;
 
-// Puts a store behind what the writer has taken.
+// Appends a store to what the writer has taken.
 fn stack_store<W: TerminatingWrite, H: FileHandle>(
     writer: &mut StoreWriter<W>,
     reader: &mut StoreReader<H>,

@@ -1,4 +1,4 @@
-//! An output that is published by whoever holds it, and not by the store's writer.
+//! An output that its owner publishes, and not the writer of the store.
 
 ghost use Rattle.std.specs.Prelude.{◌≡◌, IsTrue, IfOk, IfErr, Some, length};
 ghost use Rattle.store_base.specs.Outputs.{never_terminated};

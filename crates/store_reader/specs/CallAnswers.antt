@@ -21,7 +21,7 @@ abbrev pub set_here : Option (List Bool) → Option (ℕ → Bool)
 set_here None = None
 set_here (Some alive) = Some (is_alive_at alive)
 
--- The set of an iteration reaches so many ids.
+-- The set of an iteration reaches this many ids.
 abbrev pub CanAnswer : ℕ → ReadCall → Type 0
 CanAnswer count (Bytes id) = Unit {0}
 CanAnswer count (Iter alive take) = IfSome alive (λ set. count ≤ length set)
@@ -40,7 +40,7 @@ ShowsEachBlock cs (Bytes id) = Unit {0}
 ShowsEachBlock cs (Iter alive take) = (0 < take) × AllByRecursion (HasAlive (set_here alive)) cs
 
 -- A document's slot answers a get; the first slots whose ids are alive answer an iteration, one by one; failed reads
--- and want of memory aside.
+-- and memory aside.
 abbrev pub IsAnswer : List Slot → ReadCall → Answer → Type 0
 IsAnswer all (Bytes id) (Got result) = AnswersTruly id (slice_get all id) result
 IsAnswer all (Iter alive take) (Listed v) = AreItems (first_alive take all (set_here alive)) v.items
@@ -79,7 +79,7 @@ key_of (Some c) = c.byte_range.start ∷ []
 
 -- The keys that a call looks up: that of the document's block, none for an id at or past the count; or those of an
 -- iteration that is
--- dropped after so many items.
+-- dropped after this many items.
 abbrev pub keys_of_call : List Checkpoint → ReadCall → List ℕ
 keys_of_call cs (Bytes id) = if nat_lt id (docs_end 0 cs) then key_of (first_past cs id) else []
 keys_of_call cs (Iter alive take) = looked_along cs (set_here alive) take

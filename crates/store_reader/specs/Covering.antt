@@ -4,7 +4,7 @@ use Rattle.layered_index.specs.declared.checkpoint.Checkpoint.{Checkpoint}
 use Rattle.layered_index.specs.Checkpoint.{Covers}
 use Rattle.layered_index.specs.Layers.{index_part}
 
--- These bytes are the index part of this list, which covers so many bytes.
+-- These bytes are the index part of this list, which covers this many bytes.
 pub record IsIndexOf (period : ℕ) (bytes : List ℕ) (covered : ℕ) (cs : List Checkpoint) : Type 0 where
   pub covers : Covers cs covered
   pub spells : bytes ≡ index_part period cs

@@ -19,13 +19,13 @@ alive all set = map (λ x. x.1) (filter (λ x. is_in set x.0) (enumerate_from 0 
 abbrev pub alive_count : Option (ℕ → Bool) → Checkpoint → ℕ
 alive_count set c = count_by (is_in set) (range_with_len c.doc_range.start (doc_count c))
 
--- The first byte of each block up to the one that has the last of so many ids of the set.
+-- The first byte of each block up to the one that has the last of this many ids of the set.
 abbrev pub looked_along : List Checkpoint → Option (ℕ → Bool) → ℕ → List ℕ
 looked_along [] set count = []
 looked_along (c ∷ cs) set count = c.byte_range.start ∷
     (if nat_le count (alive_count set c) then [] else looked_along cs set (count - alive_count set c))
 
--- the keys that an iterator looks up that is dropped after so many items
+-- the keys that an iterator looks up that is dropped after this many items
 abbrev pub looked : List StoreBlock → Option (ℕ → Bool) → ℕ → List ℕ
 looked bs set count = looked_along (checkpoints_of bs) set count
 

@@ -1,4 +1,4 @@
--- What a store tells of its documents.
+-- What a store gives of its documents.
 use Rattle.std.specs.Prelude.{◌≡◌, ◌⊎◌, ℕ, List, slice_get, Option, Some, Result, Ok, Err}
 use Rattle.store_base.specs.declared.error.StoreError.{StoreError}
 use Rattle.store_base.specs.declared.error.StoreError.TheVariants.{Read, Memory}

@@ -35,7 +35,7 @@ LooksAreRecent = (cs : List Checkpoint) (old : Reading) (block : Option (Result 
     (block' : Option (Result (List ℕ) StoreError))
     → LooksAlong cs old block new block' → AreLookUps (keys_along cs) old new
 
--- Where an iteration stands behind an item, it has looked up what the definition says for so many items; and where it
+-- Where an iteration stands after an item, it has looked up what the definition says for this many items; and where it
 -- has come to the
 -- end, for any greater number.
 pub record IsLooked (r : Reading) (w : Walk) (set : Option (ℕ → Bool)) : Type 0 where

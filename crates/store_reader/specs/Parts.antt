@@ -12,13 +12,13 @@ use Rattle.store_reader.specs.Reading.{Reading, IsReadOnce}
 -- ---- parts
 
 -- how many parts begin at these blocks, where the part before holds those that end up to this byte: the first block
--- past it begins a part, which holds those that end so many bytes behind its beginning
+-- past it begins a part, which holds those that end this many bytes after its beginning
 abbrev pub parts_beyond : ℕ → ℕ → List Checkpoint → ℕ
 parts_beyond size limit [] = 0
 parts_beyond size limit (c ∷ cs) = if nat_le c.byte_range.end limit then parts_beyond size limit cs
     else 1 + parts_beyond size (c.byte_range.start + size) cs
 
--- how many parts of so many bytes these blocks are in; a longer block is a part of its own
+-- how many parts of this many bytes these blocks are in; a longer block is a part of its own
 abbrev pub number_of_parts : ℕ → List Checkpoint → ℕ
 number_of_parts size cs = parts_beyond size 0 cs
 
@@ -28,7 +28,7 @@ number_of_parts size cs = parts_beyond size 0 cs
 abbrev pub byte_at : ℕ → List Checkpoint → ℕ
 byte_at n cs = bytes_end 0 (take n cs)
 
--- A part that begins with the block of this number ends before that of the other: it has as many whole blocks as so many
+-- A part that begins with the block of this number ends before that of the other: it has as many whole blocks as this many
 -- bytes hold, and at least one.
 pub record EndsPart (size : ℕ) (cs : List Checkpoint) (number end : ℕ) : Type 0 where
   pub some : number < end
@@ -52,7 +52,7 @@ pub record IsBlockRead (old : Reading) (id : ℕ) (new : Reading) : Type 0 where
   pub seeks : first_past old.checkpoints id ≡ Some block
   pub once : IsReadOnce (byte_len block) old new
 
--- From the block with this number on, as many whole blocks as fit into so many bytes together with it; their bytes are
+-- From the block with this number on, as many whole blocks as fit into this many bytes together with it; their bytes are
 -- those of the file where it is honest.
 pub record IsPartFrom (size : ℕ) (reader : Reading) (number : ℕ) (part : StorePart) : Type 0 where
   pub first : part.blocks.start ≡ number

@@ -40,7 +40,7 @@ with_parts r file cache = record {
 abbrev pub with_file : Reading → Part → Reading
 with_file r file = with_parts r file r.cache
 
--- What one read of so many bytes of its data leaves of a reader: all but the counts of its file.
+-- What one read of this many bytes of its data leaves of a reader: all but the counts of its file.
 pub record IsReadOnce (len : ℕ) (old new : Reading) : Type 0 where
   pub once : ReadsOnce len old.file new.file
   pub others : new ≡ with_file old new.file

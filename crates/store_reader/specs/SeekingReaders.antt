@@ -20,7 +20,7 @@ pub record IsSeeking (file : Part) (data_len : ℕ) (index : HeadBytes) (version
   pub laid_out : IsTrue file.honest → (s : IsSomeStore file.content) → IsLaidOut file.content data_len
       (record { period = index.period; bytes = index_in file.content index }) (version_number version) s
 
--- What at most so many reads of a run each and one of so many bytes leave of a file.
+-- What at most this many reads of a run each and one of this many bytes leave of a file.
 abbrev pub ReadsBlock : ℕ → ℕ → ℕ → Part → Part → Type 0
 ReadsBlock period runs len old new = ReadsAtMost (runs + 1) (runs * longest_run period + len) old new
 

@@ -63,7 +63,7 @@ RefusesEnd file_len tail (Store e) = RefusesTail file_len tail e
 
 -- ---- laws
 
--- One whose tail has a footer and is refused is told how many bytes are enough: a longer end of the same file, with
+-- One whose tail has a footer and is refused names how many bytes are enough: a longer end of the same file, with
 -- this many, is not refused for that again.
 abbrev pub TailsAreWantedOnce : Type 0
 TailsAreWantedOnce = (file_len : ℕ) (tail more : List ℕ) (wanted again : ℕ) → 28 ≤ length tail

@@ -16,7 +16,7 @@ use Rattle.store_reader.specs.Reading.{Reading, store_of}
 use Rattle.store_format.specs.Slots.{slots}
 use Rattle.store_reader.specs.Viewing.{Viewing, IsViewOf, Finds, GivesItem, GivesAlive, count_in, document_of, given}
 
--- what opening a reader gives: the reader, or the refusal with the file that is handed back
+-- what opening a reader gives: the reader, or the refusal with the file that is returned
 abbrev pub ReaderOpens : Part → ℕ → Result Reading StoreError → Type 0
 ReaderOpens file capacity (Ok r) = IsOpened file capacity r
 ReaderOpens file capacity (Err e) = (back : Part) × IsRefused file e back
@@ -32,7 +32,7 @@ pub record HaveSameStore (r : Reading) (v : Viewing) : Type 0 where
   pub period : r.period ≡ v.period
   pub version : r.version ≡ v.version
 
--- The same store is opened, or the same refusal comes; the reader's failed reads and want of memory aside.
+-- The same store is opened, or the same refusal comes; the reader's failed reads and memory aside.
 abbrev pub OpenAlike : Result Reading StoreError → Result Viewing StoreError → Type 0
 OpenAlike (Ok r) (Ok v) = HaveSameStore r v
 OpenAlike (Ok r) (Err d) = d ≡ Memory

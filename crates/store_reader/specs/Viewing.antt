@@ -38,7 +38,7 @@ pub record IsView (file : List ℕ) (cs : List Checkpoint) (period : ℕ) (versi
 
 -- ---- opening
 
--- The last 28 bytes, if there are so many, decide on the footer.
+-- The last 28 bytes, if there are this many, decide on the footer.
 pub record FindsFooter (bytes : List ℕ) (result : Result DocStoreFooter StoreError) : Type 0 where
   pub short : length bytes < 28 → result ≡ Err (ShortFile (length bytes))
   pub long : 28 ≤ length bytes → Says (slice_range bytes (length bytes - 28) (length bytes)) result
@@ -111,14 +111,14 @@ pub record IsBlockWith (v : Viewing) (id first end : ℕ) (block : List ℕ) : T
   pub few : end ≤ count_in v
   pub goes_on : GoesOn v first first end block
 
--- An iteration stands before the next document, which lies in these bytes or behind them.
+-- An iteration stands before the next document, which lies in these bytes or after them.
 pub record IsAt (v : Viewing) (next first end : ℕ) (block : List ℕ) : Type 0 where
   pub above : first ≤ next
   pub below : next ≤ count_in v
   pub few : end ≤ count_in v
   pub goes_on : GoesOn v next first end block
 
--- The next of the documents, or its refusal; none behind the last.
+-- The next of the documents, or its refusal; none after the last.
 abbrev pub GivesItem : Viewing → ℕ → Option (Result (Bor (List ℕ)) StoreError) → ℕ → Type 0
 GivesItem v next None next' = (next ≡ count_in v) × (next' ≡ next)
 GivesItem v next (Some item) next' = (next < count_in v) × (given item ≡ document_of v next) × (next' ≡ next + 1)

@@ -112,7 +112,7 @@ abbrev pub IsSteadyBetween : Option (ℕ → Bool) → Reading → Reading → �
 IsSteadyBetween set old new from to = (new.file.failures ≡ old.file.failures)
     ⊎ PassesDead set old.checkpoints from to
 
--- The item of an id: it is alive, and its slot answers; failed reads and want of memory aside.
+-- The item of an id: it is alive, and its slot answers; failed reads and memory aside.
 pub record IsItem (set : Option (ℕ → Bool)) (old : Reading) (id : ℕ) (to : Walk)
     (answer : Result (List ℕ) StoreError) : Type 0 where
   pub below : id < num_docs old

@@ -20,7 +20,7 @@ use store_base::{AliveBitSet, DocId, FileHandle, OwnedBytes, StoreError};
 pub enum ReadCall {
     /// `StoreReader::get_document_bytes`
     Bytes(DocId),
-    /// `StoreReader::iter_raw`, of which so many items are taken before it is dropped.
+    /// `StoreReader::iter_raw`, of which `take` items are taken before it is dropped.
     Iter {
         alive: Option<AliveBitSet>,
         take: usize,

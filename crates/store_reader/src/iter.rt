@@ -13,7 +13,7 @@ use store_base::{AliveBitSet, DocumentDeserialize, FileHandle, OwnedBytes, Store
 ///
 /// It holds its current block once, and takes no memory but a share of it for each document. A block
 /// whose read failed is not read again: each of its documents is answered by that refusal. The live
-/// set is a slice of one set or none, and the walk a type of its own, so that whoever drops an iterator
+/// set is a slice of one set or none, and the walk a type of its own, so that a caller who drops an iterator
 /// learns how it left the reader.
 pub struct Items<'a, H: FileHandle, W: Drop> {
     pub(crate) reader: &'a mut StoreReader<H>,

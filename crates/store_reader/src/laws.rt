@@ -33,7 +33,7 @@ pub fn stats_are_added()
 {}
 
 /// Where the slot of an id has the bytes of a document, `StoreReader::get` gives its stored form, failed reads and
-/// want of memory aside. Documents of the versions 2 and 3 are read as version 2.
+/// memory aside. Documents of the versions 2 and 3 are read as version 2.
 pub fn stored_documents_are_got<D: StoredDocument>()
     ensures { StoredDocumentsAreGot D.doc_bytes (D.reading 2) D.stored }
 {}
@@ -51,19 +51,19 @@ pub fn answers_are_exact()
 {}
 
 /// `StoreView::open` opens what `StoreReader::open` opens of an honest file of the same bytes: the same blocks, version
-/// and period, or the same refusal; failed reads and want of memory aside.
+/// and period, or the same refusal; failed reads and memory aside.
 pub fn views_open_as_readers()
     ensures { ViewsOpenAsReaders }
 {}
 
-/// `StoreView::get` answers what `StoreReader::get_document_bytes` answers of an honest file of the same store; failed
-/// reads and want of memory aside.
+/// `StoreView::get` returns what `StoreReader::get_document_bytes` returns of an honest file of the same store; failed
+/// reads and memory aside.
 pub fn views_answer_as_readers()
     ensures { ViewsAnswerAsReaders }
 {}
 
-/// `StoreView::get_document` answers what `StoreReader::get` answers of an honest file of the same store; failed reads
-/// and want of memory aside.
+/// `StoreView::get_document` returns what `StoreReader::get` returns of an honest file of the same store; failed reads
+/// and memory aside.
 pub fn views_read_as_readers<D: DocumentDeserialize>()
     ensures { (version : ℕ) → ViewsReadAsReaders (D.reading version) }
 {}

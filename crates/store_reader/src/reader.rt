@@ -66,10 +66,10 @@ impl<H: FileHandle> Model for StoreReader<H> {
 }
 
 impl<H: FileHandle> StoreReader<H> {
-    /// Opens a store, with a cache of at most so many blocks. The first refusal counts: those of
+    /// Opens a store, with a cache of at most this many blocks. The first refusal counts: those of
     /// `DocStoreFooter::extract_footer`, then an offset past the bytes before the footer, then a
-    /// failed read, a want of memory, and bytes that are not the index of checkpoints that cover the
-    /// data. The cache is made last. A refusal hands the file back.
+    /// failed read, no memory, and bytes that are not the index of checkpoints that cover the data.
+    /// The cache is made last. A refusal returns the file.
     pub fn open(
         alloc: Global,
         mut file: FileSlice<H>,

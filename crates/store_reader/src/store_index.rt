@@ -35,7 +35,7 @@ impl Model for StoreIndex {
 }
 
 impl StoreIndex {
-    /// Reads an index. It is refused unless the bytes are the index of checkpoints that cover so many
+    /// Reads an index. It is refused unless the bytes are the index of checkpoints that cover this many
     /// bytes.
     pub fn read(
         alloc: Global,

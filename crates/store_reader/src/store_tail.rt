@@ -1,4 +1,4 @@
-//! A store of whose file only the end is at hand.
+//! A store of whose file only the end is in memory.
 ghost use Rattle.std.specs.Prelude.{◌≡◌, ◌≢◌, ◌≤◌, ◌<◌, ◌+◌, ◌⊎◌, ℕ, List, length, IfOk, IfErr, MatchResult};
 ghost use Rattle.std.specs.Prelude.{Some, None, Err};
 ghost use Rattle.layered_index.specs.Checkpoint.{first_past};
@@ -14,7 +14,7 @@ use std::marker::Model;
 use store_base::{DocId, StoreError};
 use store_format::{DocStoreVersion, FOOTER_LEN, part};
 
-/// A store of whose file only the end is at hand: the index and the footer, and perhaps bytes before them. It tells
+/// A store of whose file only the end is in memory: the index and the footer, and perhaps bytes before them. It returns
 /// which bytes of the file have a document's block, for a store whose file lies elsewhere. It takes no memory.
 #[derive(Drop)]
 pub struct StoreTail<'a> {

@@ -46,7 +46,7 @@ pub enum Question {
     Record { doc_id: DocId },
     /// `iter STORE`, and then any number of ` ID`: the documents but for those.
     Documents { deleted: Vec<DocId> },
-    /// `dump STORE`: each document with its id, read anew.
+    /// `dump STORE`: each document with its id, by a reader of its own.
     Dump,
     /// `hex STORE`: the file.
     File,

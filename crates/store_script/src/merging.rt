@@ -9,7 +9,7 @@ use docstore::{Compressor, MemFile, MemSink, StoreError, StoreWriter};
 use std::alloc::Global;
 use store_merge::{MergeInput, merge};
 
-// The named stores opened anew, with nothing deleted. A number that names none is passed over.
+// The named stores opened again, with nothing deleted. A number that names none is passed over.
 fn inputs_of(
     alloc: Global,
     stores: &[Store],

@@ -42,7 +42,7 @@ impl Store {
         &mut self.reader
     }
 
-    /// The same store, opened anew.
+    /// The same store, opened again.
     pub fn reopened(
         &self,
         alloc: Global,

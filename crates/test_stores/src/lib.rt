@@ -1,4 +1,4 @@
-//! Does a store give back what was written, and what does it tell of itself?
+//! Does a store give back what was written, and are its own numbers right?
 #![tactic(auto)]
 
 #[cfg(test)]

@@ -1,4 +1,4 @@
-//! What a writer, a reader and a view tell of themselves.
+//! What a writer, a reader and a view say about themselves.
 
 use docstore::{
     AliveBitSet, CacheStats, Checkpoint, Compressor, Decompressor, DocStoreVersion, LayerCursor,

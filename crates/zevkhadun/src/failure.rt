@@ -190,8 +190,8 @@ impl Failure {
         };
     }
 
-    /// Prints one line on the standard error, and gives the program's status: 1, or 2 where the words are wrong. A
-    /// closed pipe ends the program quietly, with 0.
+    /// Prints one line on the standard error, and returns the program's status: 1, or 2 for a usage error. A closed
+    /// pipe ends the program quietly, with 0.
     pub fn report<R: Eprint>(&self, rt: &R) -> ExitCode {
         if self.is_closed_pipe() {
             return ExitCode::SUCCESS;

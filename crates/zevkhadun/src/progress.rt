@@ -5,12 +5,12 @@ use std::io::IsTerminal;
 use std::time::{Duration, Instant};
 use store_commands::checking::BlockWatch;
 
-// After how many documents or bytes the line is written anew.
+// After how many documents or bytes the line is written again.
 const DOCUMENTS_A_LINE: u64 = 1 << 16;
 
 const BYTES_A_LINE: u64 = 1 << 26;
 
-/// A line on the standard error, written anew as the work goes on; nothing where that is no terminal.
+/// A line on the standard error, written again as the work goes on; nothing where that is no terminal.
 #[derive(Drop)]
 pub struct Progress<'a> {
     rt: &'a HostRuntime,

@@ -1,4 +1,4 @@
-//! Puts the blocks of stores behind those that were written.
+//! Appends the blocks of stores to those that were written.
 
 ghost use Rattle.std.specs.Prelude.{◌≡◌, ◌≢◌, ◌+◌, ◌<◌, ◌≤◌, ◌^◌, ◌⊎◌, List, ◌++◌, length, None};
 ghost use Rattle.std.specs.Prelude.{OnOk, OnErr, IfErr, IfSome, IsErrOf};
@@ -20,7 +20,7 @@ use store_format::DocStoreVersion;
 use store_reader::{StorePart, StoreReader, StoreView};
 
 impl<W: TerminatingWrite> BlockCompressor<W> {
-    /// Puts the blocks of a store behind the others as they come from its file, damaged ones too.
+    /// Appends the blocks of a store as they come from its file, damaged ones too.
     ///
     /// The whole data is read before anything is written, so `Read` and `Memory` leave all as it was.
     pub fn stack_reader<H: FileHandle>(
@@ -54,7 +54,7 @@ impl<W: TerminatingWrite> BlockCompressor<W> {
         Ok(())
     }
 
-    /// The same, a part of its data at a time: as many whole blocks as so many bytes hold, at least one.
+    /// The same, a part of its data at a time: as many whole blocks as this many bytes hold, at least one.
     ///
     /// `Read` and `Memory` leave the blocks of the parts before, so the writer works on.
     pub fn stack_reader_in_parts<H: FileHandle>(
@@ -95,7 +95,7 @@ impl<W: TerminatingWrite> BlockCompressor<W> {
         Ok(())
     }
 
-    /// Puts the blocks of a store whose bytes are at hand behind the others.
+    /// Appends the blocks of a store whose bytes are in memory.
     pub(crate) fn stack_view(&mut self, view: &StoreView<'_>) -> Result<(), StoreError>
         requires few_docs { docs_in self.old.finished + count_in view.now < 2 ^ 32 }
         ensures stacked { OnOk result (self.new
@@ -114,7 +114,7 @@ impl<W: TerminatingWrite> BlockCompressor<W> {
         Ok(())
     }
 
-    // Puts the blocks that these checkpoints cut from the bytes behind the others.
+    // Appends the blocks that these checkpoints cut from the bytes.
     fn write_blocks(&mut self, bytes: &[u8], checkpoints: CheckpointRange<'_>) -> Result<(), Cause>
         requires works { self.old.failure ≡ None }
         requires cut { CutAll checkpoints (length bytes.now) }
@@ -146,7 +146,7 @@ impl<W: TerminatingWrite> BlockCompressor<W> {
     }
 }
 
-// Adds checkpoints of blocks of the same sizes, one behind the other from this id and this byte on. A refusal leaves
+// Adds checkpoints of blocks of the same sizes, one after the other from this id and this byte on. A refusal leaves
 // those before it added.
 fn register_all(
     index: &mut BlockIndex,

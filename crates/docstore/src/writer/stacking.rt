@@ -1,4 +1,4 @@
-//! Puts the documents of stores behind those that a writer has taken.
+//! Appends the documents of stores to those that a writer has taken.
 
 ghost use Rattle.std.specs.Prelude.{◌≡◌, ◌≤◌, ◌↔◌, ◌⊎◌, List, None, OnOk, IfErr, IfSome, IsErrOf, MatchResult};
 ghost use Rattle.store_format.specs.StoreFile.{StoreBlock};
@@ -16,7 +16,7 @@ use store_format::DocStoreVersion;
 use store_reader::{StoreReader, StoreView};
 
 impl<W: TerminatingWrite> StoreWriter<W> {
-    // Refuses where a store in this form, with so many documents, can't be stacked.
+    // Refuses where a store in this form, with this many documents, can't be stacked.
     fn check_room_for(&self, version: DocStoreVersion, num_docs: u32) -> Result<(), StoreError>
         ensures { MatchResult result (λ _. HasRoomFor self.now version num_docs)
             (HasNoRoomFor self.now version num_docs) }
@@ -31,10 +31,10 @@ impl<W: TerminatingWrite> StoreWriter<W> {
         Ok(())
     }
 
-    /// Puts the documents of a store behind those that were taken: its blocks as they come from its
+    /// Appends the documents of a store to those that were taken: its blocks as they come from its
     /// file, damaged ones too.
     ///
-    /// The pending documents go out first, as one block. The store's whole data is read before any of
+    /// The pending documents are written first, as one block. The store's whole data is read before any of
     /// it is written; `Read` and `Memory` leave the pending documents as a finished block. After
     /// `Failed` the writer answers only `Failed`. Any other error leaves it as it was.
     pub fn stack<H: FileHandle>(&mut self, reader: &mut StoreReader<H>) -> Result<(), StoreError>
@@ -68,11 +68,11 @@ impl<W: TerminatingWrite> StoreWriter<W> {
         self.block_compressor.stack_reader(reader)
     }
 
-    /// Puts the documents of a store behind those that were taken, as `stack` does, but a part of its data at a time.
+    /// Appends the documents of a store to those that were taken, as `stack` does, but a part of its data at a time.
     ///
-    /// A part is as many whole blocks as so many bytes hold, at least one. It is read by one read, and written
+    /// A part is as many whole blocks as `part_bytes` bytes hold, at least one. It is read by one read, and written
     /// before the next is read, so memory has one part and the index. `Read` and `Memory` leave the pending
-    /// documents as a finished block, and those of the store's blocks behind it that came before.
+    /// documents as a finished block, and after it the store's blocks of the parts before.
     pub fn stack_in_parts<H: FileHandle>(
         &mut self,
         reader: &mut StoreReader<H>,
@@ -110,7 +110,7 @@ impl<W: TerminatingWrite> StoreWriter<W> {
             .stack_reader_in_parts(reader, part_bytes)
     }
 
-    /// Puts the documents of a store whose bytes are at hand behind those that were taken, as `stack` does.
+    /// Appends the documents of a store whose bytes are in memory to those that were taken, as `stack` does.
     ///
     /// Nothing is read and nothing copied but into the output. After `Failed` the writer answers only
     /// `Failed`. Any other error leaves it as it was.

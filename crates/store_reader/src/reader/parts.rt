@@ -51,7 +51,7 @@ impl<H: FileHandle> StoreReader<H> {
         self.index.get(number)
     }
 
-    // The end of the part that begins with this block: as many whole blocks as so many bytes hold, at least one.
+    // The end of the part that begins with this block: as many whole blocks as `part_bytes` bytes hold, at least one.
     fn end_of_part(&self, number: usize, first: Checkpoint, part_bytes: usize) -> PartEnd
         requires found { slice_get self.now.checkpoints number ≡ Some first }
         requires covers { Covers self.now.checkpoints (length self.now.file.content) }
