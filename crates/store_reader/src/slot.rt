@@ -11,11 +11,7 @@ use store_format::block_read_index;
 
 /// The document at a position of a block, or its refusal where it is damaged.
 #[inline(always)]
-pub fn document_at<'a>(
-    block: &'a [u8],
-    doc_id: DocId,
-    doc_pos: u32,
-) -> Result<&'a [u8], StoreError>
+pub fn document_at<'a>(block: &'a [u8], doc_id: DocId, doc_pos: u32) -> Result<&'a [u8], StoreError>
     ensures { given result ≡ exact_result doc_id (Some (slot block.entry.now doc_pos)) }
 {
     match block_read_index(block, doc_pos) {
