@@ -1,5 +1,5 @@
 #!/usr/bin/env python3
-"""Times the package for Python beside what Python has: sqlite3, dbm.gnu, and a dict of offsets over a mapped file.
+"""Times the package for Python beside sqlite3, dbm.gnu, py-lmdb, and a dict of offsets over a mapped file.
 
 Each side does each workload in turn, in as many rounds as asked; one JSON file has every round, and the medians are
 printed as a table. The package has to be installed where this runs, as in an environment of its own:
@@ -10,8 +10,9 @@ printed as a table. The package has to be installed where this runs, as in an en
     FOLDER/environment/bin/python -m pip install --no-deps --no-index FOLDER/zevkhadun-*.whl
     FOLDER/environment/bin/python bench/from_python.py
 
-dbm.gnu is left out where Python has none (Debian: python3-gdbm, and an environment of /usr/bin/python3). With --prefix
-PREFIX the same gets are timed in C (bench/gets.c): by the call that the package makes, and with a copy that is kept.
+dbm.gnu and py-lmdb are left out where Python has none. On Debian they are python3-gdbm and python3-lmdb, for an
+environment of /usr/bin/python3 that is made with --system-site-packages. With --prefix PREFIX the same gets are timed
+in C (bench/gets.c): by the call that the package makes, and with a copy that is kept.
 """
 
 import argparse
@@ -38,6 +39,10 @@ try:
     import dbm.gnu as gnu
 except ImportError:
     gnu = None
+try:
+    import lmdb
+except ImportError:
+    lmdb = None
 
 HERE = Path(__file__).resolve().parent
 SEED = 20261123
@@ -144,6 +149,43 @@ class Gnu:
         self.base.close()
 
 
+class Lmdb:
+    """A tree of numbers of four bytes, the highest first, by py-lmdb."""
+
+    name = "py-lmdb"
+
+    @staticmethod
+    def opened(path: str, **given: object) -> "lmdb.Environment":
+        return lmdb.open(path, subdir=False, lock=False, map_size=1 << 34, **given)
+
+    @classmethod
+    def write(cls, path: str, given: Iterable[bytes]) -> None:
+        with cls.opened(path, writemap=True, sync=False) as base:
+            with base.begin(write=True) as changes:
+                put, key = changes.put, struct.Struct(">I").pack
+                for number, document in enumerate(given):
+                    put(key(number), document, append=True)
+            base.sync(True)
+
+    def __init__(self, path: str) -> None:
+        self.base = self.opened(path, readonly=True)
+        self.reading = self.base.begin()
+
+    def get(self, number: int) -> bytes:
+        return self.gets([number])[0]
+
+    def gets(self, numbers: Iterable[int]) -> List[bytes]:
+        get, key = self.reading.get, struct.Struct(">I").pack
+        return [get(key(number)) for number in numbers]
+
+    def __iter__(self) -> Iterator[bytes]:
+        return iter(self.reading.cursor().iternext(keys=False, values=True))
+
+    def close(self) -> None:
+        self.reading.abort()
+        self.base.close()
+
+
 class Offsets:
     """The floor: a mapped file, and a dict of where each document ends, which is made when it is opened."""
 
@@ -215,7 +257,7 @@ def round_of(side: type, folder: Path, count: int, length: int, asked: List[int]
         told[name] = timed(lambda: reader.gets(numbers)) / len(asked)
     told["iterate"] = timed(lambda: sum(1 for _ in reader)) / count
     reader.close()
-    told["bytes"] = float(Path(path).stat().st_size)
+    told["bytes"] = float(Path(path).stat().st_blocks * 512)
     Path(path).unlink()
     return told
 
@@ -294,7 +336,7 @@ def main() -> int:
     parser.add_argument("--prefix", type=Path, help="where bindings/c/build.sh installed the library")
     parser.add_argument("--output", type=Path, default=HERE / "from_python.json")
     given = parser.parse_args()
-    sides = [Zevkhadun, Sqlite] + ([Gnu] if gnu else []) + [Offsets]
+    sides = [Zevkhadun, Sqlite] + ([Gnu] if gnu else []) + ([Lmdb] if lmdb else []) + [Offsets]
     asked = [random.Random(SEED).randrange(given.documents) for _ in range(given.asked)]
     rounds: Dict[str, List[Dict[str, float]]] = {side.name: [] for side in sides}
     calls: List[Dict[str, float]] = []
