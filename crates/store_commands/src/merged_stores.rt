@@ -64,7 +64,7 @@ pub trait StoreInputs: Drop {
 }
 
 /// Stores that are merged into one, as what fills it. A store that is stacked is read in parts of `part_bytes` bytes, or
-/// of a block.
+/// of a block. This is for inputs of a type of one's own; the program calls `merge_store` for each file itself.
 #[derive(Drop)]
 pub struct MergedStores<I: StoreInputs> {
     pub alloc: Global,

@@ -1,5 +1,7 @@
 //! Why a command failed, and the line that reports it.
 
+ghost use Rattle.std.specs.Prelude.{◌≡◌, Ok, IfOk};
+
 use docstore::{NoMemory, StoreError};
 use document_framing::FramingFault;
 use std::alloc::{AllocError, AllocFailed, Global};
@@ -215,7 +217,9 @@ pub fn with_file<T: Drop, E: Into<FailureCause> + Drop>(
     alloc: Global,
     path: &str,
     given: Result<T, E>,
-) -> Result<T, Failure> {
+) -> Result<T, Failure>
+    ensures { IfOk result (λ value. given ≡ Ok value) }
+{
     match given {
         Ok(value) => Ok(value),
         Err(error) => Err(Failure::at_file(alloc, path, error.into())),

@@ -1,16 +1,20 @@
 //! `merge`: writes a store of the documents of others, in order.
 
+ghost use Rattle.std.specs.Prelude.{OnOk};
+ghost use Rattle.store_published.specs.Filling.{IsSameFile};
+
 use crate::arguments::{self, option, output_path, shape_of};
 use crate::failure::{Failure, FailureCause, with_file};
 use crate::progress::Progress;
 use crate::store_file::{DiskReader, StorePath};
-use crate::store_output::{DiskWriter, create, finish, summarize};
+use crate::store_output::{OutputPlace, output_place, summarize, written_of};
 use clap::{Arg, ArgAction, ArgMatches, Command};
-use docstore::{DocStoreVersion, FileHandle, StoreError};
+use docstore::{DocStoreVersion, FileHandle, StoreError, StoreWriter, TerminatingWrite};
 use std::alloc::{AllocError, Global};
 use store_commands::StoreShape;
 use store_commands::kept_documents::input_without;
 use store_commands::merging::{MergeFailure, merge_store};
+use store_published::{Filling, publish_store};
 
 // How many bytes of a store that is stacked are in memory at a time.
 const PART_BYTES: usize = 1 << 22;
@@ -111,13 +115,15 @@ impl<'m, 'w> Merging<'m, 'w> {
     }
 
     // Adds the documents of an input to those of the writer.
-    fn merge_input(
+    fn merge_input<W: TerminatingWrite>(
         &self,
         rt: &HostRuntime,
-        writer: &mut DiskWriter,
+        writer: &mut StoreWriter<W>,
         progress: &mut Progress<'_>,
         path: &str,
-    ) -> Result<(), FailureCause> {
+    ) -> Result<(), FailureCause>
+        ensures { OnOk result (IsSameFile writer.old writer.new) }
+    {
         let words = self.words_for(rt.alloc(), path)?;
         let reader = self.reader(rt, path)?;
         let bytes = reader.space_usage().total();
@@ -127,19 +133,18 @@ impl<'m, 'w> Merging<'m, 'w> {
         Ok(())
     }
 
-    // Adds the documents of each input to those of the writer, in order.
-    fn merge_inputs(
+    // Adds the documents of each input to those of the writer.
+    fn merge_inputs<W: TerminatingWrite>(
         &self,
         rt: &HostRuntime,
-        writer: &mut DiskWriter,
+        writer: &mut StoreWriter<W>,
         progress: &mut Progress<'_>,
-    ) -> Result<(), Failure> {
+    ) -> Result<(), Failure>
+        ensures { OnOk result (IsSameFile writer.old writer.new) }
+    {
         for path in self.paths {
-            with_file(
-                rt.alloc(),
-                path,
-                self.merge_input(rt, writer, progress, path),
-            )?;
+            let merged = self.merge_input(rt, writer, progress, path);
+            with_file(rt.alloc(), path, merged)?;
         }
         Ok(())
     }
@@ -176,34 +181,69 @@ fn stray_failure(alloc: Global, word: &str) -> Failure {
     })
 }
 
+// The stores that are merged, as what fills a store.
+#[derive(Drop)]
+struct StoreFiles<'a, 'm, 'w> {
+    rt: &'a HostRuntime,
+    merging: Merging<'m, 'w>,
+    progress: Progress<'a>,
+}
+
+/// Nothing is promised of what files on disk hold, and so of what they bring.
+impl<'a, 'm, 'w> Filling for StoreFiles<'a, 'm, 'w> {
+    type Error = Failure;
+
+    ghost brings = { λ _ _ _. Unit {0} };
+
+    fn fill<W: TerminatingWrite>(&mut self, writer: &mut StoreWriter<W>) -> Result<(), Failure> {
+        self.merging
+            .merge_inputs(self.rt, writer, &mut self.progress)?;
+        Ok(())
+    }
+}
+
 // Merges as the words say.
-fn merge_stores(
-    rt: &HostRuntime,
+fn merge_stores<'a, 'm, 'w>(
+    rt: &'a HostRuntime,
     out: &str,
     shape: StoreShape,
-    merging: &Merging<'_, '_>,
-    progress: &mut Progress<'_>,
+    merging: Merging<'m, 'w>,
+    progress: Progress<'a>,
 ) -> Result<(), Failure> {
+    let alloc = rt.alloc();
     if let Some(word) = merging.stray_word() {
-        return Err(stray_failure(rt.alloc(), word));
+        return Err(stray_failure(alloc, word));
     }
     merging.check_inputs(rt)?;
-    let mut writer = create(rt, out, shape)?;
-    let merged = merging.merge_inputs(rt, &mut writer, progress);
-    progress.end();
-    let written = finish(rt, out, writer, merged)?;
-    summarize(rt, out, written, progress)
+    let place = output_place(rt, out)?;
+    let mut stores = StoreFiles {
+        rt,
+        merging,
+        progress,
+    };
+    let OutputPlace { folder, name } = place;
+    let published = publish_store(
+        alloc,
+        folder,
+        name.as_str(),
+        shape.block_size,
+        shape.period,
+        &mut stores,
+    );
+    stores.progress.end();
+    let written = written_of(alloc, out, published)?;
+    summarize(rt, out, written, &stores.progress)
 }
 
 /// Writes the store.
 pub fn run(rt: &HostRuntime, matches: &ArgMatches<'_>) -> Result<(), Failure> {
     let shape = shape_of(rt.alloc(), matches)?;
-    let mut progress = Progress::begin(rt, matches.get_flag("quiet"));
     let merging = Merging {
         paths: matches.get_strs("INPUT").unwrap_or(&[]),
         without: matches.get_strs("without").unwrap_or(&[]),
         is_tantivy: matches.get_flag("tantivy"),
     };
     let out = output_path(rt.alloc(), matches)?;
-    merge_stores(rt, out, shape, &merging, &mut progress)
+    let progress = Progress::begin(rt, matches.get_flag("quiet"));
+    merge_stores(rt, out, shape, merging, progress)
 }

@@ -1,14 +1,19 @@
 //! `pack`: writes a store of the documents of files or of the standard input.
 
+ghost use Rattle.std.specs.Prelude.{OnOk};
+ghost use Rattle.store_published.specs.Filling.{AddsSome};
+
 use crate::arguments::{self, framing_of, output_path, shape_of};
 use crate::failure::{Failure, with_file};
 use crate::progress::Progress;
-use crate::store_output::{DiskWriter, create, finish, summarize};
+use crate::store_output::{OutputPlace, output_place, summarize, written_of};
 use clap::{Arg, ArgAction, ArgMatches, Command};
+use docstore::{StoreWriter, TerminatingWrite};
 use document_framing::{Framing, split_after};
 use std::alloc::{AllocError, Global};
 use std::fs::File;
 use std::io::{BufRead, BufReader};
+use store_published::{Filling, publish_store, store_document};
 
 // How many bytes of an input are read at once.
 const BUFFER_SIZE: usize = 1 << 16;
@@ -42,28 +47,43 @@ pub fn command<'a>(alloc: Global) -> Result<Command<'a>, AllocError> {
         .arg(arguments::quiet(alloc))
 }
 
-// A store that is packed.
+// What is packed: documents of files or of the standard input.
 #[derive(Drop)]
-struct Packing<'a> {
+struct Packing<'a, 'p, 'w> {
     rt: &'a HostRuntime,
-    out: &'a str,
+    out: &'w str,
+    paths: Option<&'p [&'w str]>,
     framing: Framing,
-    writer: DiskWriter,
     progress: Progress<'a>,
 }
 
-impl<'a> Packing<'a> {
+impl<'a, 'p, 'w> Packing<'a, 'p, 'w> {
     // Stores a document.
     #[inline(always)]
-    fn store(&mut self, document: &[u8]) -> Result<(), Failure> {
-        with_file(self.rt.alloc(), self.out, self.writer.store_bytes(document))?;
+    fn store<W: TerminatingWrite>(
+        &mut self,
+        writer: &mut StoreWriter<W>,
+        document: &[u8],
+    ) -> Result<(), Failure>
+        ensures { OnOk result (AddsSome writer.old writer.new) }
+    {
+        with_file(self.rt.alloc(), self.out, store_document(writer, document))?;
         self.progress.add(1, document.len() as u64);
         Ok(())
     }
 
-    // Stores the documents that the input has whole in its buffer, without copying them. A failed read is tried again,
-    // and reported, by `store_next`.
-    fn store_buffered<R: BufRead>(&mut self, input: &mut R, end: u8) -> Result<(), Failure> {
+    // Stores the documents that the input has whole in its buffer, where a byte ends each, without copying them. A
+    // failed read is tried again, and reported, by `store_next`.
+    fn store_buffered<R: BufRead, W: TerminatingWrite>(
+        &mut self,
+        writer: &mut StoreWriter<W>,
+        input: &mut R,
+    ) -> Result<(), Failure>
+        ensures { OnOk result (AddsSome writer.old writer.new) }
+    {
+        let Some(end) = self.framing.end() else {
+            return Ok(());
+        };
         let Ok(mut rest) = input.fill_buf() else {
             return Ok(());
         };
@@ -73,7 +93,7 @@ impl<'a> Packing<'a> {
             let Some((piece, after)) = split_after(rest, end) else {
                 break;
             };
-            self.store(self.framing.document_in(piece))?;
+            self.store(writer, self.framing.document_in(piece))?;
             taken = taken.saturating_add(piece.len());
             rest = after;
         }
@@ -82,46 +102,65 @@ impl<'a> Packing<'a> {
     }
 
     // Stores the next document of an input, and returns whether there may be more.
-    fn store_next<R: BufRead>(
+    fn store_next<R: BufRead, W: TerminatingWrite>(
         &mut self,
+        writer: &mut StoreWriter<W>,
         path: &str,
         input: &mut R,
         document: &mut Vec<u8>,
-    ) -> Result<bool, Failure> {
+    ) -> Result<bool, Failure>
+        ensures { OnOk result (AddsSome writer.old writer.new) }
+    {
         if !with_file(self.rt.alloc(), path, self.framing.read(input, document))? {
             return Ok(false);
         }
-        self.store(document)?;
+        self.store(writer, document)?;
         Ok(self.framing != Framing::Files)
     }
 
     // Stores each document of an input.
-    fn store_documents<R: BufRead>(&mut self, path: &str, input: &mut R) -> Result<(), Failure> {
+    fn store_documents<R: BufRead, W: TerminatingWrite>(
+        &mut self,
+        writer: &mut StoreWriter<W>,
+        path: &str,
+        input: &mut R,
+    ) -> Result<(), Failure>
+        ensures { OnOk result (AddsSome writer.old writer.new) }
+    {
         let mut document = Vec::new(self.rt.alloc());
         // No input has this many documents: a store holds fewer.
         for _ in 0..u64::MAX {
-            if let Some(end) = self.framing.end() {
-                self.store_buffered(input, end)?;
-            }
-            if !self.store_next(path, input, &mut document)? {
-                break;
+            self.store_buffered(writer, input)?;
+            if !self.store_next(writer, path, input, &mut document)? {
+                return Ok(());
             }
         }
         Ok(())
     }
 
     // Stores each document of the standard input.
-    fn store_standard_input(&mut self) -> Result<(), Failure> {
+    fn store_standard_input<W: TerminatingWrite>(
+        &mut self,
+        writer: &mut StoreWriter<W>,
+    ) -> Result<(), Failure>
+        ensures { OnOk result (AddsSome writer.old writer.new) }
+    {
         let alloc = self.rt.alloc();
         let input = BufReader::with_capacity(alloc, BUFFER_SIZE, self.rt.reader());
         let mut input = with_file(alloc, STANDARD_INPUT, input)?;
-        self.store_documents(STANDARD_INPUT, &mut input)
+        self.store_documents(writer, STANDARD_INPUT, &mut input)
     }
 
     // Stores each document of a file.
-    fn store_file(&mut self, path: &str) -> Result<(), Failure> {
+    fn store_file<W: TerminatingWrite>(
+        &mut self,
+        writer: &mut StoreWriter<W>,
+        path: &str,
+    ) -> Result<(), Failure>
+        ensures { OnOk result (AddsSome writer.old writer.new) }
+    {
         if path == "-" {
-            return self.store_standard_input();
+            return self.store_standard_input(writer);
         }
         let alloc = self.rt.alloc();
         let file = with_file(alloc, path, File::open(self.rt, path))?;
@@ -130,32 +169,47 @@ impl<'a> Packing<'a> {
             path,
             BufReader::with_capacity(alloc, BUFFER_SIZE, file),
         )?;
-        self.store_documents(path, &mut input)
+        self.store_documents(writer, path, &mut input)
     }
 
-    // Stores each document of each file, or of the standard input where none is named.
-    fn store_inputs(&mut self, paths: Option<&[&str]>) -> Result<(), Failure> {
-        let Some(paths) = paths else {
-            return self.store_standard_input();
-        };
+    // Stores each document of each of these files.
+    fn store_files<W: TerminatingWrite>(
+        &mut self,
+        writer: &mut StoreWriter<W>,
+        paths: &[&str],
+    ) -> Result<(), Failure>
+        ensures { OnOk result (AddsSome writer.old writer.new) }
+    {
         for path in paths {
-            self.store_file(path)?;
+            self.store_file(writer, path)?;
         }
         Ok(())
     }
 
-    // Ends the store after its documents were stored or not, and prints what it has.
-    fn finish(self, stored: Result<(), Failure>) -> Result<(), Failure> {
-        let Packing {
-            rt,
-            out,
-            writer,
-            progress,
-            ..
-        } = self;
-        progress.end();
-        let written = finish(rt, out, writer, stored)?;
-        summarize(rt, out, written, &progress)
+    // Stores each document of each file, or of the standard input where none is named.
+    fn store_inputs<W: TerminatingWrite>(
+        &mut self,
+        writer: &mut StoreWriter<W>,
+    ) -> Result<(), Failure>
+        ensures { OnOk result (AddsSome writer.old writer.new) }
+    {
+        match self.paths {
+            Some(paths) => self.store_files(writer, paths),
+            None => self.store_standard_input(writer),
+        }
+    }
+}
+
+/// It brings sound documents.
+impl<'a, 'p, 'w> Filling for Packing<'a, 'p, 'w> {
+    ghost use Rattle.store_published.specs.Filling.{AreSound};
+
+    type Error = Failure;
+
+    ghost brings = { λ old new slots. AreSound slots };
+
+    fn fill<W: TerminatingWrite>(&mut self, writer: &mut StoreWriter<W>) -> Result<(), Failure> {
+        self.store_inputs(writer)
     }
 }
 
@@ -164,14 +218,25 @@ pub fn run(rt: &HostRuntime, matches: &ArgMatches<'_>) -> Result<(), Failure> {
     let alloc = rt.alloc();
     let out = output_path(alloc, matches)?;
     let framing = framing_of(alloc, matches)?;
-    let writer = create(rt, out, shape_of(alloc, matches)?)?;
+    let shape = shape_of(alloc, matches)?;
+    let place = output_place(rt, out)?;
     let mut packing = Packing {
         rt,
         out,
+        paths: matches.get_strs("INPUT"),
         framing,
-        writer,
         progress: Progress::begin(rt, matches.get_flag("quiet")),
     };
-    let stored = packing.store_inputs(matches.get_strs("INPUT"));
-    packing.finish(stored)
+    let OutputPlace { folder, name } = place;
+    let published = publish_store(
+        alloc,
+        folder,
+        name.as_str(),
+        shape.block_size,
+        shape.period,
+        &mut packing,
+    );
+    packing.progress.end();
+    let written = written_of(alloc, out, published)?;
+    summarize(rt, out, written, &packing.progress)
 }

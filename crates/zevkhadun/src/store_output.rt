@@ -4,55 +4,47 @@ use crate::arguments::wrong_words;
 use crate::failure::{Failure, FailureCause, with_file};
 use crate::progress::Progress;
 use crate::replacing::check_store;
-use docstore::{Compressor, StoreWriter};
-use store_commands::StoreShape;
-use store_files::{OsFolder, begin_publication};
-use store_folder::{Folder, Publication};
-use store_published::{Written, finish_published};
+use std::alloc::Global;
+use store_files::OsFolder;
+use store_published::{FillError, NotPublished, PublishedStore, Written};
 
-/// A writer to a file on disk.
-pub type DiskWriter = StoreWriter<Publication<OsFolder<HostRuntime>>>;
+/// The folder of a file that is to be written, and the name of the file in it.
+pub struct OutputPlace {
+    pub folder: OsFolder<HostRuntime>,
+    pub name: String,
+}
 
-/// A writer to a file of this name. A store that has it is replaced at the end; any other file is kept.
-pub fn create(rt: &HostRuntime, path: &str, shape: StoreShape) -> Result<DiskWriter, Failure> {
+/// The place of a store of this name. A store that has it is replaced at the end; any other file is kept.
+pub fn output_place(rt: &HostRuntime, path: &str) -> Result<OutputPlace, Failure> {
     let alloc = rt.alloc();
     if path == "-" {
         return Err(wrong_words(alloc, "a store can't be written to standard output", path));
     }
     with_file(alloc, path, check_store(rt, path))?;
-    let output = with_file(alloc, path, begin_publication(alloc, *rt, path))?;
-    Ok(StoreWriter::with_period(
-        alloc,
-        output,
-        Compressor::None,
-        shape.block_size,
-        shape.period,
-    ))
+    let (folder, name) = with_file(alloc, path, OsFolder::of_file(alloc, *rt, path))?;
+    Ok(OutputPlace { folder, name })
 }
 
-// Ends a writer. Where the output failed, the cause is the error of its folder.
-fn close<F: Folder>(writer: StoreWriter<Publication<F>>) -> Result<Written, FailureCause> {
-    match finish_published(writer) {
-        Ok((_, written)) => Ok(written),
-        Err(refusal) => Err(match refusal.output.last_error() {
-            Some(error) => FailureCause::System(error),
-            None => FailureCause::Store(refusal.error),
-        }),
-    }
+// The failure of a store that was not published.
+fn failure_of(alloc: Global, path: &str, error: FillError<Failure>) -> Failure {
+    let cause = match error {
+        FillError::Filling(failure) => return failure,
+        FillError::Folder(error) => FailureCause::System(error),
+        FillError::Store(error) => FailureCause::Store(error),
+    };
+    Failure::at_file(alloc, path, cause)
 }
 
-/// Gives the store its name. Where what was stored before was refused, that refusal counts, or the system's that
-/// brought it about.
-pub fn finish<F: Folder>(
-    rt: &HostRuntime,
+/// What a store has that was published, or the failure at the file of this name.
+pub fn written_of<F: Drop>(
+    alloc: Global,
     path: &str,
-    writer: StoreWriter<Publication<F>>,
-    stored: Result<(), Failure>,
+    published: Result<PublishedStore<F>, NotPublished<F, Failure>>,
 ) -> Result<Written, Failure> {
-    if !writer.has_failed() {
-        stored?;
+    match published {
+        Ok(published) => Ok(published.written),
+        Err(refusal) => Err(failure_of(alloc, path, refusal.error)),
     }
-    with_file(rt.alloc(), path, close(writer))
 }
 
 // Prints what a store has.
