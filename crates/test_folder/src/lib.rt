@@ -6,6 +6,8 @@ mod failing;
 #[cfg(test)]
 mod failing_folder;
 #[cfg(test)]
+mod publishing;
+#[cfg(test)]
 mod stores;
 
 #[cfg(test)]

@@ -20,7 +20,7 @@ fn commands(alloc: Global) -> Result<Commands, Fail> {
 }
 
 // The file of those.
-fn file(alloc: Global) -> Result<Vec<u8>, Fail> {
+pub fn file(alloc: Global) -> Result<Vec<u8>, Fail> {
     let mut commands = commands(alloc)?;
     match write_store(
         alloc,

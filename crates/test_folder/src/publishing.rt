@@ -1,0 +1,139 @@
+//! Stores that are filled and published in one call, in folders in memory.
+
+use crate::failing_folder::FailingFolder;
+use docstore::{StoreError, StoreWriter, TerminatingWrite};
+use std::alloc::Global;
+use std::test::Fail;
+use store_folder::{Folder, MemFolder};
+use store_published::{
+    DocumentList, FillError, Filling, NotPublished, PublishedStore, publish_store, store_document,
+};
+use torn_folder::TornFolder;
+
+// Two documents.
+fn documents(alloc: Global) -> Result<Vec<Vec<u8>>, Fail> {
+    let mut documents = Vec::new(alloc);
+    documents.push(b"x".to_vec(alloc)?)?;
+    documents.push(b"abc".to_vec(alloc)?)?;
+    Ok(documents)
+}
+
+// Publishes a store in a folder.
+fn publish_in<F: Folder, S: Filling>(
+    alloc: Global,
+    folder: F,
+    filling: &mut S,
+) -> Result<PublishedStore<F>, NotPublished<F, S::Error>> {
+    publish_store(alloc, folder, "a.store", 16384, 8, filling)
+}
+
+// The folder with a store of two documents.
+fn folder_with_two<F: Folder>(alloc: Global, folder: F) -> Result<PublishedStore<F>, Fail> {
+    let documents = documents(alloc)?;
+    match publish_in(
+        alloc,
+        folder,
+        &mut DocumentList {
+            documents: &documents,
+        },
+    ) {
+        Ok(published) => Ok(published),
+        Err(_) => Err(std::io::Error::from(std::io::ErrorKind::Other))?,
+    }
+}
+
+#[test]
+fn documents_are_published(rt: HostRuntime) -> Result<(), Fail> {
+    let alloc = rt.alloc();
+    let published = folder_with_two(alloc, MemFolder::new(alloc))?;
+    let expected = crate::stores::file(alloc)?;
+    let written = published.written;
+    assert_eq!(rt; (written.documents, written.blocks), (2, 1));
+    assert_eq!(rt; written.bytes, expected.len() as u64);
+    assert!(rt; published.folder.read("a.store")? == Some(expected));
+    assert!(rt; published.folder.read("a.store.part")?.is_none());
+    folder_with_two(alloc, TornFolder::new(alloc))?;
+    Ok(())
+}
+
+// What is left of an old file, and whether the folder's error was returned, if the call of this number fails.
+fn left_by(
+    alloc: Global,
+    failing_call: u32,
+    fails_late: bool,
+) -> Result<(FailingFolder, bool), Fail> {
+    let folder = FailingFolder::with_file(alloc, "a.store", b"old", failing_call, fails_late)?;
+    let documents = documents(alloc)?;
+    Ok(
+        match publish_in(
+            alloc,
+            folder,
+            &mut DocumentList {
+                documents: &documents,
+            },
+        ) {
+            Ok(published) => (published.folder, false),
+            Err(NotPublished { error, folder }) => (folder, matches!(error, FillError::Folder(_))),
+        },
+    )
+}
+
+// The calls are: create, append, sync of the file, rename, sync of the folder.
+#[test]
+fn each_failing_call_leaves_the_old_file_or_the_whole_store(rt: HostRuntime) -> Result<(), Fail> {
+    let alloc = rt.alloc();
+    let whole = crate::stores::file(alloc)?;
+    for (failing_call, fails_late) in [
+        (1, false),
+        (1, true),
+        (2, false),
+        (2, true),
+        (3, false),
+        (3, true),
+        (4, false),
+        (4, true),
+        (5, false),
+        (5, true),
+    ] {
+        let (folder, is_folders) = left_by(alloc, failing_call, fails_late)?;
+        let is_whole = failing_call == 5 || (failing_call == 4 && fails_late);
+        let expected = if is_whole {
+            whole.as_slice()
+        } else {
+            b"old".as_slice()
+        };
+        assert!(rt;
+            is_folders && folder.holds("a.store", expected),
+            "{failing_call} {fails_late}"
+        );
+        assert_eq!(rt; folder.calls(), failing_call, "{failing_call} {fails_late}");
+    }
+    Ok(())
+}
+
+// Brings one document, and then gives up.
+#[derive(Drop)]
+struct GivesUp;
+
+impl Filling for GivesUp {
+    type Error = StoreError;
+
+    ghost brings = { λ old new slots. ⊥ };
+
+    fn fill<W: TerminatingWrite>(&mut self, writer: &mut StoreWriter<W>) -> Result<(), StoreError> {
+        store_document(writer, b"x")?;
+        Err(StoreError::BadOffset)
+    }
+}
+
+#[test]
+fn a_filling_that_ends_early_leaves_the_old_file(rt: HostRuntime) -> Result<(), Fail> {
+    let alloc = rt.alloc();
+    let folder = FailingFolder::with_file(alloc, "a.store", b"old", 0, false)?;
+    let Err(NotPublished { error, folder }) = publish_in(alloc, folder, &mut GivesUp) else {
+        panic!(rt; "published");
+    };
+    assert!(rt; matches!(error, FillError::Filling(StoreError::BadOffset)));
+    assert!(rt; folder.holds("a.store", b"old"));
+    Ok(())
+}
