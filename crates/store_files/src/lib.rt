@@ -1,10 +1,11 @@
-//! Files on disk: one that is read in parts, one that is loaded whole, and an output that takes its name only once it
-//! is whole.
+//! Files on disk: one that is read in parts, one that is loaded whole, an output that takes its name only once it is
+//! whole, and a folder that has one writer.
 #![tactic(auto)]
 
 pub mod create_error;
 pub mod disk_file;
 pub mod disk_sink;
+pub mod locked_folder;
 pub mod os_folder;
 pub mod output_file;
 pub mod read_at;
@@ -13,6 +14,7 @@ pub mod whole;
 pub use create_error::CreateError;
 pub use disk_file::DiskFile;
 pub use disk_sink::{DiskSink, begin_publication};
+pub use locked_folder::LockedFolder;
 pub use os_folder::OsFolder;
 pub use output_file::LockFile;
 pub use read_at::{OsFile, ReadAt};

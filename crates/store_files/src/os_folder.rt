@@ -107,6 +107,8 @@ where
 
     ghost may_leave = { λ _ _. ⊥ };
 
+    ghost entry_kept = { λ _ _. ⊥ };
+
     ghost moment = { λ _. 0 };
 
     ghost left_since = { λ _ _ _. ⊥ };
@@ -118,6 +120,8 @@ where
     ghost only_now = { λ f c left. left };
 
     ghost seen_may_be_left = { λ f h. Prim.search rules };
+
+    ghost entry_leads = { λ f n c h kept left. absurd kept };
 
     fn create(&mut self, name: &str) -> io::Result<()> {
         let outcome = self.empty(name);

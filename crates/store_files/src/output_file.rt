@@ -12,7 +12,8 @@ use std::os::unix::fs::{MetadataExt, PermissionsExt};
 pub trait LockFile: OpenFile {
     ghost use Rattle.std.specs.Prelude.{Bool, IsTrue, OnOk};
 
-    /// Whether it was locked by this open of it. What that keeps others from is the system's.
+    /// Whether it was locked by this open of it. No clause says that the lock keeps others out: that is left to the
+    /// system.
     ghost is_locked: { Self → Bool };
 
     /// Locks the file until it is closed, unless another open of it holds a lock.
@@ -94,8 +95,13 @@ fn busy(alloc: Global, path: &str) -> CreateError {
     }
 }
 
-// Locks the file of this name. One that another holds, or that took its name in the meantime, is busy.
-fn lock<R: Files>(rt: &R, file: &R::File, path: &str, alloc: Global) -> Result<(), CreateError>
+/// Locks the file of this name. One that another holds, or that took its name in the meantime, is busy.
+pub(crate) fn lock<R: Files>(
+    rt: &R,
+    file: &R::File,
+    path: &str,
+    alloc: Global,
+) -> Result<(), CreateError>
 where
     R::File: LockFile,
     ensures { OnOk result (IsTrue (R.File.is_locked file.now)) }

@@ -9,8 +9,8 @@ use Rattle.std.specs.Cmp.Lexicographic.{same_text}
 use Rattle.store_base.proofs.ListLemmas.{either}
 use lib.Pointwise.{pointwise}
 use Rattle.store_folder.specs.Moments.{ComesFrom, Elapses}
-use Rattle.store_folder.specs.Folder.{Look, Elsewhere, ElsewhereOfBoth, FilesElsewhere, Extends, Written, Renamed}
-use Rattle.store_folder.specs.Changes.{bytes_of, after, changed, nothing, look_of, Is, WasSince}
+use Rattle.store_folder.specs.Folder.{Look, Elsewhere, ElsewhereOfBoth, FilesElsewhere, Extends, Written, Renamed, bytes_of}
+use Rattle.store_folder.specs.Changes.{after, changed, nothing, look_of, Is, WasSince}
 use Rattle.store_folder.specs.declared.memory.Change.{Change}
 
 differ : (a b : List ℕ) → a ≢ b → pointwise nat_eq a b ≡ false

@@ -5,7 +5,8 @@ ghost use Rattle.std.specs.Prelude.{OnOk, OnErr, unwrap_or};
 ghost use Rattle.store_base.specs.Counts.{HasRisen};
 ghost use Rattle.store_folder.specs.Moments.{ComesFrom, NoMore, Elapses};
 ghost use Rattle.store_folder.specs.Folder.{Elsewhere, ElsewhereOfBoth, FilesElsewhere, FilesElsewhereOfBoth};
-ghost use Rattle.store_folder.specs.Folder.{Extends, Written, Renamed, EntriesAreKept};
+ghost use Rattle.store_folder.specs.Folder.{Extends, Written, Renamed, EntriesAreKept, LeadsTo, Keeps};
+ghost use Rattle.store_folder.specs.Folder.{EntriesStay, EntriesStayElsewhere, EntriesStayElsewhereOfBoth};
 
 use std::io;
 
@@ -36,6 +37,10 @@ pub trait Folder: Drop {
     /// Which folders a crash at that moment or a later one could have left, during a call or between two.
     ghost left_since: { Self → ℕ → (List ℕ → Option (List ℕ)) → Type 0 };
 
+    /// Whether the entry of a name is on the disk: a crash leaves under the name this file, as a crash leaves the file's
+    /// bytes, or nothing where there is none.
+    ghost entry_kept: { Self → List ℕ → Type 0 };
+
     /// How often a call failed. A count that stands at its greatest value is taken to have risen.
     ghost failures: { Self → ℕ };
 
@@ -45,6 +50,8 @@ pub trait Folder: Drop {
         ensures elsewhere { IsTrue honest → Elsewhere name.now (seen self.old) (seen self.new) }
         ensures files { IsTrue honest → FilesElsewhere name.now (may_hold self.old) (may_hold self.new) }
         ensures crash { IsTrue honest → ComesFrom (Elsewhere name.now) (may_leave self.old) (may_leave self.new) }
+        ensures entries { IsTrue honest
+            → EntriesStayElsewhere name.now (entry_kept self.old) (entry_kept self.new) }
         ensures time { IsTrue honest → Elapses (moment self.old) (moment self.new)
             (left_since self.old) (left_since self.new) (may_leave self.new) }
         ensures count { failures self.old ≤ failures self.new }
@@ -61,12 +68,14 @@ pub trait Folder: Drop {
         ensures files { IsTrue honest → FilesElsewhere name.now (may_hold self.old) (may_hold self.new) }
         ensures crash { IsTrue honest → ComesFrom (Written name.now (may_hold self.new name.now))
             (may_leave self.old) (may_leave self.new) }
+        ensures entries { IsTrue honest → EntriesStay (entry_kept self.old) (entry_kept self.new) }
         ensures time { IsTrue honest → Elapses (moment self.old) (moment self.new)
             (left_since self.old) (left_since self.new) (may_leave self.new) }
         ensures count { failures self.old ≤ failures self.new }
         ensures fault { OnErr result (HasRisen (failures self.old) (failures self.new)) };
 
-    /// Syncs a file. After an Ok, a crash leaves the file's bytes as they are, even if it is renamed later.
+    /// Syncs a file. After an Ok, a crash leaves the file's bytes as they are, even if it is renamed later; and it leaves
+    /// them under the name, if the entry of the name was on the disk.
     fn sync_file(&mut self, name: &str) -> io::Result<()>
         requires { IsTrue honest → IsSome (seen self.old name.now) }
         ensures durable { IsTrue honest → OnOk result
@@ -75,6 +84,9 @@ pub trait Folder: Drop {
         ensures elsewhere { IsTrue honest → Elsewhere name.now (seen self.old) (seen self.new) }
         ensures files { IsTrue honest → (n bytes : List ℕ) → may_hold self.new n bytes → may_hold self.old n bytes }
         ensures crash { IsTrue honest → NoMore (may_leave self.old) (may_leave self.new) }
+        ensures entries { IsTrue honest → EntriesStay (entry_kept self.old) (entry_kept self.new) }
+        ensures kept { IsTrue honest → OnOk result (entry_kept self.old name.now
+            → Keeps name.now (seen self.old name.now) (may_leave self.new)) }
         ensures time { IsTrue honest → Elapses (moment self.old) (moment self.new)
             (left_since self.old) (left_since self.new) (may_leave self.new) }
         ensures count { failures self.old ≤ failures self.new }
@@ -92,6 +104,8 @@ pub trait Folder: Drop {
         ensures files { IsTrue honest → FilesElsewhereOfBoth from.now to.now (may_hold self.old) (may_hold self.new) }
         ensures crash { IsTrue honest → ComesFrom (Renamed from.now to.now (may_hold self.old from.now))
             (may_leave self.old) (may_leave self.new) }
+        ensures entries { IsTrue honest
+            → EntriesStayElsewhereOfBoth from.now to.now (entry_kept self.old) (entry_kept self.new) }
         ensures time { IsTrue honest → Elapses (moment self.old) (moment self.new)
             (left_since self.old) (left_since self.new) (may_leave self.new) }
         ensures count { failures self.old ≤ failures self.new }
@@ -103,6 +117,8 @@ pub trait Folder: Drop {
         ensures elsewhere { IsTrue honest → Elsewhere name.now (seen self.old) (seen self.new) }
         ensures files { IsTrue honest → FilesElsewhere name.now (may_hold self.old) (may_hold self.new) }
         ensures crash { IsTrue honest → ComesFrom (Elsewhere name.now) (may_leave self.old) (may_leave self.new) }
+        ensures entries { IsTrue honest
+            → EntriesStayElsewhere name.now (entry_kept self.old) (entry_kept self.new) }
         ensures time { IsTrue honest → Elapses (moment self.old) (moment self.new)
             (left_since self.old) (left_since self.new) (may_leave self.new) }
         ensures count { failures self.old ≤ failures self.new }
@@ -115,6 +131,8 @@ pub trait Folder: Drop {
         ensures seen { IsTrue honest → (n : List ℕ) → seen self.new n ≡ seen self.old n }
         ensures files { IsTrue honest → (n bytes : List ℕ) → may_hold self.new n bytes → may_hold self.old n bytes }
         ensures crash { IsTrue honest → NoMore (may_leave self.old) (may_leave self.new) }
+        ensures entries { IsTrue honest → EntriesStay (entry_kept self.old) (entry_kept self.new) }
+        ensures kept { IsTrue honest → OnOk result ((n : List ℕ) → entry_kept self.new n) }
         ensures time { IsTrue honest → Elapses (moment self.old) (moment self.new)
             (left_since self.old) (left_since self.new) (may_leave self.new) }
         ensures count { failures self.old ≤ failures self.new }
@@ -129,4 +147,8 @@ pub trait Folder: Drop {
 
     /// A crash may leave what a look sees. So a promise about every outcome is one about an outcome that there is.
     ghost seen_may_be_left: { (f : Self) → IsTrue honest → may_leave f (seen f) };
+
+    /// What an entry that is on the disk leads to.
+    ghost entry_leads: { (f : Self) (n : List ℕ) (c : List ℕ → Option (List ℕ)) → IsTrue honest
+        → entry_kept f n → may_leave f c → LeadsTo (seen f n) (may_hold f n) (c n) };
 }

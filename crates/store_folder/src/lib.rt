@@ -6,9 +6,11 @@ pub mod folder;
 pub mod memory;
 pub mod publication;
 pub mod publishing;
+pub mod readable_folder;
 mod sent;
 
 pub use folder::Folder;
 pub use memory::MemFolder;
 pub use publication::Publication;
 pub use publishing::{publish, replace};
+pub use readable_folder::ReadableFolder;

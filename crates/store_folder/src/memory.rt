@@ -1,15 +1,17 @@
 //! A folder in memory. A crash leaves what a look sees, and the folder keeps its earlier states.
 
 ghost use Rattle.std.specs.Prelude.{◌≡◌, ◌≢◌, ◌++◌, ◌≤◌, [], ◌∷◌, length, true, IfOk, OnOk, OnErr, IsErr};
-ghost use Rattle.std.specs.Prelude.{Option, Some, None, string_bytes, unwrap_or, refl};
+ghost use Rattle.std.specs.Prelude.{ℕ, List, Option, Some, None, string_bytes, unwrap_or, refl, map};
 ghost use Rattle.store_base.specs.Counts.{HasRisen};
 ghost use Rattle.store_folder.specs.Moments.{Elapses};
-ghost use Rattle.store_folder.specs.Folder.{ElsewhereOfBoth};
-ghost use Rattle.store_folder.specs.Changes.{bytes_of, after, look_of, Is, WasSince, was_now, is_now};
+ghost use Rattle.store_folder.specs.Folder.{ElsewhereOfBoth, AreNames, AreNamesAmong, bytes_of};
+ghost use Rattle.store_folder.specs.Changes.{after, look_of, Is, WasSince, was_now, is_now, leads};
 
 use crate::folder::Folder;
+use crate::readable_folder::ReadableFolder;
 use std::alloc::{AllocError, Global};
 use std::io;
+use store_base::MemFile;
 
 /// One change: a name gets a file of these bytes, or none, and another name loses its file.
 #[derive(Drop)]
@@ -77,6 +79,35 @@ fn bytes_at(alloc: Global, changes: &[Change], name: &str) -> Result<Option<Vec<
     Ok(found)
 }
 
+// Adds a name that has a file, unless the list has it.
+fn add_name(
+    alloc: Global,
+    changes: &[Change],
+    name: &String,
+    names: &mut Vec<String>,
+) -> Result<(), AllocError>
+    ensures { OnOk result ((others : List (List ℕ))
+        → AreNamesAmong (look_of changes.now) others (map string_bytes names.old.items)
+        → AreNamesAmong (look_of changes.now) (others ++ string_bytes name.now ∷ []) (map string_bytes names.new.items)) }
+{
+    if names.contains(name) || bytes_at(alloc, changes, name.as_str())?.is_none() {
+        return Ok(());
+    }
+    names.push(String::from_str(alloc, name.as_str())?)?;
+    Ok(())
+}
+
+// The names that have a file.
+fn names_in(alloc: Global, changes: &[Change]) -> Result<Vec<String>, AllocError>
+    ensures { IfOk result (λ names. AreNames (look_of changes.now) (map string_bytes names.items)) }
+{
+    let mut names = Vec::new(alloc);
+    for change in changes {
+        add_name(alloc, changes, &change.name, &mut names)?;
+    }
+    Ok(names)
+}
+
 impl MemFolder {
     /// An empty folder.
     pub fn new(alloc: Global) -> MemFolder
@@ -88,13 +119,6 @@ impl MemFolder {
             changes: Vec::new(alloc),
             failures: 0,
         }
-    }
-
-    /// The bytes of the file of this name, if there is one.
-    pub fn read(&self, name: &str) -> Result<Option<Vec<u8>>, AllocError>
-        ensures { IfOk result (λ found. bytes_of found ≡ look_of self.now.changes.items name.now) }
-    {
-        bytes_at(self.alloc, &self.changes, name)
     }
 }
 
@@ -158,6 +182,8 @@ impl Folder for MemFolder {
 
     ghost left_since = { λ m. WasSince m.changes.items };
 
+    ghost entry_kept = { λ _ _. Unit {0} };
+
     ghost failures = { λ m. m.failures };
 
     ghost counts_now = { λ m t c le now. was_now m.changes.items t c le now };
@@ -165,6 +191,8 @@ impl Folder for MemFolder {
     ghost only_now = { λ m c left. is_now m.changes.items c left };
 
     ghost seen_may_be_left = { λ m h n. refl };
+
+    ghost entry_leads = { λ m n c h kept left. leads (look_of m.changes.items n) (c n) (left n) };
 
     fn create(&mut self, name: &str) -> io::Result<()> {
         self.make(name, Some(Vec::new(self.alloc)), name)
@@ -194,5 +222,27 @@ impl Folder for MemFolder {
 
     fn sync(&mut self) -> io::Result<()> {
         Ok(())
+    }
+}
+
+impl ReadableFolder for MemFolder {
+    type File = MemFile;
+
+    fn names(&self, alloc: Global) -> io::Result<Vec<String>> {
+        Ok(names_in(alloc, &self.changes)?)
+    }
+
+    fn read(&self, alloc: Global, name: &str) -> io::Result<Option<Vec<u8>>> {
+        Ok(bytes_at(alloc, &self.changes, name)?)
+    }
+
+    fn open(&self, alloc: Global, name: &str) -> io::Result<MemFile> {
+        let Some(bytes) = bytes_at(alloc, &self.changes, name)? else {
+            return Err(io::ErrorKind::NotFound.into());
+        };
+        match MemFile::new(alloc, bytes) {
+            Ok(file) => Ok(file),
+            Err(_) => Err(io::ErrorKind::OutOfMemory.into()),
+        }
     }
 }

@@ -141,7 +141,7 @@ impl<F: Folder> Publication<F> {
         ensures beside { IfOk result (λ p. p.beside ≡ name.now ++ part) }
         ensures first { IfOk result (λ p. p.first ≡ folder) }
 
-        // A crash leaves what it could leave before, the file beside aside.
+        // A crash leaves what it could leave before, except in the file beside.
         ensures untouched { IsTrue F.honest → IfErr result (λ e. LeavesOnly F.moment F.left_since folder e.1
             (IsUntouched (F.may_leave folder) (name.now ++ part))) }
     {

@@ -1,9 +1,9 @@
 //! Publishing a file: it is written beside its name, synced, renamed, and then the folder is synced.
 
-ghost use Rattle.std.specs.Prelude.{◌≡◌, ◌≢◌, ◌≤◌, IsTrue, IsSome, OnOk, OnErr, Some};
+ghost use Rattle.std.specs.Prelude.{◌≡◌, ◌≢◌, ◌≤◌, ℕ, List, IsTrue, IsSome, OnOk, OnErr, Some};
 ghost use Rattle.store_base.specs.Counts.{HasRisen};
 ghost use Rattle.store_folder.specs.Moments.{ComesFrom, LeavesOnly};
-ghost use Rattle.store_folder.specs.Folder.{ElsewhereOfBoth, Keeps};
+ghost use Rattle.store_folder.specs.Folder.{ElsewhereOfBoth, EntriesStayElsewhereOfBoth, FilesElsewhereOfBoth, Keeps};
 ghost use Rattle.store_folder.specs.Publishing.{IsOldOrWhole};
 
 use crate::folder::Folder;
@@ -21,6 +21,10 @@ pub fn publish<F: Folder>(folder: &mut F, beside: &str, name: &str) -> io::Resul
     ensures published { IsTrue F.honest → OnOk result
         (Keeps name.now (F.seen folder.old beside.now) (F.may_leave folder.new)) }
     ensures seen { IsTrue F.honest → OnOk result (F.seen folder.new name.now ≡ F.seen folder.old beside.now) }
+    ensures file { IsTrue F.honest → OnOk result ((bytes : List ℕ)
+        → F.may_hold folder.new name.now bytes → F.seen folder.old beside.now ≡ Some bytes) }
+    ensures files { IsTrue F.honest
+        → FilesElsewhereOfBoth beside.now name.now (F.may_hold folder.old) (F.may_hold folder.new) }
 
     // A crash at any moment of the call, also of one that fails, leaves the old file or the whole new one.
     ensures any_moment { IsTrue F.honest → LeavesOnly F.moment F.left_since folder.old folder.new
@@ -29,6 +33,11 @@ pub fn publish<F: Folder>(folder: &mut F, beside: &str, name: &str) -> io::Resul
         → ElsewhereOfBoth beside.now name.now (F.seen folder.old) (F.seen folder.new) }
     ensures crash { IsTrue F.honest
         → ComesFrom (ElsewhereOfBoth beside.now name.now) (F.may_leave folder.old) (F.may_leave folder.new) }
+
+    // After an Ok the entry of every name is on the disk, and after an error those of the other names are there still.
+    ensures kept { IsTrue F.honest → OnOk result ((n : List ℕ) → F.entry_kept folder.new n) }
+    ensures entries { IsTrue F.honest → EntriesStayElsewhereOfBoth beside.now name.now
+        (F.entry_kept folder.old) (F.entry_kept folder.new) }
 
     // It fails only where a call of the folder failed.
     ensures count { F.failures folder.old ≤ F.failures folder.new }
@@ -48,12 +57,21 @@ pub fn replace<F: Folder>(folder: &mut F, beside: &str, name: &str, bytes: &[u8]
     requires { beside.now ≢ name.now }
     ensures published { IsTrue F.honest → OnOk result (Keeps name.now (Some bytes.now) (F.may_leave folder.new)) }
     ensures seen { IsTrue F.honest → OnOk result (F.seen folder.new name.now ≡ Some bytes.now) }
+    ensures file { IsTrue F.honest → OnOk result ((all : List ℕ)
+        → F.may_hold folder.new name.now all → all ≡ bytes.now) }
+    ensures files { IsTrue F.honest
+        → FilesElsewhereOfBoth beside.now name.now (F.may_hold folder.old) (F.may_hold folder.new) }
     ensures any_moment { IsTrue F.honest → LeavesOnly F.moment F.left_since folder.old folder.new
         (IsOldOrWhole (F.may_leave folder.old) beside.now name.now (Some bytes.now)) }
     ensures elsewhere { IsTrue F.honest
         → ElsewhereOfBoth beside.now name.now (F.seen folder.old) (F.seen folder.new) }
     ensures crash { IsTrue F.honest
         → ComesFrom (ElsewhereOfBoth beside.now name.now) (F.may_leave folder.old) (F.may_leave folder.new) }
+
+    // After an Ok the entry of every name is on the disk, and after an error those of the other names are there still.
+    ensures kept { IsTrue F.honest → OnOk result ((n : List ℕ) → F.entry_kept folder.new n) }
+    ensures entries { IsTrue F.honest → EntriesStayElsewhereOfBoth beside.now name.now
+        (F.entry_kept folder.old) (F.entry_kept folder.new) }
     ensures count { F.failures folder.old ≤ F.failures folder.new }
     ensures fault { OnErr result (HasRisen (F.failures folder.old) (F.failures folder.new)) }
 {

@@ -2,6 +2,7 @@
 #![tactic(auto)]
 
 pub mod documents;
+pub mod exporting;
 pub mod filling;
 mod held;
 pub mod origin;
@@ -10,6 +11,7 @@ pub mod since;
 pub mod stores;
 
 pub use documents::{DocumentList, store_document};
+pub use exporting::publish_export;
 pub use filling::Filling;
 pub use origin::Origin;
 pub use publishing::{FillError, NotPublished, PublishedStore, publish_store};

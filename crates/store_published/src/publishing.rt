@@ -99,8 +99,8 @@ fn end_store<F: Folder, K: Origin, E: Drop>(
     }
 }
 
-// Publishes a file that is whole.
-fn publish_held<F: Folder, K: Origin, E: Drop>(
+/// Publishes a file that is whole.
+pub(crate) fn publish_held<F: Folder, K: Origin, E: Drop>(
     held: Held<F, K>,
     written: Written,
 ) -> Result<PublishedStore<F>, NotPublished<F, E>>

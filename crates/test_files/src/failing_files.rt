@@ -73,6 +73,7 @@ impl<'a> OpenFile for FailingFile<'a> {
     }
 
     fn sync_data(&self) -> io::Result<()> {
+        count(self.calls, self.failing_call)?;
         self.file.sync_data()
     }
 }

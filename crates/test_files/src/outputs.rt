@@ -171,7 +171,7 @@ fn is_said(rt: &HostRuntime, path: &str, failing_call: u32, reason: &str) -> Res
 }
 
 #[test]
-fn an_output_tells_what_the_system_said(rt: HostRuntime) -> Result<(), Fail> {
+fn an_output_reports_what_the_system_said(rt: HostRuntime) -> Result<(), Fail> {
     make(&rt, "test_files_reason")?;
     for (failing_call, reason) in [(5, "no storage space"), (7, "no storage space"), (0, "")] {
         let is_said = is_said(&rt, "test_files_reason/a.store", failing_call, reason);

@@ -8,6 +8,8 @@ mod failing_folder;
 #[cfg(test)]
 mod publishing;
 #[cfg(test)]
+mod reading;
+#[cfg(test)]
 mod stores;
 
 #[cfg(test)]
@@ -15,7 +17,7 @@ mod tests {
     use std::alloc::Global;
     use std::test::Fail;
     use store_base::TerminatingWrite;
-    use store_folder::{Folder, MemFolder, Publication, publish, replace};
+    use store_folder::{Folder, MemFolder, Publication, ReadableFolder, publish, replace};
     use torn_folder::TornFolder;
 
     // A folder with one file.
@@ -27,8 +29,8 @@ mod tests {
     }
 
     // Whether the file of this name has these bytes.
-    fn holds(folder: &MemFolder, name: &str, bytes: &[u8]) -> Result<bool, Fail> {
-        Ok(match folder.read(name)? {
+    fn holds(alloc: Global, folder: &MemFolder, name: &str, bytes: &[u8]) -> Result<bool, Fail> {
+        Ok(match folder.read(alloc, name)? {
             Some(found) => found.as_slice() == bytes,
             None => false,
         })
@@ -39,8 +41,8 @@ mod tests {
         let alloc = rt.alloc();
         let mut folder = with_file(alloc, "a", b"old")?;
         replace(&mut folder, "a.part", "a", b"new")?;
-        assert!(rt; holds(&folder, "a", b"new")?);
-        assert!(rt; folder.read("a.part")?.is_none());
+        assert!(rt; holds(alloc, &folder, "a", b"new")?);
+        assert!(rt; folder.read(alloc, "a.part")?.is_none());
         Ok(())
     }
 
@@ -54,8 +56,8 @@ mod tests {
         output.write_all(b"whole")?;
         output.terminate()?;
         let folder = output.into_folder();
-        assert!(rt; holds(&folder, "a", b"whole")?);
-        assert!(rt; folder.read("a.part")?.is_none());
+        assert!(rt; holds(alloc, &folder, "a", b"whole")?);
+        assert!(rt; folder.read(alloc, "a.part")?.is_none());
         Ok(())
     }
 
@@ -68,13 +70,13 @@ mod tests {
         };
         output.write_all(b"ne")?;
         output.write_all(b"w")?;
-        assert!(rt; holds(output.folder(), "a", b"old")?);
+        assert!(rt; holds(alloc, output.folder(), "a", b"old")?);
         output.terminate()?;
         assert!(rt; output.write_all(b"more").is_err());
         assert!(rt; output.terminate().is_err());
         let folder = output.into_folder();
-        assert!(rt; holds(&folder, "a", b"new")?);
-        assert!(rt; folder.read("a.part")?.is_none());
+        assert!(rt; holds(alloc, &folder, "a", b"new")?);
+        assert!(rt; folder.read(alloc, "a.part")?.is_none());
         Ok(())
     }
 

@@ -4,7 +4,7 @@ use crate::failing_folder::FailingFolder;
 use docstore::{StoreError, StoreWriter, TerminatingWrite};
 use std::alloc::Global;
 use std::test::Fail;
-use store_folder::{Folder, MemFolder};
+use store_folder::{Folder, MemFolder, ReadableFolder};
 use store_published::{
     DocumentList, FillError, Filling, NotPublished, PublishedStore, publish_store, store_document,
 };
@@ -50,8 +50,8 @@ fn documents_are_published(rt: HostRuntime) -> Result<(), Fail> {
     let written = published.written;
     assert_eq!(rt; (written.documents, written.blocks), (2, 1));
     assert_eq!(rt; written.bytes, expected.len() as u64);
-    assert!(rt; published.folder.read("a.store")? == Some(expected));
-    assert!(rt; published.folder.read("a.store.part")?.is_none());
+    assert!(rt; published.folder.read(alloc, "a.store")? == Some(expected));
+    assert!(rt; published.folder.read(alloc, "a.store.part")?.is_none());
     folder_with_two(alloc, TornFolder::new(alloc))?;
     Ok(())
 }

@@ -5,7 +5,7 @@ use docstore::{
 };
 use std::alloc::Global;
 use std::test::Fail;
-use store_folder::{Folder, MemFolder, Publication};
+use store_folder::{Folder, MemFolder, Publication, ReadableFolder};
 use store_published::{close_published, write_published};
 use torn_folder::TornFolder;
 
@@ -50,8 +50,8 @@ fn written_in<F: Folder>(alloc: Global, folder: F) -> Result<F, Fail> {
 fn a_list_of_calls_is_published(rt: HostRuntime) -> Result<(), Fail> {
     let alloc = rt.alloc();
     let folder = written_in(alloc, MemFolder::new(alloc))?;
-    assert!(rt; folder.read("a.store")? == Some(file(alloc)?));
-    assert!(rt; folder.read("a.store.part")?.is_none());
+    assert!(rt; folder.read(alloc, "a.store")? == Some(file(alloc)?));
+    assert!(rt; folder.read(alloc, "a.store.part")?.is_none());
     written_in(alloc, TornFolder::new(alloc))?;
     Ok(())
 }
@@ -73,7 +73,7 @@ fn closed_in<F: Folder>(alloc: Global, folder: F) -> Result<F, Fail> {
 fn a_writer_is_closed_in_a_folder(rt: HostRuntime) -> Result<(), Fail> {
     let alloc = rt.alloc();
     let folder = closed_in(alloc, MemFolder::new(alloc))?;
-    assert!(rt; folder.read("a.store")? == Some(file(alloc)?));
+    assert!(rt; folder.read(alloc, "a.store")? == Some(file(alloc)?));
     closed_in(alloc, TornFolder::new(alloc))?;
     Ok(())
 }

@@ -1,5 +1,5 @@
 -- What a look sees of a folder to which these calls were made, the last of them first, and what a crash may leave of it.
-use Rattle.std.specs.Prelude.{◌≡◌, ◌≢◌, ◌⊎◌, ℕ, ◌≤◌, Bool, true, false, List, [], ◌∷◌, ◌++◌, length, take, reverse, Option, Some, None, if◌then◌else◌, unwrap_or, refl, Vec, String, string_bytes, nat_eq}
+use Rattle.std.specs.Prelude.{◌≡◌, ◌≢◌, ◌⊎◌, ℕ, ◌≤◌, Bool, true, false, List, [], ◌∷◌, ◌++◌, length, take, reverse, Option, Some, None, if◌then◌else◌, unwrap_or, IsSome, refl, Vec, String, string_bytes, nat_eq}
 use lib.Pointwise.{pointwise}
 use Rattle.std.proofs.Common.{sym, ◌∙◌, ap, subst, arith, inl, inr}
 use Rattle.std.proofs.lemmas.List.{take_all}
@@ -50,14 +50,25 @@ held_by (Removed name ∷ events) n bytes = held_by events n bytes
 held_by (FileSynced name ∷ events) n bytes = held_by events n bytes × (n ≡ string_bytes name → seen_by events n ≡ Some bytes)
 held_by (FolderSynced ∷ events) n bytes = held_by events n bytes
 
--- Which folders a crash may leave: each entry as it was before or after each change since the folder was last synced.
+-- whether the entry of a name is on the disk: since the folder was last synced the name's own file alone was written
+abbrev pub kept_by : List Event → List ℕ → Type 0
+kept_by [] n = Unit {0}
+kept_by (Created name ∷ events) n = (n ≢ string_bytes name) × kept_by events n
+kept_by (Appended name bytes ∷ events) n = (n ≡ string_bytes name → IsSome (seen_by events n)) × kept_by events n
+kept_by (Moved from to ∷ events) n = (n ≢ string_bytes from) × (n ≢ string_bytes to) × kept_by events n
+kept_by (Removed name ∷ events) n = (n ≢ string_bytes name) × kept_by events n
+kept_by (FileSynced name ∷ events) n = kept_by events n
+kept_by (FolderSynced ∷ events) n = Unit {0}
+
+-- Which folders a crash may leave: each entry as it was before or after each change since the folder was last synced. The
+-- sync of a file keeps its bytes under the name only if the entry of the name is on the disk.
 abbrev pub left_by : List Event → Look → Type 0
 left_by [] c = (n : List ℕ) → c n ≡ None
 left_by (Created name ∷ events) c = (d : Look) × left_by events d × Elsewhere (string_bytes name) d c
 left_by (Appended name bytes ∷ events) c = (d : Look) × left_by events d × Written (string_bytes name) (held_by (Appended name bytes ∷ events) (string_bytes name)) d c
 left_by (Moved from to ∷ events) c = (d : Look) × left_by events d × Renamed (string_bytes from) (string_bytes to) (held_by events (string_bytes from)) d c
 left_by (Removed name ∷ events) c = (d : Look) × left_by events d × Elsewhere (string_bytes name) d c
-left_by (FileSynced name ∷ events) c = left_by events c
+left_by (FileSynced name ∷ events) c = left_by events c × (kept_by events (string_bytes name) → c (string_bytes name) ≡ seen_by events (string_bytes name))
 left_by (FolderSynced ∷ events) c = left_by events c × ((n : List ℕ) → LeadsTo (seen_by events n) (held_by events n) (c n))
 
 -- what a crash since the call of number t might have left
@@ -204,7 +215,7 @@ possible (Removed name ∷ events) =
     record { look = (seen_by events, was.look, put_elsewhere m None (seen_by events)); files = λ n bytes is. was.files n bytes (put_none (pointwise nat_eq m n) (seen_by events n) bytes is) }
 possible (FileSynced name ∷ events) =
     let was = possible events in
-    record { look = was.look; files = λ n bytes is. (was.files n bytes is, λ e. is) }
+    record { look = (was.look, λ kept. refl); files = λ n bytes is. (was.files n bytes is, λ e. is) }
 possible (FolderSynced ∷ events) =
     let was = possible events in
     record { look = (was.look, λ n. leads events was n (seen_by events n) refl); files = was.files }

@@ -4,8 +4,10 @@
 ghost use Rattle.std.specs.Prelude.{◌≡◌, ◌⊎◌, ◌++◌, ◌≤◌, [], ◌∷◌, length, reverse, true, OnOk, OnErr, IsErr};
 ghost use Rattle.store_base.specs.Counts.{HasRisen};
 ghost use Rattle.store_folder.specs.Moments.{Elapses};
-ghost use Rattle.torn_folder.specs.Torn.{seen_by, held_by, left_by, LeftSince, was_now, is_now, possible_look};
+ghost use Rattle.torn_folder.specs.Torn.{seen_by, held_by, kept_by, left_by, LeftSince, was_now, is_now, possible_look};
+ghost use Rattle.torn_folder.specs.Kept.{kept_leads};
 
+mod reading;
 pub mod wrong;
 
 use std::alloc::{AllocError, Global};
@@ -55,6 +57,13 @@ impl TornFolder {
         }
     }
 
+    /// The calls that were made, the first of them first.
+    pub fn events(&self) -> &[Event]
+        ensures { result.now ≡ self.now.events.items }
+    {
+        &self.events
+    }
+
     // Counts a failed call.
     fn refuse(&mut self) -> io::Result<()>
         ensures fault { IsErr result }
@@ -92,6 +101,8 @@ impl Folder for TornFolder {
 
     ghost may_leave = { λ f. left_by (reverse f.events.items) };
 
+    ghost entry_kept = { λ f. kept_by (reverse f.events.items) };
+
     ghost moment = { λ f. length f.events.items };
 
     ghost left_since = { λ f. LeftSince f.events.items };
@@ -103,6 +114,8 @@ impl Folder for TornFolder {
     ghost only_now = { λ f c left. is_now f.events.items c left };
 
     ghost seen_may_be_left = { λ f h. possible_look (reverse f.events.items) };
+
+    ghost entry_leads = { λ f n c h kept left. kept_leads (reverse f.events.items) n c kept left };
 
     fn create(&mut self, name: &str) -> io::Result<()> {
         match String::from_str(self.alloc, name) {

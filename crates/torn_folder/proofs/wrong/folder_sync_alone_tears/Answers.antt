@@ -1,21 +1,13 @@
-use Rattle.std.proofs.Common.{◌≡◌, ◌≢◌, ◌⊎◌, ◌∙◌, ◌∷◌, ◌++◌, [], ℕ, Bool, true, false, List, Option, Some, None, inl, inr, ⊎_elim, refl, sym, ap, subst, string_bytes, unwrap_or, nat_eq}
+use Rattle.std.proofs.Common.{◌≡◌, ◌≢◌, ◌∙◌, ◌∷◌, ◌++◌, [], ℕ, List, Option, Some, None, inr, ⊎_elim, refl, sym, ap, subst, string_bytes, unwrap_or}
 use Rattle.std.specs.Prelude.{Vec, String}
 use Rattle.std.specs.declared.alloc.Global.{Global}
-use Rattle.std.specs.Cmp.Lexicographic.{same_text, other_text}
-use lib.Pointwise.{pointwise}
 use Rattle.store_folder.specs.Folder.{Look, LeadsTo}
+use Rattle.store_folder.proofs.NamesLemmas.{decided}
 use Rattle.torn_folder.specs.Torn.{seen_by, held_by, left_by, moved_holds, or_else, put, put_there, put_elsewhere, new_holds, possible_look}
+use Rattle.torn_folder.specs.Kept.{leads_some}
 use Rattle.torn_folder.specs.declared.Event.{Event}
 use Rattle.torn_folder.specs.declared.Event.TheVariants.{Created, Appended, Moved, FolderSynced}
 use Rattle.torn_folder.proofs.wrong.folder_sync_alone_tears.Goals as goal
-
-decided : (a b : List ℕ) (v : Bool) → v ≡ pointwise nat_eq a b → (a ≡ b) ⊎ (a ≢ b)
-decided a b true e = inl (same_text a b e)
-decided a b false e = inr (other_text a b e)
-
-leads_some : (x left : Option (List ℕ)) (may_hold : List ℕ → Type 0) (whole torn : List ℕ) → x ≡ Some whole → may_hold torn → left ≡ Some torn → LeadsTo x may_hold left
-leads_some None left may_hold whole torn is holds at = let no : ⊥ = cc in absurd no
-leads_some (Some other) left may_hold whole torn is holds at = (torn, holds, at)
 
 module _ (events : List Event) (beside name : String Global) (bytes : Vec ℕ Global) (torn : List ℕ) (apart : string_bytes beside ≢ string_bytes name) where
   abbrev b : List ℕ
@@ -65,7 +57,7 @@ module _ (events : List Event) (beside name : String Global) (bytes : Vec ℕ Gl
       (λ e. subst (λ (k : List ℕ). LeadsTo (seen_by moved k) (held_by moved k) (left k)) e at_name)
       (λ ne. subst (λ (o : Option (List ℕ)). LeadsTo (seen_by moved m) (held_by moved m) o) (sym (put_elsewhere n (Some torn) (seen_by moved) m (λ e. ne (sym e))))
       ((possible_look (FolderSynced ∷ moved)).1 m))
-      (decided n m (pointwise nat_eq n m) refl)
+      (decided n m)
 
   all : (c : Look) × left_by (FolderSynced ∷ moved) c × (c n ≡ Some torn)
   all = (

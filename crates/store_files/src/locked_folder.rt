@@ -1,0 +1,300 @@
+//! A folder on disk that has one writer.
+
+ghost use Rattle.std.specs.Prelude.{◌≡◌, ◌≤◌, OnErr, IfOk, IsTrue};
+ghost use Rattle.store_base.specs.Counts.{HasRisen};
+
+use crate::create_error::CreateError;
+use crate::disk_file::DiskFile;
+use crate::output_file::{LockFile, lock, open_folder};
+use crate::read_at::OsFile;
+use crate::whole::read_all;
+use std::alloc::Global;
+use std::fs::{File, Files, OpenFile, OpenOptions};
+use std::io::{ErrorKind, Write};
+use std::{fs, io};
+use store_folder::{Folder, ReadableFolder};
+
+// The file by which a writer keeps others out.
+const LOCK: &str = "lock";
+
+/// A folder of the system. Its names are those of plain files in it. Its file `lock` is locked as long as the folder is
+/// open, and is never renamed or removed, so a second writer is refused at once. The file that was written last stays
+/// open: an append is one write, and the sync of a file one call.
+///
+/// It promises nothing of what the system does: see `Folder::honest`.
+#[derive(Drop)]
+pub struct LockedFolder<R: Files + Drop>
+where
+    R::File: LockFile,
+{
+    rt: R,
+    alloc: Global,
+    path: String,
+    folder: R::File,
+    lock: R::File,
+    written: Option<WrittenFile<R::File>>,
+    failures: u64,
+}
+
+// A file that is open to be written at its end.
+#[derive(Drop)]
+struct WrittenFile<F> {
+    name: String,
+    file: F,
+}
+
+// Refuses what is no name of a file in the folder, and the name of the lock.
+fn check_name(name: &str) -> io::Result<()> {
+    if name.is_empty() || name == "." || name == ".." || name == LOCK || name.contains('/') {
+        return Err(ErrorKind::InvalidInput.into());
+    }
+    Ok(())
+}
+
+// Whether a file of this name is listed: the lock is not, nor what was not published.
+fn is_listed(name: &str) -> bool {
+    name != LOCK && !name.ends_with(".part")
+}
+
+impl<R: Files + Drop> LockedFolder<R>
+where
+    R::File: LockFile,
+{
+    /// Makes the folder of this path, unless it is there, and opens it. The folder that it is in is synced.
+    ///
+    /// # Errors
+    ///
+    /// `Busy` where another has it open, and those of the system.
+    pub fn create(alloc: Global, rt: R, path: &str) -> Result<LockedFolder<R>, CreateError>
+        ensures locked { IfOk result (λ f. IsTrue (R.File.is_locked f.lock)) }
+        ensures failures { IfOk result (λ f. f.failures ≡ 0) }
+    {
+        match rt.create_dir(path) {
+            Ok(()) => {}
+            Err(error) if error.kind() == ErrorKind::AlreadyExists => {}
+            Err(error) => return Err(CreateError::System(error)),
+        }
+        open_folder(&rt, path.trim_end_matches('/'))?.sync_all()?;
+        LockedFolder::open(alloc, rt, path)
+    }
+
+    /// Opens the folder of this path.
+    ///
+    /// # Errors
+    ///
+    /// `Busy` where another has it open, and those of the system.
+    pub fn open(alloc: Global, rt: R, path: &str) -> Result<LockedFolder<R>, CreateError>
+        ensures locked { IfOk result (λ f. IsTrue (R.File.is_locked f.lock)) }
+        ensures failures { IfOk result (λ f. f.failures ≡ 0) }
+    {
+        let folder = File::open(&rt, path)?;
+        let lock_path = format!(in alloc; "{path}/{LOCK}").map_err(io::Error::from)?;
+        let lock_file = OpenOptions::new()
+            .write(true)
+            .create(true)
+            .open(&rt, lock_path.as_str())?;
+        lock(&rt, &lock_file, lock_path.as_str(), alloc)?;
+        let path = String::from_str(alloc, path).map_err(io::Error::from)?;
+        Ok(LockedFolder {
+            rt,
+            alloc,
+            path,
+            folder,
+            lock: lock_file,
+            written: None,
+            failures: 0,
+        })
+    }
+
+    // Counts a call that failed.
+    fn count(&mut self, outcome: io::Result<()>) -> io::Result<()>
+        ensures count { self.old.failures ≤ self.new.failures }
+        ensures fault { OnErr result (HasRisen self.old.failures self.new.failures) }
+    {
+        if outcome.is_err() {
+            self.failures = self.failures.saturating_add(1);
+        }
+        outcome
+    }
+
+    // The path of the file of this name.
+    fn path_of(&self, name: &str) -> io::Result<String> {
+        check_name(name)?;
+        let folder = self.path.as_str();
+        Ok(format!(in self.alloc; "{folder}/{name}")?)
+    }
+
+    // Whether this file is the one that is open to be written.
+    fn is_open(&self, name: &str) -> bool {
+        match &self.written {
+            Some(written) => written.name.as_str() == name,
+            None => false,
+        }
+    }
+
+    // Opens a file to be written at its end, with these options.
+    fn open_as(&mut self, name: &str, options: &OpenOptions) -> io::Result<()>
+        ensures { self.new.failures ≡ self.old.failures }
+    {
+        let path = self.path_of(name)?;
+        let name = String::from_str(self.alloc, name)?;
+        let file = options.open(&self.rt, path.as_str())?;
+        self.written = Some(WrittenFile { name, file });
+        Ok(())
+    }
+
+    // Opens a file that is there to be written at its end, unless it is open.
+    fn open_to_append(&mut self, name: &str) -> io::Result<()>
+        ensures { self.new.failures ≡ self.old.failures }
+    {
+        if self.is_open(name) {
+            return Ok(());
+        }
+        self.open_as(name, OpenOptions::new().append(true))
+    }
+
+    fn write(&mut self, name: &str, bytes: &[u8]) -> io::Result<()>
+        ensures { self.new.failures ≡ self.old.failures }
+    {
+        self.open_to_append(name)?;
+        match &mut self.written {
+            Some(written) => written.file.write_all(bytes),
+            None => Err(ErrorKind::NotFound.into()),
+        }
+    }
+
+    fn sync_written(&mut self, name: &str) -> io::Result<()>
+        ensures { self.new.failures ≡ self.old.failures }
+    {
+        self.open_to_append(name)?;
+        match &self.written {
+            Some(written) => written.file.sync_data(),
+            None => Err(ErrorKind::NotFound.into()),
+        }
+    }
+
+    // Renames a file. One that is open stays so; one that is replaced does not.
+    fn move_file(&mut self, from: &str, to: &str) -> io::Result<()>
+        ensures { self.new.failures ≡ self.old.failures }
+    {
+        let (old_path, new_path) = (self.path_of(from)?, self.path_of(to)?);
+        let name = String::from_str(self.alloc, to)?;
+        fs::rename(&self.rt, old_path.as_str(), new_path.as_str())?;
+        if let Some(written) = self.written.take() {
+            if written.name.as_str() == from {
+                let file = written.file;
+                self.written = Some(WrittenFile { name, file });
+            } else if written.name.as_str() != to {
+                self.written = Some(written);
+            }
+        }
+        Ok(())
+    }
+
+    fn remove_file(&mut self, name: &str) -> io::Result<()>
+        ensures { self.new.failures ≡ self.old.failures }
+    {
+        let path = self.path_of(name)?;
+        fs::remove_file(&self.rt, path.as_str())?;
+        if self.is_open(name) {
+            self.written = None;
+        }
+        Ok(())
+    }
+}
+
+impl<R: Files + Drop> Folder for LockedFolder<R>
+where
+    R::File: LockFile,
+{
+    ghost use Rattle.std.specs.Prelude.{false, None};
+    ghost use Rattle.std.proofs.Common.{rules};
+
+    ghost honest = { false };
+
+    ghost seen = { λ _ _. None };
+
+    ghost may_hold = { λ _ _ _. ⊥ };
+
+    ghost may_leave = { λ _ _. ⊥ };
+
+    ghost entry_kept = { λ _ _. ⊥ };
+
+    ghost moment = { λ _. 0 };
+
+    ghost left_since = { λ _ _ _. ⊥ };
+
+    ghost failures = { λ f. f.failures };
+
+    ghost counts_now = { λ f t c le now. now };
+
+    ghost only_now = { λ f c left. left };
+
+    ghost seen_may_be_left = { λ f h. Prim.search rules };
+
+    ghost entry_leads = { λ f n c h kept left. absurd kept };
+
+    fn create(&mut self, name: &str) -> io::Result<()> {
+        let outcome = self.open_as(
+            name,
+            OpenOptions::new().write(true).create(true).truncate(true),
+        );
+        self.count(outcome)
+    }
+
+    fn append(&mut self, name: &str, bytes: &[u8]) -> io::Result<()> {
+        let outcome = self.write(name, bytes);
+        self.count(outcome)
+    }
+
+    fn sync_file(&mut self, name: &str) -> io::Result<()> {
+        let outcome = self.sync_written(name);
+        self.count(outcome)
+    }
+
+    fn rename(&mut self, from: &str, to: &str) -> io::Result<()> {
+        let outcome = self.move_file(from, to);
+        self.count(outcome)
+    }
+
+    fn remove(&mut self, name: &str) -> io::Result<()> {
+        let outcome = self.remove_file(name);
+        self.count(outcome)
+    }
+
+    fn sync(&mut self) -> io::Result<()> {
+        let outcome = self.folder.sync_all();
+        self.count(outcome)
+    }
+}
+
+impl<R: Files<File = File> + Drop> ReadableFolder for LockedFolder<R> {
+    type File = DiskFile<OsFile>;
+
+    /// The name of each plain file, but for the lock and those that were not published.
+    fn names(&self, alloc: Global) -> io::Result<Vec<String>> {
+        let mut names = Vec::new(alloc);
+        for entry in fs::read_dir(&(&self.rt, alloc), self.path.as_str())? {
+            let entry = entry?;
+            let name = entry.file_name();
+            if is_listed(name) && entry.file_type()?.is_file() {
+                names.push(String::from_str(alloc, name)?)?;
+            }
+        }
+        Ok(names)
+    }
+
+    fn read(&self, alloc: Global, name: &str) -> io::Result<Option<Vec<u8>>> {
+        let path = self.path_of(name)?;
+        match File::open(&self.rt, path.as_str()) {
+            Ok(mut file) => Ok(Some(read_all(alloc, &mut file)?)),
+            Err(error) if error.kind() == ErrorKind::NotFound => Ok(None),
+            Err(error) => Err(error),
+        }
+    }
+
+    fn open(&self, _alloc: Global, name: &str) -> io::Result<DiskFile<OsFile>> {
+        let path = self.path_of(name)?;
+        DiskFile::new(OsFile::open(&self.rt, path.as_str())?)
+    }
+}

@@ -1,0 +1,75 @@
+//! What is listed and read of folders in memory.
+
+use docstore::FileHandle;
+use std::alloc::Global;
+use std::io;
+use std::io::ErrorKind;
+use std::test::Fail;
+use store_folder::{Folder, MemFolder, ReadableFolder};
+use torn_folder::{Event, TornFolder};
+
+// Writes a file in two pieces, renames another, and removes a third.
+fn fill<F: Folder>(folder: &mut F) -> io::Result<()> {
+    folder.create("a")?;
+    folder.append("a", b"x")?;
+    folder.append("a", b"yz")?;
+    folder.create("b.part")?;
+    folder.sync_file("b.part")?;
+    folder.rename("b.part", "b")?;
+    folder.create("c")?;
+    folder.remove("c")?;
+    folder.sync()
+}
+
+// Whether both files are listed, and no other.
+fn has_two_names<F: ReadableFolder>(alloc: Global, folder: &F) -> Result<bool, Fail> {
+    let names = folder.names(alloc)?;
+    let has = |name: &str| names.iter().any(|known| known.as_str() == name);
+    Ok(names.len() == 2 && has("a") && has("b"))
+}
+
+// Whether the file that was written is read, at once and in parts.
+fn has_bytes<F: ReadableFolder>(alloc: Global, folder: &F) -> Result<bool, Fail> {
+    let Some(whole) = folder.read(alloc, "a")? else {
+        return Ok(false);
+    };
+    let mut file = folder.open(alloc, "a")?;
+    if file.len() != 3 {
+        return Ok(false);
+    }
+    let end = file.read_bytes(alloc, 1..3)?;
+    Ok(whole.as_slice() == b"xyz".as_slice() && end.as_slice() == b"yz".as_slice())
+}
+
+// Whether a file that was removed and one that was renamed are not found.
+fn has_no_other<F: ReadableFolder>(alloc: Global, folder: &F) -> Result<bool, Fail> {
+    let is_refused = match folder.open(alloc, "c") {
+        Ok(_) => false,
+        Err(error) => error.kind() == ErrorKind::NotFound,
+    };
+    Ok(is_refused && folder.read(alloc, "c")?.is_none() && folder.read(alloc, "b.part")?.is_none())
+}
+
+#[test]
+fn a_folder_that_keeps_everything_is_listed_and_read(rt: HostRuntime) -> Result<(), Fail> {
+    let alloc = rt.alloc();
+    let mut folder = MemFolder::new(alloc);
+    fill(&mut folder)?;
+    assert!(rt; has_two_names(alloc, &folder)?);
+    assert!(rt; has_bytes(alloc, &folder)?);
+    assert!(rt; has_no_other(alloc, &folder)?);
+    Ok(())
+}
+
+#[test]
+fn a_folder_that_tears_is_listed_and_read(rt: HostRuntime) -> Result<(), Fail> {
+    let alloc = rt.alloc();
+    let mut folder = TornFolder::new(alloc);
+    fill(&mut folder)?;
+    assert!(rt; has_two_names(alloc, &folder)?);
+    assert!(rt; has_bytes(alloc, &folder)?);
+    assert!(rt; has_no_other(alloc, &folder)?);
+    assert_eq!(rt; folder.events().len(), 9);
+    assert!(rt; matches!(folder.events()[8], Event::FolderSynced));
+    Ok(())
+}
