@@ -1,6 +1,6 @@
 -- What tails stand for, in each step of a change.
 use Rattle.std.proofs.Common.{◌≡◌, ◌⊎◌, ◌<◌, ◌≤◌, ◌^◌, ℕ, suc, ◌+◌, ◌-◌, List, [], ◌∷◌, ◌++◌, length}
-use Rattle.std.proofs.Common.{take, drop, true, refl, sym, ◌∙◌, ap, arith, length-append, length-drop, append_assoc, take-append-drop, inl, inr}
+use Rattle.std.proofs.Common.{take, drop, true, refl, sym, ◌∙◌, ap, subst, arith, length-append, length-drop, append_assoc, take-append-drop, inl, inr}
 use Rattle.std.proofs.lemmas.List.{append-nil, take_all, take_at, drop_all, drop_at, take-append-le, take-take, length-take-le, drop-take, append_cancel_left}
 use Rattle.std.proofs.lemmas.Bool.{cases_eq}
 use Rattle.record_log.specs.declared.tail.Commit.{Commit}
@@ -302,3 +302,8 @@ module _ (end : ℕ) (file body : List ℕ) (rest : IsAtRest TwoSyncs end file) 
 
 pub new_bodies : (file : List ℕ) → length file ≡ 16 → bodies_of file ≡ []
 new_bodies file size = bodies_skip 16 file ∙ ap (λ (l : List ℕ). bodies_after 0 l) (drop_all 16 file (omega (arith, size)))
+
+pub new_whole : (file : List ℕ) → length file ≡ 16 → IsWholeTo (length file) file
+new_whole file size =
+    let none : bodies_after 0 (drop 16 file) ≡ [] = ap (λ (l : List ℕ). bodies_after 0 l) (drop_all 16 file (omega (arith, size))) in
+    subst (λ (n : ℕ). IsWholeTo n file) (sym size) (read_whole 16 file [] (read_header file (omega (arith, size))) none)

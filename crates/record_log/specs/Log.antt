@@ -38,7 +38,7 @@ pub record KeepsOrAdds (commit : Commit) (added : List (List ℕ)) (old new : Li
   pub first : first_of new ≡ first_of old
   pub records : (records_of new ≡ records_of old) ⊎ ((records_of new ≡ records_of old ++ added) ⊎ AddsForged commit added old new)
 
--- These bytes are whole records: what stands after them begins a record.
+-- These bytes are whole records: the bytes after them begin a record.
 pub record IsWholeRecords (bytes : List ℕ) : Type 0 where
   pub goes_on : (after : List ℕ) → records_in (bytes ++ after) ≡ records_in bytes ++ records_in after
   pub encoded : bytes ≡ body_of (records_in bytes)

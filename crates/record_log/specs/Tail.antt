@@ -1,4 +1,4 @@
--- What the bytes of a tail stand for: a header of 16 bytes, and batches of records after it.
+-- The records of the bytes of a tail: a header of 16 bytes, and batches of records after it.
 use Rattle.std.specs.Prelude.{◌≡◌, ◌≢◌, ◌⊎◌, ◌≤◌, ◌+◌, ◌==◌, ◌&&◌, ℕ, zero, suc, Bool, nat_le, List, [], ◌∷◌, ◌++◌, length, take, drop, if◌then◌else◌}
 use Rattle.std.specs.List.{flat_map}
 use Rattle.std.specs.Int.{w32, w64, to_le_bytes, from_le_bytes}
@@ -30,7 +30,7 @@ sum_of body = sip.finish (sip.write sip.initial body)
 abbrev pub framed : List ℕ → List ℕ
 framed item = four (length item) ++ item
 
--- Whether as many bytes stand after a length as it says.
+-- Whether there are as many bytes after a length as it says.
 abbrev pub has_whole : List ℕ → Bool
 has_whole bytes = nat_le (4 + four_in bytes) (length bytes)
 
@@ -83,7 +83,7 @@ bodies_of file = bodies_after 16 file
 abbrev pub records_from : List ℕ → List (List ℕ)
 records_from bytes = flat_map records_in (bodies_after 0 bytes)
 
--- the records that a file stands for, whatever a crash made of it
+-- the records of a file, whatever a crash made of it
 abbrev pub records_of : List ℕ → List (List ℕ)
 records_of file = flat_map records_in (bodies_of file)
 
@@ -100,12 +100,12 @@ pub record IsTail (file : List ℕ) : Type 0 where
   pub named : take 8 file ≡ magic
   pub long : 16 ≤ length file
 
--- what stands after the last batch while no call runs: nothing, or a closed gate
+-- the bytes after the last batch while no call runs: none, or a closed gate
 abbrev pub ending : Commit → List ℕ
 ending OneSync = []
 ending TwoSyncs = 0 ∷ []
 
--- Up to this place the file is whole batches: what stands after them begins a batch.
+-- Up to this place the file is whole batches: the bytes after them begin a batch.
 pub record IsWholeTo (end : ℕ) (file : List ℕ) : Type 0 where
   pub header : 16 ≤ end
   pub within : end ≤ length file

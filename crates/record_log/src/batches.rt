@@ -93,12 +93,8 @@ fn open_length(bytes: &[u8]) -> Option<usize>
     }
 }
 
-// Adds the places of the records of a body, which lies at this place of a file.
-pub(crate) fn place_records(
-    body: &[u8],
-    base: usize,
-    places: &mut Vec<Place>,
-) -> Result<(), AllocError>
+/// Adds the places of the records of a body, which lies at this place of a file.
+pub fn place_records(body: &[u8], base: usize, places: &mut Vec<Place>) -> Result<(), AllocError>
     requires { base + length body.now < 2 ^ 64 }
     ensures records { OnOk result (AddsRecords body.now base places.old.items places.new.items) }
     ensures within { OnOk result
@@ -119,13 +115,13 @@ pub(crate) fn place_records(
 
 /// What was found in a tail: its records, and where its whole batches end.
 #[derive(Debug, Drop)]
-pub(crate) struct Found {
-    pub(crate) places: Vec<Place>,
-    pub(crate) end: usize,
+pub struct Found {
+    pub places: Vec<Place>,
+    pub end: usize,
 }
 
 /// Reads the batches of a tail.
-pub(crate) fn find_records(alloc: Global, bytes: &[u8]) -> Result<Found, AllocError>
+pub fn find_records(alloc: Global, bytes: &[u8]) -> Result<Found, AllocError>
     requires { 16 ≤ length bytes.now }
     ensures whole { IfOk result (λ found. IsWholeTo found.end bytes.now) }
     ensures records { IfOk result (λ found. contents bytes.now found.places.items ≡ records_of bytes.now) }
@@ -158,7 +154,7 @@ fn add_summed(bytes: &mut Vec<u8>, body: &[u8]) -> Result<(), AllocError>
 }
 
 /// A batch with its open gate.
-pub(crate) fn open_batch(alloc: Global, body: &[u8]) -> Result<Vec<u8>, AllocError>
+pub fn open_batch(alloc: Global, body: &[u8]) -> Result<Vec<u8>, AllocError>
     requires { 8 + length body.now < 2 ^ 32 }
     ensures bytes { IfOk result (λ batch. batch.items ≡ 1 ∷ summed body.now) }
     ensures fits { OnOk result (sum_of body.now < 2 ^ 64) }
@@ -183,7 +179,7 @@ pub(crate) fn staged_batch(alloc: Global, body: &[u8]) -> Result<Vec<u8>, AllocE
 
 /// Puts a record after others of a body.
 #[tactic(auto, unfolding(crate::specs::Tail::four))]
-pub(crate) fn add_record(body: &mut Vec<u8>, bytes: &[u8]) -> Result<(), AllocError>
+pub fn add_record(body: &mut Vec<u8>, bytes: &[u8]) -> Result<(), AllocError>
     requires { length bytes.now < 2 ^ 32 }
     ensures added { OnOk result (body.new.items ≡ body.old.items ++ framed bytes.now) }
     ensures kept { take (length body.old.items) body.new.items ≡ body.old.items }

@@ -23,7 +23,7 @@ pub trait Device: Drop {
     /// What a crash at that moment or a later one could have left, during a call or between two.
     ghost left_since: { Self → ℕ → List ℕ → Type 0 };
 
-    /// How often the device has failed. A count that stands at its greatest value is taken to have risen.
+    /// How often the device has failed. A count that has its greatest value is taken to have risen.
     ghost failures: { Self → ℕ };
 
     /// Whether its reads by `read_at` succeed where there is memory.

@@ -113,7 +113,7 @@ fn recover<D: Device>(alloc: Global, device: &mut D, commit: Commit) -> Result<R
 
 impl<D: Device> RecordLog<D> {
     /// Opens a tail that a crash may have left, and repairs its end. A crash during it leaves the same records. An
-    /// error hands the device back.
+    /// error returns the device.
     pub fn open(alloc: Global, mut device: D, commit: Commit) -> Result<RecordLog<D>, (LogError, D)>
         // After a restart, what is read is what is on the disk.
         requires { Only (D.seen device) (D.may_leave device) }
@@ -313,7 +313,7 @@ impl<D: Device> RecordLog<D> {
             .wrapping_sub(self.places.len() as u64)
     }
 
-    /// Hands the device back. What waits for a sync is lost.
+    /// Returns the device. The records that wait for a sync are lost.
     pub fn into_device(self) -> D
         ensures { result ≡ self.device }
     {

@@ -27,9 +27,9 @@ pub enum Commit {
     TwoSyncs,
 }
 
-// The number of a tail's first record.
+/// The number of a tail's first record, if these bytes are a tail.
 #[tactic(auto, unfolding(crate::specs::Tail::first_of))]
-pub(crate) fn first_number(bytes: &[u8]) -> Option<u64>
+pub fn first_number(bytes: &[u8]) -> Option<u64>
     ensures some { IfSome result (λ n. IsTail bytes.now × (n ≡ first_of bytes.now)) }
     ensures none { IfNone result (IsTail bytes.now → ⊥) }
 {
@@ -44,7 +44,8 @@ pub(crate) fn first_number(bytes: &[u8]) -> Option<u64>
 
 /// The bytes of a tail of no records, the first of which will have this number.
 pub fn new_tail(alloc: Global, first: u64) -> Result<Vec<u8>, AllocError>
-    ensures { IfOk result (λ tail. IsTail tail.items × (first_of tail.items ≡ first) × (bodies_of tail.items ≡ [])) }
+    ensures { IfOk result (λ tail. IsTail tail.items × (first_of tail.items ≡ first) × (bodies_of tail.items ≡ [])
+        × IsWholeTo (length tail.items) tail.items) }
 {
     let mut tail = Vec::with_capacity(alloc, HEADER)?;
     tail.extend_from_slice(&MAGIC)?;

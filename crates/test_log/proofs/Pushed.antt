@@ -1,13 +1,12 @@
 -- One change more.
-use Rattle.std.proofs.Common.{◌≡◌, ◌⊎◌, ◌<◌, ◌≤◌, ℕ, zero, suc, ◌+◌, ◌-◌, List, [], ◌∷◌, ◌++◌, length, take, drop}
-use Rattle.std.proofs.Common.{Some, None, Option, append_assoc, refl, sym, ◌∙◌, ap, subst, arith, inl, inr, ⊎_elim, length-append, length-take, length-drop}
+use Rattle.std.proofs.Common.{◌≡◌, ◌≤◌, ℕ, zero, suc, ◌+◌, ◌-◌, List, [], ◌∷◌, ◌++◌, length, take, drop}
+use Rattle.std.proofs.Common.{Some, append_assoc, refl, sym, ◌∙◌, ap, subst, arith, inl, inr, ⊎_elim, length-append, length-drop}
 use Rattle.std.proofs.lemmas.List.{take_all, take_at, drop_at, take-append-le, length-take-le}
 use Rattle.std.proofs.lemmas.Bool.{cases_lt}
 use Rattle.std.specs.Prelude.{slice_get}
 use Rattle.store_folder.specs.Moments.{Elapses, ComesFrom}
 use Rattle.record_log.specs.Device.{Holds, Torn, Cut}
 use Rattle.test_log.specs.declared.torn.Change.{Change}
-use Rattle.test_log.specs.declared.torn.Kind.{Kind}
 use Rattle.test_log.specs.Changes.{torn_by, left_by, left_by_all, latest, is_list, LeftSince}
 use Rattle.test_log.specs.Leaves.{latest_left}
 

@@ -5,7 +5,15 @@
 mod bytes;
 pub mod crash;
 #[cfg(test)]
+mod segmented;
+#[cfg(test)]
 mod tests;
 pub mod torn;
+#[cfg(test)]
+mod torn_files;
+#[cfg(test)]
+mod torn_logs;
+#[cfg(test)]
+mod watched;
 
 pub use torn::{Change, Kind, TornDevice};

@@ -2,7 +2,7 @@ use Rattle.std.proofs.Common.{◌≡◌, ℕ, List, ◌++◌, length, take, drop
 use Rattle.std.specs.Int.{w64, to_le_bytes, from_le_bytes}
 use Rattle.std.proofs.lemmas.Nat.{from_le_bytes-to_le_bytes_8}
 use Rattle.record_log.specs.Tail.{first_of, magic}
-use Rattle.record_log.proofs.Tails.{new_bodies}
+use Rattle.record_log.proofs.Tails.{new_bodies, new_whole}
 use Rattle.record_log.proofs.tail.new_tail.Goals as goal
 
 pub returns : goal.returns
@@ -18,4 +18,5 @@ returns c =
       record { named = ap (λ (l : List ℕ). take 8 l) is; long = omega (arith, size) },
       ap (λ (l : List ℕ). from_le_bytes w64 (take 8 (drop 8 l))) is ∙ from_le_bytes-to_le_bytes_8 c.args.first c.ranges.first.fits,
       new_bodies tail size,
+      new_whole tail size,
     )

@@ -7,25 +7,26 @@ use Rattle.record_log.specs.Log.{KeepsOrAdds}
 use Rattle.record_log.proofs.Moments.{leaves_weaker}
 use Rattle.record_log.proofs.Scans.{ends_later}
 use Rattle.record_log.proofs.Logs.{first_same, keeps_or_adds, records_more, contents_more, places_more, nothing_whole}
+use Rattle.record_log.proofs.log.RecordLog.sync.Goals.{After-write_batch}
 use Rattle.record_log.proofs.log.RecordLog.sync.Goals as goal
 
-pub returns-in_err-write_batch-clause-any_moment : goal.returns-in_err-write_batch-clause-any_moment
-returns-in_err-write_batch-clause-any_moment g c =
+-- what may be left at any moment
+leaves : (g : _) (c : After-write_batch g)
+    → LeavesOnly g.D.Device.moment g.D.Device.left_since c.args.self.now.device c.write_batch.new.device
+    (KeepsOrAdds c.args.self.now.commit c.args.self.now.pending (g.D.Device.seen c.args.self.now.device))
+leaves g c =
     let old = g.D.Device.seen c.self.inside.device in
     let body = c.self.inside.pending.items in
-    λ works. subst (λ v. LeavesOnly g.D.Device.moment g.D.Device.left_since v.device c.write_batch.new.device (KeepsOrAdds v.commit v.pending (g.D.Device.seen v.device))) c.self.view_is
+    subst (λ v. LeavesOnly g.D.Device.moment g.D.Device.left_since v.device c.write_batch.new.device (KeepsOrAdds v.commit v.pending (g.D.Device.seen v.device))) c.self.view_is
     (leaves_weaker g.D.Device.moment g.D.Device.left_since c.self.inside.device c.write_batch.new.device _ (KeepsOrAdds c.self.inside.commit (records_in body) old) c.write_batch.ensures.any_moment
     (λ f has. keeps_or_adds c.self.inside.commit old f body (OnFalse_at c.if-self.false c.self.invariant).whole
     (subst (λ b. IsWithOrWithout c.self.inside.commit b old f) c.deref-2.ensures.value has)))
 
+pub returns-in_err-write_batch-clause-any_moment : goal.returns-in_err-write_batch-clause-any_moment
+returns-in_err-write_batch-clause-any_moment g c = λ works. leaves g (goal.at.returns-in_err-write_batch-clause-any_moment g c).After-write_batch
+
 pub returns-clause-any_moment : goal.returns-clause-any_moment
-returns-clause-any_moment g c =
-    let old = g.D.Device.seen c.self.inside.device in
-    let body = c.self.inside.pending.items in
-    λ works. subst (λ v. LeavesOnly g.D.Device.moment g.D.Device.left_since v.device c.write_batch.new.device (KeepsOrAdds v.commit v.pending (g.D.Device.seen v.device))) c.self.view_is
-    (leaves_weaker g.D.Device.moment g.D.Device.left_since c.self.inside.device c.write_batch.new.device _ (KeepsOrAdds c.self.inside.commit (records_in body) old) c.write_batch.ensures.any_moment
-    (λ f has. keeps_or_adds c.self.inside.commit old f body (OnFalse_at c.if-self.false c.self.invariant).whole
-    (subst (λ b. IsWithOrWithout c.self.inside.commit b old f) c.deref-2.ensures.value has)))
+returns-clause-any_moment g c = λ works. leaves g (goal.at.returns-clause-any_moment g c).After-write_batch
 
 pub returns-clause-first : goal.returns-clause-first
 returns-clause-first g c =

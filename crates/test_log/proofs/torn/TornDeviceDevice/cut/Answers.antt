@@ -1,41 +1,23 @@
-use Rattle.std.proofs.Common.{◌≡◌, take, length, ◌∙◌, ap, sym, subst, refl, inl, rules, ⊎_elim}
-use Rattle.record_log.specs.Device.{Torn, Cut}
-use Rattle.test_log.specs.declared.torn.Change.{Change}
-use Rattle.test_log.specs.declared.torn.Kind.TheVariants.{Write, Shorten, Sync}
-use Rattle.test_log.specs.Changes.{left_by_all, latest, is_list}
-use Rattle.test_log.specs.Leaves.{latest_left}
-use Rattle.test_log.proofs.Pushed.{elapses, comes, latest_now, left_pushed, whole_write, whole_cut}
+use Rattle.std.proofs.Common.{◌≡◌, take, ◌∙◌, sym, subst, rules}
+use Rattle.record_log.specs.Device.{Cut}
+use Rattle.test_log.specs.Changes.{latest}
+use Rattle.test_log.proofs.Pushed.{elapses, comes, latest_now, whole_cut}
+use Rattle.test_log.proofs.torn.TornDeviceDevice.cut.Goals.{In_ok-note}
 use Rattle.test_log.proofs.torn.TornDeviceDevice.cut.Goals as goal
+
+content_is : (c : In_ok-note) → c.in_ok-content.content.items ≡ take c.args.len (latest c.args.self.now.first.items c.args.self.now.changes.items)
+content_is c = search rules
 
 pub returns-clause-cut : goal.returns-clause-cut
 returns-clause-cut c =
-    let first = c.args.self.now.first.items in
-    let old = c.args.self.now.changes.items in
-    let new = c.note.new.self.changes.items in
-    let change : Change = record { kind = Shorten c.args.len; content = c.in_ok-content.content } in
-    let noted = c.in_ok-note.ensures.noted in
-    let same = c.note.ensures.first in
-    let content : c.in_ok-content.content.items ≡ take c.args.len (latest first old) = search rules in
-    latest_now first old change new noted c.note.new.self.first.items same ∙ content
+    latest_now c.args.self.now.first.items c.args.self.now.changes.items _ _ c.in_ok-note.ensures.noted _ c.note.ensures.first ∙ content_is (goal.at.returns-clause-cut c).In_ok-note
 
 pub returns-clause-time : goal.returns-clause-time
 returns-clause-time c =
-    let first = c.args.self.now.first.items in
-    let old = c.args.self.now.changes.items in
-    let new = c.note.new.self.changes.items in
-    let change : Change = record { kind = Shorten c.args.len; content = c.in_ok-content.content } in
-    let noted = c.in_ok-note.ensures.noted in
-    let same = c.note.ensures.first in
-    elapses first old change new noted c.note.new.self.first.items same
+    elapses c.args.self.now.first.items c.args.self.now.changes.items _ _ c.in_ok-note.ensures.noted _ c.note.ensures.first
 
 pub returns-clause-crash : goal.returns-clause-crash
 returns-clause-crash c =
-    let first = c.args.self.now.first.items in
-    let old = c.args.self.now.changes.items in
-    let new = c.note.new.self.changes.items in
-    let change : Change = record { kind = Shorten c.args.len; content = c.in_ok-content.content } in
-    let noted = c.in_ok-note.ensures.noted in
-    let same = c.note.ensures.first in
-    let content : c.in_ok-content.content.items ≡ take c.args.len (latest first old) = search rules in
-    comes first old change new noted c.note.new.self.first.items same (Cut c.args.len)
-    (subst (λ l. Cut c.args.len (latest first old) l) (sym content) (whole_cut c.args.len (latest first old) c.requires)) (λ f torn. torn)
+    let now = latest c.args.self.now.first.items c.args.self.now.changes.items in
+    comes c.args.self.now.first.items c.args.self.now.changes.items _ _ c.in_ok-note.ensures.noted _ c.note.ensures.first (Cut c.args.len)
+    (subst (λ l. Cut c.args.len now l) (sym (content_is (goal.at.returns-clause-crash c).In_ok-note)) (whole_cut c.args.len now c.requires)) (λ f torn. torn)

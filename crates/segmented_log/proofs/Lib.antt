@@ -1,0 +1,16 @@
+pub mod GrowLemmas
+pub mod HoldLemmas
+pub mod LoadLemmas
+pub mod NameLemmas
+pub mod NumberLemmas
+pub mod OpeningLemmas
+pub mod PartLemmas
+pub mod ReadLemmas
+pub mod ScanLemmas
+pub mod SealLemmas
+pub mod SegmentLemmas
+pub mod StoreLemmas
+pub mod SyncLemmas
+pub mod TailLemmas
+pub mod TailRepairLemmas
+pub mod UniqueLemmas

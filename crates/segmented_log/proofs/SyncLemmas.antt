@@ -1,0 +1,170 @@
+-- A log after a batch was put after those of its tail.
+use Rattle.std.proofs.Common.{◌≡◌, ℕ, ◌+◌, ◌<◌, ◌≤◌, ◌^◌, List, [], ◌∷◌, ◌++◌, length, take, map, refl, sym, ◌∙◌, ap, subst, arith, length-append}
+use Rattle.std.specs.Prelude.{All, Bool, true, ◌==◌, Result, Ok, Err, OnOk}
+use Rattle.std.proofs.lemmas.Bool.Decides.{nat_tests}
+use Rattle.std.specs.Bool.{OnFalse}
+use Rattle.std.proofs.lemmas.Bool.{OnFalse_from}
+use Rattle.std.proofs.lemmas.List.{append-nil, take_all, length-map, nil_from_length}
+use Rattle.store_folder.specs.Moments.{ComesFrom, LeavesOnly}
+use Rattle.store_folder.specs.Folder.{Look, Elsewhere, ElsewhereOfBoth}
+use Rattle.store_folder.specs.Publishing.{part}
+use Rattle.store_folder.proofs.Steps.{started}
+use Rattle.store_format.specs.Block.{doc}
+use Rattle.record_log.specs.declared.batches.Place.{Place}
+use Rattle.record_log.specs.declared.tail.Commit.TheVariants.{OneSync}
+use Rattle.record_log.specs.Place.{content, contents, EndsBy, AddsRecords}
+use Rattle.record_log.specs.Tail.{sum_of, summed, records_in, records_of, first_of, IsTail, IsWholeTo, IsAtRest}
+use Rattle.record_log.proofs.Bodies.{length-summed}
+use Rattle.record_log.proofs.Scans.{ends_later}
+use Rattle.record_log.proofs.Tails.{once_file, once_bodies, once_at_rest}
+use Rattle.record_log.proofs.Logs.{records_more, contents_more, places_more, nothing_whole}
+use Rattle.segmented_log.specs.Names.{segment_name, tail_name}
+use Rattle.segmented_log.specs.Parts.{Part, tail_end, end_from, log_slots, AreParts}
+use Rattle.segmented_log.specs.Log.{IsLog}
+use Rattle.segmented_log.specs.Settled.{TailIsKept, IsSettledTail, IsSettledFolder}
+use Rattle.segmented_log.proofs.NameLemmas.{segment_no_tail}
+use Rattle.segmented_log.proofs.HoldLemmas.{other_tail}
+use Rattle.std.proofs.lemmas.List.Elements.{All-nil}
+use Rattle.segmented_log.proofs.PartLemmas.{more_parts, more_slots, emptied_parts}
+use Rattle.segmented_log.proofs.SealLemmas.{replaced_outcomes}
+use Rattle.segmented_log.proofs.TailLemmas.{grown_first, grown_tail}
+use Rattle.segmented_log.proofs.ReadLemmas.{slots_end}
+
+at_rest : (tail : List ℕ) → IsWholeTo (length tail) tail → IsAtRest OneSync (length tail) tail
+at_rest tail whole = record { whole = whole; ends = sym (take_all (length tail) tail (omega arith)) ∙ sym (append-nil (take (length tail) tail)) }
+
+pub new_size : (tail body new : List ℕ) → new ≡ tail ++ 1 ∷ summed body → length new ≡ length tail + 13 + length body
+new_size tail body new new_is = omega (arith, ap length new_is, length-append tail (1 ∷ summed body), length-summed body)
+
+module _ (sealed tail_first next : ℕ) (tail body new : List ℕ) (places : List Place) (s : IsSettledTail sealed tail_first next tail places body) (fits : sum_of body < 2 ^ 64) (new_is : new ≡ tail ++ 1 ∷ summed body) where
+  rest : IsAtRest OneSync (length tail) tail
+  rest = at_rest tail s.whole
+
+  pub batch_records : records_of new ≡ records_of tail ++ records_in body
+  batch_records = records_more tail new body (once_bodies (length tail) tail body rest s.small fits new new_is)
+
+  pub batch_first : first_of new ≡ first_of tail
+  batch_first = ap first_of new_is ∙ grown_first tail (1 ∷ summed body) s.whole
+
+  batch_size : length new ≡ length tail + 13 + length body
+  batch_size = new_size tail body new new_is
+
+  pub settled_batch : (later : List Place) (pending : List ℕ) (end : ℕ) → AddsRecords body (length tail + 13) places later → All (EndsBy end) later → end ≤ length new → pending ≡ []
+      → IsSettledTail sealed tail_first next new later pending
+  settled_batch later pending end adds within le none =
+      let size = places_more OneSync (length tail) tail body new rest (once_file (length tail) tail body rest s.small fits new new_is) places later s.records s.within adds in
+      let empty = nothing_whole pending none in
+      record {
+        is_tail = subst (λ (l : List ℕ). IsTail l) (sym new_is) (grown_tail tail (1 ∷ summed body) s.whole s.is_tail);
+        whole = subst (λ (n : ℕ). IsWholeTo n new) (sym batch_size) (once_at_rest (length tail) tail body rest s.small fits new new_is).whole;
+        records = contents_more OneSync (length tail) tail body new rest (once_file (length tail) tail body rest s.small fits new new_is) places later s.records s.within adds batch_records;
+        within = ends_later end (length new) later le within;
+        first_is = s.first_is ∙ sym batch_first;
+        low = s.low;
+        high = omega (arith, s.high, size);
+        next_is = omega (arith, s.next_is, size, ap length empty.1);
+        fits = s.fits;
+        pending_whole = empty.0;
+        small = omega (arith, ap length none);
+      }
+
+  -- the folder's segments stay
+  pub folder_batch : (first : ℕ) (segments : List Part) (old_hold new_hold : List ℕ → List ℕ → Type 0) (before after : Look → Type 0) (old_entry new_entry : List ℕ → Type 0)
+      → IsSettledFolder old_hold before old_entry first sealed segments tail → TailIsKept new_hold after new_entry (tail ++ 1 ∷ summed body) → ComesFrom (Elsewhere tail_name) before after
+      → IsSettledFolder new_hold after new_entry first sealed segments new
+  folder_batch first segments old_hold new_hold before after old_entry new_entry f kept follows =
+      let kept_new = subst (λ (l : List ℕ). TailIsKept new_hold after new_entry l) (sym new_is) kept in
+      record {
+        parts = more_parts first segments tail f.parts new (records_in body) (subst (λ (l : List ℕ). IsTail l) (sym new_is) (grown_tail tail (1 ∷ summed body) s.whole s.is_tail)) batch_first batch_records;
+        sealed_is = f.sealed_is;
+        on_disk = record {
+          outcomes = λ c left.
+              let from = follows c left in
+              other_tail segments tail new from.0 c (f.on_disk.outcomes from.0 from.1) (λ k. from.2 (segment_name k) (segment_no_tail k)) (kept_new.outcomes c left);
+          tail_kept = kept_new;
+        };
+      }
+
+  pub slots_batch : (first : ℕ) (segments : List Part) → AreParts first segments tail → log_slots first segments new ≡ log_slots first segments tail ++ map doc (records_in body)
+  slots_batch first segments parts = more_slots first segments tail parts new (records_in body) batch_first batch_records
+
+-- the log that is on the disk
+pub log_on_disk : (may_hold : List ℕ → List ℕ → Type 0) (may_leave : Look → Type 0) (entry_kept : List ℕ → Type 0) (first sealed : ℕ) (segments : List Part) (tail : List ℕ)
+    → IsSettledFolder may_hold may_leave entry_kept first sealed segments tail → (c : Look) → may_leave c → IsLog first (log_slots first segments tail) c
+log_on_disk may_hold may_leave entry_kept first sealed segments tail f c left = record {
+  segments = segments;
+  tail = tail;
+  parts = f.parts;
+  slots_are = refl;
+  holds = f.on_disk.outcomes c left;
+}
+
+-- while no call changes the folder, each moment has the same log
+pub log_stays : {D : Type 0} (moment : D → ℕ) (left_since : D → ℕ → Look → Type 0) (may_hold : List ℕ → List ℕ → Type 0) (may_leave : Look → Type 0) (entry_kept : List ℕ → Type 0) (first sealed : ℕ) (segments : List Part)
+    (tail : List ℕ) → IsSettledFolder may_hold may_leave entry_kept first sealed segments tail → (folder : D) → ((c : Look) → left_since folder (moment folder) c → may_leave c)
+    → LeavesOnly moment left_since folder folder (IsLog first (log_slots first segments tail))
+log_stays moment left_since may_hold may_leave entry_kept first sealed segments tail f folder only_now =
+    started moment left_since folder _ (λ c left. log_on_disk may_hold may_leave entry_kept first sealed segments tail f c (only_now c left))
+
+-- the numbers of the records that are appended and synced next
+module _ (sealed tail_first next : ℕ) (tail : List ℕ) (places : List Place) (pending : List ℕ) (s : IsSettledTail sealed tail_first next tail places pending) (first : ℕ) (segments : List Part) (parts : AreParts first segments tail) where
+  pub tail_number : tail_first + length places ≡ first + length (log_slots first segments tail)
+  tail_number = omega (arith, s.first_is, slots_end first segments tail parts, ap length s.records, length-map places (content tail))
+
+  pub next_number : next ≡ first + length (log_slots first segments tail) + length (records_in pending)
+  next_number = omega (arith, s.next_is, tail_number)
+
+-- an empty tail after segments that have all records
+module _ (sealed tail_first next : ℕ) (tail : List ℕ) (places : List Place) (pending : List ℕ) (s : IsSettledTail sealed tail_first next tail places pending) (file : List ℕ) (end : ℕ) (end_is : end ≡ tail_first + length places) (sealed_is : sealed ≡ end)
+    (is_tail : IsTail file) (begins : first_of file ≡ end) (none : records_of file ≡ []) (whole : IsWholeTo (length file) file) where
+  places_size : length places ≡ length (records_of tail)
+  places_size = omega (arith, ap length s.records, length-map places (content tail))
+
+  pub begins_there : first_of file ≡ tail_end tail
+  begins_there = omega (arith, begins, end_is, s.first_is, places_size)
+
+  pub all_sealed : (first : ℕ) (segments : List Part) → sealed ≡ end_from first segments → end_from first segments ≡ tail_end tail
+  all_sealed first segments is = omega (arith, is, sealed_is, end_is, s.first_is, places_size)
+
+  pub settled_empty : (cleared : List Place) → cleared ≡ [] → IsSettledTail sealed end next file cleared pending
+  settled_empty cleared empty = record {
+    is_tail = is_tail;
+    whole = whole;
+    records = ap (λ (l : List Place). contents file l) empty ∙ sym none;
+    within = subst (λ (l : List Place). All (EndsBy (length file)) l) (sym empty) (All-nil (EndsBy (length file)));
+    first_is = sym begins;
+    low = omega (arith, sealed_is);
+    high = omega (arith, sealed_is);
+    next_is = omega (arith, s.next_is, end_is, ap length empty);
+    fits = s.fits;
+    pending_whole = s.pending_whole;
+    small = s.small;
+  }
+
+  pub folder_empty : (first : ℕ) (segments : List Part) (old_hold new_hold : List ℕ → List ℕ → Type 0) (before after : Look → Type 0) (old_entry new_entry : List ℕ → Type 0)
+      → IsSettledFolder old_hold before old_entry first sealed segments tail → TailIsKept new_hold after new_entry file → ComesFrom (ElsewhereOfBoth (tail_name ++ part) tail_name) before after
+      → IsSettledFolder new_hold after new_entry first sealed segments file
+  folder_empty first segments old_hold new_hold before after old_entry new_entry f kept follows = record {
+    parts = emptied_parts first segments tail f.parts file (all_sealed first segments f.sealed_is) is_tail begins_there none;
+    sealed_is = f.sealed_is;
+    on_disk = record { outcomes = replaced_outcomes segments tail file before after f.on_disk.outcomes follows kept.outcomes; tail_kept = kept };
+  }
+
+-- two facts of a log that works
+pub both_on_false : (b : Bool) (A B : Type 0) → A → B → OnFalse b (A × B)
+both_on_false b A B one two = OnFalse_from b (A × B) (λ works. (one, two))
+
+-- where the tail ends
+pub tail_is_there : (sealed tail_first next : ℕ) (tail : List ℕ) (places : List Place) (pending : List ℕ) → IsSettledTail sealed tail_first next tail places pending → tail_end tail ≡ tail_first + length places
+tail_is_there sealed tail_first next tail places pending s = omega (arith, s.first_is, ap length s.records, length-map places (content tail))
+
+pub always_ok : {T E P : Type 0} (r : Result T E) → P → OnOk r P
+always_ok (Ok x) p = p
+always_ok (Err e) p = tt
+
+none_is : (n : ℕ) → (n == 0) ≡ true → n ≡ 0
+none_is n is = grind (arith, nat_tests)
+
+-- a body of no bytes has no records
+pub nothing_pending : (bytes : List ℕ) (len : ℕ) (empty : Bool) → empty ≡ (len == 0) → empty ≡ true → length bytes ≡ len → records_in bytes ≡ []
+nothing_pending bytes len empty says is size = ap records_in (nil_from_length bytes (size ∙ none_is len (sym says ∙ is)))

@@ -1,0 +1,81 @@
+-- A tail with bytes after its own.
+use Rattle.std.proofs.Common.{◌≡◌, ◌≢◌, ◌⊎◌, inl, inr, ℕ, List, [], ◌∷◌, ◌++◌, length, take, map, refl, sym, ◌∙◌, ap, subst, arith, length-append, Some}
+use Rattle.std.proofs.lemmas.List.{append-nil, take_all, take-append-le}
+use Rattle.std.proofs.lemmas.List.Concat.{flat_map-append}
+use Rattle.std.specs.List.{flat_map}
+use Rattle.store_folder.specs.Folder.{Look}
+use Rattle.store_format.specs.Block.{Slot, doc}
+use Rattle.record_log.specs.Log.{IsWholeRecords}
+use Rattle.record_log.specs.Tail.{records_in, records_of, records_from, first_of, bodies_of, bodies_after, IsTail, IsWholeTo}
+use Rattle.record_log.proofs.Bodies.{same_bytes}
+use Rattle.record_log.proofs.Logs.{first_same}
+use Rattle.segmented_log.specs.Names.{segment_name, tail_name}
+use Rattle.segmented_log.specs.Parts.{Part, log_slots, AreParts}
+use Rattle.segmented_log.specs.Log.{Holds, IsLog, IsForged, KeepsOrAdds}
+use Rattle.segmented_log.specs.Settled.{GrowsTail}
+use Rattle.segmented_log.proofs.PartLemmas.{more_parts, more_slots}
+use Rattle.segmented_log.proofs.NameLemmas.{segment_no_tail}
+use Rattle.segmented_log.proofs.HoldLemmas.{other_tail}
+
+module _ (tail after : List ℕ) (whole : IsWholeTo (length tail) tail) where
+  all_of_it : take (length tail) tail ≡ tail
+  all_of_it = take_all (length tail) tail (omega arith)
+
+  pub grown_bodies : bodies_of (tail ++ after) ≡ bodies_of tail ++ bodies_after 0 after
+  grown_bodies = ap (λ (l : List ℕ). bodies_of (l ++ after)) (sym all_of_it) ∙ whole.goes_on after
+
+  pub grown_records : records_of (tail ++ after) ≡ records_of tail ++ records_from after
+  grown_records = ap (λ (l : List (List ℕ)). flat_map records_in l) grown_bodies ∙ flat_map-append records_in (bodies_of tail) (bodies_after 0 after)
+
+  pub grown_first : first_of (tail ++ after) ≡ first_of tail
+  grown_first = first_same tail (tail ++ after) (take-append-le 16 tail after (omega (arith, whole.header)))
+
+  pub grown_tail : IsTail tail → IsTail (tail ++ after)
+  grown_tail is = record {
+    named = take-append-le 8 tail after (omega (arith, is.long)) ∙ is.named;
+    long = omega (arith, is.long, length-append tail after);
+  }
+
+-- what stands after a tail where a batch of this body was written
+cases_of : (body : List ℕ) (bodies : List (List ℕ)) → (bodies ≡ []) ⊎ ((bodies ≡ body ∷ []) ⊎ ((bodies ≢ []) × (bodies ≢ body ∷ [])))
+cases_of body [] = inl refl
+cases_of body (other ∷ []) = elim (same_bytes other body) [
+  | inl same ↦ inr (inl (ap (λ (b : List ℕ). b ∷ []) same))
+  | inr differs ↦ inr (inr ((λ e. cc e), (λ e. let one : other ≡ body = cc e in differs one)))
+]
+cases_of body (other ∷ next ∷ more) = inr (inr ((λ e. cc e), (λ e. cc e)))
+
+module _ (first : ℕ) (segments : List Part) (tail body : List ℕ) (parts : AreParts first segments tail) (whole : IsWholeTo (length tail) tail) (records : IsWholeRecords body) where
+  grown_log : (c old : Look) (after : List ℕ) → Holds segments tail old → ((n : List ℕ) → n ≢ tail_name → c n ≡ old n)
+      → c tail_name ≡ Some (tail ++ after)
+      → IsLog first (log_slots first segments tail ++ map doc (records_from after)) c
+  grown_log c old after held elsewhere is = record {
+    segments = segments;
+    tail = tail ++ after;
+    parts = more_parts first segments tail parts (tail ++ after) (records_from after) (grown_tail tail after whole parts.is_tail) (grown_first tail after whole) (grown_records tail after whole);
+    slots_are = sym (more_slots first segments tail parts (tail ++ after) (records_from after) (grown_first tail after whole) (grown_records tail after whole));
+    holds = other_tail segments tail (tail ++ after) old c held (λ k. elsewhere (segment_name k) (segment_no_tail k)) is;
+  }
+
+  pub keeps_or_adds : (before : Look → Type 0) → ((c : Look) → before c → Holds segments tail c) → (c : Look) → GrowsTail before tail c
+      → KeepsOrAdds first (log_slots first segments tail) (records_in body) c
+  keeps_or_adds before held c grown =
+      let log = grown_log c grown.old grown.after (held grown.old grown.was) grown.elsewhere grown.tail_is in
+      let slots = log_slots first segments tail in
+      let after = grown.after in
+      elim (cases_of body (bodies_after 0 after)) [
+        | inl none ↦
+            let same : slots ++ map doc (records_from after) ≡ slots =
+            ap (λ (l : List (List ℕ)). slots ++ map doc (flat_map records_in l)) none ∙ append-nil slots in
+            inl (subst (λ (l : List Slot). IsLog first l c) same log)
+        | inr (inl one) ↦
+            let more : slots ++ map doc (records_from after) ≡ slots ++ map doc (records_in body) =
+            ap (λ (l : List (List ℕ)). slots ++ map doc (flat_map records_in l)) one ∙ ap (λ (l : List (List ℕ)). slots ++ map doc l) (append-nil (records_in body)) in
+            inr (inl (subst (λ (l : List Slot). IsLog first l c) more log))
+        | inr (inr others) ↦
+            inr (inr (record {
+              bytes = after;
+              forged = subst (λ (b : List ℕ). IsForged b after) records.encoded (record { some = others.0; other = others.1 });
+              log = log;
+            }))
+      ]

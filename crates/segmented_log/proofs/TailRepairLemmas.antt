@@ -1,0 +1,60 @@
+-- A tail whose torn end is cut off.
+use Rattle.std.proofs.Common.{◌≡◌, ℕ, List, [], length, take, Some, refl, sym, ◌∙◌, ap, subst, arith}
+use Rattle.std.specs.Prelude.{All}
+use Rattle.std.proofs.lemmas.List.{append-nil, take-take, length-take-le}
+use Rattle.store_folder.specs.Moments.{ComesFrom}
+use Rattle.store_folder.specs.Folder.{Look, ElsewhereOfBoth}
+use Rattle.record_log.specs.declared.batches.Place.{Place}
+use Rattle.record_log.specs.Place.{contents, EndsBy}
+use Rattle.record_log.specs.Tail.{records_of, first_of, IsTail, IsWholeTo}
+use Rattle.record_log.proofs.Tails.{same_with, cut_at_rest}
+use Rattle.record_log.proofs.Logs.{keeps_records, contents_same}
+use Rattle.segmented_log.specs.Names.{tail_name}
+use Rattle.segmented_log.specs.Opening.{IsRestarted}
+use Rattle.segmented_log.specs.Settled.{TailIsKept}
+
+some_is : (a b : List ℕ) → Some a ≡ Some b → a ≡ b
+some_is a b e = cc e
+
+-- the tail that is there, after a restart
+pub kept_restarted : (seen : Look) (may_hold : List ℕ → List ℕ → Type 0) (may_leave : Look → Type 0) (entry_kept : List ℕ → Type 0) (bytes : List ℕ) → IsRestarted seen may_hold may_leave entry_kept → seen tail_name ≡ Some bytes
+    → TailIsKept may_hold may_leave entry_kept bytes
+kept_restarted seen may_hold may_leave entry_kept bytes r is = record {
+  file = λ all held. some_is all bytes (sym (r.files tail_name all held) ∙ is);
+  entry = r.entries tail_name;
+  outcomes = λ c left. r.outcomes c left tail_name ∙ is;
+}
+
+-- nothing changed
+pub nothing_changed : (name other : List ℕ) (may_leave : Look → Type 0) → ComesFrom (ElsewhereOfBoth name other) may_leave may_leave
+nothing_changed name other may_leave c left = (c, left, λ n _ _. refl)
+
+-- all of it is whole batches
+pub whole_all : (bytes : List ℕ) (end : ℕ) → end ≡ length bytes → IsWholeTo end bytes → IsWholeTo (length bytes) bytes
+whole_all bytes end is whole = subst (λ (n : ℕ). IsWholeTo n bytes) is whole
+
+module _ (bytes front : List ℕ) (end : ℕ) (whole : IsWholeTo end bytes) (front_is : front ≡ take end bytes) where
+  size : length front ≡ end
+  size = ap length front_is ∙ length-take-le end bytes whole.within
+
+  pub front_whole : IsWholeTo (length front) front
+  front_whole = subst (λ (n : ℕ). IsWholeTo n front) (sym size) (cut_at_rest end bytes front whole front_is).whole
+
+  pub front_first : first_of front ≡ first_of bytes
+  front_first = (keeps_records bytes front (same_with end bytes whole front [] (front_is ∙ sym (append-nil (take end bytes))) refl)).first
+
+  pub front_records : records_of front ≡ records_of bytes
+  front_records = (keeps_records bytes front (same_with end bytes whole front [] (front_is ∙ sym (append-nil (take end bytes))) refl)).records
+
+  pub front_tail : IsTail bytes → IsTail front
+  front_tail is = record {
+    named = ap (λ (l : List ℕ). take 8 l) front_is ∙ take-take 8 end bytes (omega (arith, whole.header)) ∙ is.named;
+    long = omega (arith, size, whole.header);
+  }
+
+  pub front_contents : (places : List Place) → contents bytes places ≡ records_of bytes → All (EndsBy end) places → contents front places ≡ records_of front
+  front_contents places known within =
+      contents_same end front bytes places (ap (λ (l : List ℕ). take end l) front_is ∙ take-take end end bytes (omega arith)) within ∙ known ∙ sym front_records
+
+  pub front_within : (places : List Place) → All (EndsBy end) places → All (EndsBy (length front)) places
+  front_within places within = subst (λ (n : ℕ). All (EndsBy n) places) (sym size) within

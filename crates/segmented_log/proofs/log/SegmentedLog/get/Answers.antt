@@ -1,0 +1,57 @@
+use Rattle.std.proofs.Common.{◌≡◌, ◌≤◌, ◌<◌, ◌-◌, map, get_or, Some, None, sym, ◌∙◌, ap, subst, arith}
+use Rattle.std.proofs.lemmas.Bool.{OnFalse_at, false≢true}
+use Rattle.store_format.specs.Block.{doc}
+use Rattle.segmented_log.specs.Parts.{part_of, tail_end, end_from}
+use Rattle.record_log.specs.Place.{content}
+use Rattle.segmented_log.specs.Log.{slot_at, Gives}
+use Rattle.segmented_log.proofs.StoreLemmas.{never_broken_read, if_gets}
+use Rattle.segmented_log.proofs.SyncLemmas.{tail_is_there}
+use Rattle.segmented_log.proofs.ReadLemmas.{slot_after, slot_sealed, slot_read}
+use Rattle.segmented_log.proofs.log.SegmentedLog.get.Goals as goal
+
+pub returns-then-number-self-2-clause-found : goal.returns-then-number-self-2-clause-found
+returns-then-number-self-2-clause-found g c = λ h.
+    let log = c.self.inside in
+    let known = OnFalse_at c.if-self.false c.self.invariant in
+    let f = (known.1 h).0 in
+    let number = c.args.number in
+    let segments = map (λ x. part_of x.first x.reader) log.segments.items in
+    let le : log.first ≤ number = omega arith in
+    let below : number < end_from log.first segments = omega (arith, f.sealed_is) in
+    subst (λ v. Gives (slot_at v.first v.slots number) c.get_from.result) c.self.view_is
+    (subst (λ o. Gives o c.get_from.result) (sym (slot_sealed log.first segments log.tail.items f.parts number le below)) (c.get_from.ensures.found log.first (known.1 h).1 f.parts.in_line le below))
+
+pub returns-then-number-self-2-clause-broken : goal.returns-then-number-self-2-clause-broken
+returns-then-number-self-2-clause-broken g c = (
+  λ is. absurd (never_broken_read c.get_from.result c.get_from.ensures.kind is),
+  λ t. absurd (false≢true (sym c.if-self.false ∙ ap (λ v. v.is_broken) c.self.view_is ∙ t)),
+)
+
+pub returns-then-number-self-2-clause-kind : goal.returns-then-number-self-2-clause-kind
+returns-then-number-self-2-clause-kind g c = if_gets c.get_from.result c.get_from.ensures.kind
+
+pub returns-then-index-len-clause-found : goal.returns-then-index-len-clause-found
+returns-then-index-len-clause-found g c = λ h.
+    let log = c.self.inside in
+    let known = OnFalse_at c.if-self.false c.self.invariant in
+    let s = known.0 in
+    let number = c.args.number in
+    let there = tail_is_there _ _ _ _ _ _ s in
+    let past : tail_end log.tail.items ≤ number = omega (arith, there, s.low) in
+    subst (λ v. slot_at v.first v.slots number ≡ None) c.self.view_is
+    (slot_after log.first (map (λ x. part_of x.first x.reader) log.segments.items) log.tail.items (known.1 h).0.parts number past)
+
+pub returns-clause-found : goal.returns-clause-found
+returns-clause-found g c = λ h.
+    let log = c.self.inside in
+    let known = OnFalse_at c.if-self.false c.self.invariant in
+    let s = known.0 in
+    let f = (known.1 h).0 in
+    let number = c.args.number in
+    let bytes = c.in_ok-copy_record.field-0 in
+    let place = c.index-place.result.now in
+    let copied = c.in_ok-copy_record.ensures ∙ ap (λ b. content b place) c.deref.ensures.value in
+    let is : place ≡ get_or log.places.items (number - log.tail_first) place = c.index-place.ensures in
+    subst (λ v. slot_at v.first v.slots number ≡ Some (doc bytes.items)) c.self.view_is
+    (slot_read log.first (map (λ x. part_of x.first x.reader) log.segments.items) log.tail.items f.parts log.places.items place bytes.items number s.records (omega (arith, f.sealed_is))
+    (omega (arith, s.first_is)) (is ∙ ap (λ n. get_or log.places.items (number - n) place) s.first_is) copied)

@@ -1,0 +1,20 @@
+use Rattle.std.proofs.Common.{◌∙◌, subst}
+use Rattle.std.proofs.lemmas.Result.{on_ok_weaker}
+use Rattle.store_folder.specs.Moments.{LeavesOnly}
+use Rattle.store_folder.proofs.Steps.{joined}
+use Rattle.segmented_log.specs.Log.{IsLog}
+use Rattle.segmented_log.proofs.log.SegmentedLog.seal_tail.Goals as goal
+
+pub returns-clause-any_moment : goal.returns-clause-any_moment
+returns-clause-any_moment g c = λ h.
+    let F = g.F.Folder in
+    let old = c.args.self.now in
+    let mid = c.publish_unsealed.new.self in
+    let new = c.empty_tail.new.self in
+    joined F.moment F.left_since old.folder mid.folder new.folder (IsLog old.first old.slots) (c.publish_unsealed.ensures.any_moment h)
+    (subst (λ n. LeavesOnly F.moment F.left_since mid.folder new.folder (IsLog n old.slots)) c.publish_unsealed.ensures.first
+    (subst (λ a. LeavesOnly F.moment F.left_since mid.folder new.folder (IsLog mid.first a)) (c.in_ok-publish_unsealed.ensures.slots h) (c.empty_tail.ensures.any_moment h)))
+
+pub returns-clause-slots : goal.returns-clause-slots
+returns-clause-slots g c = λ h.
+    on_ok_weaker c.empty_tail.result (λ same. same ∙ c.in_ok-publish_unsealed.ensures.slots h) (c.empty_tail.ensures.slots h)

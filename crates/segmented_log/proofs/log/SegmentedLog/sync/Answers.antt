@@ -1,0 +1,31 @@
+use Rattle.std.proofs.Common.{inr, inl, ◌++◌, map, sym, ◌∙◌, ap, subst, arith}
+use Rattle.std.proofs.lemmas.List.{append-nil}
+use Rattle.std.proofs.lemmas.Result.{on_ok_weaker}
+use Rattle.store_folder.proofs.Steps.{joined, weaker}
+use Rattle.store_format.specs.Block.{doc}
+use Rattle.segmented_log.specs.Log.{IsLog, KeepsOrAdds}
+use Rattle.segmented_log.proofs.SyncLemmas.{nothing_pending, always_ok}
+use Rattle.segmented_log.proofs.log.SegmentedLog.sync.Goals as goal
+
+pub returns-then-is_empty-clause-none_pending : goal.returns-then-is_empty-clause-none_pending
+returns-then-is_empty-clause-none_pending g c =
+    let none = sym (ap (λ v. v.pending) c.self.view_is) ∙ nothing_pending c.self.inside.pending.items c.self.inside.pending.len c.is_empty.result c.is_empty.ensures c.if-is_empty.true (omega (arith, c.self.inside.pending.ok.0)) in
+    always_ok c.seal_large.result (c.seal_large.ensures.pending ∙ none)
+
+pub returns-then-is_empty-clause-acknowledged : goal.returns-then-is_empty-clause-acknowledged
+returns-then-is_empty-clause-acknowledged g c = λ h.
+    let old = c.args.self.now in
+    let none = sym (ap (λ v. v.pending) c.self.view_is) ∙ nothing_pending c.self.inside.pending.items c.self.inside.pending.len c.is_empty.result c.is_empty.ensures c.if-is_empty.true (omega (arith, c.self.inside.pending.ok.0)) in
+    let same = sym (append-nil old.slots) ∙ ap (λ l. old.slots ++ map doc l) (sym none) in
+    on_ok_weaker c.seal_large.result (λ slots. slots ∙ same) (c.seal_large.ensures.slots h)
+
+pub returns-clause-any_moment : goal.returns-clause-any_moment
+returns-clause-any_moment g c = λ h works.
+    let F = g.F.Folder in
+    let old = c.args.self.now in
+    let mid = c.write_pending.new.self in
+    let new = c.seal_large-2.new.self in
+    joined F.moment F.left_since old.folder mid.folder new.folder (KeepsOrAdds old.first old.slots old.pending) (c.write_pending.ensures.any_moment h)
+    (weaker F.moment F.left_since mid.folder new.folder _ _
+    (λ l log. inr (inl (subst (λ n. IsLog n (old.slots ++ map doc old.pending) l) c.write_pending.ensures.first (subst (λ a. IsLog mid.first a l) (c.in_ok-write_pending.ensures.acknowledged h) log))))
+    (c.seal_large-2.ensures.any_moment h))

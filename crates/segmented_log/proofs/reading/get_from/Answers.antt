@@ -1,0 +1,26 @@
+use Rattle.std.proofs.Common.{◌≡◌, ◌≤◌, ◌<◌, length, take, get_or, sym, subst, arith}
+use Rattle.std.specs.Prelude.{All, IsTrue}
+use Rattle.segmented_log.specs.Parts.{part_of, end_of}
+use Rattle.segmented_log.specs.Log.{Gives}
+use Rattle.segmented_log.proofs.ReadLemmas.{found_at, same_map}
+use Rattle.segmented_log.proofs.reading.get_from.Goals as goal
+
+pub returns-clause-parts : goal.returns-clause-parts
+returns-clause-parts g c =
+    let within : c.find_segment-i.result < length c.args.segments.now.items = omega arith in
+    same_map (λ s. part_of s.first s.reader) c.args.segments.now.items c.find_segment-i.result c.get_in.new.segment c.index_mut-segment.result.now within c.index_mut-segment.ensures.value c.get_in.ensures.part
+
+pub returns-clause-found : goal.returns-clause-found
+returns-clause-found g c = λ n honest line le below.
+    let i = c.find_segment-i.result in
+    let segments = c.args.segments.now.items in
+    let number = c.args.number in
+    let x = c.index_mut-segment.result.now in
+    let is : x ≡ get_or segments i x = c.index_mut-segment.ensures.value in
+    let within : i < length segments = omega arith in
+    let before = subst (λ l. All (λ s. end_of (part_of s.first s.reader) ≤ number) (take i l)) c.deref.ensures.value c.find_segment-i.ensures.before in
+    let ends : number < end_of (part_of x.first x.reader) = subst (λ y. number < end_of (part_of y.first y.reader)) (sym is)
+    (subst (λ l. number < end_of (part_of (get_or l i x).first (get_or l i x).reader)) c.deref.ensures.value (c.find_segment-i.ensures.found (omega arith) x)) in
+    let at = found_at (λ s. part_of s.first s.reader) segments i number n x within is before ends line le in
+    let true_file = subst (λ y. IsTrue y.reader.file.honest) (sym is) (honest i x within) in
+    subst (λ o. Gives o c.get_in.result) (sym at.1) (c.get_in.ensures.found true_file at.0 ends)

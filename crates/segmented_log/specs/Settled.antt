@@ -1,0 +1,65 @@
+-- What a log knows of its folder while no call has failed.
+use Rattle.std.specs.Prelude.{◌≡◌, ◌⊎◌, ℕ, ◌+◌, ◌<◌, ◌≤◌, ◌^◌, List, ◌++◌, length, map, Some, All}
+use Rattle.store_folder.specs.Folder.{Look, Elsewhere, ElsewhereOfBoth, Keeps}
+use Rattle.store_folder.specs.Publishing.{part}
+use Rattle.store_format.specs.Block.{doc}
+use Rattle.record_log.specs.declared.batches.Place.{Place}
+use Rattle.record_log.specs.Place.{contents, EndsBy}
+use Rattle.record_log.specs.Log.{IsWholeRecords}
+use Rattle.record_log.specs.Tail.{records_in, records_of, first_of, IsTail, IsWholeTo}
+use Rattle.segmented_log.specs.Names.{segment_name, tail_name}
+use Rattle.segmented_log.specs.Parts.{Part, end_from, AreParts}
+use Rattle.segmented_log.specs.Log.{HasSegment, Holds}
+
+-- The tail's file is on the disk under its name.
+pub record TailIsKept (may_hold : List ℕ → List ℕ → Type 0) (may_leave : Look → Type 0) (entry_kept : List ℕ → Type 0) (tail : List ℕ) : Type 0 where
+  pub file : (bytes : List ℕ) → may_hold tail_name bytes → bytes ≡ tail
+  pub entry : entry_kept tail_name
+  pub outcomes : Keeps tail_name (Some tail) may_leave
+
+-- What a crash leaves while bytes are put after those of the tail: all that it could leave before, but for the tail, which
+-- has bytes after its own.
+pub record GrowsTail (before : Look → Type 0) (tail : List ℕ) (c : Look) : Type 0 where
+  pub old : Look
+  pub was : before old
+  pub elsewhere : Elsewhere tail_name old c
+  pub after : List ℕ
+  pub tail_is : c tail_name ≡ Some (tail ++ after)
+
+-- the part of a tail's records at these places
+abbrev pub part_at : ℕ → List ℕ → List Place → Part
+part_at first tail places = record { first = first; slots = map doc (contents tail places) }
+
+-- What a crash leaves while a segment is published: under its name what it could leave there before, or the segment. No
+-- other name but the one beside is touched.
+pub record AddsSegment (before : Look → Type 0) (segment : Part) (c : Look) : Type 0 where
+  pub old : Look
+  pub was : before old
+  pub at_name : (c (segment_name segment.first) ≡ old (segment_name segment.first)) ⊎ HasSegment c segment
+  pub elsewhere : ElsewhereOfBoth (segment_name segment.first ++ part) (segment_name segment.first) old c
+
+-- All that a log has acknowledged is on the disk: each crash leaves these segments and this tail.
+pub record IsOnDisk (may_hold : List ℕ → List ℕ → Type 0) (may_leave : Look → Type 0) (entry_kept : List ℕ → Type 0) (segments : List Part) (tail : List ℕ) : Type 0 where
+  pub outcomes : (c : Look) → may_leave c → Holds segments tail c
+  pub tail_kept : TailIsKept may_hold may_leave entry_kept tail
+
+-- What a log in memory knows of its tail, whatever its folder does: its bytes, where its records lie, and what waits to be
+-- put after them.
+pub record IsSettledTail (sealed tail_first next : ℕ) (tail : List ℕ) (places : List Place) (pending : List ℕ) : Type 0 where
+  pub is_tail : IsTail tail
+  pub whole : IsWholeTo (length tail) tail
+  pub records : contents tail places ≡ records_of tail
+  pub within : All (EndsBy (length tail)) places
+  pub first_is : tail_first ≡ first_of tail
+  pub low : tail_first ≤ sealed
+  pub high : sealed ≤ tail_first + length places
+  pub next_is : next ≡ tail_first + length places + length (records_in pending)
+  pub fits : next < 2 ^ 64
+  pub pending_whole : IsWholeRecords pending
+  pub small : 8 + length pending < 2 ^ 32
+
+-- What it knows of its folder, which is honest.
+pub record IsSettledFolder (may_hold : List ℕ → List ℕ → Type 0) (may_leave : Look → Type 0) (entry_kept : List ℕ → Type 0) (first sealed : ℕ) (segments : List Part) (tail : List ℕ) : Type 0 where
+  pub parts : AreParts first segments tail
+  pub sealed_is : sealed ≡ end_from first segments
+  pub on_disk : IsOnDisk may_hold may_leave entry_kept segments tail

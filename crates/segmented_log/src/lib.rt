@@ -1,0 +1,22 @@
+//! A log of records in a folder: sealed segments, which are ordinary stores, and one tail.
+#![tactic(auto)]
+
+pub mod error;
+mod loading;
+pub mod log;
+pub mod names;
+pub mod numbers;
+mod opening;
+mod reading;
+pub mod records;
+pub mod sealing;
+mod segment;
+mod syncing;
+mod tail;
+mod tail_file;
+
+pub use error::LogError;
+pub use log::{MAX_RECORD, SegmentedLog};
+pub use names::{TAIL, segment_file};
+pub use numbers::segment_number;
+pub use records::Records;

@@ -1,0 +1,193 @@
+//! A log that is opened.
+
+ghost use Rattle.std.specs.Prelude.{◌≡◌, false, ◌≤◌, ◌<◌, ◌^◌, ◌+◌, ◌++◌, ℕ, List, [], None, length, map, All};
+ghost use Rattle.std.specs.Prelude.{IsTrue, IfOk, IfErr};
+ghost use Rattle.store_folder.specs.Moments.{ComesFrom, LeavesOnly};
+ghost use Rattle.store_folder.specs.Folder.{ElsewhereOfBoth};
+ghost use Rattle.store_folder.specs.Publishing.{part};
+ghost use Rattle.store_format.specs.Block.{Slot};
+ghost use Rattle.record_log.specs.Place.{contents, EndsBy};
+ghost use Rattle.record_log.specs.Tail.{records_of, first_of, IsTail, IsWholeTo};
+ghost use Rattle.segmented_log.specs.Names.{tail_name};
+ghost use Rattle.segmented_log.specs.Parts.{part_of, end_from, AreParts};
+ghost use Rattle.segmented_log.specs.Log.{IsLog, IsBlank, KeepsLog};
+ghost use Rattle.segmented_log.specs.Opening.{IsRestarted};
+ghost use Rattle.segmented_log.specs.Settled.{TailIsKept, IsSettledTail, IsSettledFolder};
+ghost use Rattle.segmented_log.specs.Causes.{IsOfOpenings};
+
+use crate::error::LogError;
+use crate::log::SegmentedLog;
+use crate::names::TAIL;
+use crate::opening::{end_of_segments, numbers_in, open_segments};
+use crate::segment::Segment;
+use crate::tail::{Tail, begin_tail, repair_tail};
+use docstore::{FileHandle, laws};
+use std::alloc::Global;
+use store_folder::ReadableFolder;
+
+// The parts of a log in memory.
+#[derive(Drop)]
+struct Parts<H: FileHandle> {
+    first: u64,
+    sealed: u64,
+    next: u64,
+    segments: Vec<Segment<H>>,
+    tail: Tail,
+}
+
+// The tail of a log's folder, or a new one where there is none and no segment.
+fn load_tail<F: ReadableFolder>(
+    alloc: Global,
+    folder: &mut F,
+    is_blank: bool,
+) -> Result<Tail, LogError>
+    requires { IsTrue F.honest → IsRestarted (F.seen folder.old) (F.may_hold folder.old)
+        (F.may_leave folder.old) (F.entry_kept folder.old) }
+    ensures tail { IfOk result (λ t. IsTail t.bytes.items × IsWholeTo (length t.bytes.items) t.bytes.items
+        × (t.first ≡ first_of t.bytes.items)) }
+    ensures records { IfOk result (λ t. contents t.bytes.items t.places.items ≡ records_of t.bytes.items) }
+    ensures within { IfOk result (λ t. All (EndsBy (length t.bytes.items)) t.places.items) }
+    ensures kept { IsTrue F.honest → IfOk result (λ t. TailIsKept (F.may_hold folder.new) (F.may_leave folder.new)
+        (F.entry_kept folder.new) t.bytes.items) }
+    ensures crash { IsTrue F.honest → ComesFrom (ElsewhereOfBoth (tail_name ++ part) tail_name)
+        (F.may_leave folder.old) (F.may_leave folder.new) }
+    ensures any_moment { IsTrue F.honest → LeavesOnly F.moment F.left_since folder.old folder.new
+        (KeepsLog (F.seen folder.old)) }
+    ensures failures { F.failures folder.old ≤ F.failures folder.new }
+    ensures kind { IfErr result IsOfOpenings }
+{
+    match folder.read(alloc, TAIL)? {
+        Some(bytes) => repair_tail(alloc, folder, bytes),
+        None if is_blank => begin_tail(alloc, folder),
+        None => Err(LogError::NoLog),
+    }
+}
+
+// The log of these segments and this tail, if they are in line.
+fn assemble<H: FileHandle>(segments: Vec<Segment<H>>, tail: Tail) -> Result<Parts<H>, LogError>
+    requires tail { IsTail tail.bytes.items × IsWholeTo (length tail.bytes.items) tail.bytes.items
+        × (tail.first ≡ first_of tail.bytes.items) }
+    requires records { contents tail.bytes.items tail.places.items ≡ records_of tail.bytes.items }
+    requires within { All (EndsBy (length tail.bytes.items)) tail.places.items }
+    ensures segments { IfOk result (λ p. p.segments ≡ segments) }
+    ensures tail { IfOk result (λ p. p.tail ≡ tail) }
+    ensures settled { IfOk result (λ p. IsSettledTail p.sealed p.tail.first p.next p.tail.bytes.items
+        p.tail.places.items []) }
+    ensures parts { IfOk result (λ p. AreParts p.first (map (λ s. part_of s.first s.reader) p.segments.items)
+        p.tail.bytes.items) }
+    ensures sealed { IfOk result (λ p. p.sealed
+        ≡ end_from p.first (map (λ s. part_of s.first s.reader) p.segments.items)) }
+    ensures kind { IfErr result IsOfOpenings }
+{
+    let first = match segments.first() {
+        Some(segment) => segment.first,
+        None => tail.first,
+    };
+    let Some(sealed) = end_of_segments(&segments, first) else {
+        return Err(LogError::NoLog);
+    };
+    let Some(next) = tail.first.checked_add(tail.places.len() as u64) else {
+        return Err(LogError::Full);
+    };
+    if sealed < tail.first || next < sealed {
+        return Err(LogError::NoLog);
+    }
+    Ok(Parts {
+        first,
+        sealed,
+        next,
+        segments,
+        tail,
+    })
+}
+
+// Reads a log's folder, and repairs its tail.
+fn load<F: ReadableFolder>(alloc: Global, folder: &mut F) -> Result<Parts<F::File>, LogError>
+    requires { IsTrue F.honest → IsRestarted (F.seen folder.old) (F.may_hold folder.old)
+        (F.may_leave folder.old) (F.entry_kept folder.old) }
+    ensures settled { IfOk result (λ p. IsSettledTail p.sealed p.tail.first p.next p.tail.bytes.items
+        p.tail.places.items []) }
+    ensures folder { IsTrue F.honest → IfOk result (λ p. IsSettledFolder (F.may_hold folder.new)
+        (F.may_leave folder.new) (F.entry_kept folder.new) p.first p.sealed
+        (map (λ s. part_of s.first s.reader) p.segments.items) p.tail.bytes.items) }
+    ensures honest { IsTrue F.honest → IfOk result (λ p. All (λ s. IsTrue s.reader.file.honest) p.segments.items) }
+    ensures any_moment { IsTrue F.honest → LeavesOnly F.moment F.left_since folder.old folder.new
+        (KeepsLog (F.seen folder.old)) }
+    ensures failures { F.failures folder.old ≤ F.failures folder.new }
+    ensures kind { IfErr result IsOfOpenings }
+{
+    let names = folder.names(alloc)?;
+    let numbers = numbers_in(alloc, &names)?;
+    let segments = open_segments(alloc, folder, &numbers)?;
+    let is_blank = segments.is_empty();
+    let tail = load_tail(alloc, folder, is_blank)?;
+    let parts = assemble(segments, tail)?;
+    Ok(parts)
+}
+
+impl<F: ReadableFolder> SegmentedLog<F> {
+    /// Opens the log of a folder, or makes a new one, whose first record has the number 0, in a folder that has no file
+    /// of a log. A torn end of the tail is cut off. A crash during it leaves the same log. A tail that grows past the
+    /// seal size, in bytes, is sealed by `sync`.
+    ///
+    /// Errors hand the folder back: `NoLog` where its files are no log, `Full` where the numbers pass the greatest u64,
+    /// `Memory` and `Failed`.
+    pub fn open(
+        alloc: Global,
+        folder: F,
+        seal_size: usize,
+    ) -> Result<SegmentedLog<F>, (LogError, F)>
+        // After a restart, what a look sees is what is on the disk.
+        requires { IsTrue F.honest → IsRestarted (F.seen folder) (F.may_hold folder) (F.may_leave folder)
+            (F.entry_kept folder) }
+        ensures works { IfOk result (λ log. log.is_broken ≡ false) }
+        ensures none_pending { IfOk result (λ log. log.pending ≡ []) }
+
+        // It finds exactly the log that was there, or begins one.
+        ensures found { IsTrue F.honest → IfOk result (λ log. (first : ℕ) (all : List Slot)
+            → IsLog first all (F.seen folder) → (log.first ≡ first) × (log.slots ≡ all)) }
+        ensures begun { IsTrue F.honest → IfOk result (λ log. IsBlank (F.seen folder)
+            → (log.first ≡ 0) × (log.slots ≡ [])) }
+
+        // A crash at any moment leaves the same log; where there was none, none or the new one.
+        ensures any_moment { IsTrue F.honest → IfOk result (λ log. LeavesOnly F.moment F.left_since folder log.folder
+            (KeepsLog (F.seen folder))) }
+        ensures any_moment_err { IsTrue F.honest → IfErr result (λ e. LeavesOnly F.moment F.left_since folder e.1
+            (KeepsLog (F.seen folder))) }
+        ensures kind { IfErr result (λ e. IsOfOpenings e.0) }
+    {
+        laws::stores_are_apart();
+        let mut folder = folder;
+        match load(alloc, &mut folder) {
+            Ok(parts) => {
+                let Parts {
+                    first,
+                    sealed,
+                    next,
+                    segments,
+                    tail,
+                } = parts;
+                let Tail {
+                    bytes,
+                    first: tail_first,
+                    places,
+                } = tail;
+                Ok(SegmentedLog {
+                    alloc,
+                    folder,
+                    seal_size,
+                    first,
+                    sealed,
+                    tail_first,
+                    segments,
+                    tail: bytes,
+                    places,
+                    pending: Vec::new(alloc),
+                    next,
+                    is_broken: false,
+                })
+            }
+            Err(error) => Err((error, folder)),
+        }
+    }
+}

@@ -1,0 +1,197 @@
+//! A log of records in a folder.
+
+ghost use Rattle.std.specs.Prelude.{◌≡◌, ◌⊎◌, ◌↔◌, false, ◌≤◌, ◌<◌, ◌+◌, ◌^◌, ◌++◌, ◌∷◌, [], ℕ, List, length, map};
+ghost use Rattle.std.specs.Prelude.{IfOk, IfErr, OnOk, OnErr, IsErrOf, IsTrue};
+ghost use Rattle.store_folder.specs.Folder.{Look};
+ghost use Rattle.segmented_log.specs.Log.{IsLog, slot_at, Gives};
+ghost use Rattle.segmented_log.specs.Causes.{IsOfAppends, IsOfGets};
+
+use crate::error::LogError;
+use crate::reading::{copy_record, get_from};
+use crate::sealing::BLOCK_SIZE;
+use crate::segment::Segment;
+use record_log::batches::{Place, add_record};
+use std::alloc::Global;
+use std::marker::Model;
+use store_folder::ReadableFolder;
+
+/// How long a batch's body can be: its length and that of its sum are one number of 32 bits.
+const MAX_BODY: usize = (1 << 32) - 1 - 8;
+
+/// How long a record can be, so that a segment's block takes it.
+pub const MAX_RECORD: usize = MAX_BODY - BLOCK_SIZE - 16;
+
+/// A log of records in a folder. A record can be read once it is synced.
+///
+/// After a call that the folder failed, every call reports `Broken`, and the log must be opened again.
+#[derive(Drop)]
+pub struct SegmentedLog<F: ReadableFolder> {
+    pub(crate) alloc: Global,
+    pub(crate) folder: F,
+    // The length in bytes past which a tail is sealed.
+    pub(crate) seal_size: usize,
+    // The numbers of the log's first record, of the first that no segment has, and of the tail's first.
+    pub(crate) first: u64,
+    pub(crate) sealed: u64,
+    pub(crate) tail_first: u64,
+    pub(crate) segments: Vec<Segment<F::File>>,
+    // The tail's bytes, and where its records lie.
+    pub(crate) tail: Vec<u8>,
+    pub(crate) places: Vec<Place>,
+    // The body of the batch that the next sync writes, and the number of the next record that is appended.
+    pub(crate) pending: Vec<u8>,
+    pub(crate) next: u64,
+    pub(crate) is_broken: bool,
+}
+
+/// Clauses see the folder, the records, what waits for a sync, and whether a call on the folder failed.
+impl<F: ReadableFolder> Model for SegmentedLog<F> {
+    ghost use Rattle.std.specs.Prelude.{length, map, All, IsTrue};
+    ghost use Rattle.std.specs.Bool.{OnFalse};
+    ghost use Rattle.record_log.specs.Tail.{records_in};
+    ghost use Rattle.segmented_log.specs.Parts.{part_of, log_slots};
+    ghost use Rattle.segmented_log.specs.Log.{LogView};
+    ghost use Rattle.segmented_log.specs.Settled.{IsSettledTail, IsSettledFolder};
+
+    ghost Value = { LogView F };
+
+    ghost view = { λ l. record {
+      folder = l.folder;
+      first = l.first;
+      slots = log_slots l.first (map (λ s. part_of s.first s.reader) l.segments.items) l.tail.items;
+      pending = records_in l.pending.items;
+      batch_bytes = length l.pending.items;
+      is_broken = l.is_broken;
+    } };
+
+    ghost invariant = { λ l. OnFalse l.is_broken (IsSettledTail l.sealed l.tail_first l.next l.tail.items l.places.items
+        l.pending.items × (IsTrue F.honest → IsSettledFolder (F.may_hold l.folder) (F.may_leave l.folder)
+        (F.entry_kept l.folder) l.first l.sealed (map (λ s. part_of s.first s.reader) l.segments.items) l.tail.items
+        × All (λ s. IsTrue s.reader.file.honest) l.segments.items)) };
+}
+
+impl<F: ReadableFolder> SegmentedLog<F> {
+    /// Puts a record after the others, and returns its number. It is on the disk once `sync` returns Ok.
+    ///
+    /// Errors: `Broken`; `Full` where no number is left; `TooLong`; `BatchFull` where the records that wait leave no
+    /// room for it; `Memory`. The log is then as it was.
+    pub fn append(&mut self, bytes: &[u8]) -> Result<u64, LogError>
+        ensures folder { self.new.folder ≡ self.old.folder }
+        ensures first { self.new.first ≡ self.old.first }
+        ensures slots { self.new.slots ≡ self.old.slots }
+        ensures pending { OnOk result (self.new.pending ≡ self.old.pending ++ bytes.now ∷ []) }
+        ensures number { IsTrue F.honest → IfOk result (λ n. n ≡ self.old.first + length self.old.slots
+            + length self.old.pending) }
+        ensures works { self.new.is_broken ≡ self.old.is_broken }
+
+        ensures broken { IsErrOf result LogError.Broken ↔ IsTrue self.old.is_broken }
+        ensures full { IsTrue F.honest → IsErrOf result LogError.Full
+            → self.old.first + length self.old.slots + length self.old.pending + 1 ≡ 2 ^ 64 }
+        ensures too_long { IsErrOf result LogError.TooLong → 2 ^ 32 ≤ 16409 + length bytes.now }
+        ensures batch_full { IsErrOf result LogError.BatchFull
+            → 2 ^ 32 ≤ self.old.batch_bytes + 12 + length bytes.now }
+        ensures kind { IfErr result IsOfAppends }
+        ensures err { OnErr result (self.new ≡ self.old) }
+    {
+        if self.is_broken {
+            return Err(LogError::Broken);
+        }
+        let number = self.next;
+        if number == u64::MAX {
+            return Err(LogError::Full);
+        }
+        if bytes.len() > MAX_RECORD {
+            return Err(LogError::TooLong);
+        }
+        let len = self.pending.len();
+        if bytes.len() + 4 > MAX_BODY - len {
+            return Err(LogError::BatchFull);
+        }
+        match add_record(&mut self.pending, bytes) {
+            Ok(()) => {
+                self.next = number + 1;
+                Ok(number)
+            }
+            Err(_) => {
+                self.pending.truncate(len);
+                Err(LogError::Memory)
+            }
+        }
+    }
+
+    /// Whether a call on the folder failed: then the log must be opened again.
+    pub fn is_broken(&self) -> bool
+        ensures value { result ≡ self.now.is_broken }
+
+        // Else each crash leaves all that the log has acknowledged.
+        ensures durable { IsTrue F.honest → result ≡ false → (c : List ℕ → _) → F.may_leave self.now.folder c
+            → IsLog self.now.first self.now.slots c }
+    {
+        self.is_broken
+    }
+
+    /// The number of the first record.
+    pub fn first(&self) -> u64
+        ensures { result ≡ self.now.first }
+    {
+        self.first
+    }
+
+    /// The number after the last record that is on the disk.
+    pub fn end(&self) -> u64
+        ensures { IsTrue F.honest → self.now.is_broken ≡ false → result ≡ self.now.first + length self.now.slots }
+    {
+        self.tail_first.wrapping_add(self.places.len() as u64)
+    }
+
+    /// How many records are on the disk.
+    pub fn len(&self) -> u64
+        ensures { IsTrue F.honest → self.now.is_broken ≡ false → result ≡ length self.now.slots }
+    {
+        self.end().wrapping_sub(self.first)
+    }
+
+    /// How many records wait for a sync.
+    pub fn pending(&self) -> u64
+        ensures { self.now.is_broken ≡ false → result ≡ length self.now.pending }
+    {
+        self.next
+            .wrapping_sub(self.tail_first)
+            .wrapping_sub(self.places.len() as u64)
+    }
+
+    /// The record of this number, if it was synced.
+    ///
+    /// Errors: `Broken`; `Memory`; `Failed` where a read of a segment failed; `Damaged` where the segment's block does
+    /// not say where the record lies. The log is as it was.
+    pub fn get(&mut self, number: u64) -> Result<Option<Vec<u8>>, LogError>
+        ensures found { IsTrue F.honest → Gives (slot_at self.old.first self.old.slots number) result }
+        ensures same { self.new ≡ self.old }
+        ensures broken { IsErrOf result LogError.Broken ↔ IsTrue self.old.is_broken }
+        ensures kind { IfErr result IsOfGets }
+    {
+        if self.is_broken {
+            return Err(LogError::Broken);
+        }
+        if number < self.first {
+            return Ok(None);
+        }
+        if number < self.sealed {
+            return get_from(self.alloc, &mut self.segments, number);
+        }
+        let index = (number - self.tail_first) as usize;
+        if index >= self.places.len() {
+            return Ok(None);
+        }
+        let place = self.places[index];
+        Ok(Some(copy_record(self.alloc, &self.tail, place)?))
+    }
+
+    /// Hands the folder back. What waits for a sync is lost.
+    pub fn into_folder(self) -> F
+        ensures { result ≡ self.folder }
+    {
+        let SegmentedLog { folder, .. } = self;
+        folder
+    }
+}

@@ -1,0 +1,87 @@
+//! Opening a log's folder.
+
+ghost use Rattle.std.specs.Prelude.{◌≡◌, ◌≤◌, ◌<◌, ◌++◌, ◌∷◌, ℕ, List, [], map, All, length, string_bytes, IsTrue};
+ghost use Rattle.std.specs.Prelude.{IfOk, IfErr, IfSome, OnOk};
+ghost use Rattle.std.specs.List.{AllByRecursion};
+ghost use Rattle.store_folder.specs.Moments.{LeavesOnly};
+ghost use Rattle.segmented_log.specs.Parts.{part_of, end_from, AreInLine, Ascend};
+ghost use Rattle.segmented_log.specs.Log.{HasSegment};
+ghost use Rattle.segmented_log.specs.Opening.{AreNumbersIn};
+ghost use Rattle.segmented_log.specs.Causes.{IsOfOpenings};
+
+use crate::error::LogError;
+use crate::numbers::segment_number;
+use crate::segment::{Segment, open_segment};
+use docstore::FileHandle;
+use std::alloc::{AllocError, Global};
+use store_folder::ReadableFolder;
+
+// Adds the number of a segment's name.
+fn add_number(name: &str, numbers: &mut Vec<u64>) -> Result<(), AllocError>
+    ensures { OnOk result ((names : List (List ℕ)) → AreNumbersIn names numbers.old.items
+        → AreNumbersIn (names ++ name.now ∷ []) numbers.new.items) }
+{
+    let Some(number) = segment_number(name) else {
+        return Ok(());
+    };
+    numbers.push(number)?;
+    Ok(())
+}
+
+// The numbers of the segments among these names, in the order of the names.
+fn numbers_among(alloc: Global, names: &[String]) -> Result<Vec<u64>, AllocError>
+    ensures { IfOk result (λ numbers. AreNumbersIn (map string_bytes names.now) numbers.items) }
+{
+    let mut numbers = Vec::new(alloc);
+    for name in names {
+        add_number(name.as_str(), &mut numbers)?;
+    }
+    Ok(numbers)
+}
+
+/// The numbers of the segments among these names, sorted.
+pub(crate) fn numbers_in(alloc: Global, names: &[String]) -> Result<Vec<u64>, AllocError>
+    ensures { IfOk result (λ numbers. AreNumbersIn (map string_bytes names.now) numbers.items) }
+{
+    let mut numbers = numbers_among(alloc, names)?;
+    numbers.sort()?;
+    Ok(numbers)
+}
+
+/// Opens the segments of these numbers.
+pub(crate) fn open_segments<F: ReadableFolder>(
+    alloc: Global,
+    folder: &F,
+    numbers: &[u64],
+) -> Result<Vec<Segment<F::File>>, LogError>
+    ensures numbers { IfOk result (λ s. map (λ x. x.first) s.items ≡ numbers.now) }
+    ensures found { IsTrue F.honest → IfOk result (λ s. All (λ x. HasSegment (F.seen folder.now)
+        (part_of x.first x.reader)) s.items) }
+    ensures honest { IsTrue F.honest → IfOk result (λ s. All (λ x. IsTrue x.reader.file.honest) s.items) }
+    ensures kind { IfErr result IsOfOpenings }
+{
+    let mut segments = Vec::new(alloc);
+    for number in numbers {
+        segments.push(open_segment(alloc, folder, *number)?)?;
+    }
+    Ok(segments)
+}
+
+/// The number where segments end the first of which has this number. None where they are no segments of one log.
+pub(crate) fn end_of_segments<H: FileHandle>(segments: &[Segment<H>], first: u64) -> Option<u64>
+    ensures end { IfSome result (λ end. end ≡ end_from first (map (λ s. part_of s.first s.reader) segments.now)) }
+    ensures line { IfSome result (λ _. AreInLine first (map (λ s. part_of s.first s.reader) segments.now)) }
+    ensures ascend { IfSome result (λ _. Ascend first (map (λ s. part_of s.first s.reader) segments.now)) }
+{
+    let mut end = first;
+    let mut least = first;
+    for segment in segments {
+        let count = u64::from(segment.reader.num_docs());
+        if segment.first > end || segment.first < least || count == 0 {
+            return None;
+        }
+        end = end.max(segment.first.checked_add(count)?);
+        least = segment.first + 1;
+    }
+    Some(end)
+}

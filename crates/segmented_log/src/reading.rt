@@ -1,0 +1,105 @@
+//! Records that are read from segments.
+
+ghost use Rattle.std.specs.Prelude.{◌≡◌, ◌⊎◌, ◌≤◌, ◌<◌, ◌-◌, ◌↔◌, ℕ, length, map, take, All, IsTrue, IfErr, IfOk};
+ghost use Rattle.std.specs.Prelude.{HoldsAt};
+ghost use Rattle.std.specs.Prelude.{slice_get};
+ghost use Rattle.segmented_log.specs.Parts.{part_of, end_of, end_from, joined, AreInLine};
+ghost use Rattle.segmented_log.specs.Log.{Gives};
+ghost use Rattle.segmented_log.specs.Causes.{IsOfReads, IsDamaged};
+ghost use Rattle.record_log.specs.Place.{content};
+
+use crate::error::LogError;
+use crate::segment::Segment;
+use docstore::{FileHandle, StoreError};
+use record_log::Place;
+use std::alloc::{AllocError, Global};
+
+// Whether a segment ends after this number.
+fn ends_after<H: FileHandle>(segment: &Segment<H>, number: u64) -> bool
+    ensures { IsTrue result ↔ (number < end_of (part_of segment.now.first segment.now.reader)) }
+{
+    number < segment.first || number - segment.first < u64::from(segment.reader.num_docs())
+}
+
+// The place of the first segment that ends after this number, or how many there are.
+fn find_segment<H: FileHandle>(segments: &[Segment<H>], number: u64) -> usize
+    ensures within { result ≤ length segments.now }
+    ensures before { All (λ s. end_of (part_of s.first s.reader) ≤ number) (take result segments.now) }
+    ensures found { result < length segments.now
+        → HoldsAt (λ s. number < end_of (part_of s.first s.reader)) segments.now result }
+{
+    for i in 0..segments.len() {
+        if ends_after(&segments[i], number) {
+            return i;
+        }
+    }
+    segments.len()
+}
+
+// Why a record of a segment could not be read.
+fn get_error(error: StoreError) -> LogError
+    ensures damaged { result ≡ LogError.Damaged → IsDamaged error }
+    ensures kind { IsOfReads result }
+{
+    match error {
+        StoreError::Memory => LogError::Memory,
+        StoreError::DamagedDocument(_) => LogError::Damaged,
+        _ => LogError::Failed,
+    }
+}
+
+// The record of this number of a segment that has it.
+fn get_in<H: FileHandle>(
+    alloc: Global,
+    segment: &mut Segment<H>,
+    number: u64,
+) -> Result<Option<Vec<u8>>, LogError>
+    ensures part { part_of segment.new.first segment.new.reader ≡ part_of segment.old.first segment.old.reader }
+    ensures honest { segment.new.reader.file.honest ≡ segment.old.reader.file.honest }
+    ensures found { IsTrue segment.old.reader.file.honest → segment.old.first ≤ number
+        → number < end_of (part_of segment.old.first segment.old.reader)
+        → Gives (slice_get (part_of segment.old.first segment.old.reader).slots (number - segment.old.first)) result }
+    ensures kind { IfErr result IsOfReads }
+{
+    if number < segment.first || number - segment.first >= u64::from(segment.reader.num_docs()) {
+        return Err(LogError::Failed);
+    }
+    let id = (number - segment.first) as u32;
+    match segment.reader.get_document_bytes(alloc, id) {
+        Ok(bytes) => Ok(Some(bytes.as_slice().to_vec(alloc)?)),
+        Err(error) => Err(get_error(error)),
+    }
+}
+
+/// The record of this number, of the first of these segments that has it.
+pub(crate) fn get_from<H: FileHandle>(
+    alloc: Global,
+    segments: &mut Vec<Segment<H>>,
+    number: u64,
+) -> Result<Option<Vec<u8>>, LogError>
+    ensures parts { map (λ s. part_of s.first s.reader) segments.new.items
+        ≡ map (λ s. part_of s.first s.reader) segments.old.items }
+    ensures honest { All (λ s. IsTrue s.reader.file.honest) segments.old.items
+        → All (λ s. IsTrue s.reader.file.honest) segments.new.items }
+    ensures found { (n : ℕ) → All (λ s. IsTrue s.reader.file.honest) segments.old.items
+        → AreInLine n (map (λ s. part_of s.first s.reader) segments.old.items) → n ≤ number
+        → number < end_from n (map (λ s. part_of s.first s.reader) segments.old.items)
+        → Gives (slice_get (joined n (map (λ s. part_of s.first s.reader) segments.old.items)) (number - n)) result }
+    ensures kind { IfErr result IsOfReads }
+{
+    let i = find_segment(segments, number);
+    if i >= segments.len() {
+        return Err(LogError::Failed);
+    }
+    let segment = &mut segments[i];
+    get_in(alloc, segment, number)
+}
+
+/// The record at a place of a tail.
+pub(crate) fn copy_record(alloc: Global, tail: &[u8], place: Place) -> Result<Vec<u8>, AllocError>
+    requires order { place.start ≤ place.end }
+    requires within { place.end ≤ length tail.now }
+    ensures { IfOk result (λ bytes. bytes.items ≡ content tail.now place) }
+{
+    tail[place.start..place.end].to_vec(alloc)
+}

@@ -1,0 +1,135 @@
+//! Segments: the stores of a log's folder.
+
+ghost use Rattle.std.specs.Prelude.{◌≡◌, ◌≤◌, ◌++◌, ℕ, List, length, All, IsTrue, IfOk, IfErr, OnOk, IsErrOf};
+ghost use Rattle.store_base.specs.Counts.{HasRisen};
+ghost use Rattle.store_folder.specs.Moments.{ComesFrom, LeavesOnly};
+ghost use Rattle.store_folder.specs.Folder.{ElsewhereOfBoth, FilesElsewhereOfBoth};
+ghost use Rattle.store_folder.specs.Publishing.{part};
+ghost use Rattle.record_log.specs.Place.{EndsBy};
+ghost use Rattle.segmented_log.specs.Names.{segment_name};
+ghost use Rattle.segmented_log.specs.Parts.{part_of};
+ghost use Rattle.segmented_log.specs.Log.{HasSegment};
+ghost use Rattle.segmented_log.specs.Settled.{part_at, AddsSegment};
+ghost use Rattle.segmented_log.specs.Causes.{IsOfOpenings, IsOfSeals};
+
+use crate::error::LogError;
+use crate::names::{name_beside, segment_file};
+use crate::sealing::segment_bytes;
+use docstore::{FileHandle, FileSlice, StoreError, StoreReader, laws};
+use record_log::Place;
+use std::alloc::Global;
+use store_folder::{Folder, ReadableFolder, replace};
+
+/// How many blocks of each segment are kept in memory.
+const CACHED_BLOCKS: usize = 4;
+
+/// A segment that is open.
+#[derive(Drop)]
+pub(crate) struct Segment<H: FileHandle> {
+    pub(crate) first: u64,
+    pub(crate) reader: StoreReader<H>,
+}
+
+// Why a segment could not be opened.
+fn open_error(error: StoreError) -> LogError
+    ensures { IsOfOpenings result }
+{
+    match error {
+        StoreError::Memory => LogError::Memory,
+        StoreError::Read => LogError::Failed,
+        _ => LogError::NoLog,
+    }
+}
+
+/// Opens the segment whose first record has this number.
+pub(crate) fn open_segment<F: ReadableFolder>(
+    alloc: Global,
+    folder: &F,
+    first: u64,
+) -> Result<Segment<F::File>, LogError>
+    ensures first { IfOk result (λ s. s.first ≡ first) }
+    ensures found { IsTrue F.honest → IfOk result (λ s. HasSegment (F.seen folder.now) (part_of s.first s.reader)) }
+    ensures honest { IsTrue F.honest → IfOk result (λ s. IsTrue s.reader.file.honest) }
+    ensures kind { IfErr result IsOfOpenings }
+{
+    let name = segment_file(alloc, first)?;
+    let file = folder.open(alloc, name.as_str())?;
+    match StoreReader::open(alloc, FileSlice::new(file), CACHED_BLOCKS) {
+        Ok(reader) => Ok(Segment { first, reader }),
+        Err(refusal) => Err(open_error(refusal.error)),
+    }
+}
+
+/// Publishes a segment of the records at these places of a tail.
+pub(crate) fn publish_segment<F: Folder>(
+    alloc: Global,
+    folder: &mut F,
+    first: u64,
+    tail: &[u8],
+    places: &[Place],
+) -> Result<(), LogError>
+    requires within { All (EndsBy (length tail.now)) places.now }
+
+    // After an Ok, each crash leaves the segment.
+    ensures published { IsTrue F.honest → OnOk result ((c : List ℕ → _) → F.may_leave folder.new c
+        → HasSegment c (part_at first tail.now places.now)) }
+    ensures kept { IsTrue F.honest → OnOk result ((n : List ℕ) → F.entry_kept folder.new n) }
+    ensures files { IsTrue F.honest → FilesElsewhereOfBoth (segment_name first ++ part) (segment_name first)
+        (F.may_hold folder.old) (F.may_hold folder.new) }
+    ensures crash { IsTrue F.honest → ComesFrom (ElsewhereOfBoth (segment_name first ++ part) (segment_name first))
+        (F.may_leave folder.old) (F.may_leave folder.new) }
+
+    // A crash at any moment leaves what was there, or the segment.
+    ensures any_moment { IsTrue F.honest → LeavesOnly F.moment F.left_since folder.old folder.new
+        (AddsSegment (F.may_leave folder.old) (part_at first tail.now places.now)) }
+    ensures failures { F.failures folder.old ≤ F.failures folder.new }
+    ensures kind { IfErr result IsOfSeals }
+{
+    let bytes = segment_bytes(alloc, tail, places)?;
+    let name = segment_file(alloc, first)?;
+    let beside = name_beside(alloc, &name)?;
+    replace(folder, beside.as_str(), name.as_str(), &bytes)?;
+    Ok(())
+}
+
+// Why a segment that was just published could not be opened.
+fn seal_error(error: LogError) -> LogError
+    ensures { IsOfSeals result }
+{
+    match error {
+        LogError::Memory => LogError::Memory,
+        _ => LogError::Failed,
+    }
+}
+
+/// Publishes a segment of the records at these places of a tail, and opens it.
+pub(crate) fn add_segment<F: ReadableFolder>(
+    alloc: Global,
+    folder: &mut F,
+    first: u64,
+    tail: &[u8],
+    places: &[Place],
+) -> Result<Segment<F::File>, LogError>
+    requires within { All (EndsBy (length tail.now)) places.now }
+    ensures segment { IsTrue F.honest
+        → IfOk result (λ s. part_of s.first s.reader ≡ part_at first tail.now places.now) }
+    ensures honest { IsTrue F.honest → IfOk result (λ s. IsTrue s.reader.file.honest) }
+    ensures published { IsTrue F.honest → OnOk result ((c : List ℕ → _) → F.may_leave folder.new c
+        → HasSegment c (part_at first tail.now places.now)) }
+    ensures kept { IsTrue F.honest → OnOk result ((n : List ℕ) → F.entry_kept folder.new n) }
+    ensures files { IsTrue F.honest → FilesElsewhereOfBoth (segment_name first ++ part) (segment_name first)
+        (F.may_hold folder.old) (F.may_hold folder.new) }
+    ensures crash { IsTrue F.honest → ComesFrom (ElsewhereOfBoth (segment_name first ++ part) (segment_name first))
+        (F.may_leave folder.old) (F.may_leave folder.new) }
+    ensures any_moment { IsTrue F.honest → LeavesOnly F.moment F.left_since folder.old folder.new
+        (AddsSegment (F.may_leave folder.old) (part_at first tail.now places.now)) }
+    ensures failures { F.failures folder.old ≤ F.failures folder.new }
+    ensures kind { IfErr result IsOfSeals }
+{
+    laws::stores_are_apart();
+    publish_segment(alloc, folder, first, tail, places)?;
+    match open_segment(alloc, folder, first) {
+        Ok(segment) => Ok(segment),
+        Err(error) => Err(seal_error(error)),
+    }
+}

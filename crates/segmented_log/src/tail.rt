@@ -1,0 +1,102 @@
+//! The tail of a log that is opened: its torn end is cut off, or it is made.
+
+ghost use Rattle.std.specs.Prelude.{◌≡◌, ◌≤◌, ◌++◌, ℕ, List, [], Some, None, length, All, IsTrue, IfOk, IfErr, OnOk};
+ghost use Rattle.store_folder.specs.Moments.{ComesFrom, LeavesOnly};
+ghost use Rattle.store_folder.specs.Folder.{ElsewhereOfBoth};
+ghost use Rattle.store_folder.specs.Publishing.{part};
+ghost use Rattle.record_log.specs.Place.{contents, EndsBy};
+ghost use Rattle.record_log.specs.Tail.{records_of, first_of, IsTail, IsWholeTo};
+ghost use Rattle.segmented_log.specs.Names.{tail_name};
+ghost use Rattle.segmented_log.specs.Log.{KeepsLog};
+ghost use Rattle.segmented_log.specs.Opening.{IsRestarted};
+ghost use Rattle.segmented_log.specs.Settled.{TailIsKept};
+ghost use Rattle.segmented_log.specs.Causes.{IsOfOpenings};
+
+use crate::error::LogError;
+use crate::tail_file::replace_tail;
+use record_log::batches::find_records;
+use record_log::tail::first_number;
+use record_log::{Place, new_tail};
+use std::alloc::Global;
+use store_folder::Folder;
+
+/// A tail in memory, as it is on the disk.
+#[derive(Drop)]
+pub(crate) struct Tail {
+    pub(crate) bytes: Vec<u8>,
+    pub(crate) first: u64,
+    pub(crate) places: Vec<Place>,
+}
+
+/// The tail of these bytes. A torn end is cut off, in memory and on the disk.
+pub(crate) fn repair_tail<F: Folder>(
+    alloc: Global,
+    folder: &mut F,
+    bytes: Vec<u8>,
+) -> Result<Tail, LogError>
+    requires restarted { IsTrue F.honest → IsRestarted (F.seen folder.old) (F.may_hold folder.old)
+        (F.may_leave folder.old) (F.entry_kept folder.old) }
+    requires file { IsTrue F.honest → F.seen folder.old tail_name ≡ Some bytes.items }
+    ensures tail { IfOk result (λ t. IsTail t.bytes.items × IsWholeTo (length t.bytes.items) t.bytes.items
+        × (t.first ≡ first_of t.bytes.items)) }
+    ensures records { IfOk result (λ t. contents t.bytes.items t.places.items ≡ records_of t.bytes.items) }
+    ensures within { IfOk result (λ t. All (EndsBy (length t.bytes.items)) t.places.items) }
+    ensures kept { IsTrue F.honest → IfOk result (λ t. TailIsKept (F.may_hold folder.new) (F.may_leave folder.new)
+        (F.entry_kept folder.new) t.bytes.items) }
+    ensures crash { IsTrue F.honest → ComesFrom (ElsewhereOfBoth (tail_name ++ part) tail_name)
+        (F.may_leave folder.old) (F.may_leave folder.new) }
+
+    // A crash at any moment leaves the same log.
+    ensures any_moment { IsTrue F.honest → LeavesOnly F.moment F.left_since folder.old folder.new
+        (KeepsLog (F.seen folder.old)) }
+    ensures failures { F.failures folder.old ≤ F.failures folder.new }
+    ensures kind { IfErr result IsOfOpenings }
+{
+    let Some(first) = first_number(&bytes) else {
+        return Err(LogError::NoLog);
+    };
+    let found = find_records(alloc, &bytes)?;
+    if found.end == bytes.len() {
+        return Ok(Tail {
+            bytes,
+            first,
+            places: found.places,
+        });
+    }
+    let whole = bytes[..found.end].to_vec(alloc)?;
+    replace_tail(folder, &whole)?;
+    Ok(Tail {
+        bytes: whole,
+        first,
+        places: found.places,
+    })
+}
+
+/// The tail of a new log, which is put into a folder that has no log.
+pub(crate) fn begin_tail<F: Folder>(alloc: Global, folder: &mut F) -> Result<Tail, LogError>
+    requires restarted { IsTrue F.honest → IsRestarted (F.seen folder.old) (F.may_hold folder.old)
+        (F.may_leave folder.old) (F.entry_kept folder.old) }
+    requires none { IsTrue F.honest → F.seen folder.old tail_name ≡ None }
+    ensures tail { IfOk result (λ t. IsTail t.bytes.items × IsWholeTo (length t.bytes.items) t.bytes.items
+        × (t.first ≡ first_of t.bytes.items)) }
+    ensures records { IfOk result (λ t. contents t.bytes.items t.places.items ≡ records_of t.bytes.items) }
+    ensures within { IfOk result (λ t. All (EndsBy (length t.bytes.items)) t.places.items) }
+    ensures kept { IsTrue F.honest → IfOk result (λ t. TailIsKept (F.may_hold folder.new) (F.may_leave folder.new)
+        (F.entry_kept folder.new) t.bytes.items) }
+    ensures crash { IsTrue F.honest → ComesFrom (ElsewhereOfBoth (tail_name ++ part) tail_name)
+        (F.may_leave folder.old) (F.may_leave folder.new) }
+
+    // A crash at any moment leaves no log, or the new one.
+    ensures any_moment { IsTrue F.honest → LeavesOnly F.moment F.left_since folder.old folder.new
+        (KeepsLog (F.seen folder.old)) }
+    ensures failures { F.failures folder.old ≤ F.failures folder.new }
+    ensures kind { IfErr result IsOfOpenings }
+{
+    let bytes = new_tail(alloc, 0)?;
+    replace_tail(folder, &bytes)?;
+    Ok(Tail {
+        bytes,
+        first: 0,
+        places: Vec::new(alloc),
+    })
+}

@@ -1,0 +1,129 @@
+//! A folder that tears, of whose promises nothing is taken for granted.
+
+ghost use Rattle.std.specs.Prelude.{◌≤◌, OnErr};
+ghost use Rattle.store_base.specs.Counts.{HasRisen};
+
+use std::alloc::Global;
+use std::io;
+use store_base::MemFile;
+use store_folder::{Folder, ReadableFolder};
+use torn_folder::{Event, TornFolder};
+
+/// A folder that keeps the calls that were made to it. It promises nothing.
+#[derive(Drop)]
+pub struct Watched {
+    alloc: Global,
+    folder: TornFolder,
+    failures: u64,
+}
+
+impl Watched {
+    /// An empty folder.
+    pub fn new(alloc: Global) -> Watched {
+        Watched {
+            alloc,
+            folder: TornFolder::new(alloc),
+            failures: 0,
+        }
+    }
+
+    /// The calls that were made, the first of them first.
+    pub fn events(&self) -> &[Event] {
+        self.folder.events()
+    }
+
+    // Counts a call that failed.
+    fn count(&mut self, outcome: io::Result<()>) -> io::Result<()>
+        ensures count { self.old.failures ≤ self.new.failures }
+        ensures fault { OnErr result (HasRisen self.old.failures self.new.failures) }
+    {
+        if outcome.is_err() {
+            self.failures = self.failures.saturating_add(1);
+        }
+        outcome
+    }
+}
+
+impl Folder for Watched {
+    ghost use Rattle.std.specs.Prelude.{false, None};
+    ghost use Rattle.std.proofs.Common.{rules};
+
+    ghost honest = { false };
+
+    ghost seen = { λ _ _. None };
+
+    ghost may_hold = { λ _ _ _. ⊥ };
+
+    ghost may_leave = { λ _ _. ⊥ };
+
+    ghost entry_kept = { λ _ _. ⊥ };
+
+    ghost moment = { λ _. 0 };
+
+    ghost left_since = { λ _ _ _. ⊥ };
+
+    ghost failures = { λ f. f.failures };
+
+    ghost counts_now = { λ f t c le now. now };
+
+    ghost only_now = { λ f c left. left };
+
+    ghost seen_may_be_left = { λ f h. Prim.search rules };
+
+    ghost entry_leads = { λ f n c h kept left. absurd kept };
+
+    fn create(&mut self, name: &str) -> io::Result<()> {
+        let outcome = self.folder.create(name);
+        self.count(outcome)
+    }
+
+    fn append(&mut self, name: &str, bytes: &[u8]) -> io::Result<()> {
+        let outcome = match self.folder.read(self.alloc, name) {
+            Ok(Some(_)) => self.folder.append(name, bytes),
+            _ => Err(io::ErrorKind::NotFound.into()),
+        };
+        self.count(outcome)
+    }
+
+    fn sync_file(&mut self, name: &str) -> io::Result<()> {
+        let outcome = match self.folder.read(self.alloc, name) {
+            Ok(Some(_)) => self.folder.sync_file(name),
+            _ => Err(io::ErrorKind::NotFound.into()),
+        };
+        self.count(outcome)
+    }
+
+    fn rename(&mut self, from: &str, to: &str) -> io::Result<()> {
+        let outcome = match self.folder.read(self.alloc, from) {
+            Ok(Some(_)) => self.folder.rename(from, to),
+            _ => Err(io::ErrorKind::NotFound.into()),
+        };
+        self.count(outcome)
+    }
+
+    fn remove(&mut self, name: &str) -> io::Result<()> {
+        let outcome = self.folder.remove(name);
+        self.count(outcome)
+    }
+
+    fn sync(&mut self) -> io::Result<()> {
+        let outcome = self.folder.sync();
+        self.count(outcome)
+    }
+}
+
+impl ReadableFolder for Watched {
+    type File = MemFile;
+
+    fn names(&self, alloc: Global) -> io::Result<Vec<String>> {
+        self.folder.names(alloc)
+    }
+
+    fn read(&self, alloc: Global, name: &str) -> io::Result<Option<Vec<u8>>> {
+        self.folder.read(alloc, name)
+    }
+
+    fn open(&self, alloc: Global, name: &str) -> io::Result<MemFile> {
+        self.folder.open(alloc, name)
+    }
+}
