@@ -21,8 +21,18 @@ pub enum Framing {
     Files,
 }
 
+const LINES: &str = "lines";
+
+const TEXT: &str = "text";
+
+const NUL: &str = "nul";
+
+const LENGTHS: &str = "lengths";
+
+const FILES: &str = "files";
+
 /// The words for framings.
-pub const FRAMINGS: [&str; 5] = ["lines", "text", "nul", "lengths", "files"];
+pub const FRAMINGS: [&str; 5] = [LINES, TEXT, NUL, LENGTHS, FILES];
 
 /// What the framings are, for help.
 pub const FRAMING_HELP: &str = "\
@@ -37,11 +47,11 @@ impl Framing {
     /// The framing of this name, one of `FRAMINGS`.
     pub fn from_name(name: &str) -> Option<Framing> {
         match name {
-            "lines" => Some(Framing::Lines),
-            "text" => Some(Framing::Text),
-            "nul" => Some(Framing::Nul),
-            "lengths" => Some(Framing::Lengths),
-            "files" => Some(Framing::Files),
+            LINES => Some(Framing::Lines),
+            TEXT => Some(Framing::Text),
+            NUL => Some(Framing::Nul),
+            LENGTHS => Some(Framing::Lengths),
+            FILES => Some(Framing::Files),
             _ => None,
         }
     }

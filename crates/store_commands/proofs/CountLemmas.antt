@@ -101,7 +101,7 @@ pub told : {R : Type 0} (r : Option R) (bytes : R → List ℕ) (s : Slot) → M
 told None bytes s h = ap is_damaged h
 told (Some x) bytes s h = ap is_damaged h
 
-none_is : {R : Type 0} (r : Option R) (b : Bool) → is_some r ≡ not b → b ≡ is_none r
+pub none_is : {R : Type 0} (r : Option R) (b : Bool) → is_some r ≡ not b → b ≡ is_none r
 none_is None true e = refl
 none_is None false e = absurd cc
 none_is (Some x) true e = absurd cc

@@ -1,7 +1,9 @@
 pub mod AliveLemmas
+pub mod AppendLemmas
 pub mod BrokenLemmas
 pub mod CheckLemmas
 pub mod CountLemmas
+pub mod DamagedLemmas
 pub mod EndingLemmas
 pub mod FileLemmas
 pub mod GivingLemmas

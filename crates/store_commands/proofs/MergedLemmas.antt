@@ -1,5 +1,5 @@
 -- Which slots of a store are merged.
-use Rattle.std.proofs.Common.{◌≡◌, ◌≢◌, ℕ, zero, suc, Bool, List, [], ◌∷◌, ◌++◌, length, map, take, drop, Option, Some, None, Bor, Result, Ok, Err, refl, sym, ap, subst, ◌∙◌, arith}
+use Rattle.std.proofs.Common.{◌≡◌, ◌≢◌, ◌<◌, inl, inr, ℕ, zero, suc, Bool, true, false, List, [], ◌∷◌, ◌++◌, length, map, take, drop, Option, Some, None, Bor, Result, Ok, Err, refl, sym, ap, subst, ◌∙◌, arith}
 use Rattle.std.specs.Prelude.{◌⊎◌, IfSome, slice_get}
 use Rattle.std.specs.List.{flat_map}
 use Rattle.store_base.specs.declared.error.StoreError.{StoreError}
@@ -11,14 +11,15 @@ use Rattle.docstore.specs.Writer.{Writing}
 use Rattle.std.proofs.lemmas.List.{append-nil, take_at}
 use Rattle.store_format.specs.Block.{Slot}
 use Rattle.store_format.specs.Slots.{slots}
-use Rattle.store_reader.specs.Iteration.{alive}
+use Rattle.store_reader.specs.Iteration.{alive, is_in}
 use Rattle.store_reader.specs.Reading.{Reading, IsSameStore, num_docs, store_of}
+use Rattle.store_reader.specs.Walking.{PassesDead}
 use Rattle.store_merge.specs.declared.input.MergeInput.{MergeInput}
 use Rattle.store_merge.specs.declared.merge_error.MergeError.{MergeError}
 use Rattle.store_merge.specs.Choice.{flags_of, alive_of, alive_slots, first_old}
-use Rattle.store_merge.specs.Inputs.{AreInputsKept, IsAskedOnce}
+use Rattle.store_merge.specs.Inputs.{AreEach, AreInputsKept, IsAskedOnce, IsSteadyInput}
 use Rattle.store_merge.specs.Merge.{IsEnded, IsFailed}
-use Rattle.store_commands.specs.Merging.{is_kept, KeepsDocuments, kept_slots, IsMergedReader, input_of, EndsStore}
+use Rattle.store_commands.specs.Merging.{is_kept, KeepsDocuments, kept_slots, IsMergedReader, IsSteadyMerge, input_of, EndsStore}
 use Rattle.store_commands.proofs.AliveLemmas.{alive_agreed}
 
 of_set : (words : List (Bor (List ℕ))) (all : List Slot) (set : Option (List Bool)) → KeepsDocuments words (length all) set → alive all (flags_of set) ≡ alive all (Some (is_kept words))
@@ -70,6 +71,37 @@ pub reader_alone : {H : Type 0} (reader : Reading) (x : MergeInput H) (xs left :
     → map (λ (y : MergeInput H). y.reader) left ≡ r ∷ [] → IsMergedReader reader r
 reader_alone {H} reader x xs left r alone same kept is =
     merged_reader reader x left r same (left_alone x left r (subst (λ (ys : List (MergeInput H)). AreInputsKept ys left) alone kept) is)
+
+-- ---- which reads of the one input failed
+
+-- what no set has alive, the words do not keep
+dead_of : (words : List (Bor (List ℕ))) (count : ℕ) (set : Option (List Bool)) (id : ℕ) → KeepsDocuments words count set → id < count → is_in (flags_of set) id ≡ false → is_kept words id ≡ false
+dead_of words count None id keeps below dead = let is : true ≡ false = dead in absurd cc
+dead_of words count (Some set) id keeps below dead = sym (keeps.2 id below) ∙ dead
+
+passed_of : (words : List (Bor (List ℕ))) (reader : Reading) (set : Option (List Bool)) → KeepsDocuments words (num_docs reader) set → PassesDead (flags_of set) reader.checkpoints 0 (num_docs reader)
+    → PassesDead (Some (is_kept words)) reader.checkpoints 0 (num_docs reader)
+passed_of words reader set keeps p = record {
+  place = p.place;
+  block = p.block;
+  is_at = p.is_at;
+  after = p.after;
+  before = p.before;
+  dead = λ k from below. dead_of words (num_docs reader) set k keeps (omega (arith, p.before)) (p.dead k from below);
+}
+
+steady_of : {H : Type 0} (words : List (Bor (List ℕ))) (x : MergeInput H) (r : Reading) → KeepsDocuments words (num_docs x.reader) x.alive → IsSteadyInput x (input_of H r x.alive)
+    → IsSteadyMerge words x.reader r
+steady_of words x r keeps (inl stays) = inl stays
+steady_of words x r keeps (inr passes) = inr (passed_of words x.reader x.alive keeps passes.1)
+
+pub steady_alone : {H : Type 0} (words : List (Bor (List ℕ))) (reader : Reading) (x : MergeInput H) (xs left : List (MergeInput H)) (r : Reading) → xs ≡ x ∷ [] → x.reader ≡ reader
+    → KeepsDocuments words (num_docs reader) x.alive → AreInputsKept xs left → map (λ (y : MergeInput H). y.reader) left ≡ r ∷ [] → ⊥ ⊎ AreEach IsSteadyInput xs left → IsSteadyMerge words reader r
+steady_alone words reader x xs left r alone same keeps kept is (inl never) = absurd never
+steady_alone {H} words reader x xs left r alone same keeps kept is (inr steady) =
+    let here = left_alone x left r (subst (λ (ys : List (MergeInput H)). AreInputsKept ys left) alone kept) is in
+    let each = subst (λ (ys : List (MergeInput H)). AreEach IsSteadyInput (x ∷ []) ys) here.is (subst (λ (ys : List (MergeInput H)). AreEach IsSteadyInput ys left) alone steady) in
+    subst (λ (s : Reading). IsSteadyMerge words s r) same (steady_of words x r (subst (λ (s : Reading). KeepsDocuments words (num_docs s) x.alive) (sym same) keeps) each.0)
 
 -- ---- why the merge of the one input ended
 

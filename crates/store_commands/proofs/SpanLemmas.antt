@@ -77,11 +77,11 @@ among_none spans place id rise ended later = list_any_none (λ (s : IdSpan). is_
 
 -- ---- ranges that touch, as one
 
-or_assoc : (a b c : Bool) → ((a || b) || c) ≡ (a || (b || c))
+pub or_assoc : (a b c : Bool) → ((a || b) || c) ≡ (a || (b || c))
 or_assoc true b c = refl
 or_assoc false b c = refl
 
-or_false : (a : Bool) → (a || false) ≡ a
+pub or_false : (a : Bool) → (a || false) ≡ a
 or_false true = refl
 or_false false = refl
 
@@ -173,3 +173,9 @@ pub merging_all : (spans merged : List IdSpan) (last : IdSpan) (place : ℕ) →
 merging_all spans merged last place m le id =
     list_any-append (λ (s : IdSpan). is_in s id) merged (last ∷ []) ∙ ap (λ (b : Bool). is_among merged id || b) (or_false (is_in last id)) ∙ m.same id
     ∙ ap (λ (xs : List IdSpan). is_among xs id) (take_all place spans le)
+
+-- each of two lists of ranges that are apart has an id
+pub both_filled : (m n : ℕ) (some others : List IdSpan) → AreApartFrom m some → AreApartFrom n others → AllByRecursion HasId (some ++ others)
+both_filled m n [] [] s o = tt
+both_filled m n [] (y ∷ ys) s o = (o.1, both_filled m (y.end + 1) [] ys tt o.2)
+both_filled m n (x ∷ xs) ys s o = (s.1, both_filled (x.end + 1) n xs ys s.2 o)

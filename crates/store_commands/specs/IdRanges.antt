@@ -45,7 +45,7 @@ number_named text =
 abbrev pub dots : List ℕ
 dots = 46 ∷ 46 ∷ []
 
--- what stands before the first two dots of a text, and what follows them
+-- the texts before and after the first two dots of a text
 unfoldable pub around_dots : List ℕ → Option (List ℕ × List ℕ)
 around_dots [] = None
 around_dots (c ∷ cs) = if starts_with nat_eq (c ∷ cs) dots then Some ([], drop 1 cs)

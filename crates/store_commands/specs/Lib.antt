@@ -1,6 +1,8 @@
+pub mod Appending
 pub mod Blocks
 pub mod BrokenParts
 pub mod Checks
+pub mod Damaged
 pub mod Documents
 pub mod Giving
 pub mod IdRanges

@@ -15,6 +15,7 @@ use Rattle.store_format.specs.Block.{Slot}
 use Rattle.store_format.specs.Slots.{slots}
 use Rattle.store_reader.specs.Iteration.{alive}
 use Rattle.store_reader.specs.Reading.{Reading, IsSameStore, num_docs, store_of}
+use Rattle.store_reader.specs.Walking.{IsSteadyBetween}
 use Rattle.store_format.specs.declared.version.DocStoreVersion.TheVariants.{V1}
 use Rattle.docstore.specs.StackingInParts.{BeginsStack}
 use Rattle.docstore.specs.Writer.{Writing}
@@ -56,6 +57,10 @@ kept_slots words reader = alive (slots (store_of reader)) (Some (is_kept words))
 pub record IsMergedReader (reader left : Reading) : Type 0 where
   pub store : IsSameStore reader left
   pub asked : IsAskedOnce reader left
+
+-- No read of a reader's file failed, but of a block of which the words keep no document.
+abbrev pub IsSteadyMerge : List (Bor (List ℕ)) → Reading → Reading → Type 0
+IsSteadyMerge words reader left = IsSteadyBetween (Some (is_kept words)) reader left 0 (num_docs reader)
 
 -- a store as an input of a merge
 abbrev pub input_of : (H : Type 0) → Reading → Option (List Bool) → MergeInput H

@@ -1,10 +1,12 @@
 -- What a store has, as numbers.
-use Rattle.std.specs.Prelude.{◌≡◌, ℕ, ◌-◌, ◌/◌, List, length, map, slice_index}
+use Rattle.std.specs.Prelude.{◌≡◌, ℕ, ◌+◌, ◌-◌, ◌*◌, ◌/◌, List, length, map, slice_index}
 use Rattle.std.specs.List.Sorted.{IsNonDecreasing, IsPermutation}
+use Rattle.store_base.specs.Counts.{raised}
 use Rattle.layered_index.specs.Checkpoint.{byte_len}
 use Rattle.layered_index.specs.Layers.{digit_count, index_part}
 use Rattle.store_format.specs.Footer.{version_number}
 use Rattle.store_reader.specs.Reading.{Reading, num_docs}
+use Rattle.store_commands.specs.Merging.{bytes_of}
 use Rattle.store_commands.specs.declared.store_numbers.StoreNumbers.{StoreNumbers}
 
 -- the bytes of each block, in order
@@ -30,4 +32,6 @@ pub record AreNumbersOf (reader : Reading) (sizes : List ℕ) (numbers : StoreNu
   pub layers : numbers.layers ≡ digit_count reader.period (length sizes)
   pub data_len : numbers.data_bytes ≡ length reader.file.content
   pub index_len : numbers.index_bytes ≡ length (index_part reader.period reader.checkpoints)
+  pub document_len : numbers.document_bytes ≡ length reader.file.content - 4 * (num_docs reader + length sizes)
+  pub file_len : numbers.file_bytes ≡ raised (bytes_of reader) 28
   pub extremes : AreExtremes sizes numbers.smallest_block numbers.median_block numbers.largest_block

@@ -1,9 +1,10 @@
 -- Parts of a file, and what tantivy's directory leaves after a store.
-use Rattle.std.specs.Prelude.{◌≡◌, ℕ, ◌-◌, ◌<◌, ◌^◌, ◌⊎◌, IsTrue, List, ◌++◌, length, Err}
+use Rattle.std.specs.Prelude.{◌≡◌, ℕ, ◌-◌, ◌<◌, ◌≤◌, ◌^◌, ◌⊎◌, IsTrue, List, ◌++◌, length, slice_range, Err, Option, Some, None}
 use Rattle.store_base.specs.Files.{Part, ReadsOnce}
 use Rattle.store_base.specs.Serialize.{fixed}
 use Rattle.store_format.specs.Extraction.{narrowed}
 use Rattle.store_format.specs.FileReading.{Comes}
+use Rattle.store_base.specs.declared.error.StoreError.{StoreError}
 use Rattle.store_commands.specs.declared.request_error.RequestError.{RequestError}
 use Rattle.store_commands.specs.declared.request_error.RequestError.TheVariants.{NoTantivyTail, Store}
 
@@ -25,6 +26,17 @@ pub record HasTail (file store : List ℕ) : Type 0 where
 abbrev pub HasNoTail : List ℕ → Type 0
 HasNoTail file = (store : List ℕ) → HasTail file store → ⊥
 
+-- A file was looked at, by one read of its last eight bytes where it has as many, for the end of a store before a tail.
+abbrev pub HasLooked : Part → Part → Option ℕ → Type 0
+HasLooked file read (Some end) = ReadsOnce 8 file read × (end ≤ length file.content)
+    × (IsTrue file.honest → HasTail file.content (slice_range file.content 0 end))
+HasLooked file read None = (ReadsOnce 8 file read ⊎ ((length file.content < 8) × (read ≡ file)))
+    × (IsTrue file.honest → HasNoTail file.content)
+
+-- The read of a file's last eight bytes failed, or memory ran out.
+abbrev pub FailsLook : Part → StoreError → Type 0
+FailsLook file e = (read : Part) × Comes file (length file.content - 8) (length file.content) (Err e) read
+
 -- The store of a file, after one read of its last eight bytes.
 pub record IsCutOff (file part : Part) : Type 0 where
   pub read : Part
@@ -35,5 +47,13 @@ pub record IsCutOff (file part : Part) : Type 0 where
 -- Why a file's tail is refused: an honest file has none, a read failed, or memory ran out.
 abbrev pub RefusesTail : Part → RequestError → Type 0
 RefusesTail file NoTantivyTail = IsTrue file.honest → HasNoTail file.content
-RefusesTail file (Store e) = (read : Part) × Comes file (length file.content - 8) (length file.content) (Err e) read
+RefusesTail file (Store e) = FailsLook file e
 RefusesTail file _ = ⊥
+
+-- The store of a file, after one read of its last eight bytes where it has as many: what is before a tail, or all.
+pub record IsStoreIn (file part : Part) : Type 0 where
+  pub read : Part
+  pub once : ReadsOnce 8 file read ⊎ ((length file.content < 8) × (read ≡ file))
+  pub cut : part ≡ narrowed read part.content
+  pub store : IsTrue file.honest
+      → HasTail file.content part.content ⊎ (HasNoTail file.content × (part.content ≡ file.content))

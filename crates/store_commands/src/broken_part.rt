@@ -46,7 +46,7 @@ impl fmt::Display for BrokenPart {
     }
 }
 
-// Which part it is, where the file is what stands before this footer.
+// Which part it is. `file` lacks this footer at its end.
 fn part_before<H: FileHandle>(
     alloc: Global,
     footer: &DocStoreFooter,

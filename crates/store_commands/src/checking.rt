@@ -1,4 +1,4 @@
-//! Looks over a store block by block and slot by slot for what breaks a promise of the format.
+//! Checks a store block by block and slot by slot.
 
 ghost use Rattle.std.specs.Prelude.{◌≡◌, ◌<◌, ◌+◌, ◌^◌, IfOk, IfSome, IfErr};
 ghost use Rattle.std.specs.Prelude.{IsNone, IsSome, is_none, None, [], true, if◌then◌else◌, IsTrue, IsErrOf, ◌⊎◌, not};
@@ -23,7 +23,7 @@ pub enum TableFault {
     Count { counted: u32, promised: u32 },
     /// The block has no room for the table.
     Large { counted: u32 },
-    /// Bytes stand before the first document.
+    /// There are bytes before the first document.
     Start { start: u32 },
 }
 
@@ -90,7 +90,7 @@ pub struct Verdict {
     pub first: Option<FaultPlace>,
 }
 
-/// Hears of each block that is checked.
+/// Is called for each block that is checked.
 pub trait BlockWatch {
     /// One block more, of this many documents and bytes.
     fn add(&mut self, documents: DocId, bytes: u64);

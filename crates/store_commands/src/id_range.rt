@@ -36,7 +36,7 @@ fn number_in(text: &str) -> Option<DocId>
     text.parse::<DocId>().ok()
 }
 
-// What stands before the first `..` of a word, and what follows it.
+// The texts before and after the first `..` of a word.
 fn split_at_dots<'a>(word: &'a str) -> Option<(&'a str, &'a str)>
     ensures { option_map (λ x. (x.0.now, x.1.now)) result ≡ around_dots word.entry.now }
 {

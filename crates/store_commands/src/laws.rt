@@ -1,4 +1,4 @@
-//! What it says of a block that it is called sound. Each function does nothing: its clause is the law.
+//! What it means that a block is called sound. Each function does nothing: its clause is the law.
 ghost use Rattle.store_commands.specs.Laws.{SoundBlocksAreOfDocuments, BlocksOfDocumentsAreSound};
 
 /// A block that is called sound is the block of its documents, byte for byte: no other byte is in it.

@@ -12,6 +12,7 @@ use crate::id_range::range_of;
 use crate::request_error::RequestError;
 use docstore::{AliveBitSet, DocId, NoMemory};
 use std::alloc::{AllocError, Global};
+use std::fmt;
 use std::ops::Range;
 
 /// The ids from `start` up to `end`, which is excluded.
@@ -19,6 +20,18 @@ use std::ops::Range;
 pub struct IdSpan {
     pub start: DocId,
     pub end: DocId,
+}
+
+/// As `--without` takes it: `7`, or `3..9`.
+impl fmt::Display for IdSpan {
+    fn fmt<W: fmt::Write>(&self, f: &mut fmt::Formatter<W>) -> fmt::Result {
+        let IdSpan { start, end } = *self;
+        if end.saturating_sub(start) == 1 {
+            write!(f, "{start}")
+        } else {
+            write!(f, "{start}..{end}")
+        }
+    }
 }
 
 // Adds the ids that a part of a word names, in a store of `num_docs` documents.
@@ -106,6 +119,30 @@ fn merged(alloc: Global, spans: &[IdSpan]) -> Result<Vec<IdSpan>, NoMemory>
     Ok(merged)
 }
 
+/// The same ids as those of ranges in any order, by ranges in order that do not touch.
+pub fn in_order(alloc: Global, mut spans: Vec<IdSpan>) -> Result<Vec<IdSpan>, NoMemory>
+    requires { AllByRecursion HasId spans.items }
+    ensures same { IfOk result (λ merged. (id : ℕ) → is_among merged.items id ≡ is_among spans.items id) }
+    ensures apart { IfOk result (λ merged. AreApartFrom 0 merged.items) }
+{
+    spans.sort_unstable_by_key(|span| span.start);
+    merged(alloc, &spans)
+}
+
+/// The ids of both, by ranges in order that do not touch.
+pub fn joined(alloc: Global, some: &[IdSpan], others: &[IdSpan]) -> Result<Vec<IdSpan>, NoMemory>
+    requires some { AreApartFrom 0 some.now }
+    requires others { AreApartFrom 0 others.now }
+    ensures both { IfOk result (λ spans. (id : ℕ) → is_among spans.items id
+        ≡ (is_among some.now id || is_among others.now id)) }
+    ensures apart { IfOk result (λ spans. AreApartFrom 0 spans.items) }
+{
+    let mut spans = Vec::new(alloc);
+    spans.extend_from_slice(some)?;
+    spans.extend_from_slice(others)?;
+    in_order(alloc, spans)
+}
+
 /// The documents that words leave out of a store of `num_docs` documents: exactly the ids that one of the words names,
 /// as ranges in order that do not touch.
 pub fn left_out(alloc: Global, words: &[&str], num_docs: DocId) -> Result<Vec<IdSpan>, RequestError>
@@ -114,9 +151,8 @@ pub fn left_out(alloc: Global, words: &[&str], num_docs: DocId) -> Result<Vec<Id
     ensures apart { IfOk result (λ spans. AreApartFrom 0 spans.items) }
     ensures refused { IfErr result (RefusesWords words.now num_docs) }
 {
-    let mut spans = spans_of(alloc, words, num_docs)?;
-    spans.sort_unstable_by_key(|span| span.start);
-    Ok(merged(alloc, &spans)?)
+    let spans = spans_of(alloc, words, num_docs)?;
+    Ok(in_order(alloc, spans)?)
 }
 
 /// The range that has this id, if there is one.

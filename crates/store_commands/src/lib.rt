@@ -1,10 +1,12 @@
-//! What the commands of the program find out about stores, and how ranges of ids are read from arguments.
+//! The answers of the program's commands about stores, and ranges of ids as arguments name them.
 #![tactic(auto)]
 
+pub mod appended_store;
 pub mod block_documents;
 pub mod block_walk;
 pub mod broken_part;
 pub mod checking;
+pub mod damaged_documents;
 pub mod id_range;
 pub mod kept_documents;
 pub mod laws;

@@ -1,10 +1,10 @@
 //! What a store has, as numbers.
 
-ghost use Rattle.std.specs.Prelude.{◌≡◌, ◌≤◌, IfOk, IfErr};
+ghost use Rattle.std.specs.Prelude.{◌≡◌, ◌≤◌, ◌+◌, ◌-◌, ◌*◌, IfOk, IfErr};
 ghost use Rattle.layered_index.specs.Layers.{digit_count};
 ghost use Rattle.store_commands.specs.Numbers.{sizes_of, AreNumbersOf};
 
-use docstore::{DocId, FileHandle, StoreError, StoreReader};
+use docstore::{DocId, FOOTER_LEN, FileHandle, StoreError, StoreReader};
 use std::alloc::Global;
 
 /// What a store has, as numbers.
@@ -17,6 +17,10 @@ pub struct StoreNumbers {
     pub layers: u32,
     pub data_bytes: u64,
     pub index_bytes: u64,
+    /// The bytes of the blocks without their tables. In a sound store they are those of the documents.
+    pub document_bytes: u64,
+    /// The bytes of data, index and footer.
+    pub file_bytes: u64,
     /// The bytes of the smallest, the median and the largest block; 0 if there is none.
     pub smallest_block: usize,
     pub median_block: usize,
@@ -35,6 +39,15 @@ pub fn layers_over(blocks: usize, period: u8) -> u32
         layers += 1;
     }
     layers
+}
+
+// How many bytes of data are left without the tables of its blocks: each table has four bytes for each document, and
+// four more.
+fn document_bytes(data_bytes: u64, documents: DocId, blocks: usize) -> u64
+    ensures { result ≡ data_bytes - 4 * (documents + blocks) }
+{
+    let entries = u64::from(documents).saturating_add(blocks as u64);
+    data_bytes.saturating_sub(entries.saturating_mul(4))
 }
 
 /// How many bytes each block has, in order.
@@ -68,6 +81,8 @@ pub fn numbers_of<H: FileHandle>(reader: &StoreReader<H>, mut sizes: Vec<usize>)
         layers: layers_over(sizes.len(), reader.period()),
         data_bytes: usage.data_usage(),
         index_bytes: usage.offsets_usage(),
+        document_bytes: document_bytes(usage.data_usage(), reader.num_docs(), sizes.len()),
+        file_bytes: usage.total().saturating_add(FOOTER_LEN),
         smallest_block: sizes.first().copied().unwrap_or(0),
         median_block: sizes.get(middle).copied().unwrap_or(0),
         largest_block: sizes.last().copied().unwrap_or(0),

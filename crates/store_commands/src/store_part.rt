@@ -3,6 +3,7 @@
 ghost use Rattle.std.specs.Prelude.{◌≡◌, ◌≢◌, ◌<◌, ◌≤◌, ◌^◌, ℕ, Err, IfOk, IfErr, MatchOption, length};
 ghost use Rattle.store_format.specs.FileReading.{Comes};
 ghost use Rattle.store_commands.specs.Tails.{IsNoRange, tail_of, IsCutOff, RefusesTail};
+ghost use Rattle.store_commands.specs.Tails.{HasLooked, FailsLook, IsStoreIn};
 
 use crate::request_error::RequestError;
 use docstore::{BinarySerializable, FileHandle, FileSlice, OwnedBytes, StoreError};
@@ -30,7 +31,7 @@ pub fn part_of<H: FileHandle>(
     Ok(file.read_range(alloc, start..end)?)
 }
 
-// The length of the JSON text that stands before these bytes, if they are the last eight of tantivy's directory.
+// The length of the JSON text before these bytes, if they are the last eight of tantivy's directory.
 fn tail_length(alloc: Global, tail: &[u8]) -> Option<u64>
     requires { length tail.now ≡ 8 }
     ensures { MatchOption result ((len : ℕ) → len < 2 ^ 32 → tail.now ≢ tail_of len)
@@ -49,6 +50,29 @@ fn tail_length(alloc: Global, tail: &[u8]) -> Option<u64>
     Some(u64::from(length))
 }
 
+// Where the store of a file ends to which tantivy's directory appended its bytes, by one read of the last of them.
+fn store_end<H: FileHandle>(
+    alloc: Global,
+    file: &mut FileSlice<H>,
+) -> Result<Option<u64>, StoreError>
+    ensures end { IfOk result (HasLooked file.old file.new) }
+    ensures failed { IfErr result (FailsLook file.old) }
+{
+    let len = file.len();
+    if len < TANTIVY_TAIL_LEN {
+        return Ok(None);
+    }
+    let body = len - TANTIVY_TAIL_LEN;
+    let tail = file.read_range(alloc, body..len)?;
+    let Some(length) = tail_length(alloc, tail.as_slice()) else {
+        return Ok(None);
+    };
+    if length > body {
+        return Ok(None);
+    }
+    Ok(Some(body - length))
+}
+
 /// The store before what tantivy's directory appends to it, by one read of the file.
 pub fn before_tail<H: FileHandle>(
     alloc: Global,
@@ -57,14 +81,23 @@ pub fn before_tail<H: FileHandle>(
     ensures cut { IfOk result (IsCutOff file) }
     ensures refused { IfErr result (RefusesTail file) }
 {
-    let len = file.len();
-    if len < TANTIVY_TAIL_LEN {
-        return Err(RequestError::NoTantivyTail);
+    match store_end(alloc, &mut file)? {
+        Some(end) => Ok(file.narrow(0..end)),
+        None => Err(RequestError::NoTantivyTail),
     }
-    let body = len - TANTIVY_TAIL_LEN;
-    let tail = file.read_range(alloc, body..len)?;
-    match tail_length(alloc, tail.as_slice()) {
-        Some(length) if length <= body => Ok(file.narrow(0..body - length)),
-        _ => Err(RequestError::NoTantivyTail),
+}
+
+/// The store of a file, with or without what tantivy's directory appends to it, by one read of the file's last eight
+/// bytes. A store ends in bytes that are written as 0, and so is not taken for one with a tail.
+pub fn store_in<H: FileHandle>(
+    alloc: Global,
+    mut file: FileSlice<H>,
+) -> Result<FileSlice<H>, StoreError>
+    ensures store { IfOk result (IsStoreIn file) }
+    ensures failed { IfErr result (FailsLook file) }
+{
+    match store_end(alloc, &mut file)? {
+        Some(end) => Ok(file.narrow(0..end)),
+        None => Ok(file),
     }
 }

@@ -25,6 +25,10 @@ use Rattle.docstore.specs.Trace.{weight}
 use Rattle.store_reader.specs.Walking.{taken_last, GivesNext, IsBlockTaken, IsSteadyBetween, IsWalk, LooksAlong}
 use Rattle.docstore.specs.Writer.{Writing, flushed, with_document, with_failures}
 use Rattle.docstore.specs.Laws.{taken}
+use Rattle.store_reader.proofs.AskedLemmas.{asked_within}
+use Rattle.store_reader.proofs.IterationLookUpLemmas.{looks_joined}
+use Rattle.layered_index.specs.Checkpoint.{Covers}
+use Rattle.store_merge.specs.Inputs.{IsAskedOnce}
 use Rattle.store_merge.specs.Bringing.{IsCopied, with_documents}
 use Rattle.store_merge.specs.Copying.{IsItemStored, IsRefused}
 use Rattle.store_merge.specs.Refusals.{RefusesItem, StopsAt}
@@ -295,6 +299,12 @@ copied_all first old new set from to start w docs same gives below copied =
     let dead : (k : ℕ) → from.next ≤ k → k < length all → is_in set k ≡ false = λ k above lt. gives.walks.dead k above (omega (arith, lt, gives.gives.0, same_count first old same, docs)) in
     copied_as first.file.honest start (alive (take from.next all) set) (alive all set) w
     (sym (alive_to set all from.next (length all) below (omega arith) dead) ∙ ap (λ (xs : List Slot). alive xs set) (take_all (length all) all (omega arith))) copied
+
+-- The reads so far ask for no byte twice.
+pub asked_next : (first old new : Reading) (set : Option (ℕ → Bool)) (from to : Walk) (given : Option (Result (List ℕ) StoreError)) → Covers first.checkpoints (length first.file.content) → IsSameStore first old
+    → LooksAlong (take from.place first.checkpoints) first None old (taken_last from) → GivesNext set old from given new to → IsAskedOnce first new
+asked_next first old new set from to given covers same looks gives =
+    asked_within to.place first None new (taken_last to) covers (looks_joined first old from set gives.last new to same.checkpoints looks gives.walks)
 
 -- What holds as an iteration begins.
 pub record IsBegun (first : Reading) (set : Option (ℕ → Bool)) (start : Writing) (r : Reading) (w : Walk) : Type 0 where

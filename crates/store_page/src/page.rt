@@ -1,7 +1,9 @@
 //! The page: what a store has, drawn.
 
 use crate::block_starts::BlockStarts;
+use crate::excerpts::{Excerpt, push_excerpts};
 use crate::histogram::Histogram;
+use crate::script::SCRIPT;
 use crate::seek_drawing::SeekDrawing;
 use std::alloc::AllocError;
 use std::fmt::Write;
@@ -13,6 +15,8 @@ const HEAD: &str = "\
 <head>
 <meta charset=\"utf-8\">
 <meta name=\"viewport\" content=\"width=device-width, initial-scale=1\">
+<meta http-equiv=\"Content-Security-Policy\"
+  content=\"default-src 'none'; style-src 'unsafe-inline'; script-src 'unsafe-inline'\">
 <style>
 :root { color-scheme: light dark; --text: #1d2733; --back: #ffffff; --line: #b6c2cf; --soft: #dfe7ef;
   --data: #4a7fb5; --index: #d08a3c; --footer: #7a5ba8; --way: #d08a3c33; --taken: #d08a3c; }
@@ -34,9 +38,27 @@ td { text-align: right; font-variant-numeric: tabular-nums; }
 svg text { fill: var(--text); font-size: 13px; }
 .entry { fill: var(--soft); stroke: var(--line); } .taken { fill: var(--taken); stroke: var(--line); }
 .way { fill: var(--way); }
+.tall { max-height: 24rem; overflow: auto; border: 1px solid var(--line); }
+.documents { width: 100%; table-layout: fixed; } .documents th { width: 7rem; vertical-align: top; }
+.documents td { width: 7rem; vertical-align: top; } .documents td:last-child { width: auto; text-align: left; }
+.documents td:last-child { padding-left: 1.5rem; }
+pre { white-space: pre-wrap; overflow-wrap: anywhere; margin: 0; font: 13px/1.4 ui-monospace, monospace; }
+#other { margin-top: 1rem; } #other input { font: inherit; color: inherit; max-width: 100%; }
+#number { background: var(--back); border: 1px solid var(--line); width: 9rem; }
 @media print { :root { --text: #000; --back: #fff; } body { margin: 0; max-width: none; }
   * { print-color-adjust: exact; -webkit-print-color-adjust: exact; } section { break-inside: avoid; } }
 </style>
+";
+
+// What shows any other document, once the file of the store is chosen.
+const FORM: &str = "\
+<p>To see any other document, choose the store's file, or drop it on this page. The page reads it on this machine and
+sends nothing.</p>
+<p><label>File <input type=\"file\" id=\"file\"></label></p>
+<p><label>Document <input type=\"number\" id=\"number\" min=\"0\"></label></p>
+<p id=\"said\" role=\"status\"></p>
+<pre id=\"shown\"></pre>
+</form></section>
 ";
 
 /// What is shown of a store.
@@ -53,6 +75,10 @@ pub struct Page<'a> {
     pub starts: &'a BlockStarts,
     pub block_sizes: &'a Histogram,
     pub document_sizes: &'a Histogram,
+    /// How many bytes the file has.
+    pub file_bytes: u64,
+    /// The first document of each block, of as many blocks as are shown.
+    pub excerpts: &'a [Excerpt],
 }
 
 // Adds a text as HTML writes it.
@@ -150,6 +176,22 @@ impl<'a> Page<'a> {
         page.push_str("</section>\n")
     }
 
+    // The first document of each block, and what shows any other one.
+    fn push_documents(&self, page: &mut String) -> Result<(), AllocError> {
+        let (blocks, file_bytes) = (self.excerpts.len(), self.file_bytes);
+        page.push_str("<section><h2>Documents</h2>\n")?;
+        write!(
+            page,
+            "<p>The first document of a block, of the first blocks of the store: {blocks}.</p>\n"
+        )?;
+        push_excerpts(page, self.excerpts)?;
+        write!(
+            page,
+            "<form id=\"other\" data-bytes=\"{file_bytes}\" hidden>\n"
+        )?;
+        page.push_str(FORM)
+    }
+
     /// The page as HTML, on its own.
     pub fn push_to(&self, page: &mut String) -> Result<(), AllocError> {
         self.push_head(page)?;
@@ -157,6 +199,8 @@ impl<'a> Page<'a> {
         self.push_parts(page)?;
         self.push_layers(page)?;
         self.push_sizes(page)?;
+        self.push_documents(page)?;
+        page.push_str(SCRIPT)?;
         page.push_str("</body>\n</html>\n")
     }
 }

@@ -1,9 +1,10 @@
 use Rattle.std.proofs.Common.{refl, ◌∙◌}
 use Rattle.std.proofs.lemmas.Result.{err_from_is_err_and}
 use Rattle.store_commands.proofs.EndingLemmas.{steady_of, ends_by_read, ends_in_block}
-use Rattle.store_commands.proofs.GivingLemmas.{given_first, given_more, given_all}
+use Rattle.store_commands.proofs.GivingLemmas.{HasGiven, given_first, given_more, given_all}
 use Rattle.store_commands.proofs.WalkLemmas.{seeks_some, bytes_some, none_left}
 use Rattle.store_commands.specs.Documents.{kept_by}
+use Rattle.store_commands.proofs.block_walk.give_documents.Goals.{In_ok-give_block}
 use Rattle.store_commands.proofs.block_walk.give_documents.Goals as goal
 
 pub loop-block-init : goal.loop-block-init
@@ -13,24 +14,26 @@ loop-block-init g c = record {
   file = refl;
 }
 
+-- the documents of one block more were given
+one_more : (g : _) (c : In_ok-give_block g)
+    → HasGiven g.T.DocumentTarget.takes (kept_by c.args.left_out.now) c.args.reader.now c.read_block.new.self c.in-Some.block.ids.end c.args.target.now c.give_block.new.target
+one_more g c =
+    given_more g.T.DocumentTarget.takes (kept_by c.args.left_out.now) c.args.reader.now c.loop-block.reader c.read_block.new.self c.loop-block.next_id c.args.target.now c.loop-block.target
+    c.give_block.new.target c.in-Some.block c.loop-block.invariant.given
+    (seeks_some c.in_ok-block.field-0 c.in-Some.block _ c.in-Some.is c.in_ok-block.ensures.place)
+    (λ honest. bytes_some c.loop-block.reader.file.content c.in_ok-block.field-0 c.in-Some.block c.in-Some.is (c.in_ok-block.ensures.bytes honest))
+    c.read_block.ensures.no_read c.read_block.ensures.once c.in_ok-give_block.ensures.given
+
 pub loop-block-preserved-in_ok-give_block : goal.loop-block-preserved-in_ok-give_block
 loop-block-preserved-in_ok-give_block g c = record {
-  given = given_more g.T.DocumentTarget.takes (kept_by c.args.left_out.now) c.args.reader.now c.loop-block.reader c.read_block.new.self c.loop-block.next_id c.args.target.now c.loop-block.target
-      c.give_block.new.target c.in-Some.block c.loop-block.invariant.given
-      (seeks_some c.in_ok-block.field-0 c.in-Some.block _ c.in-Some.is c.in_ok-block.ensures.place)
-      (λ honest. bytes_some c.loop-block.reader.file.content c.in_ok-block.field-0 c.in-Some.block c.in-Some.is (c.in_ok-block.ensures.bytes honest))
-      c.read_block.ensures.no_read c.read_block.ensures.once c.in_ok-give_block.ensures.given;
+  given = one_more g (goal.at.loop-block-preserved-in_ok-give_block g c).In_ok-give_block;
   steady = c.in_ok-give_block.ensures.steady ∙ c.loop-block.invariant.steady;
   file = steady_of c.in_ok-block.field-0 c.in_ok-block.ensures.steady ∙ c.loop-block.invariant.file;
 }
 
 pub loop-block-preserved : goal.loop-block-preserved
 loop-block-preserved g c = record {
-  given = given_more g.T.DocumentTarget.takes (kept_by c.args.left_out.now) c.args.reader.now c.loop-block.reader c.read_block.new.self c.loop-block.next_id c.args.target.now c.loop-block.target
-      c.give_block.new.target c.in-Some.block c.loop-block.invariant.given
-      (seeks_some c.in_ok-block.field-0 c.in-Some.block _ c.in-Some.is c.in_ok-block.ensures.place)
-      (λ honest. bytes_some c.loop-block.reader.file.content c.in_ok-block.field-0 c.in-Some.block c.in-Some.is (c.in_ok-block.ensures.bytes honest))
-      c.read_block.ensures.no_read c.read_block.ensures.once c.in_ok-give_block.ensures.given;
+  given = one_more g (goal.at.loop-block-preserved g c).In_ok-give_block;
   steady = c.in_ok-give_block.ensures.steady ∙ c.loop-block.invariant.steady;
   file = steady_of c.in_ok-block.field-0 c.in_ok-block.ensures.steady ∙ c.loop-block.invariant.file;
 }

@@ -2,6 +2,7 @@ use Rattle.std.proofs.Common.{◌≡◌, ℕ, ◌-◌, ◌/◌, List, length, ge
 use Rattle.std.proofs.lemmas.Option.{unwrap_or-slice_get}
 use Rattle.std.proofs.lemmas.List.Sorted.{IsNonDecreasingBy-from_sort, length_permutation}
 use Rattle.layered_index.specs.Layers.{digit_count}
+use Rattle.store_base.specs.Counts.{raised}
 use Rattle.store_format.specs.Footer.{version_number}
 use Rattle.store_commands.proofs.store_numbers.numbers_of.Goals as goal
 
@@ -18,6 +19,12 @@ returns g c =
       layers = c.layers_over.ensures ∙ ap (λ (p : ℕ). digit_count p c.len-2.result) c.period-2.ensures.period ∙ ap (digit_count c.args.reader.now.period) (c.len-2.ensures ∙ count ∙ size);
       data_len = c.data_usage.ensures ∙ ap (λ (p : ℕ × ℕ). p.0) c.space_usage-usage.ensures;
       index_len = c.offsets_usage.ensures ∙ ap (λ (p : ℕ × ℕ). p.1) c.space_usage-usage.ensures;
+      document_len =
+          let data_is = c.data_usage-2.ensures ∙ ap (λ (p : ℕ × ℕ). p.0) c.space_usage-usage.ensures in
+          let documents_are = c.num_docs-2.ensures.count in
+          let blocks_are = c.len-3.ensures ∙ count ∙ size in
+          omega (arith, c.document_bytes.ensures);
+      file_len = c.saturating_add.ensures ∙ ap (λ (n : ℕ). raised n 28) (c.total.ensures ∙ ap (λ (p : ℕ × ℕ). raised p.0 p.1) c.space_usage-usage.ensures);
       extremes = record {
         in_order = items;
         same = c.sort_unstable.ensures.permutation;

@@ -1,0 +1,26 @@
+-- The slots of a store that is copied whole.
+use Rattle.std.proofs.Common.{◌≡◌, ℕ, ◌+◌, List, [], ◌∷◌, Some, None, Bor, refl, ap, ◌∙◌, subst}
+use Rattle.std.specs.Prelude.{IsTrue}
+use Rattle.store_format.specs.Block.{Slot}
+use Rattle.store_format.specs.Slots.{slots}
+use Rattle.store_reader.specs.Reading.{Reading, IsSameStore, store_of}
+use Rattle.store_commands.specs.Documents.{alive_from}
+use Rattle.store_commands.specs.Merging.{is_kept, kept_slots}
+use Rattle.store_commands.proofs.AliveLemmas.{alive_agreed}
+
+all_alive : (n : ℕ) (xs : List Slot) → alive_from n xs None ≡ xs
+all_alive n [] = refl
+all_alive n (x ∷ xs) = ap (λ (ys : List Slot). x ∷ ys) (all_alive (n + 1) xs)
+
+-- without words all are kept
+pub all_kept : (words : List (Bor (List ℕ))) (reader : Reading) → words ≡ [] → kept_slots words reader ≡ slots (store_of reader)
+all_kept words reader none =
+    ap (λ (ws : List (Bor (List ℕ))). kept_slots ws reader) none ∙ alive_agreed (slots (store_of reader)) (Some (is_kept [])) None (λ id lt. refl)
+    ∙ all_alive 0 (slots (store_of reader))
+
+-- a reader that was read has the same slots
+pub same_slots : (old new : Reading) → IsSameStore old new → slots (store_of new) ≡ slots (store_of old)
+same_slots old new same = (λ i. slots (store_of (record old { checkpoints = same.checkpoints i; file = record old.file { content = same.content i } })))
+
+pub same_honest : (old new : Reading) → IsSameStore old new → IsTrue new.file.honest → IsTrue old.file.honest
+same_honest old new same honest = subst IsTrue same.honest honest

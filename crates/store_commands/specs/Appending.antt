@@ -1,0 +1,20 @@
+-- What a store has to which documents were appended.
+use Rattle.std.specs.Prelude.{◌≡◌, ℕ, IsTrue, List, ◌++◌, map, Option, Some}
+use Rattle.docstore.specs.Writer.{Writing}
+use Rattle.store_format.specs.Block.{Slot, doc}
+use Rattle.store_format.specs.Slots.{slots}
+use Rattle.store_published.specs.Filling.{AddsDocuments}
+use Rattle.store_reader.specs.Reading.{Reading, store_of}
+
+-- Documents of which this holds were put after those of a writer, in the same file.
+abbrev pub AddsThese : (List (List ℕ) → Type 0) → Writing → Writing → Type 0
+AddsThese these old new = (documents : List (List ℕ)) × these documents × AddsDocuments documents old new
+
+-- A store was copied, and documents of which this holds follow it: all slots are those of the store, if its file is
+-- honest, and then those of the documents.
+pub record IsAppended (copied : Option Reading) (these : List (List ℕ) → Type 0) (all : List Slot) : Type 0 where
+  pub reader : Reading
+  pub is : copied ≡ Some reader
+  pub documents : List (List ℕ)
+  pub came : these documents
+  pub slots_are : IsTrue reader.file.honest → all ≡ slots (store_of reader) ++ map doc documents

@@ -1,0 +1,126 @@
+-- Blocks that are copied a part at a time, and the file that they come to.
+use Rattle.std.proofs.Common.{◌≡◌, inl, inr, ℕ, ◌+◌, ◌<◌, ◌≤◌, IsTrue, List, [], ◌∷◌, ◌++◌, length, Option, Some, replicate, refl, sym, ◌∙◌, ap, subst, arith, append_assoc, length-append}
+use Rattle.std.specs.Prelude.{slice_range, IfSome, Result, Ok, Err, OnOk}
+use Rattle.std.proofs.lemmas.List.{append-nil, take_all}
+use Rattle.layered_index.specs.declared.checkpoint.Checkpoint.{Checkpoint}
+use Rattle.layered_index.specs.Checkpoint.{Covers, IsInLine, IsInLineFrom, bytes_end}
+use Rattle.layered_index.specs.Layers.{Index, index_part}
+use Rattle.layered_index.proofs.LineLemmas.{in_line_from, in_line_somewhere, in_line-split}
+use Rattle.store_format.specs.Footer.{footer}
+use Rattle.store_format.specs.StoreFile.{StoreBlock, data_of, checkpoints_of, blocks_at, file, IsStore}
+use Rattle.store_reader.specs.Reading.{Reading}
+use Rattle.store_reader.specs.Parts.{byte_at, EndsPart, IsPartFrom, IsPartRead}
+use Rattle.store_reader.specs.declared.reader.parts.StorePart.{StorePart}
+use Rattle.store_reader.proofs.ReaderStoreLemmas.{slices_joined, all_of, store_seen}
+use Rattle.docstore.specs.Stacking.{AreRead}
+use Rattle.docstore.specs.StackingInParts.{IsReadTimes, IsReadUpTo}
+use Rattle.docstore.proofs.ReadInPartsLemmas.{same_checkpoints, covers_still, part_read}
+use Rattle.tantivy_export.specs.Exporting.{IsCopied}
+
+pub none_copied : (reader : Reading) (content : List ℕ) → IsCopied reader 0 content content
+none_copied reader content = record { bytes = []; len = refl; honest = λ is. refl; after = sym (append-nil content) }
+
+-- a part that was read
+pub record IsTaken (size n : ℕ) (reader read new : Reading) (part : StorePart) : Type 0 where
+  pub covers : Covers reader.checkpoints (length reader.file.content)
+  pub came : IsPartFrom size read n part
+  pub up : IsReadUpTo size part.blocks.end reader new
+  pub within : part.blocks.end ≤ length reader.checkpoints
+  pub more : n < part.blocks.end
+
+pub part_taken : (size n : ℕ) (reader read new : Reading) (found : Option StorePart) (part : StorePart) → Covers read.checkpoints (length read.file.content) → IsReadUpTo size n reader read
+    → found ≡ Some part → IfSome found (IsPartFrom size read n) → (n < length read.checkpoints → IsPartRead size read n (Ok found) new) → IsTaken size n reader read new part
+part_taken size n reader read new found part covers_read up is came once =
+    let cs = reader.checkpoints in
+    let covers = covers_still up.times (byte_at n cs) reader read up.read covers_read in
+    let same = same_checkpoints up.times (byte_at n cs) reader read up.read in
+    let p : IsPartFrom size read n part = subst (λ (o : Option StorePart). IfSome o (IsPartFrom size read n)) is came in
+    let ends : EndsPart size cs n part.blocks.end = subst (λ (xs : List Checkpoint). EndsPart size xs n part.blocks.end) same p.ends in
+    let r = once (omega (arith, p.ends.some, p.ends.last)) in
+    let end : part.blocks.end ≡ r.end = subst (λ (o : Option StorePart). IfSome o (λ q. q.blocks.end ≡ r.end)) is r.came in
+    record {
+      covers = covers;
+      came = p;
+      up = subst (λ (k : ℕ). IsReadUpTo size k reader new) (sym end) (part_read size n r.end reader read new covers up r.ends r.once);
+      within = ends.last;
+      more = ends.some;
+    }
+
+-- one more part is after those before it
+pub part_copied : (size n times bytes : ℕ) (reader read : Reading) (part : StorePart) (text old mid new : List ℕ) → IsReadTimes times bytes reader read → IsPartFrom size read n part
+    → IsCopied reader n old mid → text ≡ part.bytes → new ≡ mid ++ text → IsCopied reader part.blocks.end old new
+part_copied size n times bytes reader read part text old mid new kept p before text_is after =
+    let cs = reader.checkpoints in
+    let m = part.blocks.end in
+    let same = same_checkpoints times bytes reader read kept in
+    let len : byte_at n cs + length part.bytes ≡ byte_at m cs = subst (λ (xs : List Checkpoint). byte_at n xs + length part.bytes ≡ byte_at m xs) same p.len in
+    let here : IsTrue reader.file.honest → part.bytes ≡ slice_range reader.file.content (byte_at n cs) (byte_at m cs) =
+    λ is. p.bytes (subst IsTrue (sym kept.honest) is) ∙ (λ i. slice_range (kept.content i) (byte_at n (same i)) (byte_at m (same i))) in
+    record {
+      bytes = before.bytes ++ part.bytes;
+      len = omega (arith, length-append before.bytes part.bytes, before.len, len);
+      honest = λ is. (λ i. before.honest is i ++ here is i) ∙ sym (slices_joined reader.file.content 0 (byte_at n cs) (byte_at m cs) (omega arith) (omega (arith, len)));
+      after = after ∙ (λ i. before.after i ++ text_is i) ∙ append_assoc old before.bytes part.bytes;
+    }
+
+-- one more checkpoint of a list in line
+pub next_in_line : (before left more cs : List Checkpoint) (c : Checkpoint) → before ++ left ≡ cs → left ≡ c ∷ more → IsInLine cs → IsInLine (before ++ c ∷ [])
+next_in_line before left more cs c all is h =
+    let from = in_line_somewhere cs h in
+    let whole : (before ++ c ∷ []) ++ more ≡ cs = append_assoc before (c ∷ []) more ∙ ap (λ (xs : List Checkpoint). before ++ xs) (sym is) ∙ all in
+    in_line_from from.0 from.1 (before ++ c ∷ []) (in_line-split from.0 from.1 (before ++ c ∷ []) more (subst (IsInLineFrom from.0 from.1) (sym whole) from.2)).0
+
+-- where none is left, all are copied
+pub all_copied : (reader : Reading) (n : ℕ) (old new : List ℕ) → length reader.checkpoints ≤ n → IsCopied reader n old new → IsCopied reader (length reader.checkpoints) old new
+all_copied reader n old new all p =
+    let cs = reader.checkpoints in
+    let same : byte_at n cs ≡ byte_at (length cs) cs = ap (bytes_end 0) (take_all n cs all ∙ sym (take_all (length cs) cs (omega arith))) in
+    record {
+      bytes = p.bytes;
+      len = p.len ∙ same;
+      honest = λ is. p.honest is ∙ ap (slice_range reader.file.content 0) same;
+      after = p.after;
+    }
+
+-- the data, the index and the footer are the file of the blocks that came
+pub record IsExported (reader : Reading) (old new : List ℕ) : Type 0 where
+  pub blocks : List StoreBlock
+  pub came : AreRead reader blocks
+  pub store : IsStore 8 (file 8 2 blocks) 2 blocks
+  pub content : new ≡ old ++ file 8 2 blocks
+
+pub exported : (reader : Reading) (old mid new : List ℕ) (offset : ℕ) (index : Index) → index ≡ record { period = 8; checkpoints = reader.checkpoints }
+    → Covers reader.checkpoints (length reader.file.content) → IsCopied reader (length reader.checkpoints) old mid → offset ≡ length reader.file.content
+    → new ≡ mid ++ index_part index.period index.checkpoints ++ footer 2 offset 0 (replicate 15 0) → IsExported reader old new
+exported reader old mid new offset index index_is covers p offset_is new_is =
+    let cs = reader.checkpoints in
+    let end : byte_at (length cs) cs ≡ length reader.file.content = ap (bytes_end 0) (take_all (length cs) cs (omega arith)) ∙ covers.end in
+    let size : length p.bytes ≡ length reader.file.content = p.len ∙ end in
+    let seen = store_seen p.bytes cs (subst (Covers cs) (sym size) covers) in
+    let bs = blocks_at cs p.bytes in
+    let at : offset ≡ length (data_of bs) = offset_is ∙ sym size ∙ ap length (sym seen.data_is) in
+    let last = footer 2 (length (data_of bs)) 0 (replicate 15 0) in
+    record {
+      blocks = bs;
+      came = record {
+        places = seen.checkpoints_are;
+        honest = λ is. ap (blocks_at cs) (p.honest is ∙ all_of reader.file.content (byte_at (length cs) cs) end);
+      };
+      store = record { blocks = seen.blocks; reserved = replicate 15 0; form = inl (inr refl, refl, refl); parts = refl };
+      content = new_is
+          ∙ ap (λ (x : Index). mid ++ index_part x.period x.checkpoints ++ footer 2 offset 0 (replicate 15 0)) index_is
+          ∙ (λ i. p.after i ++ index_part 8 cs ++ footer 2 offset 0 (replicate 15 0))
+          ∙ (λ i. (old ++ sym seen.data_is i) ++ index_part 8 (sym seen.checkpoints_are i) ++ footer 2 (at i) 0 (replicate 15 0))
+          ∙ ap (λ (x : List ℕ). x ++ last) (append_assoc old (data_of bs) (index_part 8 (checkpoints_of bs)))
+          ∙ append_assoc old (data_of bs ++ index_part 8 (checkpoints_of bs)) last;
+    }
+
+-- how many bytes of data a reader tells of, after its data was read
+pub offset_is : (times bytes index : ℕ) (reader read : Reading) (usage : ℕ × ℕ) (offset : ℕ) → offset ≡ usage.0 → usage ≡ (length read.file.content, index) → IsReadTimes times bytes reader read
+    → offset ≡ length reader.file.content
+offset_is times bytes index reader read usage offset is told kept = is ∙ ap (λ (u : ℕ × ℕ). u.0) told ∙ ap length kept.content
+
+-- what holds of an Ok, by what is known of it
+pub on_ok : {A E : Type 0} {P Q : Type 0} (r : Result A E) → OnOk r P → (P → Q) → OnOk r Q
+on_ok (Ok x) p f = f p
+on_ok (Err e) p f = tt
