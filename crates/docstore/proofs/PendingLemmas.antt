@@ -87,33 +87,32 @@ pub length-block-seen : (docs : List (List ℕ)) (starts bytes : List ℕ) (limi
     → length (block (docs ++ d ∷ [])) ≡ length bytes + length d + 4 * (length starts + 2)
 length-block-seen docs starts bytes limit capacity d seen h = ap (λ (ds : List (List ℕ)). length (block (ds ++ d ∷ []))) (sym seen) ∙ length-block-pushed starts bytes limit capacity d h
 
+-- where the documents begin once this one is behind them, and their bytes
+starts_pushed : (starts bytes : List ℕ) (limit capacity : ℕ) (d : List ℕ) → IsPending starts bytes limit capacity → starts ++ length bytes ∷ [] ≡ starts_from 0 (documents_at starts bytes ++ d ∷ [])
+starts_pushed starts bytes limit capacity d h =
+    let docs = documents_at starts bytes in
+    let place : 0 + length (concat docs) ≡ length bytes = omega (arith, ap length h.joined) in
+    (λ i. h.places i ++ sym place i ∷ []) ∙ sym (starts_from-append 0 docs (d ∷ []))
+
+bytes_pushed : (starts bytes : List ℕ) (limit capacity : ℕ) (d : List ℕ) → IsPending starts bytes limit capacity → bytes ++ d ≡ concat (documents_at starts bytes ++ d ∷ [])
+bytes_pushed starts bytes limit capacity d h = (λ i. h.joined i ++ sym (append-nil d) i) ∙ sym (concat-append (documents_at starts bytes) (d ∷ []))
+
 pub documents_pushed : (starts bytes : List ℕ) (limit capacity : ℕ) (d : List ℕ) → IsPending starts bytes limit capacity
     → documents_at (starts ++ length bytes ∷ []) (bytes ++ d) ≡ documents_at starts bytes ++ d ∷ []
 documents_pushed starts bytes limit capacity d h =
-    let docs = documents_at starts bytes in
-    let place : 0 + length (concat docs) ≡ length bytes = omega (arith, ap length h.joined) in
-    let starts_is : starts ++ length bytes ∷ [] ≡ starts_from 0 (docs ++ d ∷ []) =
-    (λ i. h.places i ++ sym place i ∷ []) ∙ sym (starts_from-append 0 docs (d ∷ [])) in
-    let bytes_is : bytes ++ d ≡ concat (docs ++ d ∷ []) =
-    (λ i. h.joined i ++ sym (append-nil d) i) ∙ sym (concat-append docs (d ∷ [])) in
-    documents_from (starts ++ length bytes ∷ []) (bytes ++ d) (docs ++ d ∷ []) starts_is bytes_is
+    documents_from (starts ++ length bytes ∷ []) (bytes ++ d) (documents_at starts bytes ++ d ∷ []) (starts_pushed starts bytes limit capacity d h) (bytes_pushed starts bytes limit capacity d h)
 
 -- one more document, where the limit leaves room for it and the table
 pub pushed : (starts bytes : List ℕ) (limit capacity : ℕ) (d : List ℕ) (more room : ℕ) → IsPending starts bytes limit capacity → length bytes + length d + 4 * (length starts + 2) ≤ more
     → more < 2 ^ 32 → more ≤ room → IsPending (starts ++ length bytes ∷ []) (bytes ++ d) more room
 pushed starts bytes limit capacity d more room h within small fits =
     let docs = documents_at starts bytes in
-    let place : 0 + length (concat docs) ≡ length bytes = omega (arith, ap length h.joined) in
-    let starts_is : starts ++ length bytes ∷ [] ≡ starts_from 0 (docs ++ d ∷ []) =
-    (λ i. h.places i ++ sym place i ∷ []) ∙ sym (starts_from-append 0 docs (d ∷ [])) in
-    let bytes_is : bytes ++ d ≡ concat (docs ++ d ∷ []) =
-    (λ i. h.joined i ++ sym (append-nil d) i) ∙ sym (concat-append docs (d ∷ [])) in
     let same : docs ++ d ∷ [] ≡ documents_at (starts ++ length bytes ∷ []) (bytes ++ d) = sym (documents_pushed starts bytes limit capacity d h) in
     let starts_len = length-append starts (length bytes ∷ []) in
     let bytes_len = length-append bytes d in
     record {
-      places = starts_is ∙ ap (starts_from 0) same;
-      joined = bytes_is ∙ ap concat same;
+      places = starts_pushed starts bytes limit capacity d h ∙ ap (starts_from 0) same;
+      joined = bytes_pushed starts bytes limit capacity d h ∙ ap concat same;
       fits = omega arith;
       small = small;
       room = fits;

@@ -1,6 +1,6 @@
 -- What the reading of a store in parts brings, and what a part that is refused leaves.
 use Rattle.std.proofs.Common.{◌≡◌, ◌⊎◌, inl, inr, ℕ, zero, suc, ◌+◌, ◌-◌, ◌^◌, ◌<◌, ◌≤◌, IsTrue, List, [], ◌∷◌, ◌++◌, length, take, drop, Option, Some, None, refl, sym, ◌∙◌, ap, subst, arith, append_assoc, length-append}
-use Rattle.std.specs.Prelude.{slice_get, slice_range, IfSome, IsNone, Ok, Err}
+use Rattle.std.specs.Prelude.{slice_range, IfSome, IsNone, Ok, Err}
 use Rattle.std.specs.List.{sum_by, AllByRecursion}
 use Rattle.std.proofs.lemmas.List.{append-nil, map-append, take_all, take-map, take-append-drop}
 use Rattle.std.proofs.lemmas.List.Sums.{sum_by-append}
@@ -22,7 +22,8 @@ use Rattle.store_reader.specs.Parts.{byte_at, number_of_parts, EndsPart, IsPartF
 use Rattle.store_reader.specs.declared.reader.parts.StorePart.{StorePart}
 use Rattle.store_reader.proofs.PartLemmas.{block_at, byte_order, byte_within, none_behind}
 use Rattle.store_reader.proofs.ReaderStoreLemmas.{blocks_of, store_is}
-use Rattle.docstore.specs.BlockOutput.{BlockOutput, with_blocks, with_risen, HasCause, FailsFor, AfterFailedBlock}
+use Rattle.store_reader.proofs.WalkingLemmas.{there}
+use Rattle.docstore.specs.BlockOutput.{BlockOutput, IsSound, with_blocks, with_risen, HasCause, FailsFor, AfterFailedBlock}
 use Rattle.docstore.specs.Stacking.{AreRead, CutAll}
 use Rattle.docstore.specs.StackingInParts.{after_more, IsReadTimes, IsReadAtMost, IsReadInPieces, BeginsStacking, AfterStackingInParts, StacksFirst, IsReadUpTo}
 use Rattle.docstore.proofs.BlocksCutLemmas.{is_cut, cut_own}
@@ -61,15 +62,10 @@ pub covers_still : (times bytes : ℕ) (reader read : Reading) → IsReadTimes t
 covers_still times bytes reader read kept covers =
     subst (λ (xs : List ℕ). Covers reader.checkpoints (length xs)) kept.content (subst (λ (cs : List Checkpoint). Covers cs (length read.file.content)) (same_checkpoints times bytes reader read kept) covers)
 
-some_at : (cs : List Checkpoint) (n : ℕ) → n < length cs → (c : Checkpoint) × (slice_get cs n ≡ Some c)
-some_at [] n lt = absurd (omega arith)
-some_at (c ∷ cs) zero lt = (c, refl)
-some_at (c ∷ cs) (suc n) lt = some_at cs n (omega arith)
-
 -- a part has bytes
 part_bytes : (cs : List Checkpoint) (total n m : ℕ) → Covers cs total → n < m → m ≤ length cs → byte_at n cs < byte_at m cs
 part_bytes cs total n m covers lt le =
-    let c = some_at cs n (omega arith) in
+    let c = there cs n (omega arith) in
     let here = block_at cs total n c.0 covers c.1 in
     omega (arith, here.byte_start, here.some_bytes, byte_order cs total n m c.0 covers c.1 lt)
 
@@ -187,6 +183,21 @@ pub docs_stacked : (reader : Reading) (n m : ℕ) (old new : BlockOutput) → Is
 docs_stacked reader n m old new s p =
     omega (arith, (checkpoint_ends 0 0 p.blocks).0, ap (docs_end 0) p.places, s.docs)
 
+-- of the file's own bytes it makes the file's own blocks
+slice_own : (reader : Reading) (n m : ℕ) (bytes : List ℕ) (blocks : List StoreBlock) → Covers reader.checkpoints (length reader.file.content) → IsSlice reader.checkpoints n m
+    → bytes ≡ slice_range reader.file.content (byte_at n reader.checkpoints) (byte_at m reader.checkpoints) → blocks ≡ take n (store_of reader)
+    → blocks ++ blocks_at (slice_range reader.checkpoints n m) bytes ≡ take m (store_of reader)
+slice_own reader n m bytes blocks covers s here before =
+    let cs = reader.checkpoints in
+    let content = reader.file.content in
+    let some = slice_range cs n m in
+    let f : Checkpoint → StoreBlock = λ c. record { count = doc_count c; bytes = part_of content c } in
+    let taken : (k : ℕ) → take k (store_of reader) ≡ blocks_of content (take k cs) = λ k. ap (take k) (store_is content cs covers) ∙ take-map f k cs in
+    let cut : blocks_at some bytes ≡ blocks_of content some =
+    cut_own content (docs_end 0 (take n cs)) (byte_at n cs) some bytes s.line (omega (arith, s.end, byte_within cs (length content) m covers))
+    (here ∙ ap (slice_range content (byte_at n cs)) (sym s.end)) in
+    (λ i. before i ++ cut i) ∙ ap (λ (bs : List StoreBlock). bs ++ blocks_of content some) (taken n) ∙ sym (map-append f (take n cs) some) ∙ ap (blocks_of content) (sym s.front) ∙ sym (taken m)
+
 -- a part is put behind those before it
 pub part_stacked : (size n : ℕ) (reader read : Reading) (times bytes : ℕ) (part : StorePart) (old mid new : BlockOutput) → Covers reader.checkpoints (length reader.file.content)
     → IsReadTimes times bytes reader read → IsPartFrom size read n part → StacksFirst reader n old mid
@@ -208,26 +219,10 @@ part_stacked size n reader read times bytes part old mid new covers kept p befor
       blocks = before.blocks ++ more;
       places = checkpoints_from-append 0 0 before.blocks more ∙ (λ i. before.places i ++ checkpoints_from (doc i) (byte i) more) ∙ ap (λ (xs : List Checkpoint). take n cs ++ xs) cut.places
           ∙ sym s.front;
-      honest = λ is. own is;
+      honest = λ is. slice_own reader n m part.bytes before.blocks covers s
+          (p.bytes (subst IsTrue (sym kept.honest) is) ∙ (λ i. slice_range (kept.content i) (byte_at n (same i)) (byte_at m (same i)))) (before.honest is);
       after = after ∙ (λ i. with_risen new.failures (with_blocks (before.after i) (cut_is i))) ∙ joined old before.blocks more new.failures mid.failures;
     }
-  where
-    own : IsTrue reader.file.honest → before.blocks ++ blocks_at (slice_range reader.checkpoints n part.blocks.end) part.bytes ≡ take part.blocks.end (store_of reader)
-    own is =
-        let cs = reader.checkpoints in
-        let content = reader.file.content in
-        let m = part.blocks.end in
-        let same = same_checkpoints times bytes reader read kept in
-        let s = is_slice cs (length content) n m covers (omega (arith, p.ends.some)) in
-        let some = slice_range cs n m in
-        let f : Checkpoint → StoreBlock = λ c. record { count = doc_count c; bytes = part_of content c } in
-        let taken : (k : ℕ) → take k (store_of reader) ≡ blocks_of content (take k cs) = λ k. ap (take k) (store_is content cs covers) ∙ take-map f k cs in
-        let came = p.bytes (subst IsTrue (sym kept.honest) is) in
-        let here : part.bytes ≡ slice_range content (byte_at n cs) (byte_at m cs) = came ∙ (λ i. slice_range (kept.content i) (byte_at n (same i)) (byte_at m (same i))) in
-        let cut : blocks_at some part.bytes ≡ blocks_of content some =
-        cut_own content (docs_end 0 (take n cs)) (byte_at n cs) some part.bytes s.line (omega (arith, s.end, byte_within cs (length content) m covers))
-        (here ∙ ap (slice_range content (byte_at n cs)) (sym s.end)) in
-        (λ i. before.honest is i ++ cut i) ∙ ap (λ (bs : List StoreBlock). bs ++ blocks_of content some) (taken n) ∙ sym (map-append f (take n cs) some) ∙ ap (blocks_of content) (sym s.front) ∙ sym (taken m)
 
 -- a part that was read, and can be put behind those before it
 pub record IsPartTaken (size n : ℕ) (reader read new : Reading) (part : StorePart) (mid : BlockOutput) : Type 0 where
@@ -269,7 +264,7 @@ part_taken size n reader read new found part old mid covers_read up put few is c
     }
 
 -- and once it was written they are all behind the finished ones
-pub taken_stacked : (size n : ℕ) (reader read left : Reading) (part : StorePart) (old mid new : BlockOutput) (range : List Checkpoint) (text : List ℕ) → IsReadUpTo size n reader read
+taken_stacked : (size n : ℕ) (reader read left : Reading) (part : StorePart) (old mid new : BlockOutput) (range : List Checkpoint) (text : List ℕ) → IsReadUpTo size n reader read
     → StacksFirst reader n old mid → IsPartTaken size n reader read left part mid → range ≡ slice_range left.checkpoints part.blocks.start part.blocks.end → text ≡ part.bytes
     → new ≡ with_risen new.failures (with_blocks mid (blocks_at range text)) → StacksFirst reader part.blocks.end old new
 taken_stacked size n reader read left part old mid new range text up put taken range_is text_is after =
@@ -277,6 +272,35 @@ taken_stacked size n reader read left part old mid new range text up put taken r
     range_is ∙ ap (λ (cs : List Checkpoint). slice_range cs part.blocks.start part.blocks.end) taken.checkpoints in
     part_stacked size n reader read up.times (byte_at n reader.checkpoints) part old mid new taken.covers up.read taken.came put
     (after ∙ (λ i. with_risen new.failures (with_blocks mid (blocks_at (same i) (text_is i)))))
+
+-- What is known once the blocks before a place were read and stacked.
+pub record HasStacked (size n : ℕ) (store now : Reading) (old mid : BlockOutput) : Type 0 where
+  pub put : StacksFirst store n old mid
+  pub read : IsReadUpTo size n store now
+  pub within : n ≤ length store.checkpoints
+  pub reader : now.file.failures ≡ store.file.failures
+  pub works : mid.failure ≡ None
+  pub termination : mid.termination ≡ old.termination
+  pub count : old.failures ≤ mid.failures
+  pub steady : mid.failures ≡ old.failures
+  pub sound : IsSound mid
+
+-- one part more
+pub stacked_more : (size n : ℕ) (store now left : Reading) (part : StorePart) (old mid new : BlockOutput) (range : List Checkpoint) (text : List ℕ) → HasStacked size n store now old mid
+    → IsPartTaken size n store now left part mid → range ≡ slice_range left.checkpoints part.blocks.start part.blocks.end → text ≡ part.bytes
+    → new ≡ with_risen new.failures (with_blocks mid (blocks_at range text)) → left.file.failures ≡ now.file.failures → new.termination ≡ mid.termination → new.failures ≡ mid.failures → IsSound new
+    → HasStacked size part.blocks.end store left old new
+stacked_more size n store now left part old mid new range text has taken range_is text_is after still termination steady sound = record {
+  put = taken_stacked size n store now left part old mid new range text has.read has.put taken range_is text_is after;
+  read = taken.up;
+  within = taken.within;
+  reader = still ∙ has.reader;
+  works = ap (λ (out : BlockOutput). out.failure) after ∙ has.works;
+  termination = termination ∙ has.termination;
+  count = omega (arith, has.count, steady);
+  steady = steady ∙ has.steady;
+  sound = sound;
+}
 
 -- a part that did not come was read
 pub refused_taken : (size n : ℕ) (reader read new : Reading) (e : StoreError) → Covers read.checkpoints (length read.file.content) → IsReadUpTo size n reader read

@@ -57,6 +57,22 @@ on : (size period : ℕ) (held : List ℕ) (trace : List Step) (step : Step) (w 
     → BlocksFrom size (joined run.groups ++ w.pending) (step ∷ rest) bs → BlocksFrom size [] ((trace ++ step ∷ []) ++ rest) (run.front ++ bs)
 on size period held trace step w run rest bs h = subst (λ (t : List Step). BlocksFrom size [] t (run.front ++ bs)) (sym (append_assoc trace (step ∷ []) rest)) (run.goes_on (step ∷ rest) bs h)
 
+-- no block is cut, and the run goes on so
+run_on : (size period : ℕ) (held : List ℕ) (trace more : List Step) (w v : Writing) (run : IsRunSoFar size period held trace w) → v.block_size ≡ w.block_size → v.output.period ≡ w.output.period
+    → v.output.before ≡ w.output.before → v.output.finished ≡ w.output.finished → weight v.pending ≤ size
+    → ((rest : List Step) (bs : List StoreBlock) → BlocksFrom size (joined run.groups ++ v.pending) rest bs → BlocksFrom size [] (more ++ rest) (run.front ++ bs)) → IsRunSoFar size period held more v
+run_on size period held trace more w v run size_is period_is before finished light goes_on = record {
+  size_is = size_is ∙ run.size_is;
+  period_is = period_is ∙ run.period_is;
+  before = before ∙ run.before;
+  front = run.front;
+  groups = run.groups;
+  full = run.full;
+  finished = finished ∙ run.finished;
+  light = light;
+  goes_on = goes_on;
+}
+
 -- a document that is taken
 run_takes : (size period : ℕ) (held : List ℕ) (trace : List Step) (step : Step) (w : Writing) (d : List ℕ) → effect step ≡ adds d → IsRunSoFar size period held trace w
     → IsRunSoFar size period held (trace ++ step ∷ []) (with_document w d)
@@ -66,17 +82,8 @@ run_takes size period held trace step w d is run =
     let goes_on : (rest : List Step) (bs : List StoreBlock) → BlocksFrom size ((joined run.groups ++ w.pending) ++ d ∷ []) rest bs
     → BlocksFrom size [] ((trace ++ step ∷ []) ++ rest) (run.front ++ bs) =
     λ rest bs h. on size period held trace step w run rest bs (effect_by size step (adds d) (joined run.groups ++ w.pending) rest bs is h) in
-    let waits : weight docs ≤ size → IsRunSoFar size period held (trace ++ step ∷ []) next = λ light. record {
-      size_is = run.size_is;
-      period_is = run.period_is;
-      before = run.before;
-      front = run.front;
-      groups = run.groups;
-      full = run.full;
-      finished = run.finished;
-      light = light;
-      goes_on = λ rest bs h. goes_on rest bs (subst (λ (x : List (List ℕ)). BlocksFrom size x rest bs) (sym (append_assoc (joined run.groups) w.pending (d ∷ []))) h);
-    } in
+    let waits : weight docs ≤ size → IsRunSoFar size period held (trace ++ step ∷ []) next = λ light. run_on size period held trace (trace ++ step ∷ []) w next run refl refl refl refl light
+    (λ rest bs h. goes_on rest bs (subst (λ (x : List (List ℕ)). BlocksFrom size x rest bs) (sym (append_assoc (joined run.groups) w.pending (d ∷ []))) h)) in
     let cut : size < weight docs → IsRunSoFar size period held (trace ++ step ∷ []) (flushed next) = λ heavy. record {
       size_is = run.size_is;
       period_is = run.period_is;
@@ -108,17 +115,8 @@ run_takes size period held trace step w d is run =
 -- a call without effect
 run_stays : (size period : ℕ) (held : List ℕ) (trace : List Step) (step : Step) (w : Writing) → effect step ≡ no_effect → IsRunSoFar size period held trace w
     → IsRunSoFar size period held (trace ++ step ∷ []) w
-run_stays size period held trace step w is run = record {
-  size_is = run.size_is;
-  period_is = run.period_is;
-  before = run.before;
-  front = run.front;
-  groups = run.groups;
-  full = run.full;
-  finished = run.finished;
-  light = run.light;
-  goes_on = λ rest bs h. on size period held trace step w run rest bs (effect_by size step no_effect (joined run.groups ++ w.pending) rest bs is h);
-}
+run_stays size period held trace step w is run = run_on size period held trace (trace ++ step ∷ []) w w run refl refl refl refl run.light
+    (λ rest bs h. on size period held trace step w run rest bs (effect_by size step no_effect (joined run.groups ++ w.pending) rest bs is h))
 
 -- what is pending is flushed behind the groups
 last_flush : (size : ℕ) (gs : List (List (List ℕ))) (pending : List (List ℕ)) → AllByRecursion (IsFull size) gs → weight pending ≤ size
@@ -170,17 +168,7 @@ run_more size period held trace step w may_end is run =
 run_more size period held trace step w no_effect is run = run_stays size period held trace step w is run
 
 run_same : (size period n : ℕ) (held : List ℕ) (trace : List Step) (w : Writing) → IsRunSoFar size period held trace w → IsRunSoFar size period held trace (with_failures n w)
-run_same size period n held trace w run = record {
-  size_is = run.size_is;
-  period_is = run.period_is;
-  before = run.before;
-  front = run.front;
-  groups = run.groups;
-  full = run.full;
-  finished = run.finished;
-  light = run.light;
-  goes_on = run.goes_on;
-}
+run_same size period n held trace w run = run_on size period held trace trace w (with_failures n w) run refl refl refl refl run.light run.goes_on
 
 -- one more call of a writer that works
 pub run_step : (size period : ℕ) (held : List ℕ) (trace : List Step) (step : Step) (old new : Writing) → new ≡ with_failures new.output.failures (after_effect old (effect step))

@@ -12,7 +12,7 @@ use Rattle.store_format.specs.Block.{block}
 use Rattle.store_reader.specs.Reading.{Reading, num_docs as docs_of}
 use Rattle.docstore.specs.Trace.{Step, Effect, adds, ends, may_end, no_effect, effect, slots_of, weight}
 
--- where a list of calls stands: how many documents were taken, and which wait for their block
+-- the state of a list of calls: how many documents were taken, and which wait for their block
 pub record Stage : Type 0 where
   pub count : ℕ
   pub pending : List (List ℕ)
@@ -45,7 +45,7 @@ HasRoom at bytes = HasId at × (length_with at bytes < 2 ^ 32)
 abbrev pub IsTooMuch : Stage → List ℕ → Type 0
 IsTooMuch at bytes = HasId at × (2 ^ 32 ≤ length_with at bytes)
 
--- When bytes get this result: each refusal exactly where its cause holds, memory aside.
+-- When bytes get this result: each refusal exactly if its cause holds, unless memory ran out.
 abbrev pub BytesGet : Stage → List ℕ → Result (Unit {0}) StoreError → Type 0
 BytesGet at bytes (Ok x) = HasRoom at bytes
 BytesGet at bytes (Err Memory) = HasRoom at bytes

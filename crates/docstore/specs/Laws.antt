@@ -40,7 +40,7 @@ abbrev pub StoresAreStackedInOrder : Type 0
 StoresAreStackedInOrder = (w : Writing) (bs : List StoreBlock) → AreBlocks (with_store w bs).output.finished
     → taken (with_store w bs) ≡ taken w ++ slots bs
 
--- Whatever came of a reader's file has as many slots as the reader has documents.
+-- Whatever bytes were read from a reader's file, they have as many slots as the reader has documents.
 abbrev pub StackedSlotsAreCounted : Type 0
 StackedSlotsAreCounted = (reader : Reading) (bs : List StoreBlock) → AreRead reader bs
     → length (slots bs) ≡ docs_of reader

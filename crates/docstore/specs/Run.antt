@@ -22,7 +22,7 @@ answer_of (Err Read) = read_failed
 answer_of (Err Memory) = no_memory
 answer_of (Err _) = refused
 
--- A reader's store in a trace: what came of its file, if it was stacked.
+-- A reader's store in a trace: the blocks that were read from its file, if it was stacked.
 pub record IsStacking (reader : Reading) (result : Result (Unit {0}) StoreError) (s : Step) : Type 0 where
   pub blocks : List StoreBlock
   pub step : s ≡ record { call = stack blocks; answer = answer_of result }
@@ -49,7 +49,7 @@ after_effect w (ends bs) = with_store w bs
 after_effect w may_end = flushed w
 after_effect w no_effect = w
 
--- where a writer stands
+-- the state of a writer in a list of calls
 abbrev pub stage_of : Writing → Stage
 stage_of w = record { count = num_docs w; pending = w.pending }
 
@@ -90,8 +90,8 @@ pub record IsWritten {D H : Type 0} (period size : ℕ) (doc_bytes : D
   pub slots_are : slots blocks ≡ meaning trace
   pub output : new ≡ old ++ file period 3 blocks
 
--- The calls were made and memory was wanting for the file's end: after what the output held are the finished blocks of
--- theirs, and at most one block waited.
+-- The calls were made, and then memory ran out for the end of the file: after its old content the output has their
+-- finished blocks, and at most one more block waited.
 pub record IsUnclosed {D H : Type 0} (size : ℕ) (doc_bytes : D
     → Option (List ℕ)) (commands left : List (StoreCommand D H)) (old new : List ℕ) : Type 0 where
   pub results : List (Result (Unit {0}) StoreError)
@@ -113,7 +113,7 @@ pub record Told : Type 0 where
 abbrev pub told : List ℕ → Termination → ℕ → Told
 told content termination failures = record { content = content; termination = termination; failures = failures }
 
--- What a refused run leaves. Where memory was wanting for the results, no call was made, and the output is as it came.
+-- What a refused run leaves. If memory ran out for the results, no call was made, and the output is as it was given.
 abbrev pub AfterRun : {D H : Type 0} → ℕ → (D → Option (List ℕ)) → List (StoreCommand D H) → List (StoreCommand D H)
     → Told → Told → StoreError → Type 0
 AfterRun size doc_bytes commands left old new Memory = ((left ≡ commands) × (new ≡ old))

@@ -13,7 +13,8 @@ use Rattle.store_reader.specs.Reading.{Reading, num_docs as docs_of, store_of, I
 use Rattle.docstore.specs.BlockOutput.{BlockOutput, with_blocks, AfterFailedBlock}
 use Rattle.docstore.specs.Writer.{Writing, num_docs, flushed, with_failures, AfterFailed}
 
--- The blocks that came of a reader's file: at the places of its own, and its own if the file is honest.
+-- The blocks that were read from a reader's file: at the places of its own blocks, and these themselves if the file is
+-- honest.
 pub record AreRead (reader : Reading) (bs : List StoreBlock) : Type 0 where
   pub places : checkpoints_of bs ≡ reader.checkpoints
   pub honest : IsTrue reader.file.honest → bs ≡ store_of reader

@@ -41,7 +41,8 @@ IsReadInPieces times old new = IsReadTimes times (length old.file.content) old n
 
 -- ---- what a refused stacking leaves
 
--- The first blocks that came of a reader's file, not all: at the places of its own, and its own if the file is honest.
+-- The first blocks that were read from a reader's file, not all: at the places of its own blocks, and these themselves
+-- if the file is honest.
 pub record AreFirstRead (reader : Reading) (bs : List StoreBlock) : Type 0 where
   pub count : ℕ
   pub some_left : count < length reader.checkpoints
@@ -85,7 +86,7 @@ AfterStackInParts reader read old new _ = ⊥
 
 -- ---- how far a stacking has come
 
--- This many of the first blocks that came of a reader's file are after the finished ones.
+-- This many of the first blocks that were read from a reader's file are after the finished ones.
 pub record StacksFirst (reader : Reading) (count : ℕ) (old new : BlockOutput) : Type 0 where
   pub blocks : List StoreBlock
   pub places : checkpoints_of blocks ≡ take count reader.checkpoints

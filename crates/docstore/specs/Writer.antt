@@ -69,7 +69,7 @@ pub record IsTooLarge (w : Writing) (document : List ℕ) : Type 0 where
   pub id : HasIdLeft w
   pub large : 2 ^ 32 ≤ length (block (w.pending ++ document ∷ []))
 
--- A failed writer answers its first cause again and stays as it was.
+-- A failed writer returns its first cause again and stays as it was.
 abbrev pub AfterFailed : Option Cause → Cause → Writing → Writing → Type 0
 AfterFailed None cause old new = FailsFor cause old.output new.output
 AfterFailed (Some first) cause old new = (cause ≡ first) × (new ≡ old)

@@ -14,7 +14,7 @@ pub struct CloseError<W> {
 
 impl<W: Drop> CloseError<W> {
     // The same after bytes were written: to run out of memory is then a failure.
-    pub(crate) fn behind_bytes(self) -> CloseError<W>
+    pub(crate) fn after_bytes(self) -> CloseError<W>
         ensures error { result.error ≡ behind_bytes self.error }
         ensures output { result.output ≡ self.output }
     {

@@ -31,12 +31,11 @@ pub struct WriteReport<W> {
     pub results: Vec<Result<(), StoreError>>,
 }
 
-/// Makes the calls in order on a new writer, and closes it. A refused call is noted, and the next one
-/// made.
+/// Makes the calls in order on a new writer, and closes it. The error of a call is noted, and the next call is made.
 ///
-/// Where `close` is refused, so is the list; a call that is `Failed` comes to that. Room for the results is taken
-/// first: where there is none, no call is made and the output is as it came. A list that runs out of memory later
-/// leaves the blocks of its calls in the output, but for the last one at most.
+/// If `close` is refused, so is the list; this is the case after each call that is `Failed`. Room for the results is
+/// taken first: if there is none, no call is made and the output is as it was given. If memory runs out later, the
+/// output has the blocks of the calls, each whole, except that the last one may be missing.
 pub fn write_store<W: TerminatingWrite, D: Document, H: FileHandle>(
     alloc: Global,
     output: W,

@@ -125,7 +125,7 @@ impl<W: TerminatingWrite> BlockCompressor<W> {
 
     /// Writes a block, and then registers its checkpoint.
     ///
-    /// After `Failed` every call answers `Failed` with the same cause, and `close` hands the output back.
+    /// After `Failed` every call returns `Failed` with the same cause, and `close` returns the output.
     pub fn compress_block_and_write(
         &mut self,
         bytes: &[u8],
@@ -139,7 +139,7 @@ impl<W: TerminatingWrite> BlockCompressor<W> {
             (with_blocks self.old (record { count = num_docs_in_block; bytes = bytes.now } ∷ []))) }
         ensures works { OnOk result (self.old.failure ≡ None) }
 
-        // A failed writer answers its cause again and stays as it was.
+        // A failed writer returns its cause again and stays as it was.
         ensures failed { IfSome self.old.failure (λ cause.
             IsErrOf result (StoreError.Failed cause) × (self.new ≡ self.old)) }
         ensures err { IfErr result (AfterBlock self.old self.new) }

@@ -186,8 +186,8 @@ impl<W: TerminatingWrite> StoreWriter<W> {
     /// The document waits in memory. Once the waiting documents exceed the block size, with eight
     /// bytes for each beside its own, they are written as one block.
     ///
-    /// After `Failed` the writer answers only `Failed`, and `close` hands the output back. Any other
-    /// error leaves it as it was.
+    /// After `Failed` the writer returns only `Failed`, and `close` returns the output. Any other error leaves it as it
+    /// was.
     pub fn store_bytes(&mut self, document: &[u8]) -> Result<(), StoreError>
         ensures stored { OnOk result (self.new
             ≡ with_failures self.new.output.failures (with_document self.old document.now)) }
@@ -224,7 +224,7 @@ impl<W: TerminatingWrite> StoreWriter<W> {
     /// Writes the pending documents, the index and the footer, and ends the output: once, after all that
     /// was written. No other call ends it.
     ///
-    /// `Memory` means that no byte of this call went out.
+    /// `Memory` means that no byte of this call was written.
     pub fn close(self) -> Result<W, CloseError<W>>
         ensures file { IfOk result (λ output. W.content output
             ≡ self.output.before ++ file self.output.period 3 (flushed self).output.finished) }
@@ -246,7 +246,7 @@ impl<W: TerminatingWrite> StoreWriter<W> {
             return block_compressor.close();
         }
         match block_compressor.close() {
-            Err(refusal) if is_pending => Err(refusal.behind_bytes()),
+            Err(refusal) if is_pending => Err(refusal.after_bytes()),
             closed => closed,
         }
     }

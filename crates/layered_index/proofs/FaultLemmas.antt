@@ -14,7 +14,7 @@ use Rattle.layered_index.specs.Refusal.{Fails, BreaksOnlyUnless, at_byte}
 use Rattle.layered_index.specs.BlockReading.{run_at}
 use Rattle.layered_index.specs.LayerReading.{may_stand, ArePointers}
 use Rattle.layered_index.specs.Faults.{standing_within, standing_from, PassedTo}
-use Rattle.layered_index.proofs.WalkLemmas.{run_takes, run_none, heads, not_true, Counts, walk_none}
+use Rattle.layered_index.proofs.WalkLemmas.{run_takes, run_none, heads, none_some, not_true, Counts, walk_none}
 
 -- ---- the runs that may stand
 
@@ -84,9 +84,6 @@ standing_goes_on period doc byte place bytes r after e test =
 abbrev pub TellsNext : Option (List Checkpoint) → Option (List Checkpoint) → Bool → Checkpoint → Type 0
 TellsNext old new b p = (ps : List Checkpoint) → (IsTrue b × ArePointers new ps) ↔ ArePointers old (p ∷ ps)
 
-nil_not : {x : Checkpoint} {xs : List Checkpoint} → [] ≡ x ∷ xs → ⊥
-nil_not e = cc
-
 longer : (x : Checkpoint) (xs : List Checkpoint) → xs ≡ x ∷ xs → ⊥
 longer x xs e = omega (arith, ap length e)
 
@@ -94,7 +91,7 @@ longer x xs e = omega (arith, ap length e)
 pub passed_here : (above : Option (List Checkpoint)) (standing : List Checkpoint) (place : ℕ) → standing ≡ [] → PassedTo above standing place place
 passed_here None standing place none = ([], sym none, refl)
 passed_here (Some given) standing place none =
-    ([], record { more = given; others = []; first = refl; second = none; apart = λ c ms os p q. nil_not q }, refl)
+    ([], record { more = given; others = []; first = refl; second = none; apart = λ c ms os p q. none_some q }, refl)
 
 -- one may, but isn't pointed to
 pub passed_unpointed : (old new : Option (List Checkpoint)) (b : Bool) (p : Checkpoint) (standing others : List Checkpoint) (place : ℕ) → standing ≡ p ∷ others → TellsNext old new b p → b ≡ false

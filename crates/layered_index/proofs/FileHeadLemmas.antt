@@ -2,7 +2,7 @@
 use Rattle.std.proofs.Common.{◌≡◌, ℕ, zero, suc, ◌+◌, ◌-◌, ◌*◌, ◌<◌, ◌≤◌, ◌^◌, inl, inr, cond, eqb, ltb, List, [], ◌∷◌, ◌++◌, length, take, drop, Option, Some, None}
 use Rattle.std.proofs.Common.{refl, sym, ◌∙◌, ap, subst, arith, append_assoc, length-append, rules}
 use Rattle.std.proofs.lemmas.Bool.{cases_lt}
-use Rattle.std.proofs.lemmas.List.{take_all, take-append-drop, length-take, drop-drop, take-take}
+use Rattle.std.proofs.lemmas.List.{take_all, take_rest, take-append-drop, length-take, drop-drop, take-take}
 use Rattle.std.proofs.Math.Seq.{drop-append_seam}
 use Rattle.std.specs.Prelude.{slice_range, min, Result, Ok, Err, IfOk, IfErr, IsErrOf}
 use Rattle.store_base.specs.declared.error.StoreError.{StoreError}
@@ -230,3 +230,7 @@ heads content head count ends texts is same =
 -- what holds of the head inside holds of the head that is seen
 pub seen_head : (u v : HeadBytes) (count ends texts : ℕ) → u ≡ v → IsHead u count ends texts → IsHead v count ends texts
 seen_head u v count ends texts same is = subst (λ (h : HeadBytes). IsHead h count ends texts) same is
+
+-- the numbers of its front from there on
+pub numbers_of : (u v : HeadBytes) (front : List ℕ) (ends : ℕ) → front ≡ u.front → u ≡ v → take (length front - ends) (drop ends front) ≡ drop ends v.front
+numbers_of u v front ends is same = take_rest front ends ∙ ap (drop ends) (is ∙ ap (λ (h : HeadBytes). h.front) same)

@@ -21,7 +21,7 @@ use Rattle.layered_index.specs.Sought.{IndexBytes, next_layer, after_numbers, fo
 use Rattle.layered_index.proofs.CutOffLemmas.{below_grown}
 use Rattle.layered_index.proofs.FileHeadLemmas.{Heads, seen_head}
 use Rattle.layered_index.proofs.FoundAnswerLemmas.{found_answer}
-use Rattle.layered_index.proofs.FoundLemmas.{Finds, found_first, found_no_layer, found_next, found_nothing, found_goes_on, found_last}
+use Rattle.layered_index.proofs.FoundLemmas.{Finds, after_next, found_first, found_no_layer, found_next, found_nothing, found_goes_on, found_last}
 use Rattle.layered_index.proofs.IndexHeadLemmas.{head_digits, pass_ends, none_is_some}
 
 -- what is found in all
@@ -103,38 +103,46 @@ bad_layer content ends head target count i place texts n more found lt within re
     ] in
     found_no_layer false head.period target count i place (ends ++ back) (drop place (slice_range content texts head.end)) found (found_of content head target) lt none so_far
 
-pub layer_answers : (content ends : List ℕ) (head : HeadBytes) (target count i place texts n : ℕ) (more : List ℕ) (found : Option Checkpoint) (e : StoreError) → i < count → head.end ≤ length content
-    → texts ≤ head.end → number_below (2 ^ 64) ends ≡ Some (n, more) → place ≤ n → n ≤ head.end - texts → Seeks content head target count i place ends texts found
+-- the layer that comes next in the file
+pub record IsNextInFile (content ends : List ℕ) (head : HeadBytes) (count i place texts n : ℕ) (more : List ℕ) : Type 0 where
+  pub left : i < count
+  pub within : head.end ≤ length content
+  pub begins : texts ≤ head.end
+  pub read : number_below (2 ^ 64) ends ≡ Some (n, more)
+  pub order : place ≤ n
+  pub fits : n ≤ head.end - texts
+
+-- what is found from it on is what is found in all
+layer_found : (content ends : List ℕ) (head : HeadBytes) (target count i place texts n : ℕ) (more : List ℕ) (found : Option Checkpoint) (o : Option (Option Checkpoint))
+    → IsNextInFile content ends head count i place texts n more → Seeks content head target count i place ends texts found
+    → o ≡ found_in false head.period target found (slice_range content (texts + place) (texts + n))
+    → after_next false head.period target (count - (i + 1)) n (more ++ drop longest_head (index_in content head)) (drop n (slice_range content texts head.end)) o ≡ found_of content head target
+layer_found content ends head target count i place texts n more found o next so_far in_layer =
+    let back = drop longest_head (index_in content head) in
+    let all = slice_range content texts head.end in
+    found_next false head.period target count i place (ends ++ back) (drop place all) found (found_of content head target) (slice_range content (texts + place) (texts + n)) n
+    (more ++ back) (drop n all) o next.left (next_here content back ends texts head.end place n more next.within next.read next.order next.fits next.begins) in_layer so_far
+
+pub layer_answers : (content ends : List ℕ) (head : HeadBytes) (target count i place texts n : ℕ) (more : List ℕ) (found : Option Checkpoint) (e : StoreError)
+    → IsNextInFile content ends head count i place texts n more → Seeks content head target count i place ends texts found
     → AnswersByReads (found_in false head.period target found (slice_range content (texts + place) (texts + n))) (Err e) → AnswersByReads (found_of content head target) (Err e)
-layer_answers content ends head target count i place texts n more found e lt within order read le fits so_far (inr failed) = inr failed
-layer_answers content ends head target count i place texts n more found e lt within order read le fits so_far (inl bad) =
-    let back = drop longest_head (index_in content head) in
-    let all = slice_range content texts head.end in
-    inl (
-      bad.0,
-      sym (found_next false head.period target count i place (ends ++ back) (drop place all) found (found_of content head target) (slice_range content (texts + place) (texts + n)) n
-          (more ++ back) (drop n all) None lt (next_here content back ends texts head.end place n more within read le fits order) (sym bad.1) so_far),
-    )
+layer_answers content ends head target count i place texts n more found e next so_far (inr failed) = inr failed
+layer_answers content ends head target count i place texts n more found e next so_far (inl bad) =
+    inl (bad.0, sym (layer_found content ends head target count i place texts n more found None next so_far (sym bad.1)))
 
-pub layer_has_none : (content ends : List ℕ) (head : HeadBytes) (target count i place texts n : ℕ) (more : List ℕ) (found next : Option Checkpoint) → i < count → head.end ≤ length content
-    → texts ≤ head.end → number_below (2 ^ 64) ends ≡ Some (n, more) → place ≤ n → n ≤ head.end - texts → is_some next ≡ false → Seeks content head target count i place ends texts found
-    → AnswersByReads (found_in false head.period target found (slice_range content (texts + place) (texts + n))) (Ok next) → found_of content head target ≡ Some None
-layer_has_none content ends head target count i place texts n more found next lt within order read le fits none so_far answers =
-    let back = drop longest_head (index_in content head) in
-    let all = slice_range content texts head.end in
-    found_nothing false head.period target (count - (i + 1)) n (more ++ back) (drop n all) next (found_of content head target) none
-    (found_next false head.period target count i place (ends ++ back) (drop place all) found (found_of content head target) (slice_range content (texts + place) (texts + n)) n
-    (more ++ back) (drop n all) (Some next) lt (next_here content back ends texts head.end place n more within read le fits order) (sym answers) so_far)
+pub layer_has_none : (content ends : List ℕ) (head : HeadBytes) (target count i place texts n : ℕ) (more : List ℕ) (found answer : Option Checkpoint)
+    → IsNextInFile content ends head count i place texts n more → is_some answer ≡ false → Seeks content head target count i place ends texts found
+    → AnswersByReads (found_in false head.period target found (slice_range content (texts + place) (texts + n))) (Ok answer) → found_of content head target ≡ Some None
+layer_has_none content ends head target count i place texts n more found answer next none so_far answers =
+    found_nothing false head.period target (count - (i + 1)) n _ _ answer (found_of content head target) none
+    (layer_found content ends head target count i place texts n more found (Some answer) next so_far (sym answers))
 
-pub layer_goes_on : (content ends : List ℕ) (head : HeadBytes) (target count i place texts n : ℕ) (more : List ℕ) (found next : Option Checkpoint) → i < count → head.end ≤ length content
-    → texts ≤ head.end → number_below (2 ^ 64) ends ≡ Some (n, more) → place ≤ n → n ≤ head.end - texts → is_some next ≡ true → Seeks content head target count i place ends texts found
-    → AnswersByReads (found_in false head.period target found (slice_range content (texts + place) (texts + n))) (Ok next) → Seeks content head target count (i + 1) n more texts next
-layer_goes_on content ends head target count i place texts n more found next lt within order read le fits some so_far answers =
-    let back = drop longest_head (index_in content head) in
-    let all = slice_range content texts head.end in
-    found_goes_on false head.period target (count - (i + 1)) n (more ++ back) (drop n all) next (found_of content head target) some
-    (found_next false head.period target count i place (ends ++ back) (drop place all) found (found_of content head target) (slice_range content (texts + place) (texts + n)) n
-    (more ++ back) (drop n all) (Some next) lt (next_here content back ends texts head.end place n more within read le fits order) (sym answers) so_far)
+pub layer_goes_on : (content ends : List ℕ) (head : HeadBytes) (target count i place texts n : ℕ) (more : List ℕ) (found answer : Option Checkpoint)
+    → IsNextInFile content ends head count i place texts n more → is_some answer ≡ true → Seeks content head target count i place ends texts found
+    → AnswersByReads (found_in false head.period target found (slice_range content (texts + place) (texts + n))) (Ok answer) → Seeks content head target count (i + 1) n more texts answer
+layer_goes_on content ends head target count i place texts n more found answer next some so_far answers =
+    found_goes_on false head.period target (count - (i + 1)) n _ _ answer (found_of content head target) some
+    (layer_found content ends head target count i place texts n more found (Some answer) next so_far (sym answers))
 
 -- ---- behind the last layer
 

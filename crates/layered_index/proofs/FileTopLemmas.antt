@@ -1,7 +1,7 @@
 -- The top layer of an index in a file: its one run is not longer than a run can be, and tells where the documents end.
 use Rattle.std.proofs.Common.{◌≡◌, ℕ, zero, suc, ◌+◌, ◌-◌, ◌*◌, ◌<◌, ◌≤◌, ◌^◌, List, [], ◌∷◌, ◌++◌, length, take, drop, Option, Some, None, eqb, refl, sym, ◌∙◌, ap, subst, arith, length-append}
 use Rattle.std.proofs.lemmas.Bool.{ne_eqb, cond-false}
-use Rattle.std.proofs.lemmas.List.{take_all, take_rest, length-take}
+use Rattle.std.proofs.lemmas.List.{take_all, length-take}
 use Rattle.std.specs.List.{flat_map}
 use Rattle.std.specs.Prelude.{slice_range}
 use Rattle.store_base.specs.VInt.{◌>>=◌, number, number_below}
@@ -13,7 +13,7 @@ use Rattle.layered_index.specs.IndexReading.{IsIndexPart}
 use Rattle.layered_index.specs.IndexHeads.{longest_head, longest_run, run_end, end_in_index, HeadBytes, index_in, IsHead, IsHeadOf}
 use Rattle.layered_index.specs.Sought.{sought_at, after_numbers, next_layer, IsHeaded}
 use Rattle.layered_index.proofs.LayerLemmas.{length-steps-le, length-starts-le}
-use Rattle.layered_index.proofs.FileHeadLemmas.{Heads, heads, seen_head}
+use Rattle.layered_index.proofs.FileHeadLemmas.{Heads, heads, seen_head, numbers_of}
 use Rattle.layered_index.proofs.FileSeekLemmas.{some_end, next_behind, next_here}
 use Rattle.layered_index.proofs.OuterLayersLemmas.{IsTop, top_there, top_is, top_read}
 use Rattle.layered_index.proofs.SoughtLemmas.{one_block}
@@ -63,7 +63,7 @@ has_layers content u head count ends texts bytes cs same is_inside front of some
     record {
       heads = heads content head count ends texts is of;
       fits = is.fits;
-      numbers_are = take_rest bytes ends ∙ ap (drop ends) (front ∙ ap (λ (h : HeadBytes). h.front) same);
+      numbers_are = numbers_of u head bytes ends front same;
       some = some;
       within = within;
       part = part;

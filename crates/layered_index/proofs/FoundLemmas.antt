@@ -12,7 +12,7 @@ after_layer whole most target more found o =
     o >>= λ n. found_in whole most target found n.0 >>= λ next. option_map_or (λ c. found_down whole most target more n.1 n.2 n.3 (Some c)) next (Some None)
 
 -- and by what was found in it
-abbrev after_next : Bool → ℕ → ℕ → ℕ → ℕ → List ℕ → List ℕ → Option (Option Checkpoint) → Option (Option Checkpoint)
+abbrev pub after_next : Bool → ℕ → ℕ → ℕ → ℕ → List ℕ → List ℕ → Option (Option Checkpoint) → Option (Option Checkpoint)
 after_next whole most target more place ends texts o = o >>= λ next. option_map_or (λ c. found_down whole most target more place ends texts (Some c)) next (Some None)
 
 one_down : (whole : Bool) (most target more place : ℕ) (ends texts : List ℕ) (found : Option Checkpoint)

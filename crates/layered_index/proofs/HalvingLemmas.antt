@@ -1,6 +1,7 @@
 -- Halving: what is known below and above the middle.
-use Rattle.std.proofs.Common.{◌≡◌, ℕ, zero, suc, ◌+◌, ◌/◌, ◌<◌, ◌≤◌, List, [], ◌∷◌, length, Some, None, refl, ◌∙◌, ap, arith}
+use Rattle.std.proofs.Common.{◌≡◌, ℕ, zero, suc, ◌+◌, ◌/◌, ◌<◌, ◌≤◌, List, [], ◌∷◌, length, Some, None, refl, sym, ◌∙◌, ap, arith}
 use Rattle.std.specs.Prelude.{slice_get}
+use Rattle.store_base.specs.Counts.{greatest, raised}
 use Rattle.layered_index.proofs.PointedLemmas.{past_here, past_later}
 use Rattle.layered_index.specs.declared.checkpoint.Checkpoint.{Checkpoint}
 use Rattle.layered_index.specs.Checkpoint.{IsInLineFrom, IsInLine, first_past}
@@ -56,6 +57,24 @@ pub none_up_to : (cs : List Checkpoint) (target middle : ℕ) (c : Checkpoint) �
 none_up_to cs target middle c h e le i d lt p =
     let from = in_line_somewhere cs h in
     omega (arith, ordered from.0 from.1 cs i middle d c from.2 (omega arith) p e)
+
+-- ---- looks
+
+-- a look at one of a list that is still this list
+pub record IsLook (cs list : List Checkpoint) (i : ℕ) (found : Checkpoint) (start looks : ℕ) : Type 0 where
+  pub same : list ≡ cs
+  pub given : slice_get cs i ≡ Some found
+  pub more : start ≤ looks
+  pub least : raised start 1 ≤ looks
+
+pub looked : (cs old new : List Checkpoint) (i : ℕ) (found : Checkpoint) (start before looks : ℕ) → old ≡ cs → new ≡ old → slice_get old i ≡ Some found → before ≤ greatest → looks ≡ raised before 1
+    → start ≤ before → IsLook cs new i found start looks
+looked cs old new i found start before looks was same given fits counted more = record {
+  same = same ∙ was;
+  given = ap (λ (xs : List Checkpoint). slice_get xs i) (sym was) ∙ given;
+  more = omega (arith, counted, fits, more);
+  least = omega (arith, counted, more);
+}
 
 -- ---- how many halves there are
 

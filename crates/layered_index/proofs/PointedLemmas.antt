@@ -72,12 +72,42 @@ pub record IsPointer (period target place : ℕ) (gs : List (List Checkpoint)) (
   pub are_runs : AllByRecursion (IsRun period) (run ∷ after)
   pub first : first_past (flat_map (λ g. g) gs) target ≡ first_past run target
 
+-- What a look at the pointers finds: the pointer to a run, or that no checkpoint is past the target.
+abbrev Found : (period target place : ℕ) → List (List Checkpoint) → Option Checkpoint → Type 0
+Found period target place gs None = first_past (flat_map (λ g. g) gs) target ≡ None
+Found period target place gs (Some p) = IsPointer period target place gs p
+
+-- a run before the others has no checkpoint past the target
+passed : (period target place : ℕ) (g : List Checkpoint) (gs : List (List Checkpoint)) (o : Option Checkpoint) → first_past g target ≡ None
+    → Found period target (place + length (checkpoint_block g)) gs o → Found period target place (g ∷ gs) o
+passed period target place g gs None none on =
+    first_past-append g (flat_map (λ (x : List Checkpoint). x) gs) target
+    ∙ ap (λ (o : Option Checkpoint). option_or o (first_past (flat_map (λ (x : List Checkpoint). x) gs) target)) none ∙ on
+passed period target place g gs (Some p) none on =
+    let rest = flat_map (λ (x : List Checkpoint). x) gs in
+    let block = checkpoint_block g in
+    record {
+      run = on.run;
+      front = block ++ on.front;
+      after = on.after;
+      text = ap (λ (t : List ℕ). block ++ t) on.text ∙ sym (append_assoc block on.front (checkpoint_block on.run ++ flat_map checkpoint_block on.after));
+      before = g ++ on.before;
+      whole = ap (λ (xs : List Checkpoint). g ++ xs) on.whole ∙ sym (append_assoc g on.before (on.run ++ flat_map (λ (x : List Checkpoint). x) on.after));
+      none = first_past-append g on.before target ∙ ap (λ (o : Option Checkpoint). option_or o (first_past on.before target)) none ∙ on.none;
+      start = omega (arith, on.start, length-append block on.front);
+      end = on.end;
+      docs_first = on.docs_first;
+      docs_last = on.docs_last;
+      are_runs = on.are_runs;
+      first = first_past-append g rest target ∙ ap (λ (o : Option Checkpoint). option_or o (first_past rest target)) none ∙ on.first;
+    }
+
 -- the first run is it, or one of the others
-pub is_pointer : (period target place doc byte : ℕ) (gs : List (List Checkpoint)) (p : Checkpoint) → AllByRecursion (IsRun period) gs → IsInLineFrom doc byte (flat_map (λ g. g) gs)
-    → first_past (pointers place gs) target ≡ Some p → IsPointer period target place gs p
-is_pointer period target place doc byte [] p runs h e = absurd (cc)
-is_pointer period target place doc byte ([] ∷ gs) p runs h e = absurd (omega (arith, runs.0.some))
-is_pointer period target place doc byte ((c ∷ cs) ∷ gs) p runs h e =
+found : (period target place doc byte : ℕ) (gs : List (List Checkpoint)) → AllByRecursion (IsRun period) gs → IsInLineFrom doc byte (flat_map (λ g. g) gs)
+    → Found period target place gs (first_past (pointers place gs) target)
+found period target place doc byte [] runs h = refl
+found period target place doc byte ([] ∷ gs) runs h = absurd (omega (arith, runs.0.some))
+found period target place doc byte ((c ∷ cs) ∷ gs) runs h =
     let g = c ∷ cs in
     let rest = flat_map (λ (x : List Checkpoint). x) gs in
     let block = checkpoint_block g in
@@ -86,10 +116,9 @@ is_pointer period target place doc byte ((c ∷ cs) ∷ gs) p runs h e =
     let both = in_line-split doc byte g rest h in
     elim (cases_lt target (docs_end c.doc_range.end cs)) [
       | inl here ↦
-          let same : q ≡ p = some_is q p (sym (past_here q others target here) ∙ e) in
-          let found = some_past doc byte c cs target both.0 here in
+          let past = some_past doc byte c cs target both.0 here in
           let at_front : place ≡ place + 0 = omega arith in
-          subst (IsPointer period target place (g ∷ gs)) same (record {
+          let is : IsPointer period target place (g ∷ gs) q = record {
             run = g;
             front = [];
             after = gs;
@@ -102,50 +131,23 @@ is_pointer period target place doc byte ((c ∷ cs) ∷ gs) p runs h e =
             docs_first = refl;
             docs_last = refl;
             are_runs = runs;
-            first = first_past-append g rest target ∙ ap (λ (o : Option Checkpoint). option_or o (first_past rest target)) found.1 ∙ sym found.1;
-          })
+            first = first_past-append g rest target ∙ ap (λ (o : Option Checkpoint). option_or o (first_past rest target)) past.1 ∙ sym past.1;
+          } in
+          subst (Found period target place (g ∷ gs)) (sym (past_here q others target here)) is
       | inr later ↦
-          let on = is_pointer period target (place + length block) (docs_end doc g) (bytes_end byte g) gs p runs.1 both.1 (sym (past_later q others target later) ∙ e) in
-          let none : first_past g target ≡ None = none_before doc byte g target both.0 later in
-          record {
-            run = on.run;
-            front = block ++ on.front;
-            after = on.after;
-            text = ap (λ (t : List ℕ). block ++ t) on.text ∙ sym (append_assoc block on.front (checkpoint_block on.run ++ flat_map checkpoint_block on.after));
-            before = g ++ on.before;
-            whole = ap (λ (xs : List Checkpoint). g ++ xs) on.whole ∙ sym (append_assoc g on.before (on.run ++ flat_map (λ (x : List Checkpoint). x) on.after));
-            none = first_past-append g on.before target ∙ ap (λ (o : Option Checkpoint). option_or o (first_past on.before target)) none ∙ on.none;
-            start = omega (arith, on.start, length-append block on.front);
-            end = on.end;
-            docs_first = on.docs_first;
-            docs_last = on.docs_last;
-            are_runs = on.are_runs;
-            first = first_past-append g rest target ∙ ap (λ (o : Option Checkpoint). option_or o (first_past rest target)) none ∙ on.first;
-          }
+          subst (Found period target place (g ∷ gs)) (sym (past_later q others target later))
+          (passed period target place g gs (first_past others target) (none_before doc byte g target both.0 later)
+          (found period target (place + length block) (docs_end doc g) (bytes_end byte g) gs runs.1 both.1))
     ]
+
+pub is_pointer : (period target place doc byte : ℕ) (gs : List (List Checkpoint)) (p : Checkpoint) → AllByRecursion (IsRun period) gs → IsInLineFrom doc byte (flat_map (λ g. g) gs)
+    → first_past (pointers place gs) target ≡ Some p → IsPointer period target place gs p
+is_pointer period target place doc byte gs p runs h e = subst (Found period target place gs) e (found period target place doc byte gs runs h)
 
 -- where no pointer is past it, no checkpoint is
 no_pointer : (period target place doc byte : ℕ) (gs : List (List Checkpoint)) → AllByRecursion (IsRun period) gs → IsInLineFrom doc byte (flat_map (λ g. g) gs)
     → first_past (pointers place gs) target ≡ None → first_past (flat_map (λ g. g) gs) target ≡ None
-no_pointer period target place doc byte [] runs h e = refl
-no_pointer period target place doc byte ([] ∷ gs) runs h e = absurd (omega (arith, runs.0.some))
-no_pointer period target place doc byte ((c ∷ cs) ∷ gs) runs h e =
-    let g = c ∷ cs in
-    let rest = flat_map (λ (x : List Checkpoint). x) gs in
-    let block = checkpoint_block g in
-    let others = pointers (place + length block) gs in
-    let q = checkpoint c.doc_range.start (docs_end c.doc_range.end cs) place (place + length block) in
-    let both = in_line-split doc byte g rest h in
-    elim (cases_lt target (docs_end c.doc_range.end cs)) [
-      | inl here ↦ absurd (not_both q (sym (past_here q others target here) ∙ e))
-      | inr later ↦
-          let none : first_past g target ≡ None = none_before doc byte g target both.0 later in
-          first_past-append g rest target ∙ ap (λ (o : Option Checkpoint). option_or o (first_past rest target)) none
-          ∙ no_pointer period target (place + length block) (docs_end doc g) (bytes_end byte g) gs runs.1 both.1 (sym (past_later q others target later) ∙ e)
-    ]
-  where
-    not_both : (q : Checkpoint) → Some q ≡ None → ⊥
-    not_both q e = cc
+no_pointer period target place doc byte gs runs h e = subst (Found period target place gs) e (found period target place doc byte gs runs h)
 
 -- ---- a layer
 

@@ -217,7 +217,7 @@ heads x y xs ys e = cc
 pub tails : (x y : Checkpoint) (xs ys : List Checkpoint) → x ∷ xs ≡ y ∷ ys → xs ≡ ys
 tails x y xs ys e = cc
 
-none_some : {x : Checkpoint} {xs : List Checkpoint} → [] ≡ x ∷ xs → ⊥
+pub none_some : {x : Checkpoint} {xs : List Checkpoint} → [] ≡ x ∷ xs → ⊥
 none_some e = cc
 
 pub not_true : (P : Type 0) → false ≡ true → P

@@ -1,4 +1,4 @@
--- What stands at the front of bytes: a checkpoint, the heading of a block, a block, and a block in short.
+-- Reading from the front of bytes: a checkpoint, the heading of a block, a block, and a block in short.
 use Rattle.std.specs.Prelude.{◌≡◌, ℕ, zero, suc, ◌+◌, ◌/◌, ◌^◌, nat_lt, ◌==◌, if◌then◌else◌, List, [], ◌∷◌, ◌++◌}
 use Rattle.std.specs.Prelude.{length, Option, Some, None}
 use Rattle.store_base.specs.VInt.{◌>>=◌, number_below}

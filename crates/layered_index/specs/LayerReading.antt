@@ -31,8 +31,8 @@ items left doc byte bytes = items_within (length bytes) left doc byte bytes
 
 -- whether a run may stand here, with this many bytes after it: only the last one is not full
 abbrev pub may_stand : ℕ → ℕ → ℕ → Run → ℕ → Bool
-may_stand period doc byte r behind = (r.doc == doc) && (r.byte == byte) && nat_lt 0 r.count && nat_le r.count period &&
-    ((r.count == period) || (behind == 0))
+may_stand period doc byte r bytes_left = (r.doc == doc) && (r.byte == byte) && nat_lt 0 r.count
+    && nat_le r.count period && ((r.count == period) || (bytes_left == 0))
 
 -- how many checkpoints there are in runs, which begin at this document and this byte
 unfoldable pub len_within : ℕ → ℕ → ℕ → ℕ → List ℕ → Option ℕ

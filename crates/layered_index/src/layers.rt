@@ -124,15 +124,15 @@ fn run_front<'a>(
     Ok((run, rest))
 }
 
-// Whether a run may be here, with `behind` bytes after it: only the last one is not full.
-fn may_stand(period: usize, doc: u32, byte: usize, run: &Run, behind: usize) -> bool
-    ensures { result ≡ may_stand period doc byte run.now behind }
+// Whether a run may be here, with `bytes_left` bytes after it: only the last one is not full.
+fn may_stand(period: usize, doc: u32, byte: usize, run: &Run, bytes_left: usize) -> bool
+    ensures { result ≡ may_stand period doc byte run.now bytes_left }
 {
     run.doc == doc
         && run.byte == byte
         && 0 < run.count
         && run.count <= period
-        && (run.count == period || behind == 0)
+        && (run.count == period || bytes_left == 0)
 }
 
 // Whether it points to the run, whose block lies here.

@@ -1,4 +1,4 @@
-//! Looking at checkpoints, counted, and the seek that goes by looks.
+//! Counted looks at checkpoints, and the seek by such looks.
 ghost use Rattle.std.specs.Prelude.{◌≡◌, ◌≤◌, ◌<◌, ◌+◌, ◌-◌, ◌*◌, ℕ, List, Some, length, slice_get};
 ghost use Rattle.store_base.specs.Counts.{greatest, raised};
 ghost use Rattle.layered_index.specs.declared.checkpoint.Checkpoint.{Checkpoint};
@@ -93,11 +93,14 @@ pub fn seek_over<S: Looks>(source: &mut S, target: DocId) -> Option<Checkpoint>
     halve(source, target, 0..len).found
 }
 
-// How many looks there are to spare near a guess: one for each base-4 digit of an eighth of the length. Where the length
-// has b binary digits these are b / 2 - 1 at most. Halving takes b, and the look at the answer 1: in all b + b / 2.
-const SPARE_SHARE: usize = 8;
+/// A seek near a guess has looks to spare: one for each digit, in the base `SPARE_BASE`, of the length divided by this.
+///
+/// Where the length has b binary digits these are b / 2 - 1 at most. Halving takes b, and the look at the answer 1: in
+/// all b + b / 2.
+pub const SPARE_SHARE: usize = 8;
 
-const SPARE_BASE: usize = 4;
+/// The base of the digits that are counted for the looks to spare.
+pub const SPARE_BASE: usize = 4;
 
 // Where the answer lies, by looks where the guess is and from there on in growing steps, until the
 // target lies between two looks or no look is to spare.

@@ -1,8 +1,8 @@
 //! Numbers of a few bytes, read without a branch on how many bytes they have.
 //!
-//! Where blocks have now less than 128 documents and now more, or less than 2^14 bytes and more, how many bytes the
-//! next number has can't be foreseen, and a wrong guess of the processor costs more than the number. Where it can be
-//! foreseen, the branch is quicker.
+//! If the numbers of documents of blocks vary around 128, or their lengths around 2^14, the processor can't foresee how
+//! many bytes the next number has, and a wrong guess costs more than the number. If it can foresee that, a branch is
+//! quicker.
 ghost use Rattle.std.specs.Prelude.{◌≡◌, ◌+◌, ◌^◌, ◌<◌, Some, IfSome};
 ghost use Rattle.std.specs.Option.{option_map};
 ghost use Rattle.store_base.specs.VInt.{number_at, number_below};

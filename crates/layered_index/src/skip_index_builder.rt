@@ -67,8 +67,7 @@ impl LayerBuilder {
         self.block.push(checkpoint)
     }
 
-    // Writes the open block, which stays open, and answers the pointer to it. An empty one
-    // isn't written.
+    // Writes the open block, which stays open, and returns the pointer to it. An empty one isn't written.
     fn write_block(&mut self) -> Result<Option<Checkpoint>, StoreError>
         ensures ok { OnOk result
             (self.new ≡ record { bytes = closed_text self.old; rest = self.old.rest }) }
@@ -89,8 +88,7 @@ impl LayerBuilder {
         }))
     }
 
-    // Adds a checkpoint. A block that reaches the period is written, and the pointer to it
-    // answered.
+    // Adds a checkpoint. A block that reaches the period is written, and the pointer to it returned.
     fn insert(
         &mut self,
         period: usize,
@@ -112,8 +110,7 @@ impl LayerBuilder {
         written
     }
 
-    // AcceptsInsert the pointer from the layer below, if there is one, and writes the open block.
-    // Answers the pointer to it.
+    // Takes the pointer from the layer below, if there is one, and writes the open block. Returns the pointer to it.
     fn close(&mut self, below: Option<Checkpoint>) -> Result<Option<Checkpoint>, StoreError>
         requires { IsInLine (put_some self.old below).rest }
         ensures ok { OnOk result (self.new.bytes ≡ closed_text (put_some self.old below)) }
@@ -128,7 +125,7 @@ impl LayerBuilder {
         self.write_block()
     }
 
-    // AcceptsInsert back the last checkpoint, and the bytes from this place on.
+    // Takes back the last checkpoint, and the bytes from this place on.
     fn take_back(&mut self, start: usize)
         ensures { self.new ≡ record {
           bytes = take start self.old.bytes;

@@ -8,7 +8,7 @@ abbrev pub Appends : Option (List ℕ) → List ℕ → List ℕ → Type 0
 Appends (Some bytes) old new = new ≡ old ++ bytes
 Appends None old new = ⊥
 
--- what stood there stands
+-- the old bytes stay at the front
 abbrev pub BeginsWith : List ℕ → List ℕ → Type 0
 BeginsWith old new = take (length old) new ≡ old
 

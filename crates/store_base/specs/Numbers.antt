@@ -17,7 +17,7 @@ pub record AreNumbers (ns : List ℕ) : Type 0 where
   pub few : length ns < 2 ^ 64
   pub below : AllByRecursion (IsBelow (2 ^ 64)) ns
 
--- A count stands in front that exceeds the bytes after it; each number takes a byte.
+-- The count at the front exceeds the number of bytes after it; each number takes a byte at least.
 pub record ClaimsTooMany (old : List ℕ) : Type 0 where
   pub count : ℕ
   pub rest : List ℕ
@@ -25,7 +25,8 @@ pub record ClaimsTooMany (old : List ℕ) : Type 0 where
   pub parts : old ≡ number count ++ rest
   pub over : length rest < count
 
--- A count stands in front that doesn't, and after it fewer numbers than that, and then what is refused for this fault.
+-- The count at the front does not exceed them; after it come fewer numbers than that, and then bytes that are refused
+-- for this fault.
 pub record FailsAt (old : List ℕ) (e : DecodeFault) : Type 0 where
   pub count : ℕ
   pub before : List ℕ

@@ -1,4 +1,4 @@
--- A number in groups of seven bits: its spelling, and what stands at the front of bytes.
+-- A number in groups of seven bits: its spelling, and the number at the front of bytes.
 use Rattle.std.specs.Prelude.{ℕ, zero, suc, ◌+◌, ◌-◌, ◌*◌, ◌/◌, ◌%◌, nat_lt, nat_le, ◌==◌, if◌then◌else◌, List, [], ◌∷◌}
 use Rattle.std.specs.Prelude.{Option, Some, None}
 

@@ -115,7 +115,7 @@ impl AliveBitSet {
         self.num_alive
     }
 
-    /// For how many documents it tells, dead ones too.
+    /// How many documents the set is for, dead ones too.
     pub fn len(&self) -> u32
         ensures { result ≡ length self.now }
     {

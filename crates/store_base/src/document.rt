@@ -7,15 +7,15 @@ use crate::fault::DocFault;
 use crate::schema::Schema;
 use std::alloc::Global;
 
-/// What can be written.
+/// A document that can be written as bytes.
 pub trait Document: Drop {
     /// The document's bytes in a schema of this many fields, if it has any.
     ghost doc_bytes: { Self → ℕ → Option (List ℕ) };
 
     /// Appends the document's bytes.
     ///
-    /// A refusal may leave bytes after the old end of `out`; `Refused` comes exactly where there are none to write,
-    /// memory aside. The capacity of `out` never falls.
+    /// An error may leave bytes after the old end of `out`. `Refused` comes exactly if the document has no bytes in the
+    /// schema, unless memory runs out first. The capacity of `out` never falls.
     fn serialize_doc(&self, schema: &Schema, out: &mut Vec<u8>) -> Result<(), DocFault>
         ensures ok { OnOk result (Appends (doc_bytes self.now schema.now) out.old.items out.new.items) }
         ensures refused { IsErrOf result DocFault.Refused → doc_bytes self.now schema.now ≡ None }
@@ -23,18 +23,19 @@ pub trait Document: Drop {
         ensures capacity { vec_capacity out.old ≤ vec_capacity out.new };
 }
 
-/// What can be read.
+/// A document that can be read from bytes.
 pub trait DocumentDeserialize: Drop {
     /// The document that bytes of a version are read as, if they are read.
     ghost reading: { ℕ → List ℕ → Option Self };
 
-    /// Reads a document from all of the bytes. `Refused` comes exactly where they are none, memory aside.
+    /// Reads a document from all of the bytes. `Refused` comes exactly if they are no document, unless memory runs out
+    /// first.
     fn deserialize(alloc: Global, bytes: &[u8], version: u32) -> Result<Self, DocFault>
         ensures ok { IfOk result (λ document. reading version bytes.now ≡ Some document) }
         ensures refused { IsErrOf result DocFault.Refused → reading version bytes.now ≡ None };
 }
 
-/// What is read again as its stored form.
+/// A document that is read again as its stored form.
 pub trait StoredDocument: Document + DocumentDeserialize {
     /// What is stored of a document.
     ghost stored: { Self → Self };

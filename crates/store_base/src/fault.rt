@@ -53,7 +53,7 @@ pub enum DocFault {
     Memory,
 }
 
-/// A growth was refused: the one refusal of a call that answers this.
+/// A growth was refused: the only error of a call that returns this.
 #[derive(Clone, Copy, Debug, PartialEq, Eq, Error)]
 #[error("no memory")]
 pub struct NoMemory;

@@ -35,7 +35,7 @@ pub trait FileHandle: Drop {
     /// Whether its reads give what it holds.
     ghost honest: { Self → Bool };
 
-    /// How often it failed. A count that stands at its greatest value is taken to have risen.
+    /// How often it failed. A count that has its greatest value is taken to have risen.
     ghost failures: { Self → ℕ };
 
     /// How often it was read, up to the greatest u64.
@@ -74,7 +74,7 @@ pub struct FileSlice<H: FileHandle> {
     end: u64,
 }
 
-/// Clauses see the part's bytes, and what the file tells beside them.
+/// Clauses see the part's bytes, and the ghost members of the file.
 impl<H: FileHandle> Model for FileSlice<H> {
     ghost use Rattle.std.specs.Prelude.{◌≤◌, ◌<◌, ◌^◌, length, slice_range};
     ghost use Rattle.store_base.specs.Files.{Part};

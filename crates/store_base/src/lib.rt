@@ -1,5 +1,5 @@
-//! What a document store stands on: numbers as bytes, shared bytes, files, outputs, live sets and documents; and why
-//! its calls are refused.
+//! The base of a document store: numbers as bytes, shared bytes, files, outputs, live sets and documents; and the
+//! errors of its calls.
 #![tactic(auto)]
 
 pub mod alive_bitset;

@@ -77,7 +77,7 @@ impl TerminatingWrite for MemSink {
 
         ensures steady { OnOk result (self.new.failures ≡ self.old.failures) }
 
-        // Beside what every output promises: a fault leaves what was written.
+        // In addition to what every output promises: a fault leaves what was written.
         ensures kept { OnErr result (self.new.content ≡ self.old.content) }
     {
         match self.bytes.extend_from_slice(bytes) {
@@ -96,7 +96,7 @@ impl TerminatingWrite for MemSink {
         ensures count { self.old.failures ≤ self.new.failures }
         ensures fault { OnErr result (HasRisen self.old.failures self.new.failures) }
 
-        // Beside these: it never fails.
+        // In addition: it never fails.
         ensures succeeds { IsOk result }
         ensures steady { self.new.failures ≡ self.old.failures }
     {

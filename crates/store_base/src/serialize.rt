@@ -24,7 +24,7 @@ pub trait BinarySerializable: Drop {
     /// The value's bytes.
     ghost encoding: { Self → List ℕ };
 
-    /// Reading these bytes may answer this, and leave these bytes.
+    /// Reading these bytes may return this, and leave these bytes.
     ghost reads: { List ℕ → Result Self DecodeFault → List ℕ → Type 0 };
 
     /// Writes the value's bytes at the end of the output.

@@ -18,7 +18,7 @@ pub trait TerminatingWrite: Drop {
     /// last returned Ok. Bytes that are written after an end don't move it, so they are not ended.
     ghost termination: { Self → Termination };
 
-    /// How often a call failed. A count that stands at its greatest value is taken to have risen.
+    /// How often a call failed. A count that has its greatest value is taken to have risen.
     ghost failures: { Self → ℕ };
 
     /// Writes the bytes at the end.
@@ -39,7 +39,7 @@ pub trait TerminatingWrite: Drop {
         ensures steady { OnOk result (failures self.new ≡ failures self.old) };
 }
 
-/// An output that counts the bytes of its writes that answered Ok.
+/// An output that counts the bytes of the writes that returned Ok.
 #[derive(Drop)]
 pub struct CountingWriter<W: TerminatingWrite> {
     output: W,
@@ -71,7 +71,7 @@ impl<W: TerminatingWrite> CountingWriter<W> {
         self.written
     }
 
-    /// The output back.
+    /// Returns the output.
     pub fn finish(self) -> W
         ensures { result ≡ self.output }
     {

@@ -21,7 +21,7 @@ use Rattle.docstore.proofs.TakenLemmas.{length-slots}
 use Rattle.store_c.specs.declared.block.Block.{Block}
 use Rattle.store_c.specs.declared.block.BlockEnd.{BlockEnd}
 use Rattle.store_c.specs.declared.writer.Writer.{Writer}
-use Rattle.store_c.specs.Calls.{end_of, ends_in, ends_of, ends_behind, start_in, with_front}
+use Rattle.store_c.specs.Calls.{end_of, ends_in, ends_of, ends_after, start_in, with_front}
 use Rattle.store_c.specs.Writing.{memory, Holds, PutsBlocks, IsOther, HasNumbersWith}
 use Rattle.store_c.proofs.TableLemmas.{zero_block, length-front}
 use Rattle.store_c.proofs.MemoryLemmas.{has_finished, open_at, none_pending}
@@ -34,12 +34,12 @@ pub in_line_behind : (docs bytes : ℕ) (cs : List Checkpoint) (bs : List StoreB
 in_line_behind docs bytes cs bs is each few fits =
     subst (IsInLineFrom docs bytes) (sym (shifted_behind docs bytes cs bs is)) (checkpoints_in_line_from docs bytes bs each few fits)
 
-ends_joined : (start : BlockEnd) (cs : List Checkpoint) → map (ends_behind start) cs ≡ map ends_of (map (shifted start.end_doc start.end_byte) cs)
+ends_joined : (start : BlockEnd) (cs : List Checkpoint) → map (ends_after start) cs ≡ map ends_of (map (shifted start.end_doc start.end_byte) cs)
 ends_joined start [] = refl
-ends_joined start (c ∷ cs) = ap (λ (bs : List BlockEnd). ends_behind start c ∷ bs) (ends_joined start cs)
+ends_joined start (c ∷ cs) = ap (λ (bs : List BlockEnd). ends_after start c ∷ bs) (ends_joined start cs)
 
 -- where they end
-ends_there : (start : BlockEnd) (cs : List Checkpoint) (bs : List StoreBlock) → cs ≡ checkpoints_of bs → map (ends_behind start) cs ≡ map ends_of (checkpoints_from start.end_doc start.end_byte bs)
+ends_there : (start : BlockEnd) (cs : List Checkpoint) (bs : List StoreBlock) → cs ≡ checkpoints_of bs → map (ends_after start) cs ≡ map ends_of (checkpoints_from start.end_doc start.end_byte bs)
 ends_there start cs bs is = ends_joined start cs ∙ ap (map ends_of) (shifted_behind start.end_doc start.end_byte cs bs is)
 
 -- ---- a writer without an open block
@@ -135,17 +135,17 @@ module _ (writer : Writer) (table mid ys : List Block) (k count : ℕ) (start : 
         length-append (data_of w.output.finished) (data_of view.store),
       )
 
-  pub stacked : ends_in ys ≡ with_front (map (ends_behind start) cs) (ends_in mid) → count ≡ length cs → count ≤ length ys
+  pub stacked : ends_in ys ≡ with_front (map (ends_after start) cs) (ends_in mid) → count ≡ length cs → count ≤ length ys
       → PutsBlocks view writer table (with_more writer count) (put_mid writer.blocks k table ys)
   stacked is counted room starts text w h =
       let b = behind starts text w h in
       let bs = w.output.finished in
-      let rs = map (ends_behind start) cs in
+      let rs = map (ends_after start) cs in
       let doc : start.end_doc ≡ 0 + docs_in bs = omega (arith, b.doc) in
       let byte : start.end_byte ≡ 0 + length (data_of bs) = omega (arith, b.byte) in
       let rows : rs ≡ map ends_of (checkpoints_from (0 + docs_in bs) (0 + length (data_of bs)) view.store) =
       ends_there start cs view.store are ∙ (λ i. map ends_of (checkpoints_from (doc i) (byte i) view.store)) in
-      let size : length rs ≡ count = length-map cs (ends_behind start) ∙ sym counted in
+      let size : length rs ≡ count = length-map cs (ends_after start) ∙ sym counted in
       let blocks : length cs ≡ length view.store = ap length are ∙ length-checkpoints 0 0 view.store in
       let held = h.sound.output.works h.works in
       subst (Holds (memory (with_more writer count) starts (put_mid writer.blocks k table ys)) (text ++ data_of view.store)) (sym (without_documents w view.store b.none)) (record {

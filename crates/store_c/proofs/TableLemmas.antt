@@ -12,7 +12,7 @@ use Rattle.docstore.specs.Stacking.{shifted}
 use Rattle.layered_index.proofs.CheckpointLemmas.{same_checkpoint}
 use Rattle.store_c.specs.declared.block.Block.{Block}
 use Rattle.store_c.specs.declared.block.BlockEnd.{BlockEnd}
-use Rattle.store_c.specs.Calls.{end_of, ends_in, ends_of, ends_behind, start_in, with_front}
+use Rattle.store_c.specs.Calls.{end_of, ends_in, ends_of, ends_after, start_in, with_front}
 
 -- where the first block begins
 abbrev pub zero_block : BlockEnd
@@ -144,7 +144,7 @@ first_shifted (c ∷ cs) =
     let here : shifted 0 0 c ≡ c = same_checkpoint _ c (omega arith) (omega arith) (omega arith) (omega arith) in
     λ i. here i ∷ first_shifted cs i
 
-pub first_ends : (cs : List Checkpoint) → map (ends_behind zero_block) cs ≡ map ends_of cs
+pub first_ends : (cs : List Checkpoint) → map (ends_after zero_block) cs ≡ map ends_of cs
 first_ends [] = refl
 first_ends (c ∷ cs) =
     let doc : c.doc_range.end + 0 ≡ c.doc_range.end = omega arith in

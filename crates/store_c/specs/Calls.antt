@@ -28,7 +28,7 @@ end_of row = record { end_doc = row.end_doc; end_byte = row.end_byte }
 abbrev pub row_of : BlockEnd → Block
 row_of end = record { end_doc = end.end_doc; guide = 0; end_byte = end.end_byte }
 
--- where the blocks of a table end: all that it tells, whatever its guides are
+-- where the blocks of a table end: all that it says, whatever its guides are
 abbrev pub ends_in : List Block → List BlockEnd
 ends_in table = map end_of table
 
@@ -37,8 +37,8 @@ abbrev pub ends_of : Checkpoint → BlockEnd
 ends_of c = record { end_doc = c.doc_range.end; end_byte = c.byte_range.end }
 
 -- where it ends after this place
-abbrev pub ends_behind : BlockEnd → Checkpoint → BlockEnd
-ends_behind start c = record {
+abbrev pub ends_after : BlockEnd → Checkpoint → BlockEnd
+ends_after start c = record {
   end_doc = c.doc_range.end + start.end_doc;
   end_byte = c.byte_range.end + start.end_byte;
 }
@@ -67,7 +67,7 @@ pub record Fills (file : List ℕ) (old new : List Block) (count num_docs : ℕ)
   pub blocks : count ≡ length (checkpoints_of view.store)
   pub docs : num_docs ≡ count_in view
   pub filled : ends_in new ≡ with_front (map ends_of (checkpoints_of view.store)) (ends_in old)
-  pub behind : drop count new ≡ drop count old
+  pub rest : drop count new ≡ drop count old
 
 -- These bytes are the file of a store, which has this many blocks and documents.
 pub record HasCounts (file : List ℕ) (count num_docs : ℕ) : Type 0 where
@@ -89,7 +89,7 @@ pub record RefusesFile (file : List ℕ) (number : ℕ) : Type 0 where
 
 -- ---- places
 
--- These bytes are the file of a store, and this is what stands at this number.
+-- These bytes are the file of a store, and this is its slot at this number.
 pub record HasSlot (file : List ℕ) (id : ℕ) (s : Option Slot) : Type 0 where
   pub view : Viewing
   pub of : IsViewOf file view

@@ -1,4 +1,4 @@
--- What the full check of a file tells a caller in C.
+-- What the full check of a file returns to C.
 use Rattle.std.specs.Prelude.{◌≡◌, ℕ, ◌+◌, ◌-◌, ◌^◌, ◌<◌, List, Option, Some, None}
 use Rattle.layered_index.specs.declared.index_fault.IndexFault.{IndexFault}
 use Rattle.store_format.specs.Block.{damaged}

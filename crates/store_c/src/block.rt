@@ -7,7 +7,7 @@ ghost use Rattle.store_c.specs.Calls.{end_of, row_of};
 pub(crate) struct BlockEnd {
     /// One more than the number of its last document.
     pub end_doc: u32,
-    /// How many bytes of the file stand before its end.
+    /// How many bytes of the file come before its end.
     pub end_byte: usize,
 }
 
@@ -20,7 +20,7 @@ pub struct Block {
     /// How many blocks end before a stretch of the documents: of those into which a seek parts them, the one with the
     /// row's index. A seek begins there, or at an even share of the blocks where it is 0. It may be anything.
     pub guide: u32,
-    /// How many bytes of the file stand before the block's end.
+    /// How many bytes of the file come before the block's end.
     pub end_byte: usize,
 }
 

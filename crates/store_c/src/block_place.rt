@@ -8,7 +8,7 @@ pub struct BlockPlace {
     pub first_doc: u32,
     /// One more than the number of its last document.
     pub end_doc: u32,
-    /// How many bytes of the file stand before it.
+    /// How many bytes of the file come before it.
     pub start: usize,
     /// How many bytes it has.
     pub len: usize,

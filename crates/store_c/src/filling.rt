@@ -2,7 +2,7 @@
 ghost use Rattle.std.specs.Prelude.{◌≡◌, ◌<◌, ◌^◌, length, drop, map};
 ghost use Rattle.layered_index.specs.Checkpoint.{IsInLineFrom};
 ghost use Rattle.docstore.specs.Stacking.{shifted};
-ghost use Rattle.store_c.specs.Calls.{ends_in, ends_of, ends_behind, with_front};
+ghost use Rattle.store_c.specs.Calls.{ends_in, ends_of, ends_after, with_front};
 
 use crate::block::{Block, BlockEnd};
 use crate::guiding::write_guides;
@@ -15,8 +15,8 @@ pub(crate) fn fill(checkpoints: LayerCursor<'_>, start: BlockEnd, table: &mut [B
     requires in_line { IsInLineFrom start.end_doc start.end_byte
         (map (shifted start.end_doc start.end_byte) checkpoints) }
     ensures count { result ≡ length checkpoints.entry }
-    ensures filled { ends_in table.new ≡ with_front (map (ends_behind start) checkpoints.entry) (ends_in table.old) }
-    ensures behind { drop result table.new ≡ drop result table.old }
+    ensures filled { ends_in table.new ≡ with_front (map (ends_after start) checkpoints.entry) (ends_in table.old) }
+    ensures rest { drop result table.new ≡ drop result table.old }
 {
     let mut count = 0;
     for checkpoint in checkpoints {
@@ -38,7 +38,7 @@ pub(crate) fn fill_table(checkpoints: LayerCursor<'_>, table: &mut [Block]) -> u
     requires in_line { IsInLineFrom 0 0 checkpoints }
     ensures count { result ≡ length checkpoints.entry }
     ensures filled { ends_in table.new ≡ with_front (map ends_of checkpoints.entry) (ends_in table.old) }
-    ensures behind { drop result table.new ≡ drop result table.old }
+    ensures rest { drop result table.new ≡ drop result table.old }
 {
     let count = fill(checkpoints, BlockEnd::ZERO, table);
     if count > table.len() {

@@ -1,7 +1,7 @@
 //! Stores for C: read from bytes that stay the caller's, by a table that stays the caller's too, and written in memory
 //! that is the caller's.
 //!
-//! A call answers 0, or the number of a refusal: that of `StoreError` up to 16, and from 32 on that of `Refusal`.
+//! A call returns 0, or the number of a refusal: that of `StoreError` up to 16, and from 32 on that of `Refusal`.
 #![tactic(auto)]
 
 pub mod block;

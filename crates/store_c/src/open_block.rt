@@ -32,7 +32,7 @@ pub(crate) fn end_of(start: BlockEnd, docs: usize, bytes: usize) -> Result<Block
     }
 }
 
-/// Ends the open block here. It answers how many starts the block's table has: the last of them is the count of its
+/// Ends the open block here. It returns how many starts the block's table has: the last of them is the count of its
 /// documents.
 pub(crate) fn finish(
     writer: &mut Writer,
@@ -92,7 +92,7 @@ pub(crate) fn put(
     }
 }
 
-/// Ends the open block, if it has documents. It answers how many starts are to be written.
+/// Ends the open block, if it has documents. It returns how many starts are to be written.
 pub(crate) fn end_block(
     writer: &mut Writer,
     starts: &mut [u32],

@@ -4,7 +4,7 @@
 #[repr(C)]
 #[derive(Clone, Copy)]
 pub struct Place {
-    /// How many bytes stand before it.
+    /// How many bytes of the file come before it.
     pub start: usize,
     /// How many bytes it has.
     pub len: usize,

@@ -77,7 +77,7 @@ pub extern "C" fn zevk_block_of(
 /// document, or where the block is not of the length that `at` says. A refusal keeps `place`.
 #[unsafe(no_mangle)]
 pub extern "C" fn zevk_get_in(block: &[u8], at: &BlockPlace, doc_id: u32, place: &mut Place) -> u32
-    ensures behind { result ≡ 0 → at.now.start ≤ place.new.start }
+    ensures after_start { result ≡ 0 → at.now.start ≤ place.new.start }
     ensures within { result ≡ 0 → place.new.start + place.new.len ≤ at.now.start + length block.now }
     ensures done { result ≡ 0 → (file : List ℕ) → HasBlockAt file at.now block.now → IsPlaceIn file doc_id place.new }
 

@@ -51,8 +51,9 @@ pub extern "C" fn zevk_open(
     }
 }
 
-/// Tells where a document lies in the file, by the table that `zevk_open` filled for these bytes. By any other table
-/// there are places too, but any. It takes no memory, and changes nothing but `place`.
+/// Sets `place` to where a document lies in the file, by the table that `zevk_open` filled for these bytes. With any
+/// other table a place lies within the file, but it may be that of anything. It takes no memory, and changes nothing
+/// but `place`.
 ///
 /// It is refused by 6 where the store has no document of this number, by 7 where the document's block doesn't say
 /// where it lies, and by 33 where the table is not that of the file.

@@ -5,7 +5,7 @@ ghost use Rattle.store_c.specs.Texts.{refusal_text};
 
 // The text of a refusal's number.
 fn text_of(number: u32) -> &'static str
-    ensures told { result.now ≡ refusal_text number }
+    ensures text { result.now ≡ refusal_text number }
     ensures few { length result.now < 64 }
 {
     match number {
@@ -38,14 +38,14 @@ fn text_of(number: u32) -> &'static str
 pub extern "C" fn zevk_refusal_text(number: u32, text: &mut [u8]) -> usize
     ensures len { result ≡ length (refusal_text number) }
     ensures few { result < 64 }
-    ensures told { result < length text.old
+    ensures written { result < length text.old
         → text.new ≡ refusal_text number ++ 0 ∷ drop (result + 1) text.old }
     ensures no_room { length text.old ≤ result → text.new ≡ text.old }
 {
-    let told = text_of(number).as_bytes();
-    if told.len() < text.len() {
-        text[..told.len()].copy_from_slice(told);
-        text[told.len()] = 0;
+    let words = text_of(number).as_bytes();
+    if words.len() < text.len() {
+        text[..words.len()].copy_from_slice(words);
+        text[words.len()] = 0;
     }
-    told.len()
+    words.len()
 }

@@ -10,8 +10,9 @@ use crate::block::Block;
 use crate::guiding::guess;
 use crate::table::start_of;
 use docstore::{Checkpoint, DocId};
+use layered_index::looks::{SPARE_BASE, SPARE_SHARE};
 
-// Where the first block whose documents end past a target lies, and how many rows were looked at to tell it.
+// Where the first block whose documents end past a target lies, and how many rows were looked at to find it.
 #[derive(Clone, Copy)]
 struct Between {
     low: usize,
@@ -19,7 +20,7 @@ struct Between {
     looks: u64,
 }
 
-// How many blocks end up to a target, and how many rows were looked at to tell it.
+// How many blocks end up to a target, and how many rows were looked at to find that out.
 #[derive(Clone, Copy)]
 struct Found {
     at: usize,
@@ -41,10 +42,9 @@ fn narrow_near(table: &[Block], target: DocId, guess: usize) -> Between
     let mut looks: u64 = 0;
     let mut probe = guess.min(high.saturating_sub(1));
     let mut step: usize = 0;
-    // There is a look to spare for each of its digits in base 4.
-    let mut spare = high / 8;
+    let mut spare = high / SPARE_SHARE;
     while spare > 0 && low <= probe && probe < high {
-        spare /= 4;
+        spare /= SPARE_BASE;
         looks = looks.saturating_add(1);
         step = step.saturating_mul(2).max(1);
         if table[probe].end_doc > target {
@@ -109,8 +109,8 @@ fn block_at(table: &[Block], at: usize) -> Option<Checkpoint>
     })
 }
 
-/// The first block whose documents end past the target. A guide tells where it is likely to be; where it isn't, it is
-/// sought from there on.
+/// The first block whose documents end past the target. A guide says where it is likely to be; if it isn't there, the
+/// seek goes on from there.
 pub(crate) fn seek(table: &[Block], target: DocId) -> Option<Checkpoint>
     ensures { (cs : List CheckpointOf) → ends_in table.now ≡ map ends_of cs → IsInLineFrom 0 0 cs
         → result ≡ first_past cs target }

@@ -1,4 +1,4 @@
-//! What the table of a store's blocks tells.
+//! Facts that follow from the table of a store's blocks.
 ghost use Rattle.std.specs.Prelude.{◌≡◌, ◌≤◌, List, length, map};
 ghost use Rattle.layered_index.specs.declared.checkpoint.Checkpoint.{Checkpoint as CheckpointOf};
 ghost use Rattle.layered_index.specs.Checkpoint.{docs_end};

@@ -1,6 +1,6 @@
 //! What C keeps of a store that is written.
 
-/// The numbers of a store that is written. Beside them stand the starts of the documents of its open block, and the
+/// The numbers of a store that is written. The caller also keeps the starts of the documents of its open block, and the
 /// table of its blocks.
 #[repr(C)]
 #[derive(Clone, Copy)]

@@ -190,7 +190,7 @@ pub extern "C" fn zevk_writer_close(
     ensures no_other { result ≢ 0 → result ≢ 10 → result ≢ 16 → result ≢ 32 → result ≢ 34 → result ≡ 35 }
 
     ensures stays { result ≢ 0 → end.new ≡ end.old }
-    ensures behind { result ≡ 0 → drop len.new end.new ≡ drop len.new end.old }
+    ensures rest { result ≡ 0 → drop len.new end.new ≡ drop len.new end.old }
     ensures kept { result ≢ 0 → result ≢ 32 → len.new ≡ len.old }
 {
     if period < 2 || period > 64 {

@@ -5,7 +5,7 @@ use Rattle.std.specs.List.{flat_map, concat}
 use Rattle.std.specs.Int.{w32, from_le_bytes}
 use Rattle.store_base.specs.Serialize.{fixed}
 
--- where each document begins, if they stand one after the other from this place on
+-- where each document begins, if they lie one after the other from this place on
 abbrev pub starts_from : ℕ → List (List ℕ) → List ℕ
 starts_from place [] = []
 starts_from place (doc ∷ docs) = place ∷ starts_from (place + length doc) docs

@@ -16,7 +16,7 @@ Says bytes (Err (BadBlockKind k)) = ReadsFooter bytes (Err (fault.Kind k)) bytes
 Says bytes (Err (BadPeriod p)) = ReadsFooter bytes (Err (fault.Period p)) bytes
 Says bytes (Err _) = ⊥
 
--- the same of what came of a read
+-- the same for the result of a read
 abbrev pub SaysFrom : Result (List ℕ) StoreError → Result DocStoreFooter StoreError → Type 0
 SaysFrom (Ok bytes) result = Says bytes result
 SaysFrom (Err e) result = result ≡ Err e

@@ -36,7 +36,7 @@ pub record AreBlocks (bs : List StoreBlock) : Type 0 where
 abbrev pub data_of : List StoreBlock → List ℕ
 data_of bs = flat_map (λ b. b.bytes) bs
 
--- the checkpoints of the blocks, if they stand one after the other from this id and this byte on
+-- the checkpoints of the blocks, if they lie one after the other from this id and this byte on
 abbrev pub checkpoints_from : ℕ → ℕ → List StoreBlock → List Checkpoint
 checkpoints_from id byte [] = []
 checkpoints_from id byte (b ∷ bs) = checkpoint id (id + b.count) byte (byte + length b.bytes)

@@ -56,7 +56,7 @@ impl DocStoreFooter {
             (λ r. (mid : Part) × ExtractsFooter file (Ok r.0) mid
             × (r.1 ≡ narrowed mid (slice_range mid.content 0 (length mid.content - 28))))
             (λ e. ExtractsFooter file (Err e.error) e.file) }
-        ensures handed_back { IfErr result (λ e. e.file.content ≡ file.content) }
+        ensures given_back { IfErr result (λ e. e.file.content ≡ file.content) }
     {
         match read_footer(&mut file, alloc) {
             Ok(footer) => {

@@ -32,7 +32,7 @@ impl From<Compressor> for Decompressor {
 }
 
 impl Decompressor {
-    /// The kind that stands in a footer.
+    /// The kind, as a footer has it.
     pub fn get_id(&self) -> u8
         ensures { result ≡ kind_of self.now }
     {
@@ -41,7 +41,7 @@ impl Decompressor {
         }
     }
 
-    /// The one of this kind, or `Kind` with the number.
+    /// The decompressor of this kind, or `Kind` with the number.
     pub fn from_id(id: u8) -> Result<Decompressor, DecodeFault>
         ensures ok { IfOk result (λ decompressor. kind_of decompressor ≡ id) }
         ensures err { IfErr result (λ fault. (fault ≡ DecodeFault.Kind id) × (id ≢ 0)) }

@@ -123,7 +123,7 @@ left_block file s left c rest b are is at part id from to =
       first_is = at.first_is;
       end_is = at.end_is;
       start_is = at.start_is;
-      block_is = part.part_is ∙ (λ i. slice_range (are.bytes_is i) (at.start_is i) (at.behind i));
+      block_is = part.part_is ∙ (λ i. slice_range (are.bytes_is i) (at.start_is i) (at.bytes_end_is i));
     }
 
 -- the checkpoints behind it are left

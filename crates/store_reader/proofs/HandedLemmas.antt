@@ -25,8 +25,8 @@ handed_from mid new (Err d) e on = ap (λ (p : Part). p.content) on.1
 handed_from mid new (Ok f) e on = (reads_same mid new f (Err e) on).content
 
 -- A refusal leaves what the file holds, in its range.
-pub handed_back : (old new : Part) (e : StoreError) → Opens old (Err e) new → new.content ≡ old.content
-handed_back old new e o = handed_from o.mid new o.footer e o.goes_on ∙ (extracts_same old o.mid o.footer o.reads).content
+pub given_back : (old new : Part) (e : StoreError) → Opens old (Err e) new → new.content ≡ old.content
+given_back old new e o = handed_from o.mid new o.footer e o.goes_on ∙ (extracts_same old o.mid o.footer o.reads).content
 
 accepted_from : (mid new : Part) (said : Result DocStoreFooter StoreError) (found : DocStoreFooter × Index) → OpensFrom mid said (Ok found) new → new.content ≡ mid.content
 accepted_from mid new (Err d) found on = absurd (let no = on.0 in cc)

@@ -151,6 +151,11 @@ block_within bytes s id c e =
     let w = within 0 0 (checkpoints_of s.blocks) id c (omega arith) covers.in_line e in
     omega (arith, w.end, covers.end)
 
+-- so no test of its place fails, where the data ends here
+pub block_fits : (bytes : List ℕ) (s : IsSomeStore bytes) (id end : ℕ) (c : Checkpoint) → end ≡ length (data_of s.blocks) → first_past (checkpoints_of s.blocks) id ≡ Some c
+    → (c.doc_range.start ≤ id) × (c.byte_range.end ≤ end)
+block_fits bytes s id end c is e = ((block_placed bytes s id c e).from, omega (arith, is, block_within bytes s id c e))
+
 -- what the document is in the block that has it
 pub document_placed : (bytes : List ℕ) (s : IsSomeStore bytes) (id : ℕ) (c : Checkpoint) → first_past (checkpoints_of s.blocks) id ≡ Some c
     → document_in bytes s id ≡ exact_result id (Some (slot (slice_range bytes c.byte_range.start c.byte_range.end) (id - c.doc_range.start)))

@@ -1,4 +1,4 @@
--- What a list of reading calls answers.
+-- The answers to a list of reading calls.
 use Rattle.std.specs.Prelude.{ℕ, Bool, List, [], ◌∷◌, take, Option, Some, Result}
 use Rattle.std.specs.List.{filter, enumerate_from}
 use Rattle.store_base.specs.declared.error.StoreError.{StoreError}

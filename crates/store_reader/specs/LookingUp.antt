@@ -22,7 +22,7 @@ abbrev pub cache_missed : ℕ → Result (List ℕ) StoreError → Bool → Cach
 cache_missed key (Ok block) is_kept cache = with_block key block is_kept (after_miss cache)
 cache_missed key (Err e) is_kept cache = after_miss cache
 
--- It is not: one read. What came is kept, unless memory for that was refused.
+-- It is not: one read. The bytes that came are kept, unless memory for that was refused.
 pub record IsMiss (c : Checkpoint) (file : Part) (cache : CachedBlocks) (came : Result (List ℕ) StoreError) (file' : Part)
     (cache' : CachedBlocks) : Type 0 where
   pub absent : block_at c.byte_range.start cache ≡ None

@@ -13,18 +13,18 @@ use Rattle.store_reader.specs.Reading.{Reading}
 use Rattle.layered_index.specs.Refusal.{RefusesOnlyUnless}
 use Rattle.store_format.specs.StoreFile.{StoreBlock, IsStore}
 
--- The index of checkpoints that cover what stands before it; or these bytes are none, or memory ran out.
+-- The index of checkpoints that cover the bytes before it; or these bytes are none, or memory ran out.
 abbrev pub IndexBy : DocStoreFooter → List ℕ → Result Index StoreError → Type 0
 IndexBy footer bytes (Ok index) = (index.period ≡ footer.period)
     × IsIndexOf footer.period bytes footer.offset index.checkpoints
 IndexBy footer bytes (Err e) = RefusesOnlyUnless (HasIndexOf footer.period bytes footer.offset) e
 
--- the same of what came of a read
+-- the same for the result of a read
 abbrev pub IndexFrom : DocStoreFooter → Result (List ℕ) StoreError → Result Index StoreError → Type 0
 IndexFrom footer (Ok bytes) result = IndexBy footer bytes result
 IndexFrom footer (Err e) result = result ≡ Err e
 
--- One read of what stands between the offset and the footer, if the offset is not past that.
+-- One read of the bytes between the offset and the footer, if the offset is not past the footer's first byte.
 pub record ReadsIndex (old : Part) (footer : DocStoreFooter) (result : Result Index StoreError)
     (new : Part) : Type 0 where
   pub past : length old.content - 28 < footer.offset → (result ≡ Err BadOffset) × (new ≡ old)

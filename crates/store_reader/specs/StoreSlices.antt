@@ -92,7 +92,7 @@ pub record IsBlockAt (c : Checkpoint) (b : BlockSlice) : Type 0 where
   pub first_is : b.first ≡ c.doc_range.start
   pub end_is : b.end ≡ c.doc_range.end
   pub start_is : b.start ≡ c.byte_range.start
-  pub behind : b.start + length b.bytes.now ≡ c.byte_range.end
+  pub bytes_end_is : b.start + length b.bytes.now ≡ c.byte_range.end
 
 -- What comes next in any bytes, and what is left then: the block of the next checkpoint, if that follows; else the
 -- refusal of the index, after which there is none.

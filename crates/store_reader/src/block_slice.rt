@@ -43,7 +43,7 @@ impl<'a> BlockSlice<'a> {
             self.now.first self.now.end self.now.start self.now.bytes.now
             → placed_in file result ≡ document_in file s doc_id }
         ensures order { IfOk result (λ r. r.start ≤ r.end) }
-        ensures behind { IfOk result (λ r. self.now.start ≤ r.start) }
+        ensures after_start { IfOk result (λ r. self.now.start ≤ r.start) }
         ensures within { IfOk result (λ r. r.end ≤ self.now.start + length self.now.bytes.now) }
         ensures refused { IfErr result (λ e. e ≡ StoreError.DamagedDocument doc_id) }
     {

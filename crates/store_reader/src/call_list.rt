@@ -60,14 +60,13 @@ pub fn any_lacks_memory(answers: &[Answer]) -> bool
     answers.iter().any(Answer::lacks_memory)
 }
 
-/// Makes the calls in order. A refused document is its answer, and the next call made.
+/// Makes the calls in order. If a document is refused, the error is the answer, and the next call is made.
 ///
 /// The blocks of the documents and of the iterations are looked up in this order, and the file is read once for each
-/// that the cache doesn't keep. `Memory` comes only where the lists of answers can't grow. A get is answered by
-/// `InvalidArgument` exactly where its id is at or past the count. Where any answer or item is `Read`, the file's
-/// count of failures has risen in the call. Where none is, it has stayed, if each block that is looked up has a
-/// document that is answered: an iteration looks a block up also where none of its documents is alive, and returns
-/// nothing of it.
+/// that the cache doesn't keep. This call returns `Memory` only if the lists of answers can't grow. The answer to a get
+/// is `InvalidArgument` exactly if its id is at or past the count. If any answer or item is `Read`, the file's count of
+/// failures has risen in the call. If none is, it has stayed, provided that each block that is looked up has a document
+/// that is answered: an iteration looks a block up also if none of its documents is alive, and returns nothing of it.
 pub fn answer_all<H: FileHandle>(
     alloc: Global,
     reader: &mut StoreReader<H>,

@@ -11,7 +11,7 @@ use store_base::{NoMemory, OwnedBytes, StoreError};
 /// The index part of a file, and where it first breaks a rule.
 #[derive(Clone, Copy)]
 pub struct IndexCheck {
-    /// How many bytes of the file stand before the index.
+    /// How many bytes of the file come before the index.
     pub start: usize,
     /// The first fault, if the bytes are not the index of a list in line. Its bytes count from the start of the index.
     pub fault: Option<IndexFault>,

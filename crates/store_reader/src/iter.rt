@@ -1,4 +1,4 @@
-//! Iterations over the documents that a reader has. `Items` is the iterator, and its `Walk` is where it stands. Those of
+//! Iterations over the documents that a reader has. `Items` is the iterator, and its `Walk` is its position. Those of
 //! views are in `documents`, and those of slices in `slice_documents`.
 ghost use Rattle.std.specs.Prelude.{◌≡◌};
 ghost use Rattle.store_reader.specs.Walking.{set_of, set_in};
@@ -11,10 +11,9 @@ use store_base::{AliveBitSet, DocumentDeserialize, FileHandle, OwnedBytes, Store
 
 /// An iterator over the documents of a store that are alive, in the order of the ids.
 ///
-/// It holds its current block once, and takes no memory but a share of it for each document. A block
-/// whose read failed is not read again: each of its documents is answered by that refusal. The live
-/// set is a slice of one set or none, and the walk a type of its own, so that a caller who drops an iterator
-/// learns how it left the reader.
+/// It holds its current block once, and takes no memory but a share of it for each document. A block whose read failed
+/// is not read again: each of its documents is answered by that refusal. The live set is a slice of one set or none,
+/// and the walk a type of its own, so that a caller who drops an iterator knows how it left the reader.
 pub struct Items<'a, H: FileHandle, W: Drop> {
     pub(crate) reader: &'a mut StoreReader<H>,
     pub(crate) alloc: Global,

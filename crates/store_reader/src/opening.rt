@@ -1,5 +1,5 @@
-//! Opening a store, in a file or in bytes that another holds: the footer, then where the index lies, then the index. The
-//! first error counts.
+//! Opening a store, in a file or in bytes that another holds: the footer, then where the index lies, then the index.
+//! The first error is returned.
 ghost use Rattle.std.specs.Prelude.{◌≡◌, ◌≢◌, ◌≤◌, ◌<◌, ◌-◌, length, IfOk, IfErr};
 ghost use Rattle.store_reader.specs.Opening.{ReadsIndex, Opens};
 ghost use Rattle.store_reader.specs.Viewing.{FindsFooter, FindsIndex, Finds};

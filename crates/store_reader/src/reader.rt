@@ -66,10 +66,10 @@ impl<H: FileHandle> Model for StoreReader<H> {
 }
 
 impl<H: FileHandle> StoreReader<H> {
-    /// Opens a store, with a cache of at most this many blocks. The first refusal counts: those of
-    /// `DocStoreFooter::extract_footer`, then an offset past the bytes before the footer, then a
-    /// failed read, no memory, and bytes that are not the index of checkpoints that cover the data.
-    /// The cache is made last. A refusal returns the file.
+    /// Opens a store, with a cache of at most this many blocks. The first error in this order is returned: those of
+    /// `DocStoreFooter::extract_footer`, then an offset past the bytes before the footer, then a failed read, no
+    /// memory, and bytes that are not the index of checkpoints that cover the data. The cache is made last. An error
+    /// returns the file.
     pub fn open(
         alloc: Global,
         mut file: FileSlice<H>,
@@ -83,7 +83,7 @@ impl<H: FileHandle> StoreReader<H> {
             (λ r. IsStore r.period file.content (version_number r.version) (store_of r))
             (λ e. RefusesNoStore file.content e.error) }
         ensures seen { IfOk result IsSeen }
-        ensures handed_back { IfErr result (λ e. e.file.content ≡ file.content) }
+        ensures given_back { IfErr result (λ e. e.file.content ≡ file.content) }
         ensures failed { IfErr result (λ e. e.error ≡ StoreError.Read → HasRisen file.failures e.file.failures) }
         ensures steady { MatchResult result (λ r. r.file.failures ≡ file.failures)
             (λ e. (e.error ≡ StoreError.Read) ⊎ (e.file.failures ≡ file.failures)) }
@@ -113,7 +113,7 @@ impl<H: FileHandle> StoreReader<H> {
         })
     }
 
-    /// The bytes of a document. Its block is looked up by its first byte, and read where it isn't kept.
+    /// The bytes of a document. Its block is looked up by its first byte, and read if the cache doesn't have it.
     pub fn get_document_bytes(
         &mut self,
         alloc: Global,
@@ -223,9 +223,9 @@ impl<H: FileHandle> StoreReader<H> {
         }
     }
 
-    /// The bytes of each document that is alive, in the order of the ids; without a set of each.
-    /// Each block is looked up once, at its first document, also where all of its documents are
-    /// dead; the first block here.
+    /// The bytes of each document that is alive, in the order of the ids; without a set those of all documents. Each
+    /// block is looked up once, at its first document, also if all of its documents are dead; the first block is looked
+    /// up by this call.
     pub fn iter_raw<'a>(
         &'a mut self,
         alloc: Global,
@@ -250,8 +250,8 @@ impl<H: FileHandle> StoreReader<H> {
         }
     }
 
-    /// Each document that is alive, in the order of the ids; without a set each. Otherwise as
-    /// `iter_raw`. Documents of version 3 are read as version 2.
+    /// Each document that is alive, in the order of the ids; without a set all documents. Otherwise as `iter_raw`.
+    /// Documents of version 3 are read as version 2.
     pub fn iter<'a, D: DocumentDeserialize>(
         &'a mut self,
         alloc: Global,

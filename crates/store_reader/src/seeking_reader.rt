@@ -62,12 +62,12 @@ fn read_head<H: FileHandle>(
 
 impl<H: FileHandle> SeekingReader<H> {
     /// Opens a store, by two reads: of the footer, and of the head of the index. Damage in the layers is found by the
-    /// calls that meet it. The first error counts: those of the footer, then `BadOffset`, then `BadIndex`; or `Read`
-    /// and `Memory`. An error hands the file back.
+    /// calls that meet it. The first error in this order is returned: those of the footer, then `BadOffset`, then
+    /// `BadIndex`; or `Read` or `Memory`. An error returns the file.
     pub fn open(alloc: Global, mut file: FileSlice<H>) -> Result<SeekingReader<H>, OpenError<H>>
         ensures opened { IfOk result (λ store. ReadsAtMost 2 669 file store) }
         ensures refused { IfErr result (λ e. RefusesOpening file e.error) }
-        ensures handed_back { IfErr result (λ e. ReadsAtMost 2 669 file e.file) }
+        ensures given_back { IfErr result (λ e. ReadsAtMost 2 669 file e.file) }
         ensures failed { IfErr result (λ e. e.error ≡ StoreError.Read → HasRisen file.failures e.file.failures) }
         ensures steady { MatchResult result (λ store. store.failures ≡ file.failures)
             (λ e. (e.error ≡ StoreError.Read) ⊎ (e.file.failures ≡ file.failures)) }

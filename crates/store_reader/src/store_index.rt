@@ -37,6 +37,7 @@ impl Model for StoreIndex {
 impl StoreIndex {
     /// Reads an index. It is refused unless the bytes are the index of checkpoints that cover this many
     /// bytes.
+    #[inline(always)]
     pub fn read(
         alloc: Global,
         bytes: OwnedBytes,

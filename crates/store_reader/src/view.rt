@@ -49,9 +49,8 @@ impl<'a> Model for StoreView<'a> {
 }
 
 impl<'a> StoreView<'a> {
-    /// The store whose file these bytes are. The first refusal counts, in the order of
-    /// `StoreReader::open`: of the footer, of its offset, and then of the index, of which a copy is made;
-    /// only there memory may run out.
+    /// The store whose file these bytes are. The first error is returned, in the order of `StoreReader::open`: of the
+    /// footer, of its offset, and then of the index, of which a copy is made; only there memory may run out.
     pub fn open(alloc: Global, file: &'a [u8]) -> Result<StoreView<'a>, StoreError>
         ensures opened { MatchResult result (λ v. IsViewOf file.entry.now v) (λ e. Finds file.entry.now (Err e)) }
 
@@ -172,8 +171,8 @@ impl<'a> StoreView<'a> {
         Documents::new(self)
     }
 
-    /// The documents that are alive, in the order of their ids, each with its id. Those at or past the end of
-    /// the set are not. (That no byte of the others is read is seen in the code; no clause says it.)
+    /// The documents that are alive, in the order of their ids, each with its id. Those at or past the end of the set
+    /// are not. (No byte of the others is read: the code shows that, and no clause says it.)
     pub fn iter_alive<'v>(&'v self, alive: &'v AliveBitSet) -> AliveDocuments<'v, 'a>
         ensures alive { result.alive.now ≡ alive.entry.now }
         ensures view { result.documents.view.now ≡ self.now }
@@ -211,7 +210,7 @@ impl<'a> StoreView<'a> {
         self.index.period()
     }
 
-    /// The data of all blocks: what stands in the file before the index.
+    /// The data of all blocks: the bytes of the file before the index.
     pub fn block_data(&self) -> &'a [u8]
         ensures data { result.now ≡ data_of self.now.store }
         ensures blocks { AreBlocks self.now.store }

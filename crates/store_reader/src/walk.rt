@@ -1,4 +1,4 @@
-//! Where an iteration over a reader's documents stands, and how it goes on.
+//! The position of an iteration over a reader's documents, and how it goes on.
 ghost use Rattle.std.specs.Prelude.{◌≡◌, ◌≤◌, ◌<◌, ◌⊎◌, ◌+◌, true, Some, Err, length, slice_get, slice_range, take};
 ghost use Rattle.std.specs.Prelude.{IsSome, IsSomeAnd, MatchOption};
 ghost use Rattle.layered_index.specs.declared.checkpoint.Checkpoint.{Checkpoint};
@@ -13,7 +13,7 @@ use std::alloc::Global;
 use std::marker::PhantomData;
 use store_base::{AliveBitSet, DocId, DocumentDeserialize, FileHandle, OwnedBytes, StoreError};
 
-/// Where an iteration stands: at an id, in the block that it looked up last.
+/// The position of an iteration: an id, in the block that it looked up last.
 #[derive(Drop)]
 pub struct Walk {
     pub(crate) next: DocId,
@@ -43,7 +43,7 @@ fn new_walk() -> Walk
     }
 }
 
-// Looks the next block up. The walk stands at its first document.
+// Looks the next block up. The walk is at its first document.
 fn enter_next<H: FileHandle>(reader: &mut StoreReader<H>, alloc: Global, walk: &mut Walk)
     requires walk { IsWalk reader.old walk.old }
     requires here { walk.old.next ≡ walk.old.end }

@@ -20,7 +20,7 @@ fn answer_lines<W: Write>(alloc: Global, script: &[u8], output: &mut W) -> Resul
     Ok(())
 }
 
-// Keeps what is written until it is worth a call. Only memory can be wanting.
+// Buffers what is written. It fails only for lack of memory.
 fn buffered<W: Write + Drop>(alloc: Global, output: W) -> Result<BufWriter<W>, ToolFault> {
     match BufWriter::new(alloc, output) {
         Ok(output) => Ok(output),

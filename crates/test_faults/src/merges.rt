@@ -7,9 +7,9 @@ use std::alloc::Global;
 use std::process::Abort;
 use std::test::Fail;
 use store_merge::{MergeError, MergeInput, merge, merge_in_parts};
-use test_support::FailingSink;
-use test_support::making::written;
-use test_support::merge_inputs::{failing_inputs, inputs, six_blocks};
+use test_support::making::{opened, written};
+use test_support::merge_inputs::{failing_inputs, inputs, six_blocks, without};
+use test_support::{FailingFile, FailingSink};
 
 /// The error that a merge returns, if there is one, and how many documents it took.
 type Taken = (Option<MergeError>, u32);
@@ -77,6 +77,34 @@ fn a_read_that_fails_ends_a_merge(rt: HostRuntime) -> Result<(), Fail> {
         assert!(rt;
             taken_from(rt.alloc(), first_read, second_read)? == expected,
             "{first_read}"
+        );
+    }
+    Ok(())
+}
+
+// What a merge takes of six blocks without the document of the first one, in a file that fails at this read.
+fn taken_after_the_first(alloc: Global, failing_read: u64) -> Result<Taken, StoreError> {
+    let file = FailingFile::new(alloc, six_blocks(alloc)?, failing_read)?;
+    let mut inputs = [without(alloc, opened(alloc, file)?, &[0])?];
+    Ok(taken(alloc, &mut inputs))
+}
+
+// The block of the deleted document is looked up by the third read, and the others by one each.
+#[test]
+fn a_read_that_fails_for_no_live_document_ends_no_merge(rt: HostRuntime) -> Result<(), Fail> {
+    let refused = Some(MergeError {
+        error: StoreError::Read,
+        input: 0,
+    });
+    for (failing_read, expected) in [
+        (3, (None, 5)),
+        (4, (refused, 0)),
+        (8, (refused, 4)),
+        (9, (None, 5)),
+    ] {
+        assert!(rt;
+            taken_after_the_first(rt.alloc(), failing_read)? == expected,
+            "{failing_read}"
         );
     }
     Ok(())

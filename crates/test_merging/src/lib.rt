@@ -1,6 +1,8 @@
-//! Are stores stacked and merged whole?
+//! Are stores stacked, merged and exported whole?
 #![tactic(auto)]
 
+#[cfg(test)]
+mod exporting;
 #[cfg(test)]
 mod merging;
 #[cfg(test)]

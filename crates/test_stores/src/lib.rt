@@ -2,12 +2,12 @@
 #![tactic(auto)]
 
 #[cfg(test)]
+mod describing;
+#[cfg(test)]
 mod lists;
 #[cfg(test)]
 mod records;
 #[cfg(test)]
 mod seeking;
-#[cfg(test)]
-mod telling;
 #[cfg(test)]
 mod viewing;

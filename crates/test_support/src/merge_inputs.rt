@@ -19,7 +19,22 @@ pub fn whole<H: FileHandle>(reader: StoreReader<H>) -> MergeInput<H>
     }
 }
 
-/// A store with a set.
+/// A store of which these ids are deleted.
+pub fn without<H: FileHandle>(
+    alloc: Global,
+    reader: StoreReader<H>,
+    deleted: &[u32],
+) -> Result<MergeInput<H>, StoreError>
+    ensures { IfOk result HasWholeSet }
+{
+    let alive = AliveBitSet::from_deleted_docs(alloc, deleted, reader.num_docs())?;
+    Ok(MergeInput {
+        reader,
+        alive: Some(alive),
+    })
+}
+
+/// The store of a file of which these ids are deleted.
 pub fn input(
     alloc: Global,
     file: Vec<u8>,
@@ -27,12 +42,7 @@ pub fn input(
 ) -> Result<MergeInput<MemFile>, StoreError>
     ensures { IfOk result HasWholeSet }
 {
-    let reader = opened_bytes(alloc, file)?;
-    let alive = AliveBitSet::from_deleted_docs(alloc, deleted, reader.num_docs())?;
-    Ok(MergeInput {
-        reader,
-        alive: Some(alive),
-    })
+    without(alloc, opened_bytes(alloc, file)?, deleted)
 }
 
 /// The stores of these files, each with the ids that are deleted in it.

@@ -53,12 +53,12 @@ pub fn flag<'a>(alloc: Global, id: &'a str, help: &'a str) -> Arg<'a> {
         .help(help)
 }
 
-/// That files are as tantivy's directory leaves them.
+/// That files have to be as tantivy's directory leaves them.
 pub fn tantivy<'a>(alloc: Global) -> Arg<'a> {
     flag(
         alloc,
         "tantivy",
-        "Read .store files of tantivy segments, with the footer that tantivy's directory adds",
+        "Require the footer that tantivy's directory adds to a segment's .store file; it is recognized without this",
     )
 }
 
@@ -125,12 +125,15 @@ pub fn output_path<'a>(alloc: Global, matches: &ArgMatches<'a>) -> Result<&'a st
     word(alloc, matches, OUTPUT)
 }
 
+/// The block size, in bytes.
+pub fn block_size_of(alloc: Global, matches: &ArgMatches<'_>) -> Result<usize, Failure> {
+    let size = word(alloc, matches, "block-size")?;
+    parse_size(size).ok_or_else(|| wrong_words(alloc, "invalid block size", size))
+}
+
 /// How the store is to be written.
 pub fn shape_of(alloc: Global, matches: &ArgMatches<'_>) -> Result<StoreShape, Failure> {
-    let block_size_word = word(alloc, matches, "block-size")?;
-    let Some(block_size) = parse_size(block_size_word) else {
-        return Err(wrong_words(alloc, "invalid block size", block_size_word));
-    };
+    let block_size = block_size_of(alloc, matches)?;
     matches
         .get_one::<u8>("period")
         .and_then(|period| StoreShape::new(block_size, period))

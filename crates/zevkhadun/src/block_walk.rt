@@ -1,24 +1,47 @@
 //! Prints the documents of a store.
 
+ghost use Rattle.std.specs.Prelude.{◌≡◌};
 ghost use Rattle.store_commands.specs.LeftOut.{AreApartFrom};
 
-use crate::failure::{FailureCause, to_output};
+use crate::document_output::DocumentForm;
+use crate::failure::FailureCause;
 use crate::store_file::DiskReader;
-use document_framing::Framing;
+use docstore::DocId;
 use std::alloc::Global;
 use std::io::Write;
 use store_commands::block_walk::{DocumentTarget, GivingError, give_documents};
 use store_commands::left_out::IdSpan;
 
-// An output in which each document stands in a framing. It counts the writes that fail.
+// An output in which each document is in a form. It counts the writes that fail.
 #[derive(Drop)]
-struct FramedOutput<'a, W: Write> {
+struct PrintedDocuments<'a, 's, W: Write> {
+    alloc: Global,
     output: &'a mut W,
-    framing: Framing,
+    form: DocumentForm,
+    left_out: &'s [IdSpan],
+    next_span: usize,
+    next_id: DocId,
     failures: u64,
 }
 
-impl<'a, W: Write> DocumentTarget for FramedOutput<'a, W> {
+impl<'a, 's, W: Write> PrintedDocuments<'a, 's, W> {
+    // The number of the document that comes: the next one, or the one after the range that begins there.
+    fn take_id(&mut self) -> DocId
+        ensures { self.new.failures ≡ self.old.failures }
+    {
+        if let Some(span) = self.left_out.get(self.next_span) {
+            if span.start <= self.next_id {
+                self.next_id = span.end;
+                self.next_span = self.next_span.saturating_add(1);
+            }
+        }
+        let doc_id = self.next_id;
+        self.next_id = doc_id.saturating_add(1);
+        doc_id
+    }
+}
+
+impl<'a, 's, W: Write> DocumentTarget for PrintedDocuments<'a, 's, W> {
     ghost use Rattle.std.specs.Prelude.{⊤};
 
     ghost takes = { λ _ _ _. ⊤ };
@@ -30,7 +53,8 @@ impl<'a, W: Write> DocumentTarget for FramedOutput<'a, W> {
     type Error = FailureCause;
 
     fn take(&mut self, document: &[u8]) -> Result<(), FailureCause> {
-        let written = to_output(self.framing.write(self.output, document));
+        let doc_id = self.take_id();
+        let written = self.form.write(self.alloc, self.output, doc_id, document);
         if written.is_err() {
             self.failures = self.failures.saturating_add(1);
         }
@@ -47,19 +71,23 @@ impl From<GivingError<FailureCause>> for FailureCause {
     }
 }
 
-/// Writes the documents of an opened store in order, except those of the ranges, which are in order and do not touch.
+/// Prints the documents of an opened store in order, except those of the ranges, which are in order and do not touch.
 pub fn write_documents<W: Write>(
     alloc: Global,
     reader: &mut DiskReader,
     output: &mut W,
-    framing: Framing,
+    form: DocumentForm,
     left_out: &[IdSpan],
 ) -> Result<(), FailureCause>
     requires { AreApartFrom 0 left_out.now }
 {
-    let mut target = FramedOutput {
+    let mut target = PrintedDocuments {
+        alloc,
         output,
-        framing,
+        form,
+        left_out,
+        next_span: 0,
+        next_id: 0,
         failures: 0,
     };
     give_documents(alloc, reader, &mut target, left_out)?;

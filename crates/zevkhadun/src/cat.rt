@@ -1,19 +1,23 @@
 //! `cat`: prints all documents in order.
 
-use crate::arguments::{self, framing_of, option};
+use crate::arguments::{self, flag, option};
 use crate::block_walk::write_documents;
-use crate::document_output::standard_output;
+use crate::document_output::{self, DocumentForm, form_of, standard_output};
 use crate::failure::{Failure, FailureCause, to_output, with_file};
+use crate::status::Status;
 use crate::store_file::{DiskReader, StorePath, store_path};
+use crate::word_files::{id_words, words_in};
 use clap::{Arg, ArgAction, ArgMatches, Command};
-use document_framing::Framing;
 use std::alloc::{AllocError, Global};
 use std::io::Write;
-use store_commands::left_out::left_out;
+use store_commands::damaged_documents::damaged_documents;
+use store_commands::left_out::{IdSpan, joined, left_out};
 
 const EXAMPLE: &str = "\
-Example:
-  zevkhadun cat words.store --without 0,3..9     all but documents 0 and 3 to 8";
+Examples:
+  zevkhadun cat words.store --without 0,3..9     all but documents 0 and 3 to 8
+  zevkhadun cat --number words.store | grep tree     the documents with 'tree', and their numbers
+  zevkhadun cat --keep-going damaged.store > saved.txt     what can still be read";
 
 // Documents to leave out.
 fn without<'a>(alloc: Global) -> Arg<'a> {
@@ -21,7 +25,7 @@ fn without<'a>(alloc: Global) -> Arg<'a> {
         alloc,
         "without",
         "IDS",
-        "Documents to leave out, as 0,3..9; may be given several times",
+        "Documents to leave out, as 0,3..9, or @FILE with such words on its lines; may be given several times",
     )
     .action(ArgAction::Append)
 }
@@ -33,39 +37,80 @@ pub fn command<'a>(alloc: Global) -> Result<Command<'a>, AllocError> {
         .after_help(EXAMPLE)
         .arg(arguments::input(alloc))?
         .arg(without(alloc))?
+        .arg(flag(
+            alloc,
+            "keep-going",
+            "Skip damaged documents; their numbers go to standard error, and the exit status is 1",
+        ))?
+        .arg(document_output::number(alloc))?
+        .arg(document_output::json(alloc)?)?
         .arg(arguments::framing(alloc))?
         .arg(arguments::tantivy(alloc))
 }
 
-// Prints the documents of an opened store.
-fn print_documents(
-    rt: &HostRuntime,
-    reader: &mut DiskReader,
-    framing: Framing,
-    without: &[&str],
-) -> Result<(), FailureCause> {
-    let left_out = left_out(rt.alloc(), without, reader.num_docs())?;
-    let mut output = standard_output(rt)?;
-    write_documents(rt.alloc(), reader, &mut output, framing, &left_out)?;
-    to_output(output.flush())
+// What is printed of a store.
+#[derive(Clone, Copy)]
+struct Printing<'p, 'w> {
+    form: DocumentForm,
+    without: &'p [&'w str],
+    keeps_going: bool,
 }
 
-// Prints the documents of a store.
-fn print(
-    rt: &HostRuntime,
-    store: StorePath<'_>,
-    framing: Framing,
-    without: &[&str],
-) -> Result<(), FailureCause> {
-    let mut reader = store.reader(rt)?;
-    print_documents(rt, &mut reader, framing, without)
+impl<'p, 'w> Printing<'p, 'w> {
+    // Prints the documents of an opened store, and returns which are damaged, if they are to be skipped.
+    fn print_documents(
+        &self,
+        rt: &HostRuntime,
+        reader: &mut DiskReader,
+    ) -> Result<Vec<IdSpan>, FailureCause> {
+        let alloc = rt.alloc();
+        let left_out = left_out(alloc, self.without, reader.num_docs())?;
+        let damaged = if self.keeps_going {
+            damaged_documents(alloc, reader)?
+        } else {
+            Vec::new(alloc)
+        };
+        let skipped = joined(alloc, &left_out, &damaged)?;
+        let mut output = standard_output(rt)?;
+        write_documents(alloc, reader, &mut output, self.form, &skipped)?;
+        to_output(output.flush())?;
+        Ok(damaged)
+    }
+
+    // Prints the documents of a store, and returns which are damaged, if they are to be skipped.
+    fn print(&self, rt: &HostRuntime, store: StorePath<'_>) -> Result<Vec<IdSpan>, FailureCause> {
+        let mut reader = store.reader(rt)?;
+        self.print_documents(rt, &mut reader)
+    }
+}
+
+// Reports the documents that were skipped.
+fn report_skipped(rt: &HostRuntime, path: &str, damaged: &[IdSpan]) -> Result<(), Failure> {
+    if damaged.is_empty() {
+        return Ok(());
+    }
+    let _ = eprint!(rt; "zevkhadun: {path}: damaged documents were skipped: ");
+    let mut separator = "";
+    for span in damaged {
+        let _ = eprint!(rt; "{separator}{span}");
+        separator = ",";
+    }
+    let _ = eprintln!(rt; "");
+    Err(Failure::from(FailureCause::Reported(Status::Broken)))
 }
 
 /// Prints the documents.
 pub fn run(rt: &HostRuntime, matches: &ArgMatches<'_>) -> Result<(), Failure> {
+    let alloc = rt.alloc();
     let store = store_path(rt, matches)?;
-    let framing = framing_of(rt.alloc(), matches)?;
-    let without = matches.get_strs("without").unwrap_or(&[]);
-    let printed = print(rt, store, framing, without);
-    with_file(rt.alloc(), store.path, printed)
+    let form = form_of(alloc, matches)?;
+    let read = id_words(rt, matches.get_strs("without").unwrap_or(&[]))?;
+    let without = with_file(alloc, store.path, words_in(alloc, &read))?;
+    let printing = Printing {
+        form,
+        without: &without,
+        keeps_going: matches.get_flag("keep-going"),
+    };
+    let damaged = with_file(alloc, store.path, printing.print(rt, store))?;
+    report_skipped(rt, store.path, &damaged)
 }

@@ -2,10 +2,10 @@
 
 ghost use Rattle.std.specs.Prelude.{◌≡◌, Ok, IfOk};
 
+use crate::status::Status;
 use docstore::{NoMemory, StoreError};
 use document_framing::FramingFault;
 use std::alloc::{AllocError, AllocFailed, Global};
-use std::process::ExitCode;
 use std::{fmt, io};
 use store_commands::RequestError;
 use store_files::CreateError;
@@ -31,8 +31,8 @@ pub enum FailureCause {
     Request(RequestError),
     /// The input of lengths and documents ends within one.
     CutInput,
-    /// It was reported already.
-    Reported,
+    /// It was reported already, and has this status.
+    Reported(Status),
 }
 
 impl FailureCause {
@@ -48,6 +48,30 @@ impl FailureCause {
             _ => "",
         }
     }
+
+    // The status with which the program ends.
+    fn status(&self) -> Status {
+        match self {
+            FailureCause::Words(_) | FailureCause::NoText => Status::Usage,
+            FailureCause::System(_) | FailureCause::Output(_) | FailureCause::Create(_) => {
+                Status::System
+            }
+            FailureCause::Store(error) => status_of(error),
+            FailureCause::Request(RequestError::Store(error)) => status_of(error),
+            FailureCause::OtherFile(_) | FailureCause::Request(_) | FailureCause::CutInput => {
+                Status::Broken
+            }
+            FailureCause::Reported(status) => *status,
+        }
+    }
+}
+
+// The status where a store refuses a call.
+fn status_of(error: &StoreError) -> Status {
+    match error {
+        StoreError::Read | StoreError::Memory | StoreError::Failed(_) => Status::System,
+        _ => Status::Broken,
+    }
 }
 
 // What to do where a request to a store is refused.
@@ -62,8 +86,9 @@ fn advice_for_request(error: &RequestError) -> &'static str {
 // What to do where a store refuses a call.
 fn advice_for(error: &StoreError) -> &'static str {
     match error {
-        StoreError::ShortFile(_) | StoreError::BadOffset => "; not a store, or its end is missing",
-        StoreError::BadVersion(_) => "; not a store, or a segment's file, which needs '--tantivy'",
+        StoreError::ShortFile(_) | StoreError::BadOffset | StoreError::BadVersion(_) => {
+            "; not a store, or its end is missing"
+        }
         StoreError::BadBlockKind(_) => "; only uncompressed stores can be read",
         StoreError::BadIndex | StoreError::DamagedDocument(_) => "; 'zevkhadun verify' says where",
         StoreError::OldVersion => "; pack the output of 'cat' instead",
@@ -85,10 +110,11 @@ impl fmt::Display for FailureCause {
             FailureCause::Store(StoreError::BadBlockKind(kind)) => {
                 write!(f, "blocks are compressed (kind {kind})")
             }
+            FailureCause::Store(StoreError::BadIndex) => f.write_str("the index is damaged"),
             FailureCause::Store(error) => write!(f, "{error}"),
             FailureCause::Request(error) => write!(f, "{error}"),
             FailureCause::CutInput => f.write_str("the input ends inside a document"),
-            FailureCause::Reported => Ok(()),
+            FailureCause::Reported(_) => Ok(()),
         }
     }
 }
@@ -174,6 +200,11 @@ impl Failure {
         }
     }
 
+    /// Whether the standard output refused a write.
+    pub fn is_of_output(&self) -> bool {
+        matches!(self.cause, FailureCause::Output(_))
+    }
+
     // Whether the other end of the standard output was closed.
     fn is_closed_pipe(&self) -> bool {
         match &self.cause {
@@ -192,23 +223,17 @@ impl Failure {
         };
     }
 
-    /// Prints one line on the standard error, and returns the program's status: 1, or 2 for a usage error. A closed
-    /// pipe ends the program quietly, with 0.
-    pub fn report<R: Eprint>(&self, rt: &R) -> ExitCode {
+    /// Prints one line on the standard error, unless it was printed already, and returns the status. A closed pipe ends
+    /// the program quietly, without one.
+    pub fn report<R: Eprint>(&self, rt: &R) -> Option<Status> {
         if self.is_closed_pipe() {
-            return ExitCode::SUCCESS;
+            return None;
         }
         match &self.cause {
-            FailureCause::Reported => ExitCode::FAILURE,
-            FailureCause::Words(_) | FailureCause::NoText => {
-                self.print(rt);
-                ExitCode::from(2u8)
-            }
-            _ => {
-                self.print(rt);
-                ExitCode::FAILURE
-            }
+            FailureCause::Reported(_) => (),
+            _ => self.print(rt),
         }
+        Some(self.cause.status())
     }
 }
 

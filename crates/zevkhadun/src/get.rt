@@ -1,20 +1,22 @@
 //! `get`: prints documents by their numbers.
 
-use crate::arguments::{self, framing_of};
-use crate::document_output::{DocumentOutput, standard_output};
+use crate::arguments;
+use crate::document_output::{self, DocumentForm, DocumentOutput, form_of, standard_output};
 use crate::failure::{Failure, FailureCause, to_output, with_file};
 use crate::store_file::{DiskReader, StorePath, store_path};
 use clap::{ArgMatches, Command};
-use docstore::DocId;
-use document_framing::Framing;
 use std::alloc::{AllocError, Global};
-use std::io::Write;
-use std::ops::Range;
+use std::io::{BufRead, BufReader, Read, Write};
+use store_commands::id_range::range_of;
 use store_commands::{IdRange, ranges_of};
 
+// How many bytes of numbers are read at once.
+const BUFFER_SIZE: usize = 1 << 16;
+
 const EXAMPLE: &str = "\
-Example:
-  zevkhadun get words.store 7 3..9 100..     documents 7, 3 to 8, and 100 to the last";
+Examples:
+  zevkhadun get words.store 7 3..9 100..     documents 7, 3 to 8, and 100 to the last
+  sort -n ids.txt | zevkhadun get words.store -     the documents whose numbers are on the lines of ids.txt";
 
 /// The words of `get`.
 pub fn command<'a>(alloc: Global) -> Result<Command<'a>, AllocError> {
@@ -25,61 +27,114 @@ pub fn command<'a>(alloc: Global) -> Result<Command<'a>, AllocError> {
         .arg(arguments::several(
             alloc,
             "ID",
-            "Documents to print: numbers from 0 on, or ranges that exclude their end: 3..9, 5.. or ..9",
+            "Documents to print: numbers from 0 on, or ranges that exclude their end: 3..9, 5.. or ..9; \
+             '-' alone reads them from standard input, one on each line",
         ))?
+        .arg(document_output::number(alloc))?
+        .arg(document_output::json(alloc)?)?
         .arg(arguments::framing(alloc))?
         .arg(arguments::tantivy(alloc))
 }
 
-// Prints the documents of a range.
-fn print_range(
+// An opened store, and the output for its documents.
+#[derive(Drop)]
+struct Printer<'a> {
     alloc: Global,
-    reader: &mut DiskReader,
-    output: &mut DocumentOutput<'_>,
-    framing: Framing,
-    ids: Range<DocId>,
-) -> Result<(), FailureCause> {
-    for doc_id in ids {
-        let document = reader.get_document_bytes(alloc, doc_id)?;
-        to_output(framing.write(output, document.as_slice()))?;
-    }
-    Ok(())
+    reader: DiskReader,
+    output: DocumentOutput<'a>,
+    form: DocumentForm,
 }
 
-// Prints the documents of each range.
-fn print_ranges(
-    alloc: Global,
-    reader: &mut DiskReader,
-    output: &mut DocumentOutput<'_>,
-    framing: Framing,
-    ranges: &[IdRange],
-) -> Result<(), FailureCause> {
-    for range in ranges {
-        let ids = range.among(reader.num_docs())?;
-        print_range(alloc, reader, output, framing, ids)?;
+impl<'a> Printer<'a> {
+    // For a store.
+    fn open(
+        rt: &'a HostRuntime,
+        store: StorePath<'_>,
+        form: DocumentForm,
+    ) -> Result<Printer<'a>, FailureCause> {
+        Ok(Printer {
+            alloc: rt.alloc(),
+            reader: store.reader(rt)?,
+            output: standard_output(rt)?,
+            form,
+        })
     }
-    to_output(output.flush())
+
+    // Prints the documents of a range.
+    fn print(&mut self, range: IdRange) -> Result<(), FailureCause> {
+        for doc_id in range.among(self.reader.num_docs())? {
+            let document = self.reader.get_document_bytes(self.alloc, doc_id)?;
+            self.form
+                .write(self.alloc, &mut self.output, doc_id, document.as_slice())?;
+        }
+        Ok(())
+    }
+
+    // Prints the documents of each range.
+    fn print_all(&mut self, ranges: &[IdRange]) -> Result<(), FailureCause> {
+        for range in ranges {
+            self.print(*range)?;
+        }
+        to_output(self.output.flush())
+    }
+
+    // Prints the documents of the range on a line.
+    fn print_line(&mut self, line: &str) -> Result<(), FailureCause> {
+        let word = line.trim();
+        if word.is_empty() {
+            return Ok(());
+        }
+        let range = range_of(self.alloc, word)?;
+        self.print(range)
+    }
+
+    // Prints the documents of the range on each line of an input. What was asked for is printed before more is waited
+    // for.
+    fn print_lines<R: Read>(&mut self, input: &mut BufReader<R>) -> Result<(), FailureCause> {
+        let mut line = String::new(self.alloc);
+        for _ in 0..u64::MAX {
+            line.clear();
+            if input.read_line(&mut line)? == 0 {
+                break;
+            }
+            self.print_line(line.as_str())?;
+            if input.buffer().is_empty() {
+                to_output(self.output.flush())?;
+            }
+        }
+        to_output(self.output.flush())
+    }
 }
 
-// Prints the documents of each range of a store.
-fn print(
+// Prints the documents whose numbers are in the standard input.
+fn print_listed(
     rt: &HostRuntime,
     store: StorePath<'_>,
-    framing: Framing,
-    ranges: &[IdRange],
+    form: DocumentForm,
 ) -> Result<(), FailureCause> {
-    let mut reader = store.reader(rt)?;
-    let mut output = standard_output(rt)?;
-    print_ranges(rt.alloc(), &mut reader, &mut output, framing, ranges)
+    let mut printer = Printer::open(rt, store, form)?;
+    let mut input = BufReader::with_capacity(rt.alloc(), BUFFER_SIZE, rt.reader())?;
+    printer.print_lines(&mut input)
+}
+
+// Prints the documents that words name.
+fn print_named(
+    rt: &HostRuntime,
+    store: StorePath<'_>,
+    form: DocumentForm,
+    words: &[&str],
+) -> Result<(), FailureCause> {
+    let ranges = ranges_of(rt.alloc(), words)?;
+    Printer::open(rt, store, form)?.print_all(&ranges)
 }
 
 /// Prints the documents.
 pub fn run(rt: &HostRuntime, matches: &ArgMatches<'_>) -> Result<(), Failure> {
-    let alloc = rt.alloc();
     let store = store_path(rt, matches)?;
-    let framing = framing_of(alloc, matches)?;
-    let words = matches.get_strs("ID").unwrap_or(&[]);
-    let ranges = with_file(alloc, store.path, ranges_of(alloc, words))?;
-    let printed = print(rt, store, framing, &ranges);
-    with_file(alloc, store.path, printed)
+    let form = form_of(rt.alloc(), matches)?;
+    let printed = match matches.get_strs("ID").unwrap_or(&[]) {
+        ["-"] => print_listed(rt, store, form),
+        words => print_named(rt, store, form, words),
+    };
+    with_file(rt.alloc(), store.path, printed)
 }

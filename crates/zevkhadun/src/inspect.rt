@@ -7,10 +7,11 @@ use crate::store_file::{DiskReader, StorePath, store_path};
 use clap::{Arg, ArgAction, ArgMatches, Command};
 use docstore::{DataPart, FOOTER_LEN, StoreError, TerminatingWrite, block_read_index};
 use std::alloc::{AllocError, Global};
+use std::fs;
 use store_commands::block_documents::documents_with_room;
 use store_commands::store_numbers::{StoreNumbers, block_sizes, numbers_of};
 use store_files::DiskSink;
-use store_page::{BlockStarts, Histogram, Page};
+use store_page::{Beginning, BlockStarts, Excerpt, Histogram, MOST_EXCERPTS, Page, excerpt_bytes};
 
 const EXAMPLE: &str = "\
 Example:
@@ -38,14 +39,48 @@ pub fn command<'a>(alloc: Global) -> Result<Command<'a>, AllocError> {
         .arg(arguments::tantivy(alloc))
 }
 
-// How the documents' sizes spread, and how many documents are damaged.
-#[derive(Clone, Copy)]
-struct DocumentSizes {
+// The documents of a store: how their sizes spread, how many are damaged, and how the first one of each block begins.
+#[derive(Drop)]
+struct Documents {
     spread: Histogram,
     damaged: u64,
+    excerpts: Vec<Excerpt>,
+    excerpt_bytes: usize,
 }
 
-impl DocumentSizes {
+// The first document of a block.
+fn excerpt_of(alloc: Global, block: &DataPart, most: usize) -> Result<Excerpt, AllocError> {
+    let bytes = block.bytes.as_slice();
+    let beginning = match block_read_index(bytes, 0) {
+        Some(place) => Some(Beginning::new(alloc, &bytes[place], most)?),
+        None => None,
+    };
+    Ok(Excerpt {
+        document: block.ids.start,
+        beginning,
+    })
+}
+
+impl Documents {
+    // Of a store with this many blocks, before any is read.
+    fn new(alloc: Global, blocks: usize) -> Documents {
+        Documents {
+            spread: Histogram::new(),
+            damaged: 0,
+            excerpts: Vec::new(alloc),
+            excerpt_bytes: excerpt_bytes(blocks),
+        }
+    }
+
+    // Keeps the first document of a block, as long as the page shows one more.
+    fn keep_first(&mut self, alloc: Global, block: &DataPart) -> Result<(), AllocError> {
+        if self.excerpts.len() < MOST_EXCERPTS {
+            let excerpt = excerpt_of(alloc, block, self.excerpt_bytes)?;
+            self.excerpts.push(excerpt)?;
+        }
+        Ok(())
+    }
+
     // Counts the documents of a block. Those that its table has no room for are damaged.
     fn add_block(&mut self, block: &DataPart) {
         let documents = block.ids.end.saturating_sub(block.ids.start);
@@ -61,22 +96,20 @@ impl DocumentSizes {
     }
 }
 
-// The sizes of the documents of an opened store.
-fn document_sizes(alloc: Global, reader: &mut DiskReader) -> Result<DocumentSizes, StoreError> {
-    let mut sizes = DocumentSizes {
-        spread: Histogram::new(),
-        damaged: 0,
-    };
+// The documents of an opened store.
+fn documents_of(alloc: Global, reader: &mut DiskReader) -> Result<Documents, StoreError> {
+    let mut documents = Documents::new(alloc, reader.num_blocks());
     let mut next_id = 0;
     // Each block has a document.
     for _ in 0..reader.num_docs() {
         let Some(block) = reader.read_block(alloc, next_id)? else {
             break;
         };
-        sizes.add_block(&block);
+        documents.add_block(&block);
+        documents.keep_first(alloc, &block)?;
         next_id = block.ids.end;
     }
-    Ok(sizes)
+    Ok(documents)
 }
 
 // How the blocks' sizes spread.
@@ -114,9 +147,14 @@ fn named(numbers: &StoreNumbers, damaged: u64) -> [(&'static str, u64); 11] {
     ]
 }
 
-// The page on an opened store of this name.
-fn page_on(alloc: Global, name: &str, reader: &mut DiskReader) -> Result<String, FailureCause> {
-    let documents = document_sizes(alloc, reader)?;
+// The page on an opened store of this name, whose file has this many bytes.
+fn page_on(
+    alloc: Global,
+    name: &str,
+    file_bytes: u64,
+    reader: &mut DiskReader,
+) -> Result<String, FailureCause> {
+    let documents = documents_of(alloc, reader)?;
     let sizes = block_sizes(alloc, reader)?;
     let spread = spread_of(&sizes);
     let numbers = numbers_of(reader, sizes);
@@ -133,6 +171,8 @@ fn page_on(alloc: Global, name: &str, reader: &mut DiskReader) -> Result<String,
         starts: &starts,
         block_sizes: &spread,
         document_sizes: &documents.spread,
+        file_bytes,
+        excerpts: documents.excerpts.as_slice(),
     }
     .push_to(&mut page)?;
     Ok(page)
@@ -141,7 +181,8 @@ fn page_on(alloc: Global, name: &str, reader: &mut DiskReader) -> Result<String,
 // The page on a store.
 fn page_of(rt: &HostRuntime, store: StorePath<'_>) -> Result<String, FailureCause> {
     let mut reader = store.reader(rt)?;
-    page_on(rt.alloc(), store.path, &mut reader)
+    let file_bytes = fs::metadata(rt, store.path)?.len();
+    page_on(rt.alloc(), store.path, file_bytes, &mut reader)
 }
 
 // Why an output refused a call.

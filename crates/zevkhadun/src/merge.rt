@@ -8,6 +8,7 @@ use crate::failure::{Failure, FailureCause, with_file};
 use crate::progress::Progress;
 use crate::store_file::{DiskReader, StorePath};
 use crate::store_output::{OutputPlace, output_place, summarize, written_of};
+use crate::word_files::IdWord;
 use clap::{Arg, ArgAction, ArgMatches, Command};
 use docstore::{DocStoreVersion, FileHandle, StoreError, StoreWriter, TerminatingWrite};
 use std::alloc::{AllocError, Global};
@@ -16,8 +17,8 @@ use store_commands::kept_documents::input_without;
 use store_commands::merging::{MergeFailure, merge_store};
 use store_published::{Filling, publish_store};
 
-// How many bytes of a store that is stacked are in memory at a time.
-const PART_BYTES: usize = 1 << 22;
+/// How many bytes of a store that is stacked are in memory at a time.
+pub const PART_BYTES: usize = 1 << 22;
 
 const EXAMPLE: &str = "\
 Stores of at least six blocks that keep all documents are copied block by block; others document by document.
@@ -31,7 +32,8 @@ fn without<'a>(alloc: Global) -> Arg<'a> {
         alloc,
         "without",
         "INPUT=IDS",
-        "Documents of an input to leave out, as a.store=0,3..9; may be given several times",
+        "Documents of an input to leave out, as a.store=0,3..9, or a.store=@FILE with such words on its lines; \
+         may be given several times",
     )
     .action(ArgAction::Append)
 }
@@ -50,20 +52,35 @@ pub fn command<'a>(alloc: Global) -> Result<Command<'a>, AllocError> {
         .arg(arguments::quiet(alloc))
 }
 
+// A word like `INPUT=IDS`, of which the documents may be in a file: `INPUT=@FILE`.
+#[derive(Clone, Copy)]
+struct InputWord<'w> {
+    input: &'w str,
+    ids: &'w str,
+}
+
+// The parts of a word like `INPUT=IDS`.
+fn input_word(word: &str) -> Option<InputWord<'_>> {
+    let (input, ids) = match word.split_once("=@") {
+        Some((input, _)) => (input, word.get(input.len() + 1..)?),
+        None => word.rsplit_once('=')?,
+    };
+    Some(InputWord { input, ids })
+}
+
+// Documents of an input that are left out.
+#[derive(Drop)]
+struct LeftOut<'w> {
+    input: &'w str,
+    ids: IdWord,
+}
+
 // What is merged, by the words.
 #[derive(Clone, Copy)]
 struct Merging<'m, 'w> {
     paths: &'m [&'w str],
-    without: &'m [&'w str],
+    without: &'m [LeftOut<'w>],
     is_tantivy: bool,
-}
-
-// The documents that a word like `INPUT=IDS` leaves out, if it is of the input of this name.
-fn ids_for<'a>(word: &'a str, path: &str) -> Option<&'a str> {
-    match word.rsplit_once('=') {
-        Some((input, ids)) if input == path => Some(ids),
-        _ => None,
-    }
 }
 
 impl<H: FileHandle> From<MergeFailure<H>> for FailureCause {
@@ -77,11 +94,11 @@ impl<H: FileHandle> From<MergeFailure<H>> for FailureCause {
 
 impl<'m, 'w> Merging<'m, 'w> {
     // The words that leave documents out of an input.
-    fn words_for(&self, alloc: Global, path: &str) -> Result<Vec<&'w str>, FailureCause> {
+    fn words_for(&self, alloc: Global, path: &str) -> Result<Vec<&'m str>, FailureCause> {
         let mut words = Vec::new(alloc);
-        for word in self.without {
-            if let Some(ids) = ids_for(word, path) {
-                words.push(ids)?;
+        for left_out in self.without {
+            if left_out.input == path {
+                left_out.ids.add_to(&mut words)?;
             }
         }
         Ok(words)
@@ -148,25 +165,12 @@ impl<'m, 'w> Merging<'m, 'w> {
         }
         Ok(())
     }
-
-    // Whether a word names an input.
-    fn names_input(&self, word: &str) -> bool {
-        self.paths.iter().any(|path| ids_for(word, path).is_some())
-    }
-
-    // The first word that names none of the inputs.
-    fn stray_word(&self) -> Option<&'w str> {
-        self.without
-            .iter()
-            .copied()
-            .find(|word| !self.names_input(word))
-    }
 }
 
 // What is wrong with a word of `--without` that names none of the inputs.
 fn stray_text(alloc: Global, word: &str) -> Result<String, AllocError> {
-    match word.rsplit_once('=') {
-        Some((input, _)) => {
+    match input_word(word) {
+        Some(InputWord { input, .. }) => {
             format!(in alloc; "--without '{word}': none of the inputs is named '{input}'")
         }
         None => format!(in alloc; "--without '{word}': it must have the form INPUT=IDS"),
@@ -179,6 +183,37 @@ fn stray_failure(alloc: Global, word: &str) -> Failure {
         Ok(text) => FailureCause::Words(text),
         Err(error) => FailureCause::from(error),
     })
+}
+
+// The documents that a word leaves out of one of these inputs.
+fn left_out_by<'w>(
+    rt: &HostRuntime,
+    paths: &[&str],
+    word: &'w str,
+) -> Result<LeftOut<'w>, Failure> {
+    match input_word(word) {
+        Some(InputWord { input, ids }) if paths.contains(&input) => Ok(LeftOut {
+            input,
+            ids: IdWord::read(rt, ids)?,
+        }),
+        _ => Err(stray_failure(rt.alloc(), word)),
+    }
+}
+
+// The documents that words leave out of these inputs.
+fn left_out_of<'w>(
+    rt: &HostRuntime,
+    paths: &[&str],
+    words: &[&'w str],
+) -> Result<Vec<LeftOut<'w>>, Failure> {
+    let mut left_out = Vec::new(rt.alloc());
+    for word in words {
+        let more = left_out_by(rt, paths, word)?;
+        if let Err(error) = left_out.push(more) {
+            return Err(Failure::from(FailureCause::from(error)));
+        }
+    }
+    Ok(left_out)
 }
 
 // The stores that are merged, as what fills a store.
@@ -211,9 +246,6 @@ fn merge_stores<'a, 'm, 'w>(
     progress: Progress<'a>,
 ) -> Result<(), Failure> {
     let alloc = rt.alloc();
-    if let Some(word) = merging.stray_word() {
-        return Err(stray_failure(alloc, word));
-    }
     merging.check_inputs(rt)?;
     let place = output_place(rt, out)?;
     let mut stores = StoreFiles {
@@ -238,12 +270,15 @@ fn merge_stores<'a, 'm, 'w>(
 /// Writes the store.
 pub fn run(rt: &HostRuntime, matches: &ArgMatches<'_>) -> Result<(), Failure> {
     let shape = shape_of(rt.alloc(), matches)?;
+    let paths = matches.get_strs("INPUT").unwrap_or(&[]);
+    let words = matches.get_strs("without").unwrap_or(&[]);
+    let left_out = left_out_of(rt, paths, words)?;
     let merging = Merging {
-        paths: matches.get_strs("INPUT").unwrap_or(&[]),
-        without: matches.get_strs("without").unwrap_or(&[]),
+        paths,
+        without: &left_out,
         is_tantivy: matches.get_flag("tantivy"),
     };
     let out = output_path(rt.alloc(), matches)?;
-    let progress = Progress::begin(rt, matches.get_flag("quiet"));
+    let progress = Progress::begin(rt, matches.get_flag("quiet"), None);
     merge_stores(rt, out, shape, merging, progress)
 }

@@ -5,14 +5,16 @@ ghost use Rattle.store_published.specs.Filling.{AddsSome};
 
 use crate::arguments::{self, framing_of, output_path, shape_of};
 use crate::failure::{Failure, with_file};
+use crate::input_files::{files_from, inputs, names_of, split_names, total_bytes};
 use crate::progress::Progress;
 use crate::store_output::{OutputPlace, output_place, summarize, written_of};
-use clap::{Arg, ArgAction, ArgMatches, Command};
+use clap::{ArgMatches, Command};
 use docstore::{StoreWriter, TerminatingWrite};
 use document_framing::{Framing, split_after};
 use std::alloc::{AllocError, Global};
 use std::fs::File;
-use std::io::{BufRead, BufReader};
+use std::io::{BufRead, BufReader, IsTerminal};
+use store_commands::StoreShape;
 use store_published::{Filling, publish_store, store_document};
 
 // How many bytes of an input are read at once.
@@ -21,18 +23,14 @@ const BUFFER_SIZE: usize = 1 << 16;
 // The name of the standard input in messages.
 const STANDARD_INPUT: &str = "standard input";
 
-const EXAMPLE: &str = "\
-Example:
-  zevkhadun pack words.store words.txt     one document for each line
-  zevkhadun pack --framing files notes.store notes/*.txt     one document for each file";
+// What is said where the standard input is a terminal.
+const TERMINAL_NOTE: &str = "reading documents from the terminal; end with Ctrl-D";
 
-// What is packed.
-fn inputs<'a>(alloc: Global) -> Arg<'a> {
-    Arg::new(alloc, "INPUT")
-        .num_args(0..)
-        .action(ArgAction::Append)
-        .help("Input files; '-' or no file means standard input")
-}
+const EXAMPLE: &str = "\
+Examples:
+  zevkhadun pack words.store words.txt     one document for each line
+  zevkhadun pack --framing files notes.store notes/*.txt     one document for each file
+  find notes -type f | zevkhadun pack --framing files --files-from - notes.store";
 
 /// The words of `pack`.
 pub fn command<'a>(alloc: Global) -> Result<Command<'a>, AllocError> {
@@ -41,23 +39,53 @@ pub fn command<'a>(alloc: Global) -> Result<Command<'a>, AllocError> {
         .after_help(EXAMPLE)
         .arg(arguments::output(alloc))?
         .arg(inputs(alloc))?
+        .arg(files_from(alloc))?
         .arg(arguments::framing(alloc))?
         .arg(arguments::block_size(alloc))?
         .arg(arguments::period(alloc))?
         .arg(arguments::quiet(alloc))
 }
 
-// What is packed: documents of files or of the standard input.
+/// What is packed: documents of files or of the standard input.
 #[derive(Drop)]
-struct Packing<'a, 'p, 'w> {
+pub struct Packing<'a, 'o, 'p, 'w> {
     rt: &'a HostRuntime,
-    out: &'w str,
+    out: &'o str,
     paths: Option<&'p [&'w str]>,
     framing: Framing,
-    progress: Progress<'a>,
+    framing_bytes: u64,
+    pub progress: Progress<'a>,
 }
 
-impl<'a, 'p, 'w> Packing<'a, 'p, 'w> {
+// How many bytes of an input delimit a document.
+fn framing_bytes(framing: Framing) -> u64 {
+    match framing {
+        Framing::Lines | Framing::Nul => 1,
+        Framing::Lengths => 4,
+        Framing::Text | Framing::Files => 0,
+    }
+}
+
+impl<'a, 'o, 'p, 'w> Packing<'a, 'o, 'p, 'w> {
+    /// Of the documents of these files, or of the standard input where none are named, into a store of this name.
+    pub fn of_files(
+        rt: &'a HostRuntime,
+        out: &'o str,
+        paths: Option<&'p [&'w str]>,
+        framing: Framing,
+        is_quiet: bool,
+    ) -> Packing<'a, 'o, 'p, 'w> {
+        let total = paths.and_then(|paths| total_bytes(rt, paths));
+        Packing {
+            rt,
+            out,
+            paths,
+            framing,
+            framing_bytes: framing_bytes(framing),
+            progress: Progress::begin(rt, is_quiet, total),
+        }
+    }
+
     // Stores a document.
     #[inline(always)]
     fn store<W: TerminatingWrite>(
@@ -68,25 +96,30 @@ impl<'a, 'p, 'w> Packing<'a, 'p, 'w> {
         ensures { OnOk result (AddsSome writer.old writer.new) }
     {
         with_file(self.rt.alloc(), self.out, store_document(writer, document))?;
-        self.progress.add(1, document.len() as u64);
+        let input_bytes = (document.len() as u64).saturating_add(self.framing_bytes);
+        self.progress.add(1, input_bytes);
         Ok(())
     }
 
-    // Stores the documents that the input has whole in its buffer, where a byte ends each, without copying them. A
+    // Stores the documents that the input has whole in its buffer, where a byte ends each, without copying them, and
+    // returns whether there may be more. After its end an input is not read again, since a terminal would go on. A
     // failed read is tried again, and reported, by `store_next`.
     fn store_buffered<R: BufRead, W: TerminatingWrite>(
         &mut self,
         writer: &mut StoreWriter<W>,
         input: &mut R,
-    ) -> Result<(), Failure>
+    ) -> Result<bool, Failure>
         ensures { OnOk result (AddsSome writer.old writer.new) }
     {
         let Some(end) = self.framing.end() else {
-            return Ok(());
+            return Ok(true);
         };
         let Ok(mut rest) = input.fill_buf() else {
-            return Ok(());
+            return Ok(true);
         };
+        if rest.is_empty() {
+            return Ok(false);
+        }
         let mut taken = 0usize;
         // Each turn takes a byte at least.
         for _ in 0..rest.len() {
@@ -98,7 +131,7 @@ impl<'a, 'p, 'w> Packing<'a, 'p, 'w> {
             rest = after;
         }
         input.consume(taken);
-        Ok(())
+        Ok(true)
     }
 
     // Stores the next document of an input, and returns whether there may be more.
@@ -130,7 +163,9 @@ impl<'a, 'p, 'w> Packing<'a, 'p, 'w> {
         let mut document = Vec::new(self.rt.alloc());
         // No input has this many documents: a store holds fewer.
         for _ in 0..u64::MAX {
-            self.store_buffered(writer, input)?;
+            if !self.store_buffered(writer, input)? {
+                return Ok(());
+            }
             if !self.store_next(writer, path, input, &mut document)? {
                 return Ok(());
             }
@@ -146,6 +181,9 @@ impl<'a, 'p, 'w> Packing<'a, 'p, 'w> {
         ensures { OnOk result (AddsSome writer.old writer.new) }
     {
         let alloc = self.rt.alloc();
+        if self.progress.is_shown() && self.rt.stdin().is_terminal() {
+            let _ = eprintln!(self.rt; "{TERMINAL_NOTE}");
+        }
         let input = BufReader::with_capacity(alloc, BUFFER_SIZE, self.rt.reader());
         let mut input = with_file(alloc, STANDARD_INPUT, input)?;
         self.store_documents(writer, STANDARD_INPUT, &mut input)
@@ -186,8 +224,8 @@ impl<'a, 'p, 'w> Packing<'a, 'p, 'w> {
         Ok(())
     }
 
-    // Stores each document of each file, or of the standard input where none is named.
-    fn store_inputs<W: TerminatingWrite>(
+    /// Stores each document of each file, or of the standard input where none is named.
+    pub fn store_inputs<W: TerminatingWrite>(
         &mut self,
         writer: &mut StoreWriter<W>,
     ) -> Result<(), Failure>
@@ -201,7 +239,7 @@ impl<'a, 'p, 'w> Packing<'a, 'p, 'w> {
 }
 
 /// It brings sound documents.
-impl<'a, 'p, 'w> Filling for Packing<'a, 'p, 'w> {
+impl<'a, 'o, 'p, 'w> Filling for Packing<'a, 'o, 'p, 'w> {
     ghost use Rattle.store_published.specs.Filling.{AreSound};
 
     type Error = Failure;
@@ -213,30 +251,44 @@ impl<'a, 'p, 'w> Filling for Packing<'a, 'p, 'w> {
     }
 }
 
-/// Writes the store.
-pub fn run(rt: &HostRuntime, matches: &ArgMatches<'_>) -> Result<(), Failure> {
+// Packs as the words say.
+fn pack(
+    rt: &HostRuntime,
+    out: &str,
+    shape: StoreShape,
+    packing: &mut Packing<'_, '_, '_, '_>,
+) -> Result<(), Failure> {
     let alloc = rt.alloc();
-    let out = output_path(alloc, matches)?;
-    let framing = framing_of(alloc, matches)?;
-    let shape = shape_of(alloc, matches)?;
-    let place = output_place(rt, out)?;
-    let mut packing = Packing {
-        rt,
-        out,
-        paths: matches.get_strs("INPUT"),
-        framing,
-        progress: Progress::begin(rt, matches.get_flag("quiet")),
-    };
-    let OutputPlace { folder, name } = place;
+    let OutputPlace { folder, name } = output_place(rt, out)?;
     let published = publish_store(
         alloc,
         folder,
         name.as_str(),
         shape.block_size,
         shape.period,
-        &mut packing,
+        packing,
     );
     packing.progress.end();
     let written = written_of(alloc, out, published)?;
     summarize(rt, out, written, &packing.progress)
+}
+
+/// Writes the store.
+pub fn run(rt: &HostRuntime, matches: &ArgMatches<'_>) -> Result<(), Failure> {
+    let alloc = rt.alloc();
+    let out = output_path(alloc, matches)?;
+    let framing = framing_of(alloc, matches)?;
+    let shape = shape_of(alloc, matches)?;
+    let is_quiet = matches.get_flag("quiet");
+    match names_of(rt, matches)? {
+        Some(text) => {
+            let names = with_file(alloc, out, split_names(alloc, text.as_str()))?;
+            let mut packing = Packing::of_files(rt, out, Some(&names), framing, is_quiet);
+            pack(rt, out, shape, &mut packing)
+        }
+        None => {
+            let mut packing = Packing::of_files(rt, out, None, framing, is_quiet);
+            pack(rt, out, shape, &mut packing)
+        }
+    }
 }

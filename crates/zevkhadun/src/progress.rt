@@ -1,6 +1,8 @@
 //! How far a long work is, on a terminal.
 
+use crate::byte_size::ShortSize;
 use docstore::DocId;
+use std::fmt;
 use std::io::IsTerminal;
 use std::time::{Duration, Instant};
 use store_commands::checking::BlockWatch;
@@ -10,25 +12,44 @@ const DOCUMENTS_A_LINE: u64 = 1 << 16;
 
 const BYTES_A_LINE: u64 = 1 << 26;
 
-/// A line on the standard error, written again as the work goes on; nothing where that is no terminal.
+/// A line on the standard error, written again as the work goes on; nothing where that is no terminal. It has at most
+/// 39 columns, since the terminal's width is not known.
 #[derive(Drop)]
 pub struct Progress<'a> {
     rt: &'a HostRuntime,
     is_shown: bool,
     begun: Option<Instant>,
+    total: Option<u64>,
     documents: u64,
     bytes: u64,
     next_documents: u64,
     next_bytes: u64,
 }
 
+// A time in hours, minutes and seconds.
+#[derive(Clone, Copy)]
+struct ClockTime(u64);
+
+impl fmt::Display for ClockTime {
+    fn fmt<W: fmt::Write>(&self, f: &mut fmt::Formatter<W>) -> fmt::Result {
+        let ClockTime(seconds) = *self;
+        let (hours, minutes, seconds) = (seconds / 3600, seconds / 60 % 60, seconds % 60);
+        if hours > 0 {
+            write!(f, "{hours}:{minutes:02}:{seconds:02}")
+        } else {
+            write!(f, "{minutes}:{seconds:02}")
+        }
+    }
+}
+
 impl<'a> Progress<'a> {
-    /// Of a work that begins now.
-    pub fn begin(rt: &'a HostRuntime, is_quiet: bool) -> Progress<'a> {
+    /// Of a work that begins now, on this many bytes, if that is known.
+    pub fn begin(rt: &'a HostRuntime, is_quiet: bool, total: Option<u64>) -> Progress<'a> {
         Progress {
             rt,
             is_shown: !is_quiet && rt.stderr().is_terminal(),
             begun: Instant::now(rt).ok(),
+            total,
             documents: 0,
             bytes: 0,
             next_documents: DOCUMENTS_A_LINE,
@@ -64,10 +85,35 @@ impl<'a> Progress<'a> {
     fn show(&mut self) {
         self.next_documents = self.documents.saturating_add(DOCUMENTS_A_LINE);
         self.next_bytes = self.bytes.saturating_add(BYTES_A_LINE);
-        let (documents, bytes) = (self.documents, self.bytes);
-        let microseconds = self.elapsed().as_micros().max(1);
-        let rate = u128::from(bytes) / microseconds;
-        let _ = eprint!(self.rt; "\r{documents} documents, {bytes} bytes, {rate} MB/s\x1b[K");
+        let milliseconds = self.elapsed().as_millis().max(1);
+        match self.total {
+            Some(total) => self.show_part(total, milliseconds),
+            None => self.show_amount(milliseconds),
+        }
+    }
+
+    // How many bytes were done in a second, on average.
+    fn rate(&self, milliseconds: u128) -> ShortSize {
+        let rate = u128::from(self.bytes) * 1000 / milliseconds.max(1);
+        ShortSize(u64::try_from(rate).unwrap_or(u64::MAX))
+    }
+
+    // Writes how much is done.
+    fn show_amount(&self, milliseconds: u128) {
+        let (documents, size) = (self.documents, ShortSize(self.bytes));
+        let rate = self.rate(milliseconds);
+        let _ = eprint!(self.rt; "\r{documents} documents {size} {rate}/s\x1b[K");
+    }
+
+    // Writes which part is done, and how long the rest takes at that rate.
+    fn show_part(&self, total: u64, milliseconds: u128) {
+        let done = self.bytes.min(total).max(1);
+        let percent = u128::from(done) * 100 / u128::from(total.max(1));
+        let rest = u128::from(total - self.bytes.min(total));
+        let seconds = milliseconds.min(1 << 60) * rest / u128::from(done) / 1000;
+        let left = ClockTime(u64::try_from(seconds.min(359_999)).unwrap_or(0));
+        let (size, rate) = (ShortSize(self.bytes), self.rate(milliseconds));
+        let _ = eprint!(self.rt; "\r{percent}% {left} left {size} {rate}/s\x1b[K");
     }
 
     /// Clears the line.

@@ -1,7 +1,7 @@
 //! What an output may replace: a file of its own kind, or an empty one.
 
 use crate::failure::FailureCause;
-use crate::store_file::{StoreFile, StorePath};
+use crate::store_file::{StoreFile, whole_file};
 use docstore::{DocStoreFooter, StoreError};
 use std::fs;
 use store_commands::store_part::part_of;
@@ -11,17 +11,13 @@ const DOCTYPE: &[u8; 15] = b"<!DOCTYPE html>";
 
 // The file of this name, where there is one that has bytes. An output refuses itself what is no plain file.
 fn file_with_bytes(rt: &HostRuntime, path: &str) -> Result<Option<StoreFile>, FailureCause> {
-    let store = StorePath {
-        path,
-        is_tantivy: false,
-    };
     match fs::metadata(rt, path) {
-        Ok(found) if found.is_file() && found.len() > 0 => Ok(Some(store.file(rt)?)),
+        Ok(found) if found.is_file() && found.len() > 0 => Ok(Some(whole_file(rt, path)?)),
         _ => Ok(None),
     }
 }
 
-/// Refuses a name that a file has which is no store.
+/// Fails if the file of this name has bytes and is not a store.
 pub fn check_store(rt: &HostRuntime, path: &str) -> Result<(), FailureCause> {
     let Some(file) = file_with_bytes(rt, path)? else {
         return Ok(());
@@ -35,7 +31,7 @@ pub fn check_store(rt: &HostRuntime, path: &str) -> Result<(), FailureCause> {
     }
 }
 
-/// Refuses a name that a file has which is no page of HTML.
+/// Fails if the file of this name has bytes and is not a page of HTML.
 pub fn check_page(rt: &HostRuntime, path: &str) -> Result<(), FailureCause> {
     let Some(mut file) = file_with_bytes(rt, path)? else {
         return Ok(());

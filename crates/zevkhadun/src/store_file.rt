@@ -5,7 +5,7 @@ use crate::failure::{Failure, FailureCause};
 use clap::ArgMatches;
 use docstore::{FileSlice, OpenError, StoreReader};
 use std::fs;
-use store_commands::store_part::before_tail;
+use store_commands::store_part::{before_tail, store_in};
 use store_files::{CreateError, DiskFile, OsFile};
 
 /// A store's file, or the part of a file that is one.
@@ -21,21 +21,26 @@ const CACHED_BLOCKS: usize = 8;
 #[derive(Clone, Copy)]
 pub struct StorePath<'a> {
     pub path: &'a str,
-    /// Whether the file is as tantivy's directory leaves it.
+    /// Whether the file has to be as tantivy's directory leaves it.
     pub is_tantivy: bool,
+}
+
+/// The whole file of this name, if it is a plain file.
+pub fn whole_file(rt: &HostRuntime, path: &str) -> Result<StoreFile, FailureCause> {
+    if !fs::metadata(rt, path)?.is_file() {
+        return Err(FailureCause::Create(CreateError::NotPlainFile));
+    }
+    Ok(FileSlice::new(DiskFile::new(OsFile::open(rt, path)?)?))
 }
 
 impl<'a> StorePath<'a> {
     /// The file that is the store.
     pub fn file(&self, rt: &HostRuntime) -> Result<StoreFile, FailureCause> {
-        if !fs::metadata(rt, self.path)?.is_file() {
-            return Err(FailureCause::Create(CreateError::NotPlainFile));
-        }
-        let file = FileSlice::new(DiskFile::new(OsFile::open(rt, self.path)?)?);
+        let file = whole_file(rt, self.path)?;
         if self.is_tantivy {
             Ok(before_tail(rt.alloc(), file)?)
         } else {
-            Ok(file)
+            Ok(store_in(rt.alloc(), file)?)
         }
     }
 

@@ -1,14 +1,17 @@
 //! `verify`: reads stores whole, and reports what breaks a promise of the format.
 
-use crate::arguments;
-use crate::failure::{Failure, FailureCause, to_output};
+use crate::arguments::{self, flag, wrong_words};
+use crate::failure::{Failure, FailureCause};
+use crate::findings::Findings;
 use crate::progress::Progress;
-use crate::store_file::{DiskReader, StoreFile, StorePath, reader_of};
-use clap::{ArgMatches, Command};
-use docstore::StoreError;
+use crate::status::Status;
+use crate::store_file::{DiskReader, StorePath, reader_of};
+use crate::verify_output::{Found, ReportForm};
+use clap::{Arg, ArgMatches, Command};
 use std::alloc::{AllocError, Global};
 use store_commands::broken_part::{BrokenPart, broken_part};
-use store_commands::checking::{Verdict, check_blocks};
+use store_commands::checking::check_blocks;
+use store_commands::damaged_documents::damaged_documents;
 
 // What a sound file may still hide.
 const BLIND_SPOT: &str =
@@ -16,10 +19,21 @@ const BLIND_SPOT: &str =
 
 const EXAMPLE: &str = "\
 Checks the footer, the index, that the blocks cover the data, the table of each block, and the place of each document.
-The exit status is 1 if a store is broken.
+The exit status is 1 if a store is broken, and 3 if none is but one can't be read.
 
-Example:
-  zevkhadun verify *.store     one line for each store, with its first fault";
+Examples:
+  zevkhadun verify *.store     one line for each store, with its first fault
+  zevkhadun verify --list a.store > damaged.ids; zevkhadun cat a.store --without @damaged.ids";
+
+// That each damaged document is listed.
+fn list<'a>(alloc: Global) -> Result<Arg<'a>, AllocError> {
+    flag(
+        alloc,
+        "list",
+        "Print the numbers of all damaged documents of one store, as --without takes them, and the fault on standard error",
+    )
+    .conflicts_with("json")
+}
 
 /// The words of `verify`.
 pub fn command<'a>(alloc: Global) -> Result<Command<'a>, AllocError> {
@@ -27,113 +41,107 @@ pub fn command<'a>(alloc: Global) -> Result<Command<'a>, AllocError> {
         .about("Check stores completely and report the first violation of the format")
         .after_help(EXAMPLE)
         .arg(arguments::several(alloc, "FILE", "The stores"))?
+        .arg(list(alloc)?)?
+        .arg(flag(
+            alloc,
+            "json",
+            "Print a JSON object for each store, one per line, with all its damaged documents",
+        ))?
         .arg(arguments::tantivy(alloc))?
-        .arg(arguments::quiet(alloc))
+        .arg(flag(
+            alloc,
+            "quiet",
+            "Print broken stores only, and show no progress",
+        )
+        .short('q'))
 }
 
-// Reads the blocks of an opened store.
-fn verdict_of(
-    rt: &HostRuntime,
-    reader: &mut DiskReader,
-    is_quiet: bool,
-) -> Result<Verdict, FailureCause> {
-    let mut progress = Progress::begin(rt, is_quiet);
-    let verdict = check_blocks(rt.alloc(), reader, &mut progress);
-    progress.end();
-    Ok(verdict?)
-}
-
-// Prints what was found in a store that was opened, and returns whether it is sound.
-fn print_verdict(rt: &HostRuntime, path: &str, verdict: &Verdict) -> Result<bool, FailureCause> {
-    let Verdict {
-        documents,
-        blocks,
-        damaged,
-        broken_blocks,
-        first,
-    } = *verdict;
-    let Some(place) = first else {
-        let document = if documents == 1 {
-            "document"
-        } else {
-            "documents"
-        };
-        let block = if blocks == 1 { "block" } else { "blocks" };
-        to_output(println!(rt; "{path}: sound: {documents} {document} in {blocks} {block}"))?;
-        return Ok(true);
-    };
-    let extent = format_args!(
-        "{damaged} of {documents} documents, {broken_blocks} of {blocks} blocks"
-    );
-    to_output(println!(rt; "{path}: broken: {place}; damaged: {extent}"))?;
-    Ok(false)
-}
-
-// Prints why a store can't be opened.
-fn print_error(
-    rt: &HostRuntime,
-    path: &str,
-    file: StoreFile,
-    error: StoreError,
-) -> Result<bool, FailureCause> {
-    match broken_part(rt.alloc(), file, error)? {
-        BrokenPart::Footer => {
-            let cause = FailureCause::Store(error);
-            to_output(println!(rt; "{path}: broken: footer: {cause}"))?;
-        }
-        part => to_output(println!(rt; "{path}: broken: {part}"))?,
-    }
-    Ok(false)
-}
-
-// Prints the line of a store, and returns whether it is sound.
-fn verify_store(
-    rt: &HostRuntime,
-    store: StorePath<'_>,
-    is_quiet: bool,
-) -> Result<bool, FailureCause> {
-    match reader_of(rt, store.file(rt)?) {
-        Ok(mut reader) => {
-            let verdict = verdict_of(rt, &mut reader, is_quiet)?;
-            print_verdict(rt, store.path, &verdict)
-        }
-        Err(refusal) => print_error(rt, store.path, refusal.file, refusal.error),
-    }
-}
-
-// Prints the line of each store, and returns whether all are sound.
-fn verify_all(
-    rt: &HostRuntime,
-    paths: &[&str],
+// How stores are verified, by the words.
+#[derive(Clone, Copy)]
+struct Verifying {
+    form: ReportForm,
     is_tantivy: bool,
     is_quiet: bool,
-) -> Result<bool, Failure> {
-    let mut is_sound = true;
-    for path in paths {
-        let store = StorePath { path, is_tantivy };
-        match verify_store(rt, store, is_quiet) {
-            Ok(found) => is_sound &= found,
-            Err(FailureCause::Output(error)) => return Err(Failure::from(FailureCause::Output(
-                error,
-            ))),
-            Err(cause) => {
-                Failure::at_file(rt.alloc(), path, cause).report(rt);
-                is_sound = false;
-            }
-        }
-    }
-    Ok(is_sound)
 }
 
-/// Prints the line of each store. It fails if one is broken.
-pub fn run(rt: &HostRuntime, matches: &ArgMatches<'_>) -> Result<(), Failure> {
-    let paths = matches.get_strs("FILE").unwrap_or(&[]);
-    let (is_tantivy, is_quiet) = (matches.get_flag("tantivy"), matches.get_flag("quiet"));
-    let is_sound = verify_all(rt, paths, is_tantivy, is_quiet)?;
-    to_output(println!(rt; "{BLIND_SPOT}"))?;
-    if is_sound {
-        Ok(())
-    } else {
-        Err(Failure::from(FailureCause::Reported))
+impl Verifying {
+    // What is found in the blocks of an opened store. Only those of a broken one are read again, for a list.
+    fn look_over(&self, rt: &HostRuntime, reader: &mut DiskReader) -> Result<Found, FailureCause> {
+        let mut progress = Progress::begin(rt, self.is_quiet, None);
+        let verdict = check_blocks(rt.alloc(), reader, &mut progress);
+        progress.end();
+        let verdict = verdict?;
+        let damaged = if verdict.damaged > 0 && self.form.lists_documents() {
+            damaged_documents(rt.alloc(), reader)?
+        } else {
+            Vec::new(rt.alloc())
+        };
+        Ok(Found::Blocks { verdict, damaged })
     }
+
+    // What is found in a store.
+    fn look_at(&self, rt: &HostRuntime, store: StorePath<'_>) -> Result<Found, FailureCause> {
+        match reader_of(rt, store.file(rt)?) {
+            Ok(mut reader) => self.look_over(rt, &mut reader),
+            Err(refusal) => match broken_part(rt.alloc(), refusal.file, refusal.error)? {
+                BrokenPart::Footer => Ok(Found::Footer(refusal.error)),
+                part => Ok(Found::Part(part)),
+            },
+        }
+    }
+
+    // Prints what is found in a store, and returns whether it is sound.
+    fn verify(&self, rt: &HostRuntime, store: StorePath<'_>) -> Result<bool, FailureCause> {
+        let found = self.look_at(rt, store)?;
+        let is_sound = found.is_sound();
+        if !(is_sound && self.is_quiet) {
+            found.print(rt, store.path, self.form)?;
+        }
+        Ok(is_sound)
+    }
+
+    // Prints what is found in each store, and returns what that is.
+    fn verify_all(&self, rt: &HostRuntime, paths: &[&str]) -> Result<Findings, Failure> {
+        let mut findings = Findings::new();
+        for path in paths {
+            let store = StorePath {
+                path,
+                is_tantivy: self.is_tantivy,
+            };
+            match self.verify(rt, store) {
+                Ok(true) => (),
+                Ok(false) => findings.add(Status::Broken),
+                Err(cause) => findings.add_failed(rt, path, cause)?,
+            }
+        }
+        Ok(findings)
+    }
+}
+
+// How the words say that stores are reported.
+fn form_of(rt: &HostRuntime, matches: &ArgMatches<'_>) -> Result<ReportForm, Failure> {
+    if matches.get_flag("json") {
+        return Ok(ReportForm::Json);
+    }
+    if !matches.get_flag("list") {
+        return Ok(ReportForm::Lines);
+    }
+    match matches.get_strs("FILE").unwrap_or(&[]).get(1) {
+        Some(path) => Err(wrong_words(rt.alloc(), "'--list' takes one store", path)),
+        None => Ok(ReportForm::List),
+    }
+}
+
+/// Prints the line of each store. It goes on after one that can't be read, and fails at the end.
+pub fn run(rt: &HostRuntime, matches: &ArgMatches<'_>) -> Result<(), Failure> {
+    let verifying = Verifying {
+        form: form_of(rt, matches)?,
+        is_tantivy: matches.get_flag("tantivy"),
+        is_quiet: matches.get_flag("quiet"),
+    };
+    let findings = verifying.verify_all(rt, matches.get_strs("FILE").unwrap_or(&[]))?;
+    if verifying.form.has_note() && !verifying.is_quiet {
+        let _ = eprintln!(rt; "{BLIND_SPOT}");
+    }
+    findings.result()
 }

@@ -1,15 +1,17 @@
 //! The words that the program takes.
 
 use crate::failure::{Failure, FailureCause};
-use crate::{cat, get, inspect, merge, pack, stat, verify};
+use crate::{append, cat, export, get, inspect, merge, pack, stat, verify};
 use clap::{ArgMatches, Command, Error};
 use std::alloc::{AllocError, Global};
 use std::{env, io};
 
 const AFTER_HELP: &str = "\
-Documents are any bytes; file names and other arguments are UTF-8. If 'pack' or 'merge' fails or is interrupted, the
-existing file is left untouched. The exit status is 0 for success, 1 for a failure or a broken store, and 2 for a usage
-error.
+Documents are any bytes; file names and other arguments are UTF-8. If 'pack', 'append' or 'merge' fails or is
+interrupted, the existing file is left untouched.
+
+The exit status is 0 for success; 1 if a store is broken, lacks a document that is named, or a file is not what the
+command takes; 2 for a usage error; 3 if the system refused a call: no such file, no rights, a full disk, no memory.
 
 Example:
   zevkhadun pack words.store words.txt && zevkhadun get words.store 7";
@@ -19,7 +21,7 @@ fn bare_command<'a>(alloc: Global) -> Result<Command<'a>, AllocError> {
     Ok(
         Command::new(alloc, "zevkhadun")
             .bin_name("zevkhadun")?
-            .version("0.2.0")
+            .version("0.2.0 (writes format 3, reads formats 1 to 3)")
             .about("Write-once files of documents, read back by number")
             .after_help(AFTER_HELP)
             .subcommand_required(true)
@@ -37,11 +39,15 @@ fn with<'a>(
 
 // The program's command, with its subcommands.
 fn command<'a>(alloc: Global) -> Result<Command<'a>, AllocError> {
-    let writing = with(bare_command(alloc), pack::command(alloc));
+    let writing = with(
+        with(bare_command(alloc), pack::command(alloc)),
+        append::command(alloc),
+    );
     let reading = with(with(writing, get::command(alloc)), cat::command(alloc));
     let telling = with(with(reading, stat::command(alloc)), verify::command(alloc));
+    let joining = with(telling, merge::command(alloc));
     with(
-        with(telling, merge::command(alloc)),
+        with(joining, export::command(alloc)),
         inspect::command(alloc),
     )
 }

@@ -2,7 +2,7 @@ use Rattle.std.proofs.Common.{◌≡◌, ◌+◌, List, [], ◌∷◌, ◌++◌,
 use Rattle.std.proofs.lemmas.List.{map-append, map-set, length-map}
 use Rattle.layered_index.specs.declared.checkpoint.Checkpoint.{Checkpoint}
 use Rattle.store_c.specs.declared.block.BlockEnd.{BlockEnd}
-use Rattle.store_c.specs.Calls.{end_of, ends_in, ends_behind, with_front}
+use Rattle.store_c.specs.Calls.{end_of, ends_in, ends_after, with_front}
 use Rattle.store_c.proofs.TableLemmas.{front_more, front_full, length-front, limits_of}
 use Rattle.store_c.proofs.PlacesLemmas.{fewer_stay, behind_stay}
 use Rattle.store_c.proofs.filling.fill.Goals.{then-count-table, else-count-table}
@@ -28,7 +28,7 @@ loop-checkpoint-preserved c =
     let count = c.loop-checkpoint.invariant.2 in
     let table = c.loop-checkpoint.invariant.3 in
     let rest = c.loop-checkpoint.invariant.4 in
-    let behind : Checkpoint → BlockEnd = ends_behind c.args.start in
+    let behind : Checkpoint → BlockEnd = ends_after c.args.start in
     let size : length (map behind done) ≡ length done = length-map done behind in
     let rows : length (ends_in c.loop-checkpoint.table) ≡ length c.loop-checkpoint.table = length-map c.loop-checkpoint.table end_of in
     let room : length (ends_in c.loop-checkpoint.table) ≡ length old = ap length table ∙ length-front (map behind done) old in

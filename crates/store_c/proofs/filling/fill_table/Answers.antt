@@ -17,6 +17,6 @@ returns-clause-filled c =
     same_ends c.fill-count.result c.fill-count.new.table c.write_guides.new.table c.write_guides.ensures
     ∙ c.fill-count.ensures.filled ∙ ap (λ (ends : List BlockEnd). with_front ends (ends_in c.args.table.now)) (first_ends c.args.checkpoints)
 
-pub returns-clause-behind : goal.returns-clause-behind
-returns-clause-behind c =
-    same_rest c.fill-count.result c.fill-count.new.table c.write_guides.new.table (omega (arith, c.if-count-table.false)) c.write_guides.ensures ∙ c.fill-count.ensures.behind
+pub returns-clause-rest : goal.returns-clause-rest
+returns-clause-rest c =
+    same_rest c.fill-count.result c.fill-count.new.table c.write_guides.new.table (omega (arith, c.if-count-table.false)) c.write_guides.ensures ∙ c.fill-count.ensures.rest

@@ -2,7 +2,7 @@ use Rattle.std.proofs.Common.{refl, ◌∙◌}
 use Rattle.store_c.proofs.TextLemmas.{ended}
 use Rattle.store_c.proofs.refusal_text.zevk_refusal_text.Goals as goal
 
-pub returns-then-told-text-clause-told : goal.returns-then-told-text-clause-told
-returns-then-told-text-clause-told c room =
-    let told = c.as_bytes-told.ensures.value ∙ c.text_of.ensures.told in
-    rw (c.copy_from_slice.ensures.after, ← told) (ended _ _ _ refl room)
+pub returns-then-words-text-clause-written : goal.returns-then-words-text-clause-written
+returns-then-words-text-clause-written c room =
+    let same = c.as_bytes-words.ensures.value ∙ c.text_of.ensures.text in
+    rw (c.copy_from_slice.ensures.after, ← same) (ended _ _ _ refl room)

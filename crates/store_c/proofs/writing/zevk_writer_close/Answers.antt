@@ -40,8 +40,8 @@ returns-then-len-end-clause-closed c is =
     sym ((λ i. take (size i) (text i ++ drop c.len-then-len-end.result c.args.end.now)) ∙ take-append_seam bytes _) in
     subst (λ (end : List ℕ). EndsFile c.args.period end c.args.writer.now c.args.table.now) all done
 
-pub returns-then-len-end-clause-behind : goal.returns-then-len-end-clause-behind
-returns-then-len-end-clause-behind c is =
+pub returns-then-len-end-clause-rest : goal.returns-then-len-end-clause-rest
+returns-then-len-end-clause-rest c is =
     let bytes = c.in-Ok.bytes.items in
     let text : c.copy_from_slice.new.self ≡ bytes = c.copy_from_slice.ensures.after ∙ c.deref.ensures.value in
     let size : c.len.result ≡ length bytes = omega (arith, c.len.ensures, c.deref.ensures.len, ap length c.deref.ensures.value) in

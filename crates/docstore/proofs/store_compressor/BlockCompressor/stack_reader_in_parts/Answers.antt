@@ -1,9 +1,8 @@
-use Rattle.std.proofs.Common.{◌≤◌, length, ◌∙◌, ap, arith}
+use Rattle.std.proofs.Common.{◌≤◌, length, ap, arith}
 use Rattle.std.proofs.lemmas.Result.{err_from_is_err_and}
 use Rattle.store_base.proofs.Steady.{still}
-use Rattle.docstore.specs.BlockOutput.{BlockOutput}
 use Rattle.docstore.proofs.OutputLemmas.{length-blocks_at}
-use Rattle.docstore.proofs.ReadInPartsLemmas.{IsPartTaken, part_taken, taken_stacked, refused_taken, read_at_most, fails_behind, all_stacked, none_came, some_left, same_checkpoints}
+use Rattle.docstore.proofs.ReadInPartsLemmas.{IsPartTaken, part_taken, stacked_more, refused_taken, read_at_most, fails_behind, all_stacked, none_came, some_left, same_checkpoints}
 use Rattle.docstore.proofs.store_compressor.BlockCompressor.stack_reader_in_parts.Goals.{In-Some}
 use Rattle.docstore.proofs.store_compressor.BlockCompressor.stack_reader_in_parts.Goals as goal
 
@@ -43,39 +42,15 @@ returns-in_err-write_blocks-clause-kept g c =
 
 pub loop-part-preserved-in_ok-write_blocks : goal.loop-part-preserved-in_ok-write_blocks
 loop-part-preserved-in_ok-write_blocks g c =
-    let e = c.in_ok-part.ensures in
-    let inv = c.loop-part.invariant in
     let taken = part_is g (goal.at.loop-part-preserved-in_ok-write_blocks g c).In-Some in
     let w = c.in_ok-write_blocks.ensures in
-    record {
-      put = taken_stacked _ _ _ _ _ _ _ _ _ _ _ inv.read inv.put taken c.checkpoints_in.ensures c.as_slice.ensures w.written;
-      read = taken.up;
-      within = taken.within;
-      reader = still e.steady ∙ inv.reader;
-      works = ap (λ (out : BlockOutput). out.failure) w.written ∙ inv.works;
-      termination = w.termination ∙ inv.termination;
-      count = omega (arith, inv.count, w.count);
-      steady = still w.steady ∙ inv.steady;
-      sound = w.sound;
-    }
+    stacked_more _ _ _ _ _ _ _ _ _ _ _ c.loop-part.invariant taken c.checkpoints_in.ensures c.as_slice.ensures w.written (still c.in_ok-part.ensures.steady) w.termination (still w.steady) w.sound
 
 pub loop-part-preserved : goal.loop-part-preserved
 loop-part-preserved g c =
-    let e = c.in_ok-part.ensures in
-    let inv = c.loop-part.invariant in
     let taken = part_is g (goal.at.loop-part-preserved g c).In-Some in
     let w = c.in_ok-write_blocks.ensures in
-    record {
-      put = taken_stacked _ _ _ _ _ _ _ _ _ _ _ inv.read inv.put taken c.checkpoints_in.ensures c.as_slice.ensures w.written;
-      read = taken.up;
-      within = taken.within;
-      reader = still e.steady ∙ inv.reader;
-      works = ap (λ (out : BlockOutput). out.failure) w.written ∙ inv.works;
-      termination = w.termination ∙ inv.termination;
-      count = omega (arith, inv.count, w.count);
-      steady = still w.steady ∙ inv.steady;
-      sound = w.sound;
-    }
+    stacked_more _ _ _ _ _ _ _ _ _ _ _ c.loop-part.invariant taken c.checkpoints_in.ensures c.as_slice.ensures w.written (still c.in_ok-part.ensures.steady) w.termination (still w.steady) w.sound
 
 pub returns-clause-stacked : goal.returns-clause-stacked
 returns-clause-stacked g c =

@@ -11,6 +11,7 @@ use Rattle.docstore.specs.BlockOutput.{BlockOutput, IsCompressing, compressing}
 use Rattle.docstore.specs.Stacking.{laid_from}
 use Rattle.docstore.proofs.OutputLemmas.{sound, failed, seen_added}
 use Rattle.docstore.proofs.ShiftedCheckpointLemmas.{are_cut}
+use Rattle.docstore.proofs.store_compressor.BlockCompressor.write_blocks.Goals.{Else-is_err-2}
 use Rattle.docstore.proofs.store_compressor.BlockCompressor.write_blocks.Goals as goal
 
 pub returns-then-is_err-clause-sound : goal.returns-then-is_err-clause-sound
@@ -48,54 +49,52 @@ invariant_of-self-then-is_err-2 g c = record {
 pub returns-then-is_err-2-clause-sound : goal.returns-then-is_err-2-clause-sound
 returns-then-is_err-2-clause-sound g c = sound _ _ _ _ _ _ _ _ _ (invariant_of-self-then-is_err-2 g c)
 
+-- the bytes that there are now, how many they are, and the checkpoints of all blocks
+content_is : (g : _) (c : Else-is_err-2 g) → g.W.TerminatingWrite.content c.write_all.new.self.output ≡ g.W.TerminatingWrite.content c.self.inside.writer.output ++ c.args.bytes.now
+content_is g c = grind (arith, common_steps)
+
+written_is : (g : _) (c : Else-is_err-2 g) → c.write_all.new.self.written ≡ c.self.inside.writer.written + length c.args.bytes.now
+written_is g c =
+    let a = are_cut _ _ _ _ _ _ _ _ _ _ c.args.checkpoints c.args.bytes.now c.self.view_is c.self.invariant c.requires.works c.requires.cut c.requires.few_docs in
+    let raised_is : c.write_all.new.self.written ≡ raised c.self.inside.writer.written (length c.args.bytes.now) = grind (arith, common_steps) in
+    let sum_is : raised c.self.inside.writer.written (length c.args.bytes.now) ≡ c.self.inside.writer.written + length c.args.bytes.now = omega (arith, a.added.fits) in
+    raised_is ∙ sum_is
+
+cs_is : (g : _) (c : Else-is_err-2 g) → c.register_all-registered.new.index.checkpoints
+    ≡ c.self.inside.index.checkpoints ++ checkpoints_from c.self.inside.first_doc_in_block c.self.inside.writer.written (blocks_at c.args.checkpoints c.args.bytes.now)
+cs_is g c =
+    let first = c.self.inside.first_doc_in_block in
+    let cs = c.self.inside.index.checkpoints in
+    let index_is : c.register_all-registered.new.index
+    ≡ record { period = c.self.inside.index.period; checkpoints = cs ++ laid_from first c.written_bytes-start.result c.args.checkpoints } = grind (arith, common_steps) in
+    ap (λ (index : Index). index.checkpoints) index_is ∙ ap (λ (n : ℕ). cs ++ laid_from first n c.args.checkpoints) c.written_bytes-start.ensures
+    ∙ ap (λ (xs : List Checkpoint). cs ++ xs) (are_cut _ _ _ _ _ _ _ _ _ _ c.args.checkpoints c.args.bytes.now c.self.view_is c.self.invariant c.requires.works c.requires.cut c.requires.few_docs).places
+
 pub invariant_of-self-else-is_err-2 : goal.invariant_of-self-else-is_err-2
 invariant_of-self-else-is_err-2 g c =
-    let content = g.W.TerminatingWrite.content c.self.inside.writer.output in
     let written = c.self.inside.writer.written in
     let first = c.self.inside.first_doc_in_block in
     let period = c.self.inside.index.period in
-    let cs = c.self.inside.index.checkpoints in
     let bytes = c.args.bytes.now in
     let bs = blocks_at c.args.checkpoints bytes in
+    let all = c.self.inside.index.checkpoints ++ checkpoints_from first written bs in
+    let here = (goal.at.invariant_of-self-else-is_err-2 g c).Else-is_err-2 in
     let a = are_cut _ _ _ _ _ _ _ _ _ _ c.args.checkpoints c.args.bytes.now c.self.view_is c.self.invariant c.requires.works c.requires.cut c.requires.few_docs in
-    let content_is : g.W.TerminatingWrite.content c.write_all.new.self.output ≡ content ++ bytes = grind (arith, common_steps) in
-    let raised_is : c.write_all.new.self.written ≡ raised written (length bytes) = grind (arith, common_steps) in
-    let sum_is : raised written (length bytes) ≡ written + length bytes = omega (arith, a.added.fits) in
-    let written_is = raised_is ∙ sum_is in
-    let index_is : c.register_all-registered.new.index ≡ record { period = period; checkpoints = cs ++ laid_from first c.written_bytes-start.result c.args.checkpoints } =
-    grind (arith, common_steps) in
-    let cs_is : c.register_all-registered.new.index.checkpoints ≡ cs ++ checkpoints_from first written bs =
-    ap (λ (index : Index). index.checkpoints) index_is ∙ ap (λ (n : ℕ). cs ++ laid_from first n c.args.checkpoints) c.written_bytes-start.ensures
-    ∙ ap (λ (xs : List Checkpoint). cs ++ xs) a.places in
-    let period_is : c.register_all-registered.new.index.period ≡ period = c.register_all-registered.ensures.period in
-    let next : c.register_all-registered.new.next_id ≡ first + docs_in bs = c.register_all-registered.ensures.ids ∙ ap (λ (xs : List Checkpoint). sum_by doc_count xs) cs_is
+    let next : c.register_all-registered.new.next_id ≡ first + docs_in bs = c.register_all-registered.ensures.ids ∙ ap (λ (xs : List Checkpoint). sum_by doc_count xs) (cs_is g here)
     ∙ sym a.added.compressing.ids in
     let none : None ≡ c.self.inside.failure = sym (ap (λ (out : BlockOutput). out.failure) c.self.view_is ∙ c.requires.works) in
-    rw (period_is, next, cs_is, content_is, written_is) (subst (λ (f : Option Cause). IsCompressing period (first + docs_in bs) (cs ++ checkpoints_from first written bs) (content ++ bytes)
-    (written + length bytes) f) none a.added.compressing)
+    rw (c.register_all-registered.ensures.period, next, cs_is g here, content_is g here, written_is g here) (subst (λ (f : Option Cause). IsCompressing period (first + docs_in bs) all
+    (g.W.TerminatingWrite.content c.self.inside.writer.output ++ bytes) (written + length bytes) f) none a.added.compressing)
 
 pub returns-clause-written : goal.returns-clause-written
 returns-clause-written g c =
-    let content = g.W.TerminatingWrite.content c.self.inside.writer.output in
-    let written = c.self.inside.writer.written in
-    let first = c.self.inside.first_doc_in_block in
-    let period = c.self.inside.index.period in
-    let cs = c.self.inside.index.checkpoints in
     let bytes = c.args.bytes.now in
     let bs = blocks_at c.args.checkpoints bytes in
+    let here = (goal.at.returns-clause-written g c).Else-is_err-2 in
     let a = are_cut _ _ _ _ _ _ _ _ _ _ c.args.checkpoints c.args.bytes.now c.self.view_is c.self.invariant c.requires.works c.requires.cut c.requires.few_docs in
-    let content_is : g.W.TerminatingWrite.content c.write_all.new.self.output ≡ content ++ bytes = grind (arith, common_steps) in
-    let raised_is : c.write_all.new.self.written ≡ raised written (length bytes) = grind (arith, common_steps) in
-    let sum_is : raised written (length bytes) ≡ written + length bytes = omega (arith, a.added.fits) in
-    let written_is = raised_is ∙ sum_is in
-    let index_is : c.register_all-registered.new.index ≡ record { period = period; checkpoints = cs ++ laid_from first c.written_bytes-start.result c.args.checkpoints } =
-    grind (arith, common_steps) in
-    let cs_is : c.register_all-registered.new.index.checkpoints ≡ cs ++ checkpoints_from first written bs =
-    ap (λ (index : Index). index.checkpoints) index_is ∙ ap (λ (n : ℕ). cs ++ laid_from first n c.args.checkpoints) c.written_bytes-start.ensures
-    ∙ ap (λ (xs : List Checkpoint). cs ++ xs) a.places in
-    let period_is : c.register_all-registered.new.index.period ≡ period = c.register_all-registered.ensures.period in
     let risen = g.W.TerminatingWrite.failures c.write_all.new.self.output in
-    (λ i. compressing c.self.inside.compressor (period_is i) (cs_is i) (content_is i) (written_is i) (c.write_all.ensures.termination i) risen c.self.inside.failure)
+    (λ i. compressing c.self.inside.compressor (c.register_all-registered.ensures.period i) (cs_is g here i) (content_is g here i) (written_is g here i)
+    (c.write_all.ensures.termination i) risen c.self.inside.failure)
     ∙ seen_added _ _ _ _ _ _ _ _ risen _ _ bs bytes (docs_in bs) c.self.view_is a.added a.joined
 
 pub returns-clause-sound : goal.returns-clause-sound

@@ -20,7 +20,7 @@ returns-in-Err-clause-err g c =
     let pending : 0 < length docs = omega arith in
     let h : AfterClose c.in-Err.refusal.error mid (g.W.TerminatingWrite.content c.in-Err.refusal.output) (g.W.TerminatingWrite.termination c.in-Err.refusal.output)
     (g.W.TerminatingWrite.failures c.in-Err.refusal.output) = c.in-Err.ensures.err in
-    rw (c.behind_bytes.ensures.error, c.behind_bytes.ensures.output)
+    rw (c.after_bytes.ensures.error, c.after_bytes.ensures.output)
     (closed_behind c.in-Err.refusal.error old mid bs (g.W.TerminatingWrite.content c.in-Err.refusal.output) (g.W.TerminatingWrite.termination c.in-Err.refusal.output)
     (g.W.TerminatingWrite.failures c.in-Err.refusal.output)
     (mid_is ∙ ap (λ (out : BlockOutput). with_risen mid.failures (with_blocks out bs)) old_is) le none (some_flushed docs pending) h)

@@ -3,22 +3,25 @@ use Rattle.std.proofs.lemmas.Option.{IfSome_then}
 use Rattle.std.proofs.lemmas.Bool.{eqb-false, cond-true, cond-false}
 use Rattle.layered_index.specs.declared.checkpoint.Checkpoint.{Checkpoint}
 use Rattle.layered_index.specs.Layers.{digit_count}
-use Rattle.layered_index.specs.Sought.{IndexBytes, layers_left, found_in_index}
+use Rattle.layered_index.specs.IndexReading.{IsIndexPart}
+use Rattle.layered_index.specs.Sought.{IndexBytes, IsHeaded, layers_left, found_in_index}
 use Rattle.layered_index.proofs.IndexHeadLemmas.{inside, head_few, head_digits}
 use Rattle.layered_index.proofs.DescentLemmas.{LeadsOn, leads_first, leads_next, leads_sought, leads_to_none, leads_on, leads_last, counted_within, one_more_counted}
 use Rattle.layered_index.proofs.FoundLemmas.{found_first, found_no_layer, found_next, found_nothing, found_goes_on, found_last}
 use Rattle.layered_index.proofs.index_slice.IndexSlice.descend.Goals as goal
 
--- the looks at so many layers, where the head tells how many there are
-most : (u v : IndexBytes) (steps old i count : ℕ) (cs : List Checkpoint) → u ≡ v → i ≤ count → steps ≤ old + u.period * i → count ≡ digit_count u.period (length cs)
-    → steps ≤ old + v.period * digit_count v.period (length cs)
-most u v steps old i count cs e le h digits =
+-- the looks at so many layers
+most : (u v : IndexBytes) (count : ℕ) (ends texts : List ℕ) (steps old i : ℕ) → u ≡ v → IsHeaded u.period u.bytes count ends texts → i ≤ count → steps ≤ old + u.period * i
+    → (cs : List Checkpoint) → IsIndexPart v.period v.bytes cs → steps ≤ old + v.period * digit_count v.period (length cs)
+most u v count ends texts steps old i e headed le h cs is =
+    let digits = head_digits u.period u.bytes count ends texts cs headed (inside u v cs e is) in
     subst (λ (w : IndexBytes). steps ≤ old + w.period * digit_count w.period (length cs)) e
     (subst (λ (n : ℕ). steps ≤ old + u.period * n) digits (counted_within steps old u.period i count le h))
 
-always : (u v : IndexBytes) (steps old i count : ℕ) → u ≡ v → i ≤ count → count ≤ 64 → steps ≤ old + u.period * i → steps ≤ old + v.period * 64
-always u v steps old i count e le few h = subst (λ (w : IndexBytes). steps ≤ old + w.period * 64) e
-    (counted_within steps old u.period count 64 few (counted_within steps old u.period i count le h))
+always : (u v : IndexBytes) (count : ℕ) (ends texts : List ℕ) (steps old i : ℕ) → u ≡ v → IsHeaded u.period u.bytes count ends texts → i ≤ count → steps ≤ old + u.period * i
+    → steps ≤ old + v.period * 64
+always u v count ends texts steps old i e headed le h = subst (λ (w : IndexBytes). steps ≤ old + w.period * 64) e
+    (counted_within steps old u.period count 64 (head_few _ _ _ headed.counted) (counted_within steps old u.period i count le h))
 
 pub loop-init : goal.loop-init
 loop-init c =
@@ -42,13 +45,10 @@ returns-in_default-clause-answer c cs is =
     (l.invariant.leads cs is))
 
 pub returns-in_default-clause-most : goal.returns-in_default-clause-most
-returns-in_default-clause-most c cs is =
-    let digits = head_digits c.self.inside.period c.self.inside.bytes.now c.self.inside.count c.self.inside.ends.now c.self.inside.texts.now cs c.self.invariant (inside _ _ cs c.self.view_is is) in
-    most _ _ c.loop.steps c.args.steps.now c.loop.counter c.self.inside.count cs c.self.view_is (omega arith) c.loop.invariant.counted digits
+returns-in_default-clause-most c cs is = most _ _ _ _ _ _ _ c.loop.counter c.self.view_is c.self.invariant (omega arith) c.loop.invariant.counted cs is
 
 pub returns-in_default-clause-always : goal.returns-in_default-clause-always
-returns-in_default-clause-always c =
-    always _ _ c.loop.steps c.args.steps.now c.loop.counter c.self.inside.count c.self.view_is (omega arith) (head_few _ _ _ c.self.invariant.counted) c.loop.invariant.counted
+returns-in_default-clause-always c = always _ _ _ _ _ _ _ c.loop.counter c.self.view_is c.self.invariant (omega arith) c.loop.invariant.counted
 
 pub returns-in_default-seek_layer-clause-answer : goal.returns-in_default-seek_layer-clause-answer
 returns-in_default-seek_layer-clause-answer c cs is =
@@ -57,15 +57,12 @@ returns-in_default-seek_layer-clause-answer c cs is =
     c.in-Some.more_ends.now c.in-Some.more.now None c.loop-test.true (sym c.in-Some.ensures) (l.invariant.leads cs is) c.in_default-seek_layer.ensures.answer refl)
 
 pub returns-in_default-seek_layer-clause-most : goal.returns-in_default-seek_layer-clause-most
-returns-in_default-seek_layer-clause-most c cs is =
-    let digits = head_digits c.self.inside.period c.self.inside.bytes.now c.self.inside.count c.self.inside.ends.now c.self.inside.texts.now cs c.self.invariant (inside _ _ cs c.self.view_is is) in
-    most _ _ c.seek_layer.new.steps c.args.steps.now (c.loop.counter + 1) c.self.inside.count cs c.self.view_is (omega arith)
-    (one_more_counted _ c.loop.steps c.args.steps.now c.self.inside.period c.loop.counter c.seek_layer.ensures.counted c.loop.invariant.counted) digits
+returns-in_default-seek_layer-clause-most c cs is = most _ _ _ _ _ _ _ (c.loop.counter + 1) c.self.view_is c.self.invariant (omega arith)
+    (one_more_counted _ _ _ _ c.loop.counter c.seek_layer.ensures.counted c.loop.invariant.counted) cs is
 
 pub returns-in_default-seek_layer-clause-always : goal.returns-in_default-seek_layer-clause-always
-returns-in_default-seek_layer-clause-always c =
-    always _ _ c.seek_layer.new.steps c.args.steps.now (c.loop.counter + 1) c.self.inside.count c.self.view_is (omega arith) (head_few _ _ _ c.self.invariant.counted)
-    (one_more_counted _ c.loop.steps c.args.steps.now c.self.inside.period c.loop.counter c.seek_layer.ensures.counted c.loop.invariant.counted)
+returns-in_default-seek_layer-clause-always c = always _ _ _ _ _ _ _ (c.loop.counter + 1) c.self.view_is c.self.invariant (omega arith)
+    (one_more_counted _ _ _ _ c.loop.counter c.seek_layer.ensures.counted c.loop.invariant.counted)
 
 pub returns-then-is_none-clause-answer : goal.returns-then-is_none-clause-answer
 returns-then-is_none-clause-answer c cs is =
@@ -75,15 +72,12 @@ returns-then-is_none-clause-answer c cs is =
     c.in-Some-seek_layer.ensures.answer)
 
 pub returns-then-is_none-clause-most : goal.returns-then-is_none-clause-most
-returns-then-is_none-clause-most c cs is =
-    let digits = head_digits c.self.inside.period c.self.inside.bytes.now c.self.inside.count c.self.inside.ends.now c.self.inside.texts.now cs c.self.invariant (inside _ _ cs c.self.view_is is) in
-    most _ _ c.seek_layer.new.steps c.args.steps.now (c.loop.counter + 1) c.self.inside.count cs c.self.view_is (omega arith)
-    (one_more_counted _ c.loop.steps c.args.steps.now c.self.inside.period c.loop.counter c.seek_layer.ensures.counted c.loop.invariant.counted) digits
+returns-then-is_none-clause-most c cs is = most _ _ _ _ _ _ _ (c.loop.counter + 1) c.self.view_is c.self.invariant (omega arith)
+    (one_more_counted _ _ _ _ c.loop.counter c.seek_layer.ensures.counted c.loop.invariant.counted) cs is
 
 pub returns-then-is_none-clause-always : goal.returns-then-is_none-clause-always
-returns-then-is_none-clause-always c =
-    always _ _ c.seek_layer.new.steps c.args.steps.now (c.loop.counter + 1) c.self.inside.count c.self.view_is (omega arith) (head_few _ _ _ c.self.invariant.counted)
-    (one_more_counted _ c.loop.steps c.args.steps.now c.self.inside.period c.loop.counter c.seek_layer.ensures.counted c.loop.invariant.counted)
+returns-then-is_none-clause-always c = always _ _ _ _ _ _ _ (c.loop.counter + 1) c.self.view_is c.self.invariant (omega arith)
+    (one_more_counted _ _ _ _ c.loop.counter c.seek_layer.ensures.counted c.loop.invariant.counted)
 
 pub loop-preserved : goal.loop-preserved
 loop-preserved c =
@@ -112,13 +106,10 @@ returns-then-not-is_empty-clause-answer c cs is =
     absurd (eqb-false (length l.texts.now) 0 (sym c.if-not-is_empty.ensures) last.2)
 
 pub returns-then-not-is_empty-clause-most : goal.returns-then-not-is_empty-clause-most
-returns-then-not-is_empty-clause-most c cs is =
-    let digits = head_digits c.self.inside.period c.self.inside.bytes.now c.self.inside.count c.self.inside.ends.now c.self.inside.texts.now cs c.self.invariant (inside _ _ cs c.self.view_is is) in
-    most _ _ c.loop.steps c.args.steps.now c.loop.counter c.self.inside.count cs c.self.view_is (omega arith) c.loop.invariant.counted digits
+returns-then-not-is_empty-clause-most c cs is = most _ _ _ _ _ _ _ c.loop.counter c.self.view_is c.self.invariant (omega arith) c.loop.invariant.counted cs is
 
 pub returns-then-not-is_empty-clause-always : goal.returns-then-not-is_empty-clause-always
-returns-then-not-is_empty-clause-always c =
-    always _ _ c.loop.steps c.args.steps.now c.loop.counter c.self.inside.count c.self.view_is (omega arith) (head_few _ _ _ c.self.invariant.counted) c.loop.invariant.counted
+returns-then-not-is_empty-clause-always c = always _ _ _ _ _ _ _ c.loop.counter c.self.view_is c.self.invariant (omega arith) c.loop.invariant.counted
 
 pub returns-clause-answer : goal.returns-clause-answer
 returns-clause-answer c cs is =
@@ -133,13 +124,10 @@ returns-clause-run c cs is =
     last.1
 
 pub returns-clause-most : goal.returns-clause-most
-returns-clause-most c cs is =
-    let digits = head_digits c.self.inside.period c.self.inside.bytes.now c.self.inside.count c.self.inside.ends.now c.self.inside.texts.now cs c.self.invariant (inside _ _ cs c.self.view_is is) in
-    most _ _ c.loop.steps c.args.steps.now c.loop.counter c.self.inside.count cs c.self.view_is (omega arith) c.loop.invariant.counted digits
+returns-clause-most c cs is = most _ _ _ _ _ _ _ c.loop.counter c.self.view_is c.self.invariant (omega arith) c.loop.invariant.counted cs is
 
 pub returns-clause-always : goal.returns-clause-always
-returns-clause-always c =
-    always _ _ c.loop.steps c.args.steps.now c.loop.counter c.self.inside.count c.self.view_is (omega arith) (head_few _ _ _ c.self.invariant.counted) c.loop.invariant.counted
+returns-clause-always c = always _ _ _ _ _ _ _ c.loop.counter c.self.view_is c.self.invariant (omega arith) c.loop.invariant.counted
 
 pub returns-in_default-clause-exact : goal.returns-in_default-clause-exact
 returns-in_default-clause-exact c =

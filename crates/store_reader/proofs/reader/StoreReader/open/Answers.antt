@@ -7,7 +7,7 @@ use Rattle.store_reader.proofs.OpenedCoverLemmas.{opened_covers}
 use Rattle.store_reader.proofs.ReaderStoreLemmas.{store_seen}
 use Rattle.store_reader.proofs.OpenedLemmas.{opened_is_store}
 use Rattle.store_reader.proofs.RefusedLemmas.{refused_is_none}
-use Rattle.store_reader.proofs.HandedLemmas.{handed_back, accepted_handed, opening_failed, opening_steady, accepted_steady, opening_asked, accepted_most, kept_asked}
+use Rattle.store_reader.proofs.HandedLemmas.{given_back, accepted_handed, opening_failed, opening_steady, accepted_steady, opening_asked, accepted_most, kept_asked}
 use Rattle.store_reader.proofs.reader.StoreReader.open.Goals as goal
 
 opened : (g : _) (c : goal.After-narrow g) → IsOpened c.args.file c.args.cache_num_blocks (the_view (param 0 g.row.H) g.H.FileHandle
@@ -40,14 +40,14 @@ returns-in-Err-clause-refused g c = inl c.in-Err.ensures
 pub returns-in-Err-clause-honest : goal.returns-in-Err-clause-honest
 returns-in-Err-clause-honest g c honest = refused_is_none _ _ _ honest c.in-Err.ensures
 
-pub returns-in-Err-clause-handed_back : goal.returns-in-Err-clause-handed_back
-returns-in-Err-clause-handed_back g c = handed_back _ _ _ c.in-Err.ensures
+pub returns-in-Err-clause-given_back : goal.returns-in-Err-clause-given_back
+returns-in-Err-clause-given_back g c = given_back _ _ _ c.in-Err.ensures
 
 pub returns-in-Err-clause-failed : goal.returns-in-Err-clause-failed
 returns-in-Err-clause-failed g c is = opening_failed _ _ _ is c.in-Err.ensures
 
-pub returns-in-Err-new-clause-handed_back : goal.returns-in-Err-new-clause-handed_back
-returns-in-Err-new-clause-handed_back g c = accepted_handed _ _ _ c.in-Ok.ensures
+pub returns-in-Err-new-clause-given_back : goal.returns-in-Err-new-clause-given_back
+returns-in-Err-new-clause-given_back g c = accepted_handed _ _ _ c.in-Ok.ensures
 
 pub returns-clause-seen : goal.returns-clause-seen
 returns-clause-seen g c =

@@ -4,7 +4,7 @@ use Rattle.layered_index.specs.Checkpoint.{first_past}
 use Rattle.layered_index.specs.IndexHeads.{RefusesRead}
 use Rattle.store_format.specs.StoreFile.{checkpoints_of}
 use Rattle.store_reader.proofs.SeekingLemmas.{seen_file, seeks_still, sought_stored, reads_stored, runs_kept}
-use Rattle.store_reader.proofs.StoreSliceLemmas.{block_placed, block_within}
+use Rattle.store_reader.proofs.StoreSliceLemmas.{block_fits}
 use Rattle.store_reader.proofs.seeking_reader.SeekingReader.block_of.Goals as goal
 use Rattle.store_reader.proofs.seeking_reader.SeekingReader.block_of.Goals.{then-doc_id-checkpoint-via-then-doc_id-checkpoint, then-doc_id-checkpoint-via-else-doc_id-checkpoint+then-self-checkpoint}
 
@@ -46,11 +46,10 @@ returns-then-doc_id-checkpoint-clause-block g c honest s =
     let found = sought_stored (λ cs. c.in_ok-checkpoint.field-0 ≡ first_past cs c.args.doc_id) c.self.inside.file c.args.self.now _ _ _ c.self.view_is c.self.invariant honest s
     c.in_ok-checkpoint.ensures.answer in
     let seeks : first_past (checkpoints_of s.blocks) c.args.doc_id ≡ Some c.in-Some.checkpoint = sym found ∙ c.in-Some.is in
-    let place = block_placed _ s c.args.doc_id c.in-Some.checkpoint seeks in
-    let within = block_within _ s c.args.doc_id c.in-Some.checkpoint seeks in
+    let fits = block_fits _ s c.args.doc_id _ c.in-Some.checkpoint laid.data_is seeks in
     elim c.then-doc_id-checkpoint.branch [
-      | then-doc_id-checkpoint-via-then-doc_id-checkpoint w ↦ absurd (omega (arith, w.if-doc_id-checkpoint.true, place.from))
-      | then-doc_id-checkpoint-via-else-doc_id-checkpoint+then-self-checkpoint w ↦ absurd (omega (arith, w.if-self-checkpoint.true, within, laid.data_is))
+      | then-doc_id-checkpoint-via-then-doc_id-checkpoint w ↦ absurd (omega (arith, w.if-doc_id-checkpoint.true, fits.0))
+      | then-doc_id-checkpoint-via-else-doc_id-checkpoint+then-self-checkpoint w ↦ absurd (omega (arith, w.if-self-checkpoint.true, fits.1))
     ]
 
 pub returns-then-doc_id-checkpoint-clause-reads : goal.returns-then-doc_id-checkpoint-clause-reads

@@ -2,7 +2,7 @@ use Rattle.std.proofs.Common.{ℕ, ◌≡◌, List, Some, refl, sym, ap, ◌∙�
 use Rattle.std.specs.Prelude.{slice_range}
 use Rattle.layered_index.specs.Checkpoint.{first_past}
 use Rattle.store_format.specs.StoreFile.{checkpoints_of}
-use Rattle.store_reader.proofs.StoreSliceLemmas.{seen_parts, stored_index, looks_of_store, block_placed, block_within, block_stored, err_not_ok, ok_is}
+use Rattle.store_reader.proofs.StoreSliceLemmas.{seen_parts, stored_index, looks_of_store, block_fits, block_stored, err_not_ok, ok_is}
 use Rattle.store_reader.proofs.store_slice.StoreSlice.block_of_counted.Goals as goal
 use Rattle.store_reader.proofs.store_slice.StoreSlice.block_of_counted.Goals.{then-doc_id-docs-via-then-doc_id-docs, then-doc_id-docs-via-else-doc_id-docs+then-self-bytes}
 
@@ -35,11 +35,10 @@ returns-then-doc_id-docs-clause-block c s =
     let laid = inv.laid_out s in
     let found = ok_is _ _ (c.in_ok-checkpoint.ensures.answer (checkpoints_of s.blocks) (stored_index _ _ _ _ s laid)) in
     let seeks : first_past (checkpoints_of s.blocks) c.args.doc_id ≡ Some c.in-Some.checkpoint = sym found ∙ c.in-Some.is in
-    let place = block_placed _ s c.args.doc_id c.in-Some.checkpoint seeks in
-    let within = block_within _ s c.args.doc_id c.in-Some.checkpoint seeks in
+    let fits = block_fits _ s c.args.doc_id _ c.in-Some.checkpoint laid.data_is seeks in
     elim c.then-doc_id-docs.branch [
-      | then-doc_id-docs-via-then-doc_id-docs w ↦ absurd (omega (arith, w.if-doc_id-docs.true, place.from))
-      | then-doc_id-docs-via-else-doc_id-docs+then-self-bytes w ↦ absurd (omega (arith, w.if-self-bytes.true, within, laid.data_is))
+      | then-doc_id-docs-via-then-doc_id-docs w ↦ absurd (omega (arith, w.if-doc_id-docs.true, fits.0))
+      | then-doc_id-docs-via-else-doc_id-docs+then-self-bytes w ↦ absurd (omega (arith, w.if-self-bytes.true, fits.1))
     ]
 
 pub returns-clause-block : goal.returns-clause-block

@@ -5,7 +5,7 @@ use Rattle.layered_index.specs.declared.checkpoint.Checkpoint.{Checkpoint}
 use Rattle.layered_index.specs.Checkpoint.{first_past}
 use Rattle.layered_index.proofs.RestOfLayerLemmas.{first_is_on}
 use Rattle.store_format.specs.StoreFile.{checkpoints_of}
-use Rattle.store_reader.proofs.StoreSliceLemmas.{seen_parts, stored_index, block_placed, block_within, block_stored}
+use Rattle.store_reader.proofs.StoreSliceLemmas.{seen_parts, stored_index, block_fits, block_stored}
 use Rattle.store_reader.proofs.BlocksLeftLemmas.{left_from}
 use Rattle.store_reader.proofs.store_slice.StoreSlice.blocks_from.Goals as goal
 use Rattle.store_reader.proofs.store_slice.StoreSlice.blocks_from.Goals.{then-docs-doc_id-via-then-docs-doc_id, then-docs-doc_id-via-else-docs-doc_id+then-bytes-self}
@@ -30,11 +30,10 @@ returns-then-docs-doc_id-clause-block c s =
     let found = c.in_ok-checkpoint.ensures.answer (checkpoints_of s.blocks) (stored_index _ _ _ _ s laid) in
     let seeks : first_past (checkpoints_of s.blocks) c.args.doc_id ≡ Some c.in-Some.checkpoint = first_is_on (checkpoints_of s.blocks) c.args.doc_id
     ∙ ap (λ (o : Option (Checkpoint × List Checkpoint)). option_map (λ x. x.0) o) (sym found ∙ c.in-Some.is) in
-    let place = block_placed _ s c.args.doc_id c.in-Some.checkpoint seeks in
-    let within = block_within _ s c.args.doc_id c.in-Some.checkpoint seeks in
+    let fits = block_fits _ s c.args.doc_id _ c.in-Some.checkpoint laid.data_is seeks in
     elim c.then-docs-doc_id.branch [
-      | then-docs-doc_id-via-then-docs-doc_id w ↦ absurd (omega (arith, w.if-docs-doc_id.true, place.from))
-      | then-docs-doc_id-via-else-docs-doc_id+then-bytes-self w ↦ absurd (omega (arith, w.if-bytes-self.true, within, laid.data_is))
+      | then-docs-doc_id-via-then-docs-doc_id w ↦ absurd (omega (arith, w.if-docs-doc_id.true, fits.0))
+      | then-docs-doc_id-via-else-docs-doc_id+then-bytes-self w ↦ absurd (omega (arith, w.if-bytes-self.true, fits.1))
     ]
 
 pub returns-clause-block : goal.returns-clause-block

@@ -9,7 +9,7 @@ use std::test::Fail;
 use test_support::making::{opened_bytes, written};
 
 #[test]
-fn a_writer_tells_of_itself(rt: HostRuntime) -> Result<(), Fail> {
+fn a_writer_describes_itself(rt: HostRuntime) -> Result<(), Fail> {
     let alloc = rt.alloc();
     let mut writer = StoreWriter::new(alloc, MemSink::new(alloc), Compressor::None, 16384);
     assert!(rt; writer.mem_usage() < 1048576 && writer.compressor() == Compressor::None);
@@ -36,7 +36,7 @@ fn two_blocks(alloc: Global) -> Result<Vec<u8>, Fail> {
 }
 
 #[test]
-fn a_reader_tells_of_its_store(rt: HostRuntime) -> Result<(), Fail> {
+fn a_reader_describes_its_store(rt: HostRuntime) -> Result<(), Fail> {
     let reader = opened_bytes(rt.alloc(), two_blocks(rt.alloc())?)?;
     assert!(rt; reader.num_docs() == 2 && reader.period() == 8);
     assert!(rt;
@@ -48,7 +48,7 @@ fn a_reader_tells_of_its_store(rt: HostRuntime) -> Result<(), Fail> {
 }
 
 #[test]
-fn a_view_tells_of_its_store(rt: HostRuntime) -> Result<(), Fail> {
+fn a_view_describes_its_store(rt: HostRuntime) -> Result<(), Fail> {
     let file = two_blocks(rt.alloc())?;
     let view = StoreView::open(rt.alloc(), file.as_slice())?;
     assert!(rt; view.version() == DocStoreVersion::V3 && view.period() == 8);

@@ -1,0 +1,70 @@
+//! `export`: writes the documents of a store as a file that another program reads.
+
+use crate::arguments::{self, input_path, output_path};
+use crate::failure::{Failure, FailureCause, with_file};
+use crate::progress::Progress;
+use crate::store_file::StorePath;
+use crate::store_output::{OutputPlace, output_place, summarize};
+use clap::{Arg, ArgAction, ArgMatches, Command};
+use docstore::StoreError;
+use std::alloc::{AllocError, Global};
+use store_published::{FillError, NotPublished, publish_export};
+
+// How many bytes of the store are in memory at a time.
+const PART_BYTES: usize = 1 << 22;
+
+const EXAMPLE: &str = "\
+The file has the blocks of the store, an index of period 8 and a footer of version 2. The bytes that tantivy's directory
+adds after a store on disk are not written.
+
+Example:
+  zevkhadun export --tantivy segment.store words.store";
+
+// That tantivy reads the file. It is required, so that other forms can be added.
+fn for_tantivy<'a>(alloc: Global) -> Arg<'a> {
+    Arg::new(alloc, "tantivy")
+        .long("tantivy")
+        .action(ArgAction::SetTrue)
+        .required(true)
+        .help("Write a file of version 2, which tantivy's store reader opens")
+}
+
+/// The words of `export`.
+pub fn command<'a>(alloc: Global) -> Result<Command<'a>, AllocError> {
+    Command::new(alloc, "export")
+        .about("Write a store as a file that tantivy opens")
+        .after_help(EXAMPLE)
+        .arg(arguments::output(alloc))?
+        .arg(arguments::input(alloc))?
+        .arg(for_tantivy(alloc))?
+        .arg(arguments::quiet(alloc))
+}
+
+// The failure of an export: of the store that is read, or of the file that is written.
+fn failure_of(alloc: Global, input: &str, out: &str, error: FillError<StoreError>) -> Failure {
+    match error {
+        FillError::Folder(error) => Failure::at_file(alloc, out, FailureCause::System(error)),
+        FillError::Filling(StoreError::Failed(cause)) => {
+            Failure::at_file(alloc, out, FailureCause::Store(StoreError::Failed(cause)))
+        }
+        FillError::Filling(error) => Failure::at_file(alloc, input, FailureCause::Store(error)),
+        FillError::Store(error) => Failure::at_file(alloc, out, FailureCause::Store(error)),
+    }
+}
+
+/// Writes the file.
+pub fn run(rt: &HostRuntime, matches: &ArgMatches<'_>) -> Result<(), Failure> {
+    let alloc = rt.alloc();
+    let store = StorePath {
+        path: input_path(alloc, matches)?,
+        is_tantivy: false,
+    };
+    let out = output_path(alloc, matches)?;
+    let progress = Progress::begin(rt, matches.get_flag("quiet"), None);
+    let mut reader = with_file(alloc, store.path, store.reader(rt))?;
+    let OutputPlace { folder, name } = output_place(rt, out)?;
+    match publish_export(alloc, folder, name.as_str(), &mut reader, PART_BYTES) {
+        Ok(published) => summarize(rt, out, published.written, &progress),
+        Err(NotPublished { error, .. }) => Err(failure_of(alloc, store.path, out, error)),
+    }
+}

@@ -1,0 +1,90 @@
+//! The files whose documents are packed.
+
+use crate::arguments::option;
+use crate::failure::{Failure, FailureCause};
+use crate::word_files::text_in;
+use clap::{Arg, ArgAction, ArgMatches};
+use std::alloc::{AllocError, Global};
+use std::fs;
+
+/// The argument for files.
+pub fn inputs<'a>(alloc: Global) -> Arg<'a> {
+    Arg::new(alloc, "INPUT")
+        .num_args(0..)
+        .action(ArgAction::Append)
+        .help("Input files; '-' or no file means standard input")
+}
+
+/// The option for a list of files.
+pub fn files_from<'a>(alloc: Global) -> Arg<'a> {
+    option(
+        alloc,
+        "files-from",
+        "LIST",
+        "Take further input files from the lines of LIST, after the others; '-' is standard input",
+    )
+    .action(ArgAction::Set)
+}
+
+// Adds a name, and a byte 0, which no name has, after it.
+fn add_name(names: &mut String, name: &str) -> Result<(), AllocError> {
+    names.push_str(name)?;
+    names.push('\0')?;
+    Ok(())
+}
+
+// The names of words, and then those on the lines of a list.
+fn joined_names(alloc: Global, words: &[&str], list: &str) -> Result<String, AllocError> {
+    let mut names = String::new(alloc);
+    for word in words {
+        add_name(&mut names, word)?;
+    }
+    for line in list.lines() {
+        if !line.is_empty() {
+            add_name(&mut names, line)?;
+        }
+    }
+    Ok(names)
+}
+
+/// The names of the files, with a byte 0 after each; `None` where neither words nor a list name some, which means the
+/// standard input.
+pub fn names_of(rt: &HostRuntime, matches: &ArgMatches<'_>) -> Result<Option<String>, Failure> {
+    let list = match matches.get_str("files-from") {
+        Some(path) => Some(text_in(rt, path)?),
+        None => None,
+    };
+    let words = matches.get_strs("INPUT");
+    if words.is_none() && list.is_none() {
+        return Ok(None);
+    }
+    let text = list.as_deref().unwrap_or("");
+    match joined_names(rt.alloc(), words.unwrap_or(&[]), text) {
+        Ok(names) => Ok(Some(names)),
+        Err(error) => Err(Failure::from(FailureCause::from(error))),
+    }
+}
+
+/// The names in a text that has a byte 0 after each.
+pub fn split_names(alloc: Global, text: &str) -> Result<Vec<&str>, AllocError> {
+    let mut names = Vec::new(alloc);
+    if let Some(all) = text.strip_suffix('\0') {
+        for name in all.split('\0') {
+            names.push(name)?;
+        }
+    }
+    Ok(names)
+}
+
+/// How many bytes these files have together, if all are plain files.
+pub fn total_bytes(rt: &HostRuntime, paths: &[&str]) -> Option<u64> {
+    let mut total = 0u64;
+    for path in paths {
+        let found = fs::metadata(rt, *path).ok()?;
+        if *path == "-" || !found.is_file() {
+            return None;
+        }
+        total = total.saturating_add(found.len());
+    }
+    Some(total)
+}

@@ -1,0 +1,82 @@
+//! Words that are in files, one on each line.
+
+use crate::failure::{Failure, FailureCause, with_file};
+use std::alloc::{AllocError, Global};
+use std::{fs, io};
+
+/// The text of a file, or of the standard input for `-`.
+pub fn text_in(rt: &HostRuntime, path: &str) -> Result<String, Failure> {
+    let text = if path == "-" {
+        io::read_to_string(rt.alloc(), rt.reader())
+    } else {
+        fs::read_to_string(rt, path)
+    };
+    with_file(rt.alloc(), path, text)
+}
+
+/// A word that names documents, or the text of the file that `@FILE` names.
+#[derive(Drop)]
+pub struct IdWord {
+    text: String,
+    is_list: bool,
+}
+
+impl IdWord {
+    /// The word, or the text of its file.
+    pub fn read(rt: &HostRuntime, word: &str) -> Result<IdWord, Failure> {
+        if let Some(path) = word.strip_prefix('@') {
+            let text = text_in(rt, path)?;
+            return Ok(IdWord {
+                text,
+                is_list: true,
+            });
+        }
+        match String::from_str(rt.alloc(), word) {
+            Ok(text) => Ok(IdWord {
+                text,
+                is_list: false,
+            }),
+            Err(error) => Err(Failure::from(FailureCause::from(error))),
+        }
+    }
+
+    /// Adds the words that it has: itself, or the lines of the file that are not empty.
+    pub fn add_to<'a>(&'a self, words: &mut Vec<&'a str>) -> Result<(), AllocError> {
+        if self.is_list {
+            return add_lines(words, self.text.as_str());
+        }
+        words.push(self.text.as_str())?;
+        Ok(())
+    }
+}
+
+/// The words, or the texts of their files.
+pub fn id_words(rt: &HostRuntime, words: &[&str]) -> Result<Vec<IdWord>, Failure> {
+    let mut read = Vec::new(rt.alloc());
+    for word in words {
+        let word = IdWord::read(rt, word)?;
+        if let Err(error) = read.push(word) {
+            return Err(Failure::from(FailureCause::from(error)));
+        }
+    }
+    Ok(read)
+}
+
+/// Adds the lines of a text that are not empty.
+pub fn add_lines<'a>(lines: &mut Vec<&'a str>, text: &'a str) -> Result<(), AllocError> {
+    for line in text.lines() {
+        if !line.is_empty() {
+            lines.push(line)?;
+        }
+    }
+    Ok(())
+}
+
+/// All the words that these have.
+pub fn words_in<'a>(alloc: Global, read: &'a [IdWord]) -> Result<Vec<&'a str>, AllocError> {
+    let mut words = Vec::new(alloc);
+    for word in read {
+        word.add_to(&mut words)?;
+    }
+    Ok(words)
+}
