@@ -93,7 +93,7 @@ class Drawing:
                            f'height="{_number(height)}" fill="url(#hatch{series})" class="{kind}"/>')
 
     def svg(self) -> str:
-        height = self.height + 4
+        height, says = self.height + 4, escape(self.says.replace("`", ""))
         hatches = "".join(
             f'<pattern id="hatch{at}" width="6" height="6" patternUnits="userSpaceOnUse" '
             f'patternTransform="rotate(45)"><line x1="0" y1="0" x2="0" y2="6" class="line{at}" stroke-width="4"/>'
@@ -101,7 +101,7 @@ class Drawing:
         return (
             f'<svg xmlns="http://www.w3.org/2000/svg" viewBox="0 0 {WIDTH} {_number(height)}" '
             f'width="{_number(WIDTH * SCALE)}" height="{_number(height * SCALE)}" role="img">'
-            f"<title>{escape(self.title)}</title><desc>{escape(self.says)}</desc>"
+            f"<title>{escape(self.title)}</title><desc>{says}</desc>"
             f"<style>{_STYLE}</style><defs>{hatches}</defs>"
             f'<rect width="{WIDTH}" height="{_number(height)}" class="paper"/>\n'
             + "\n".join(self.shapes)

@@ -1,11 +1,11 @@
-"""What a file of measurements says: medians of the rounds of each row, and how far the rounds lie apart."""
+"""What a file of measurements has: medians of the rounds of each row, and how far the rounds lie apart."""
 
 import json
 from pathlib import Path
 from statistics import median, quantiles
-from typing import Dict, Iterable, List, NamedTuple, Optional
+from typing import Dict, Iterable, List, NamedTuple, Optional, Tuple
 
-#: how sides are called in plots
+#: how sides are called in plots and tables
 LABELS = {
     "zevk": "zevk_locate",
     "unopened": "zevk_get",
@@ -18,6 +18,19 @@ LABELS = {
     "rocksdb": "RocksDB",
     "cdb": "tinycdb",
     "plain": "floor",
+    "path": "zevk_file_get",
+    "unchecked": "zevk_file_get, unchecked",
+    "ranged": "zevk_get_in",
+    "plain_ranged": "floor",
+    "python": "zevkhadun",
+    "py_sqlite": "sqlite3",
+    "py_gnu": "dbm.gnu",
+    "py_lmdb": "py-lmdb",
+    "py_offsets": "dict over mmap",
+    "rust": "Rust",
+    "program": "zevkhadun",
+    "shell_sqlite": "sqlite3",
+    "cat": "cat",
 }
 
 #: a row is even if its quartiles lie at most this share of the median apart
@@ -40,6 +53,10 @@ class Spread(NamedTuple):
         """How far apart the quartiles lie, as a share of the median."""
         return (self.high - self.low) / self.middle if self.middle else 0.0
 
+    @property
+    def is_even(self) -> bool:
+        return self.share <= EVEN
+
 
 def spread_of(values: List[float]) -> Spread:
     if len(values) < 2:
@@ -56,7 +73,7 @@ def each_of(taken: Dict[str, int]) -> float:
 
 def is_even(rounds: List[Dict[str, int]]) -> bool:
     """Whether the quartiles of these rounds lie close together."""
-    return spread_of([each_of(taken) for taken in rounds]).share <= EVEN
+    return spread_of([each_of(taken) for taken in rounds]).is_even
 
 
 class Figures:
@@ -94,10 +111,25 @@ class Figures:
         spread = self.spread(**wanted)
         return None if spread is None else spread.middle
 
+    def pairs(self, mine: Dict[str, object], theirs: Dict[str, object]) -> List[Tuple[float, float]]:
+        """Each round of the one row with the same round of the other."""
+        rounds = zip(self.rounds(**mine), self.rounds(**theirs))
+        return [(each_of(own), each_of(other)) for own, other in rounds]
+
+    def ratios(self, mine: Dict[str, object], theirs: Dict[str, object]) -> Optional[Spread]:
+        """The rounds' ratios: their median and quartiles."""
+        found = [own / other for own, other in self.pairs(mine, theirs)]
+        return spread_of(found) if found else None
+
+    def differences(self, mine: Dict[str, object], theirs: Dict[str, object]) -> Optional[Spread]:
+        """By how much each round of the one row takes longer than the same round of the other."""
+        found = [own - other for own, other in self.pairs(mine, theirs)]
+        return spread_of(found) if found else None
+
     def ratio(self, mine: Dict[str, object], theirs: Dict[str, object]) -> Optional[float]:
-        """The median of the rounds' ratios: each round of the one row by the same round of the other."""
-        pairs = list(zip(self.rounds(**mine), self.rounds(**theirs)))
-        return median(each_of(own) / each_of(other) for own, other in pairs) if pairs else None
+        """The median of the rounds' ratios."""
+        spread = self.ratios(mine, theirs)
+        return None if spread is None else spread.middle
 
     def lengths(self, **wanted: object) -> List[int]:
         return sorted({row["length"] for row in self.find(**wanted)})

@@ -1,363 +1,187 @@
 #!/usr/bin/env python3
-"""Times the package for Python beside sqlite3, dbm.gnu, py-lmdb, and a dict of offsets over a mapped file.
+"""Does one workload of one side in Python, and prints what it took as one line of JSON, as peers/main.c does in C.
 
-Each side does each workload in turn, in as many rounds as asked; one JSON file has every round, and the medians are
-printed as a table. The package has to be installed where this runs, as in an environment of its own:
+usage: from_python.py SIDE WORKLOAD PATH [key=number ...]
+       from_python.py sides
 
-    bash bindings/c/build.sh PREFIX
-    ZEVKHADUN_PREFIX=PREFIX python3 -m pip wheel --no-deps --no-index --wheel-dir FOLDER bindings/python
-    python3 -m venv FOLDER/environment
-    FOLDER/environment/bin/python -m pip install --no-deps --no-index FOLDER/zevkhadun-*.whl
-    FOLDER/environment/bin/python bench/from_python.py
-
-dbm.gnu and py-lmdb are left out where Python has none. On Debian they are python3-gdbm and python3-lmdb, for an
-environment of /usr/bin/python3 that is made with --system-site-packages. With --prefix PREFIX the same gets are timed
-in C (bench/gets.c): by the call that the package makes, and with a copy that is kept.
+SIDE: python, py_sqlite, py_gnu, py_lmdb or py_offsets; `sides` prints those that this Python has. The package
+zevkhadun has to be installed where this runs: run.py makes an environment that has it.
 """
 
-import argparse
 import json
-import mmap
-import random
-import sqlite3
-import struct
-import subprocess
+import os
 import sys
-import tempfile
 import threading
 import time
-from array import array
 from collections import deque
 from pathlib import Path
-from statistics import median
-from typing import Callable, Dict, Iterable, Iterator, List
+from typing import Callable, Dict, Iterator, List, Tuple
 
-import machine
-from zevkhadun import Store, Writer
+import python_sides
+from inputs import check_of, documents, sequence, uniform
 
-try:
-    import dbm.gnu as gnu
-except ImportError:
-    gnu = None
-try:
-    import lmdb
-except ImportError:
-    lmdb = None
-
-HERE = Path(__file__).resolve().parent
-SEED = 20261123
+Told = Dict[str, object]
 
 
-def documents(count: int, length: int) -> Iterator[bytes]:
-    """Documents that differ, all of one length of eight bytes or more."""
-    rest = bytes(length - 8)
-    for number in range(count):
-        yield struct.pack("<Q", number * 0x9E3779B97F4A7C15 % 2**64) + rest
-
-
-class Zevkhadun:
-    """This library."""
-
-    name = "zevkhadun"
-
-    @staticmethod
-    def write(path: str, given: Iterable[bytes]) -> None:
-        with Writer(path) as writer:
-            writer.extend(given)
-
-    def __init__(self, path: str) -> None:
-        self.store = Store(path)
-
-    def get(self, number: int) -> bytes:
-        return self.store[number]
-
-    def gets(self, numbers: Iterable[int]) -> List[bytes]:
-        store = self.store
-        return [store[number] for number in numbers]
-
-    def __iter__(self) -> Iterator[bytes]:
-        return iter(self.store)
-
-    def close(self) -> None:
-        self.store.close()
-
-
-class Sqlite:
-    """A table of numbers and blobs, by the module sqlite3."""
-
-    name = "sqlite3"
-
-    @staticmethod
-    def write(path: str, given: Iterable[bytes]) -> None:
-        base = sqlite3.connect(path, isolation_level=None)
-        base.execute("PRAGMA journal_mode=OFF")
-        base.execute("CREATE TABLE documents (id INTEGER PRIMARY KEY, bytes BLOB)")
-        base.execute("BEGIN")
-        base.executemany("INSERT INTO documents VALUES (?, ?)", enumerate(given))
-        base.execute("COMMIT")
-        base.close()
-
-    def __init__(self, path: str) -> None:
-        self.base = sqlite3.connect(f"file:{path}?mode=ro", uri=True)
-        self.base.execute("PRAGMA mmap_size=17179869184")
-        self.cursor = self.base.cursor()
-
-    def get(self, number: int) -> bytes:
-        return self.gets([number])[0]
-
-    def gets(self, numbers: Iterable[int]) -> List[bytes]:
-        ask, query = self.cursor.execute, "SELECT bytes FROM documents WHERE id = ?"
-        return [ask(query, (number,)).fetchone()[0] for number in numbers]
-
-    def __iter__(self) -> Iterator[bytes]:
-        return (row[0] for row in self.base.execute("SELECT bytes FROM documents ORDER BY id"))
-
-    def close(self) -> None:
-        self.base.close()
-
-
-class Gnu:
-    """A hash of numbers as text, by the module dbm.gnu."""
-
-    name = "dbm.gnu"
-
-    @staticmethod
-    def write(path: str, given: Iterable[bytes]) -> None:
-        with gnu.open(path, "nf") as base:
-            for number, document in enumerate(given):
-                base[str(number)] = document
-            base.sync()
-
-    def __init__(self, path: str) -> None:
-        self.base = gnu.open(path, "r")
-
-    def get(self, number: int) -> bytes:
-        return self.base[str(number)]
-
-    def gets(self, numbers: Iterable[int]) -> List[bytes]:
-        base = self.base
-        return [base[str(number)] for number in numbers]
-
-    def __iter__(self) -> Iterator[bytes]:
-        # In the order of the numbers, which the hash does not have.
-        number = 0
-        while (key := str(number)) in self.base:
-            yield self.base[key]
-            number += 1
-
-    def close(self) -> None:
-        self.base.close()
-
-
-class Lmdb:
-    """A tree of numbers of four bytes, the highest first, by py-lmdb."""
-
-    name = "py-lmdb"
-
-    @staticmethod
-    def opened(path: str, **given: object) -> "lmdb.Environment":
-        return lmdb.open(path, subdir=False, lock=False, map_size=1 << 34, **given)
-
-    @classmethod
-    def write(cls, path: str, given: Iterable[bytes]) -> None:
-        with cls.opened(path, writemap=True, sync=False) as base:
-            with base.begin(write=True) as changes:
-                put, key = changes.put, struct.Struct(">I").pack
-                for number, document in enumerate(given):
-                    put(key(number), document, append=True)
-            base.sync(True)
-
-    def __init__(self, path: str) -> None:
-        self.base = self.opened(path, readonly=True)
-        self.reading = self.base.begin()
-
-    def get(self, number: int) -> bytes:
-        return self.gets([number])[0]
-
-    def gets(self, numbers: Iterable[int]) -> List[bytes]:
-        get, key = self.reading.get, struct.Struct(">I").pack
-        return [get(key(number)) for number in numbers]
-
-    def __iter__(self) -> Iterator[bytes]:
-        return iter(self.reading.cursor().iternext(keys=False, values=True))
-
-    def close(self) -> None:
-        self.reading.abort()
-        self.base.close()
-
-
-class Offsets:
-    """The floor: a mapped file, and a dict of where each document ends, which is made when it is opened."""
-
-    name = "dict over mmap"
-
-    @staticmethod
-    def write(path: str, given: Iterable[bytes]) -> None:
-        ends = array("Q")
-        end = 0
-        with open(path, "wb", buffering=1 << 20) as file:
-            for document in given:
-                file.write(document)
-                end += len(document)
-                ends.append(end)
-            ends.tofile(file)
-            file.write(struct.pack("<Q", end))
-
-    def __init__(self, path: str) -> None:
-        with open(path, "rb") as file:
-            self.map = mmap.mmap(file.fileno(), 0, access=mmap.ACCESS_READ)
-        (table,) = struct.unpack("<Q", self.map[-8:])
-        ends = array("Q", self.map[table:-8])
-        starts = [0, *ends]
-        self.places = {number: (starts[number], end) for number, end in enumerate(ends)}
-
-    def get(self, number: int) -> bytes:
-        start, end = self.places[number]
-        return self.map[start:end]
-
-    def gets(self, numbers: Iterable[int]) -> List[bytes]:
-        content, places = self.map, self.places
-        return [content[places[number][0]:places[number][1]] for number in numbers]
-
-    def __iter__(self) -> Iterator[bytes]:
-        return (self.map[start:end] for start, end in self.places.values())
-
-    def close(self) -> None:
-        self.map.close()
-
-
-def summed(given: Iterable[bytes]) -> int:
-    """What each side has to give: the sum of the documents' first eight bytes."""
-    return sum(int.from_bytes(document[:8], "little") for document in given) % 2**64
-
-
-def timed(work: Callable[[], object]) -> int:
+def timed(work: Callable[[], object]) -> Tuple[int, object]:
+    """The nanoseconds that something took, and what it returned."""
     start = time.perf_counter_ns()
-    work()
-    return time.perf_counter_ns() - start
+    done = work()
+    return time.perf_counter_ns() - start, done
 
 
-def opened(side: type, path: str) -> None:
-    reader = side(path)
-    reader.get(0)
-    reader.close()
+class Work:
+    """A workload: a side, a path, and numbers."""
+
+    def __init__(self, side: str, path: str, numbers: Dict[str, int]) -> None:
+        self.side = python_sides.side_of(side)
+        self.path = path
+        self.count = numbers.get("n", 1000)
+        self.length = numbers.get("l", 100)
+        self.questions = numbers.get("q", 1)
+        self.threads = numbers.get("threads", 1)
+
+    def told(self, count: int, nanoseconds: int, check: str = "", **more: int) -> Told:
+        return {"count": count, "ns": nanoseconds, "check": check, **more}
+
+    def walked(self) -> str:
+        """The check of all documents, in order."""
+        reader = self.side(self.path)
+        check = check_of(reader)
+        reader.close()
+        return check
+
+    def size(self) -> int:
+        return Path(self.path).stat().st_blocks * 512
+
+    # ---- what every side does
+
+    def write(self) -> Told:
+        Path(self.path).unlink(missing_ok=True)
+        given = documents(0, self.count, self.length)
+        nanoseconds, _ = timed(lambda: self.side.write(self.path, given))
+        return self.told(self.count, nanoseconds, self.walked(), file_bytes=self.size())
+
+    def append(self) -> Told:
+        given = documents(self.count, self.count + self.questions, self.length)
+        nanoseconds, _ = timed(lambda: self.side.append(self.path, self.count, given))
+        return self.told(1, nanoseconds, self.walked(), file_bytes=self.size())
+
+    def open(self) -> Told:
+        """The second of two times, since the first one brings the file into memory."""
+        def first() -> bytes:
+            reader = self.side(self.path)
+            document = reader.get(0)
+            reader.close()
+            return document
+
+        first()
+        nanoseconds, document = timed(first)
+        return self.told(1, nanoseconds, check_of([document]))
+
+    def gets(self, numbers: List[int]) -> Told:
+        reader = self.side(self.path)
+        reader.gets(numbers)
+        nanoseconds, found = timed(lambda: reader.gets(numbers))
+        reader.close()
+        return self.told(len(numbers), nanoseconds, check_of(found))
+
+    def uniform(self) -> Told:
+        return self.gets(uniform(self.questions, self.count))
+
+    def sequence(self) -> Told:
+        return self.gets(sequence(self.questions, self.count))
+
+    def iterate(self) -> Told:
+        reader = self.side(self.path)
+        check = check_of(reader)
+        nanoseconds, _ = timed(lambda: deque(reader, maxlen=0))
+        reader.close()
+        return self.told(self.count, nanoseconds, check)
+
+    # ---- what only the package does
+
+    def called(self, call: Callable[[python_sides.Zevkhadun], object], count: int) -> Told:
+        reader = self.side(self.path)
+        check_of(reader)
+        nanoseconds, _ = timed(lambda: call(reader.store))
+        reader.close()
+        return self.told(count, nanoseconds)
+
+    def view(self) -> Told:
+        numbers = uniform(self.questions, self.count)
+        return self.called(lambda store: deque(map(store.view, numbers), maxlen=0), self.questions)
+
+    def get_many(self) -> Told:
+        numbers = uniform(self.questions, self.count)
+        return self.called(lambda store: store.get_many(numbers), self.questions)
+
+    def get_many_threads(self) -> Told:
+        """Each thread gets all of them; the time is that of each document of all threads."""
+        numbers = uniform(self.questions, self.count)
+
+        def run(store: object) -> None:
+            threads = [threading.Thread(target=store.get_many, args=(numbers,)) for _ in range(self.threads)]
+            for thread in threads:
+                thread.start()
+            for thread in threads:
+                thread.join()
+
+        return self.called(run, self.questions * self.threads)
+
+    def slice(self) -> Told:
+        return self.called(lambda store: store[:], self.count)
+
+    def verify(self) -> Told:
+        return self.called(lambda store: store.verify(), self.count)
+
+    # ---- by ranges
+
+    def ranges(self) -> Told:
+        """Gets by one number each, from a store that keeps 16 MiB of blocks."""
+        return self.ranged(lambda store, numbers: [store[number] for number in numbers])
+
+    def ranges_many(self) -> Told:
+        """The same documents by one call."""
+        return self.ranged(lambda store, numbers: store.get_many(numbers))
+
+    def ranged(self, get: Callable[[object, List[int]], List[bytes]]) -> Told:
+        numbers = uniform(self.questions, self.count)
+        file = os.open(self.path, os.O_RDONLY)
+        reads: List[int] = []
+
+        def read(start: int, length: int) -> bytes:
+            reads.append(length)
+            return os.pread(file, length, start)
+
+        store = python_sides.zevkhadun.RangedStore(read, os.fstat(file).st_size)
+        opened = len(reads)
+        nanoseconds, found = timed(lambda: get(store, numbers))
+        os.close(file)
+        return self.told(len(numbers), nanoseconds, check_of(found), reads=len(reads) - opened,
+                         read_bytes=sum(reads[opened:]), open_reads=opened, open_read_bytes=sum(reads[:opened]))
 
 
-def round_of(side: type, folder: Path, count: int, length: int, asked: List[int]) -> Dict[str, float]:
-    """Nanoseconds of each workload, for a document, or for an opening."""
-    path = str(folder / side.name.replace(" ", "-"))
-    given = list(documents(count, length))
-    told = {"write": timed(lambda: side.write(path, given)) / count}
-    told["open"] = float(timed(lambda: opened(side, path)))
-    reader = side(path)
-    if summed(reader) != summed(given):
-        sys.exit(f"{side.name} gives other documents")
-    in_turn = range(len(asked))
-    for name, numbers in (("uniform", asked), ("sequence", in_turn)):
-        told[name] = timed(lambda: reader.gets(numbers)) / len(asked)
-    told["iterate"] = timed(lambda: sum(1 for _ in reader)) / count
-    reader.close()
-    told["bytes"] = float(Path(path).stat().st_blocks * 512)
-    Path(path).unlink()
-    return told
+WORKLOADS = ("write", "append", "open", "uniform", "sequence", "iterate", "view", "get_many", "get_many_threads",
+             "slice", "verify", "ranges", "ranges_many")
 
 
-def shared(store: Store, numbers: List[int], count: int) -> float:
-    """Nanoseconds for each document, where a number of threads get all of them at once by `get_many`."""
-    threads = [threading.Thread(target=store.get_many, args=(numbers,)) for _ in range(count)]
-
-    def run() -> None:
-        for thread in threads:
-            thread.start()
-        for thread in threads:
-            thread.join()
-
-    return timed(run) / (len(numbers) * count)
-
-
-def calls_of(folder: Path, count: int, length: int, asked: List[int]) -> Dict[str, float]:
-    """Nanoseconds of the calls that only this library has, for a document."""
-    path = str(folder / "calls")
-    Zevkhadun.write(path, documents(count, length))
-    with Store(path) as store:
-        told = {
-            "view": timed(lambda: deque(map(store.view, asked), maxlen=0)) / len(asked),
-            "get_many": shared(store, asked, 1),
-            "get_many, two threads": shared(store, asked, 2),
-            "slice": timed(lambda: store[:]) / count,
-            "verify": timed(store.verify) / count,
-        }
-    Path(path).unlink()
-    return told
-
-
-class InC:
-    """The same gets in C, by a program that is compiled over the library below a prefix."""
-
-    def __init__(self, folder: Path, prefix: Path) -> None:
-        self.folder = folder
-        self.program = folder / "gets"
-        command = ["cc", "-std=c11", "-O2", f"-I{prefix / 'include'}", "-o", self.program, HERE / "gets.c"]
-        subprocess.run([*command, prefix / "lib/libzevkhadun.a"], check=True)
-
-    def nanoseconds(self, store: Path, numbers: Iterable[int]) -> List[float]:
-        """Nanoseconds of a get: of the call, and with a copy that is kept."""
-        asked = self.folder / "numbers"
-        asked.write_bytes(array("I", numbers).tobytes())
-        done = subprocess.run([self.program, store, asked], check=True, capture_output=True, text=True)
-        return [float(word) for word in done.stdout.split()]
-
-    def round(self, count: int, length: int, asked: List[int]) -> Dict[str, float]:
-        """Nanoseconds of both workloads."""
-        store = self.folder / "in_c"
-        Zevkhadun.write(str(store), documents(count, length))
-        told = {}
-        for name, numbers in (("uniform", asked), ("sequence", range(len(asked)))):
-            told[name], told[f"{name}, kept"] = self.nanoseconds(store, numbers)
-        store.unlink()
-        return told
-
-
-def table_of(rounds: Dict[str, List[Dict[str, float]]]) -> str:
-    """The medians of each side as a Markdown table."""
-    lines = ["| Python, ns | " + " | ".join(rounds) + " |", "|---" * (len(rounds) + 1) + "|"]
-    for workload in next(iter(rounds.values()))[0]:
-        middle = [median(told[workload] for told in of_side) for of_side in rounds.values()]
-        lines.append(f"| {workload} | " + " | ".join(f"{value:.0f}" for value in middle) + " |")
-    return "\n".join(lines)
+def numbers_of(words: List[str]) -> Iterator[Tuple[str, int]]:
+    for word in words:
+        key, number = word.split("=", 1)
+        yield key, int(number)
 
 
 def main() -> int:
-    parser = argparse.ArgumentParser(description=__doc__.splitlines()[0])
-    parser.add_argument("--documents", type=int, default=200_000)
-    parser.add_argument("--length", type=int, default=100)
-    parser.add_argument("--asked", type=int, default=100_000)
-    parser.add_argument("--rounds", type=int, default=9)
-    parser.add_argument("--prefix", type=Path, help="where bindings/c/build.sh installed the library")
-    parser.add_argument("--output", type=Path, default=HERE / "from_python.json")
-    given = parser.parse_args()
-    sides = [Zevkhadun, Sqlite] + ([Gnu] if gnu else []) + ([Lmdb] if lmdb else []) + [Offsets]
-    asked = [random.Random(SEED).randrange(given.documents) for _ in range(given.asked)]
-    rounds: Dict[str, List[Dict[str, float]]] = {side.name: [] for side in sides}
-    calls: List[Dict[str, float]] = []
-    in_c: List[Dict[str, float]] = []
-    versions = {**machine.versions(), "sqlite3": sqlite3.sqlite_version}
-    before = machine.load()
-    with tempfile.TemporaryDirectory(dir="/dev/shm") as folder:
-        other = InC(Path(folder), given.prefix) if given.prefix else None
-        for _ in range(given.rounds):
-            in_c += [other.round(given.documents, given.length, asked)] if other else []
-            for side in sides:
-                rounds[side.name].append(round_of(side, Path(folder), given.documents, given.length, asked))
-            calls.append(calls_of(Path(folder), given.documents, given.length, asked))
-    told = {"machine": machine.machine(), "versions": versions, "load": [before, machine.load()], "seed": SEED,
-            "documents": given.documents, "length": given.length, "asked": given.asked, "rounds": rounds,
-            "calls": calls, "in_c": in_c}
-    given.output.write_text(json.dumps(told, indent=1) + "\n")
-    print(table_of(rounds))
-    print(table_of({"zevkhadun": calls}))
-    if in_c:
-        print(table_of({"in C": in_c}))
+    if sys.argv[1:] == ["sides"]:
+        print(*(side.name for side in python_sides.SIDES if side.is_there))
+        return 0
+    if len(sys.argv) < 4 or sys.argv[2] not in WORKLOADS:
+        print(__doc__, file=sys.stderr)
+        return 2
+    side, workload, path = sys.argv[1:4]
+    work = Work(side, path, dict(numbers_of(sys.argv[4:])))
+    print(json.dumps(getattr(work, workload)()))
     return 0
 
 

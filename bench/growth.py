@@ -11,7 +11,7 @@ PANEL, TITLE, GAP = 140, 30, 24
 
 #: in the order of their markers
 SIDES = ["zevk", "unopened", "view", "plain", "lmdb", "cdb"]
-NAMES = {"zevk": "zevk_open, zevk_locate", "view": "view, in Rattle"}
+NAMES = {"view": "StoreView"}
 
 #: less memory than a page is reported as a page
 PAGE = 4096

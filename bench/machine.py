@@ -15,6 +15,9 @@ PACKAGES = {
     "leveldb": "libleveldb-dev",
     "rocksdb": "librocksdb-dev",
     "cdb": "libcdb-dev",
+    "py_lmdb": "python3-lmdb",
+    "py_gnu": "python3-gdbm",
+    "shell_sqlite": "sqlite3",
 }
 
 
@@ -46,15 +49,16 @@ def machine() -> Dict[str, object]:
     }
 
 
-def versions() -> Dict[str, Optional[str]]:
-    """The versions of libraries and compilers; none where nobody tells."""
+def versions(python: Path) -> Dict[str, Optional[str]]:
+    """The versions of libraries and compilers, and of the Python that has the package; none where nobody says."""
     told = {
         name: _first_line(["dpkg-query", "--show", "--showformat=${Version}", package])
         for name, package in PACKAGES.items()
     }
     told["compiler"] = _first_line([os.environ.get("CC", "cc"), "--version"])
     told["kit"] = _first_line(["rt", "version"])
-    told["python"] = platform.python_version()
+    told["cargo"] = _first_line(["cargo", "--version"])
+    told["python"] = _first_line([str(python), "--version"])
     told["revision"] = _first_line(["git", "-C", str(Path(__file__).parent), "describe", "--always", "--dirty"])
     return told
 

@@ -3,23 +3,66 @@
 from dataclasses import asdict, dataclass
 from typing import Dict, List
 
+import shell_sides
+
 #: sides in C: what users would pick instead, the floor, and ours, opened by `zevk_open` and unopened by `zevk_get`
 PEERS = ["lmdb", "sqlite", "leveldb", "rocksdb", "cdb"]
 OWN_C_SIDES = ["zevk", "unopened"]
-C_SIDES = PEERS + ["plain"] + OWN_C_SIDES
+USUAL_SIDES = PEERS + ["plain"] + OWN_C_SIDES
+
+#: more sides in C: ours by the path of a file, with all checks and without, and files that are read by ranges
+PATH_SIDES = ["path", "unchecked"]
+RANGED_SIDES = ["ranged", "plain_ranged"]
+C_SIDES = USUAL_SIDES + PATH_SIDES + RANGED_SIDES
 
 #: sides in C that write in a way of their own
-WRITERS = [side for side in C_SIDES if side != "unopened"]
+WRITERS = [side for side in USUAL_SIDES if side != "unopened"]
+
+#: sides in C that add documents to a store; tinycdb can't
+APPENDERS = ["path", "lmdb", "sqlite", "leveldb", "rocksdb"]
+
+#: who wrote the store that a side reads, where that is not the side itself
+WRITER_OF = {"unopened": "zevk", "path": "zevk", "unchecked": "zevk", "ranged": "zevk", "plain_ranged": "plain",
+             "rust": "zevk", "python": "zevk"}
 
 #: sides in Rattle, all ours: bytes in memory, a reader with a cache over them, the same over a file on disk
 RATTLE_SIDES = ["view", "reader", "disk"]
 
+#: sides in Python: the package, what Python's users would pick instead, and a dict of offsets over a mapped file
+PYTHON_SIDES = ["python", "py_sqlite", "py_gnu", "py_lmdb", "py_offsets"]
+PYTHON_APPENDERS = ["python", "py_sqlite", "py_lmdb"]
+
+#: the package for Rust
+RUST_SIDES = ["rust"]
+
+#: calls that only the package for Python has
+PYTHON_CALLS = ["view", "get_many", "get_many_threads", "slice", "verify"]
+
 ORDERS = ["uniform", "hot", "zipf", "sequence"]
 READS = ORDERS + ["iterate"]
-GROUPS = ["size", "read", "memory", "write", "open", "cold", "threads", "growth"]
+
+#: what tables and drawings call the reads
+READ_NAMES = {
+    "uniform": "get, uniform",
+    "hot": "get, hot",
+    "zipf": "get, zipf",
+    "sequence": "get in sequence",
+    "iterate": "iterate",
+}
+
+KEPT = {"uniform": "keep_uniform", "sequence": "keep_sequence"}
+
+#: workloads that get the same documents as another one
+SAME_WORK = {"keep_uniform": "uniform", "keep_sequence": "sequence", "ranges": "uniform", "ranges_many": "uniform"}
+
+GROUPS = ["size", "read", "memory", "write", "append", "open", "cold", "threads", "ranges", "stack", "python",
+          "program", "growth"]
 
 #: what does not change from round to round
 ONCE = ["size"]
+
+#: crates/record_log has no library for C yet. Its sides and its group, `log`, belong here once it has one: appends of a
+#: record with its sync, and the opening of a log that was cut.
 
 #: bytes of a block, where nothing else is said; at 0 each document has a block of its own
 BLOCK_SIZE = 16384
@@ -52,7 +95,8 @@ class Row:
 
     def work(self) -> tuple:
         """What has to give the same check on every side."""
-        return (self.workload, self.documents, self.length, self.questions, self.threads)
+        workload = SAME_WORK.get(self.workload, self.workload)
+        return (workload, self.documents, self.length, self.questions, self.threads)
 
     def compared(self) -> tuple:
         """What all rows have in common that are compared with each other."""
@@ -72,15 +116,25 @@ class Sizes:
     cold: int                  # gets from a file that is not in memory
     threads: List[int]
     blocks: List[int]          # of the growth
+    appended: int              # documents that are added to a store
+    stacked: Dict[int, int]    # how many stores are stacked, by their documents
+    python: int                # documents of a store that Python reads
+    python_asked: int
+    lines: Dict[int, int]      # how many lines the program packs, by their length
 
 
 FULL = Sizes(
     documents={8: 1_000_000, 100: 1_000_000, 1000: 200_000, 20000: 10_000},
-    questions=200_000,
+    questions=100_000,
     opens=20,
     cold=1000,
     threads=[1, 8],
     blocks=[10**digits for digits in range(2, 8)],
+    appended=1000,
+    stacked={1000: 100, 10: 1000},
+    python=200_000,
+    python_asked=50_000,
+    lines={20: 2_000_000, 1000: 200_000},
 )
 
 QUICK = Sizes(
@@ -90,6 +144,11 @@ QUICK = Sizes(
     cold=50,
     threads=[1, 8],
     blocks=[100, 1000, 10_000],
+    appended=100,
+    stacked={100: 10, 10: 100},
+    python=5000,
+    python_asked=2000,
+    lines={20: 20_000, 1000: 2000},
 )
 
 
@@ -112,15 +171,16 @@ def _reads(group: str, place: str, sides: List[str], lengths: List[int], sizes: 
 
 
 def read_rows(sizes: Sizes) -> List[Row]:
-    """Files in the page cache, of every length; and the disk's reader, which writes its file each time, of one."""
+    """Files in the page cache, of every length; of one also by path, and by the disk's reader, which writes its file
+    each time."""
     lengths = list(sizes.documents)
-    return _reads("read", DISK, C_SIDES, lengths, sizes) + _reads("read", DISK, ["disk"], [100], sizes)
+    return _reads("read", DISK, USUAL_SIDES, lengths, sizes) + _reads("read", DISK, ["path", "disk"], [100], sizes)
 
 
 def memory_rows(sizes: Sizes, outside: List[str]) -> List[Row]:
-    """A file system in memory for one length, and memory of the process for every length."""
+    """Memory of the process for every length, and a file system in memory for one."""
     own, lengths = ["view", "reader"] + outside, list(sizes.documents)
-    return _reads("memory", MEMORY, C_SIDES, [100], sizes) + _reads("memory", PROCESS, own, lengths, sizes)
+    return _reads("memory", MEMORY, ["zevk"], [100], sizes) + _reads("memory", PROCESS, own, lengths, sizes)
 
 
 def write_rows(sizes: Sizes, outside: List[str]) -> List[Row]:
@@ -134,12 +194,24 @@ def write_rows(sizes: Sizes, outside: List[str]) -> List[Row]:
     return rows
 
 
-def open_rows(sizes: Sizes) -> List[Row]:
-    shapes = [(100, sizes.documents[100]), (20000, sizes.documents[20000])]
+def append_rows(sizes: Sizes) -> List[Row]:
+    """Some documents to a store of many, once: in memory and on a disk."""
     return [
-        Row("open", "open", DISK, side, documents, length, questions=sizes.opens)
+        Row("append", "append", place, side, sizes.documents[100], 100, questions=sizes.appended)
+        for place in (MEMORY, DISK)
+        for side in APPENDERS
+    ]
+
+
+def open_rows(sizes: Sizes, outside: List[str]) -> List[Row]:
+    """By all the calls in C and in Rust, and of bytes in memory."""
+    shapes = [(100, sizes.documents[100]), (20000, sizes.documents[20000])]
+    places = [(DISK, USUAL_SIDES + PATH_SIDES + RUST_SIDES), (PROCESS, ["view", "reader"] + outside)]
+    return [
+        Row("open", "open", place, side, documents, length, questions=sizes.opens)
         for length, documents in shapes
-        for side in C_SIDES
+        for place, sides in places
+        for side in sides
     ]
 
 
@@ -147,7 +219,55 @@ def cold_rows(sizes: Sizes) -> List[Row]:
     return [
         Row("cold", "cold", DISK, side, sizes.documents[length], length, questions=sizes.cold)
         for length in (100, 1000, 20000)
-        for side in C_SIDES
+        for side in USUAL_SIDES
+    ]
+
+
+def range_rows(sizes: Sizes) -> List[Row]:
+    """Gets that read a block each, and the package for Python, which keeps blocks."""
+    rows = [
+        Row("ranges", "ranges", DISK, side, sizes.documents[length], length, questions=sizes.cold)
+        for length in (100, 1000, 20000)
+        for side in RANGED_SIDES
+    ]
+    return rows + [
+        Row("ranges", workload, DISK, "python", sizes.documents[100], 100, questions=sizes.cold)
+        for workload in ("ranges", "ranges_many")
+    ]
+
+
+def stack_rows(sizes: Sizes, outside: List[str]) -> List[Row]:
+    """Small stores that are stacked into one in memory: the questions are how many stores."""
+    return [
+        Row("stack", "stack", PROCESS, side, documents, 100, questions=stores)
+        for documents, stores in sizes.stacked.items()
+        for side in ["reader"] + outside
+    ]
+
+
+def python_rows(sizes: Sizes) -> List[Row]:
+    """The package for Python beside what Python's users would pick, and the same gets in C."""
+    def row(workload: str, side: str, questions: int = 1, threads: int = 1) -> Row:
+        return Row("python", workload, MEMORY, side, sizes.python, 100, questions=questions, threads=threads)
+
+    rows = [row(workload, side, asked)
+            for workload, asked in (("write", 1), ("open", 1), ("uniform", sizes.python_asked),
+                                    ("sequence", sizes.python_asked), ("iterate", 1))
+            for side in PYTHON_SIDES]
+    rows += [row("append", side, sizes.appended) for side in PYTHON_APPENDERS]
+    rows += [row(workload, "zevk", sizes.python_asked) for pair in KEPT.items() for workload in pair]
+    return rows + [row(call, "python", sizes.python_asked, 2 if call == "get_many_threads" else 1)
+                   for call in PYTHON_CALLS]
+
+
+def program_rows(sizes: Sizes) -> List[Row]:
+    """The program on short lines in memory and on long ones on a disk."""
+    return [
+        Row("program", workload, DISK if length == shell_sides.LONG else MEMORY, side, count, length)
+        for length, count in sizes.lines.items()
+        for workload in shell_sides.WORKLOADS["program"]
+        for side, workloads in shell_sides.WORKLOADS.items()
+        if workload in workloads
     ]
 
 
@@ -155,7 +275,7 @@ def thread_rows(sizes: Sizes) -> List[Row]:
     return [
         Row("threads", "threads", DISK, side, sizes.documents[100], 100, questions=sizes.questions, threads=threads)
         for threads in sizes.threads
-        for side in C_SIDES
+        for side in USUAL_SIDES
     ]
 
 
@@ -178,9 +298,14 @@ def rows_of(groups: List[str], sizes: Sizes, outside: List[str]) -> List[Row]:
         "read": lambda: read_rows(sizes),
         "memory": lambda: memory_rows(sizes, outside),
         "write": lambda: write_rows(sizes, outside),
-        "open": lambda: open_rows(sizes),
+        "append": lambda: append_rows(sizes),
+        "open": lambda: open_rows(sizes, outside),
         "cold": lambda: cold_rows(sizes),
         "threads": lambda: thread_rows(sizes),
+        "ranges": lambda: range_rows(sizes),
+        "stack": lambda: stack_rows(sizes, outside),
+        "python": lambda: python_rows(sizes),
+        "program": lambda: program_rows(sizes),
         "growth": lambda: growth_rows(sizes),
     }
     return [row for group in GROUPS if group in groups for row in made[group]()]

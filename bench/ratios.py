@@ -4,7 +4,8 @@ from typing import Dict, List, Optional, Tuple
 
 from drawing import WIDTH, Drawing, LogScale
 from figures import Figures, label_of
-from plan import DISK, MEMORY, PEERS, PROCESS
+from plan import DISK, MEMORY, PEERS, PROCESS, READ_NAMES
+from texts import factor_text, in_sentence, listed
 
 LEFT, RIGHT = 76, WIDTH - 14
 ROW, TITLE = 21, 26
@@ -12,31 +13,27 @@ ROW, TITLE = 21, 26
 #: a panel: its title, the side that is ours, the other sides' place and ours, and what its rows have in common
 Panel = Tuple[str, str, str, str, Dict[str, object]]
 
-READS = {
-    "uniform": "get, uniform",
-    "hot": "get, mostly one of a hundred (hot)",
-    "zipf": "get, zipf",
-    "sequence": "get in sequence",
-    "iterate": "iterate",
-}
-
 
 def _reads(ours: str, group: str, place: str) -> List[Panel]:
-    return [(title, ours, place, place, {"group": group, "workload": workload}) for workload, title in READS.items()]
+    return [(title, ours, place, place, {"group": group, "workload": workload})
+            for workload, title in READ_NAMES.items()]
 
 
 UNOPENED_PANELS = _reads("unopened", "read", DISK)
 OPENED_PANELS = _reads("zevk", "read", DISK)
 OTHER_PANELS: List[Panel] = [
-    ("to the first document, by zevk_get", "unopened", DISK, DISK, {"group": "open"}),
-    ("open with all checks, to the first document", "zevk", DISK, DISK, {"group": "open"}),
-    ("get from a file that is not in memory", "zevk", DISK, DISK, {"group": "cold"}),
+    ("first get of a file, by zevk_get", "unopened", DISK, DISK, {"group": "open"}),
+    ("open with all checks", "zevk", DISK, DISK, {"group": "open"}),
+    ("cold get", "zevk", DISK, DISK, {"group": "cold"}),
     ("get, uniform, eight threads", "zevk", DISK, DISK, {"group": "threads", "threads": 8}),
-    ("write, file system in memory", "zevk", MEMORY, MEMORY, {"group": "write"}),
+    ("write, in memory", "zevk", MEMORY, MEMORY, {"group": "write"}),
     ("write and sync, disk", "zevk", DISK, DISK, {"group": "write"}),
 ]
 OUTSIDE_PANELS: List[Panel] = _reads("reader", "memory", PROCESS) + [
     ("write", "reader", PROCESS, PROCESS, {"group": "write"}),
+    ("open, which checks the index here", "reader", PROCESS, PROCESS, {"group": "open"}),
+    ("stack stores of 1000 documents", "reader", PROCESS, PROCESS, {"group": "stack", "documents": 1000}),
+    ("stack stores of 10 documents", "reader", PROCESS, PROCESS, {"group": "stack", "documents": 10}),
 ]
 
 
@@ -128,20 +125,26 @@ def draw(figures: Figures, panels: List[Panel], title: str, says: str) -> Option
     return drawing
 
 
-def factor_text(value: float) -> str:
-    """A ratio, with as many digits as tell it from 1."""
-    return f"{value:.2f}" if value < 10 else f"{value:.0f}"
+def worst_of(figures: Figures, panels: List[Panel]) -> Dict[str, Tuple[float, Panel, int]]:
+    """The largest ratio to each library, with its work and its length; without the floor, which all pay."""
+    worst: Dict[str, Tuple[float, Panel, int]] = {}
+    for panel, side, length, value in ratios_of(figures, panels):
+        if side != "plain" and value > worst.get(side, (0.0,))[0]:
+            worst[side] = (value, panel, length)
+    return worst
 
 
-def slower_in(figures: Figures, panels: List[Panel]) -> str:
-    """The works in which ours takes longer than someone, with how much at most; without the floor, which all pay."""
-    worst: Dict[str, Dict[str, float]] = {}
-    for panel, side, _, value in ratios_of(figures, panels):
-        if value > 1 and side != "plain":
-            work = worst.setdefault(panel[0], {})
-            work[side] = max(work.get(side, 0), value)
+def sentence(figures: Figures, subject: str, panels: List[Panel]) -> str:
+    """Beside whom ours never takes longer, and how many times as long it takes at most beside the others."""
+    worst = worst_of(figures, panels)
+    never = [label_of(side) for side, (value, _, _) in worst.items() if round(value, 2) <= 1]
     parts = []
-    for work, sides in worst.items():
-        beside = ", ".join(f"{label_of(side)} ({factor_text(value)})" for side, value in sides.items())
-        parts.append(f"{work}: {beside}")
-    return "; ".join(parts)
+    for side, (value, panel, length) in worst.items():
+        if round(value, 2) > 1:
+            _, ours, place, our_place, common = panel
+            spread = figures.ratios(dict(side=ours, place=our_place, length=length, **common),
+                                    dict(side=side, place=place, length=length, **common))
+            parts.append(f"{in_sentence(spread, factor_text)} times {label_of(side)}'s ({panel[0]}, {length} bytes)")
+    less = f"less time than {listed(never)} at every length" if never else ""
+    more = f"at most {listed(parts)}" if parts else ""
+    return f"{subject} takes {', and '.join(filter(None, [less, more]))}."

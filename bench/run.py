@@ -9,21 +9,17 @@ import json
 import subprocess
 import sys
 import tempfile
-import time
 from pathlib import Path
 from typing import Dict, List, Tuple
 
+import building
 import machine
 import sides
-from figures import is_even
-from plan import FULL, GROUPS, ONCE, QUICK, Row, rows_of
+from inputs import SEEDS
+from measuring import Measurements, Pace, measure
+from plan import FULL, GROUPS, QUICK, Row, rows_of
 
 HERE = Path(__file__).resolve().parent
-TOP = HERE.parent
-OUT = HERE / "out"
-
-#: the seed of the documents and of the numbers that are asked for (peers/documents.c)
-SEEDS = {"documents": 88172645463325252, "numbers": 1234567890123456789}
 
 
 def arguments() -> argparse.Namespace:
@@ -32,10 +28,13 @@ def arguments() -> argparse.Namespace:
     parser.add_argument("--again", type=int, default=2,
                         help="how often a work is measured again while the quartiles of one of its rows lie more than "
                              "15 %% of the median apart")
+    parser.add_argument("--minutes", type=float, help="no round begins later, and no work is measured again")
     parser.add_argument("--quick", action="store_true", help="small sizes, to see that all is right: no figures")
+    parser.add_argument("--documents", action="store_true", help="then write the plots and the pages of the documents")
+    parser.add_argument("--dry-run", action="store_true", help="print what would be measured, and build nothing")
     parser.add_argument("--only", default=",".join(GROUPS), help="groups: " + ",".join(GROUPS))
     parser.add_argument("--sides", default="", help="these sides alone, as lmdb,zevk")
-    parser.add_argument("--directory", type=Path, default=OUT, help="a folder on a disk, for files")
+    parser.add_argument("--directory", type=Path, default=building.OUT, help="a folder on a disk, for files")
     parser.add_argument("--memory", type=Path, default=Path("/dev/shm"), help="a folder in memory, for files")
     parser.add_argument("--output", type=Path, default=HERE / "measurements.json")
     parser.add_argument("--outside", action="append", default=[], metavar="NAME=PROGRAM",
@@ -47,113 +46,43 @@ def arguments() -> argparse.Namespace:
         parser.error("no such group: " + ", ".join(sorted(unknown)))
     if given.rounds < 1:
         parser.error("at least one round")
+    if given.quick and given.documents:
+        parser.error("--quick has no figures for the documents")
     return given
 
 
-def build() -> None:
-    """Our program and our library for C where they aren't built yet, and the sides in C."""
-    OUT.mkdir(exist_ok=True)
-    if not (TOP / "crates/bench_store/out/bench_store").exists():
-        words = ["rt", "run", "--jobs", "2"]
-        subprocess.run(words, cwd=TOP / "crates/bench_store", check=True, stdout=subprocess.DEVNULL)
-    if not (OUT / "prefix/lib/libzevkhadun.a").exists():
-        subprocess.run(["bash", str(TOP / "bindings/c/build.sh"), str(OUT / "prefix")], check=True)
-    subprocess.run(["make", "--silent", "-j2", "-C", str(HERE / "peers")], check=True)
+def outside_of(given: argparse.Namespace) -> Dict[str, Path]:
+    """The sides that are built elsewhere, each with its program."""
+    return {name: Path(path).resolve() for name, path in (word.split("=", 1) for word in given.outside)}
+
+
+def rows_for(given: argparse.Namespace) -> List[Row]:
+    """The rows of the groups and sides that are asked for."""
+    rows = rows_of(given.only.split(","), QUICK if given.quick else FULL, list(outside_of(given)))
+    chosen = given.sides.split(",") if given.sides else []
+    return [row for row in rows if not chosen or row.side in chosen]
 
 
 def programs_of(given: argparse.Namespace, disk: Path, memory: Path) -> sides.Programs:
-    outside = {name: Path(path).resolve() for name, path in (word.split("=", 1) for word in given.outside)}
     return sides.Programs(
-        peers=OUT / "peers",
-        bench_store=TOP / "crates/bench_store/out/bench_store",
+        peers=building.PEERS,
+        bench_store=building.BENCH_STORE,
+        python=building.PYTHON,
+        rust=building.RUST,
+        program=building.PROGRAM,
         disk=disk,
         memory=memory,
-        outside=outside,
+        outside=outside_of(given),
     )
 
 
-#: the rounds of each row, and how often it was measured again
-Kept = Tuple[Dict[Row, List[Dict[str, object]]], Dict[Row, int]]
-
-
-class Measurements:
-    """What was measured so far, and the check of each work."""
-
-    def __init__(self) -> None:
-        self.rounds: Dict[Row, List[Dict[str, object]]] = {}
-        self.again: Dict[Row, int] = {}
-        self.checks: Dict[tuple, Tuple[str, str]] = {}
-
-    def agree(self, work: tuple, side: str, check: str) -> None:
-        """Fails where a side did other work than the first one did."""
-        if not check:
-            return
-        first, seen = self.checks.setdefault(work, (side, check))
-        if check != seen:
-            raise sides.Failed(f"{side} did other work than {first}: {work}: {check}, {seen}")
-
-    def add(self, row: Row, told: Dict[str, object]) -> None:
-        check = "" if row.workload == "size" else str(told.get("check", ""))
-        self.agree(row.work(), row.side, check)
-        self.rounds.setdefault(row, []).append(told)
-
-    def uneven(self) -> List[Row]:
-        """All rows of each work of which one side's rounds lie far apart: they are compared round by round."""
-        works = {row.compared() for row, rounds in self.rounds.items() if not is_even(rounds)}
-        return [row for row in self.rounds if row.compared() in works]
-
-    def start_over(self, rows: List[Row]) -> None:
-        for row in rows:
-            self.rounds[row] = []
-            self.again[row] = self.again.get(row, 0) + 1
-
-    def kept(self) -> Kept:
-        return dict(self.rounds), dict(self.again)
-
-    def restore(self, kept: Kept) -> None:
-        self.rounds, self.again = kept
-
-    def rows(self) -> List[Dict[str, object]]:
-        return [{**row.told(), "again": self.again.get(row, 0), "rounds": rounds}
-                for row, rounds in self.rounds.items()]
-
-
-def make_stores(programs: sides.Programs, rows: List[Row], measured: Measurements) -> None:
-    for row in rows:
-        made = sides.make(programs, row)
-        measured.agree(("write", row.documents, row.length, 1, 1), row.side, made)
-
-
-def take_rounds(programs: sides.Programs, measured: Measurements, rows: List[Row], rounds: int) -> None:
-    """All sides in turn, again and again. What does not change is looked at once."""
-    for turn in range(rounds):
-        for row in rows:
-            if turn == 0 or row.group not in ONCE:
-                measured.add(row, sides.run(programs, row))
-        print(f"round {turn + 1} of {rounds}, {len(rows)} rows: {time.strftime('%H:%M:%S')}", file=sys.stderr)
-
-
-def measure(programs: sides.Programs, rows: List[Row], rounds: int, again: int) -> Measurements:
-    """The rounds of all rows, and then of those works whose rounds lay far apart, which take the place of the first.
-
-    An interrupt (Ctrl-C) while works are measured again leaves the rounds that they had.
-    """
-    measured = Measurements()
-    make_stores(programs, rows, measured)
-    take_rounds(programs, measured, rows, rounds)
-    for _ in range(again):
-        uneven = measured.uneven()
-        if not uneven:
-            break
-        before = measured.kept()
-        measured.start_over(uneven)
-        try:
-            take_rounds(programs, measured, uneven, rounds)
-        except KeyboardInterrupt:
-            measured.restore(before)
-            print("interrupted: the rounds before stay", file=sys.stderr)
-            break
-    return measured
+def print_plan(rows: List[Row]) -> None:
+    """A line for each group: how many rows, and whose."""
+    for group in GROUPS:
+        of_group = [row for row in rows if row.group == group]
+        if of_group:
+            print(f"{group}: {len(of_group)} rows, of {', '.join(dict.fromkeys(row.side for row in of_group))}")
+    print(f"{len(rows)} rows")
 
 
 def text_of(whole: Dict[str, object]) -> str:
@@ -163,40 +92,54 @@ def text_of(whole: Dict[str, object]) -> str:
     return json.dumps(head, indent=1)[:-2] + ',\n "rows": [\n' + rows + "\n ]\n}\n"
 
 
-def measure_in_folders(given: argparse.Namespace, rows: List[Row]) -> Measurements:
-    """The same with files in folders of its own, which are removed at the end."""
+def measure_in_folders(given: argparse.Namespace, rows: List[Row]) -> Tuple[Measurements, int]:
+    """Measures with files in folders of its own, which are removed at the end."""
+    pace = Pace.of(given.rounds, given.again, given.minutes)
     with tempfile.TemporaryDirectory(dir=given.directory) as disk:
         with tempfile.TemporaryDirectory(dir=given.memory) as memory:
-            return measure(programs_of(given, Path(disk), Path(memory)), rows, given.rounds, given.again)
+            return measure(programs_of(given, Path(disk), Path(memory)), rows, pace)
+
+
+def write_documents(measurements: Path) -> None:
+    """The plots of these measurements, and what the documents have from them."""
+    for script in ("plot.py", "pages.py"):
+        subprocess.run([sys.executable, str(HERE / script), str(measurements)], check=True)
 
 
 def main() -> int:
     given = arguments()
-    if not given.no_build:
-        build()
-    given.directory.mkdir(parents=True, exist_ok=True)
-    outside = [word.split("=", 1)[0] for word in given.outside]
-    rows = rows_of(given.only.split(","), QUICK if given.quick else FULL, outside)
-    chosen = given.sides.split(",") if given.sides else []
-    rows = [row for row in rows if not chosen or row.side in chosen]
-    before = machine.load()
+    rows = rows_for(given)
+    if given.dry_run:
+        print_plan(rows)
+        return 0
+    absent = [str(program) for program in outside_of(given).values() if not program.is_file()]
+    if absent:
+        print(f"run.py: there is no {', '.join(absent)}", file=sys.stderr)
+        return 1
     try:
-        measured = measure_in_folders(given, rows)
-    except sides.Failed as why:
+        if not given.no_build:
+            building.build({row.side for row in rows})
+        rows = building.with_programs(rows)
+        given.directory.mkdir(parents=True, exist_ok=True)
+        before = machine.load()
+        measured, rounds = measure_in_folders(given, rows)
+    except (building.Failed, sides.Failed) as why:
         print(f"run.py: {why}", file=sys.stderr)
         return 1
     whole = {
         "quick": given.quick,
-        "rounds": given.rounds,
+        "rounds": rounds,
         "seeds": SEEDS,
         "machine": machine.machine(),
-        "versions": machine.versions(),
+        "versions": machine.versions(building.PYTHON),
         "before": before,
         "after": machine.load(),
         "rows": measured.rows(),
     }
     given.output.write_text(text_of(whole))
     print(f"{given.output}: {len(whole['rows'])} rows", file=sys.stderr)
+    if given.documents:
+        write_documents(given.output)
     return 0
 
 

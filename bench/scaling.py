@@ -28,6 +28,11 @@ def says(told: Dict[str, object]) -> str:
             "does; the last step of stacking is one worker's alone.")
 
 
+def sentence(path: Path) -> str:
+    """The same of a file."""
+    return says(json.loads(path.read_text()))
+
+
 def draw(path: Path) -> Optional[Drawing]:
     """Two lines beside that of as many times as fast as there are workers."""
     if not path.exists():

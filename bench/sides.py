@@ -1,4 +1,4 @@
-"""Starting the program of a side for one workload, and reading what it tells."""
+"""Starting the program of a side for one workload, and reading what it prints."""
 
 import json
 import re
@@ -6,22 +6,25 @@ import shutil
 import subprocess
 from dataclasses import dataclass, field
 from pathlib import Path
-from typing import Dict, List
+from typing import Dict, List, Optional
 
-from plan import C_SIDES, MEMORY, Row
+import shell_sides
+from plan import C_SIDES, MEMORY, PYTHON_SIDES, RUST_SIDES, WRITER_OF, Row
 
 #: what crates/bench_store calls a workload of a side
 STORE_WORKLOADS = {
     "view": {"uniform": "view_uniform", "hot": "view_hot", "zipf": "view_zipf", "sequence": "view_seq",
              "iterate": "view_iter", "open": "view_open"},
     "reader": {"uniform": "get_uniform", "hot": "get_hot", "zipf": "get_zipf", "sequence": "get_seq",
-               "iterate": "iter_raw", "open": "open", "write": "write"},
+               "iterate": "iter_raw", "open": "open", "write": "write", "stack": "stack"},
     "disk": {"uniform": "disk_uniform", "hot": "disk_hot", "zipf": "disk_zipf", "sequence": "disk_seq",
              "iterate": "disk_iter", "write": "disk_write"},
 }
 
 #: workloads whose check crates/bench_store takes over the same documents as the sides in C
-SAME_CHECK = {"uniform", "hot", "zipf", "sequence", "iterate"}
+SAME_CHECK = {"uniform", "hot", "zipf", "sequence", "iterate", "stack"}
+
+FROM_PYTHON = Path(__file__).resolve().parent / "from_python.py"
 
 
 class Failed(Exception):
@@ -30,10 +33,13 @@ class Failed(Exception):
 
 @dataclass
 class Programs:
-    """What is run, and where its files are."""
+    """What is run, and where its files are. None is a program that this machine doesn't have."""
 
     peers: Path
     bench_store: Path
+    python: Optional[Path]
+    rust: Optional[Path]
+    program: Path
     disk: Path
     memory: Path
     outside: Dict[str, Path] = field(default_factory=dict)
@@ -51,45 +57,66 @@ def _run(command: List[str], folder: Path) -> subprocess.CompletedProcess:
 
 def store_path(programs: Programs, row: Row) -> Path:
     """The store that a row reads."""
-    writer = "zevk" if row.side == "unopened" else row.side
+    writer = WRITER_OF.get(row.side, row.side)
     name = f"{writer}-{row.documents}-{row.length}-{row.block_size}"
     return programs.folder(row.place) / name
 
 
-def _peers(programs: Programs, row: Row, workload: str, path: Path) -> Dict[str, object]:
-    words = [f"n={row.documents}", f"l={row.length}", f"bs={row.block_size}", f"q={row.questions}", f"hot={row.hot}",
+def _told(programs: Programs, row: Row, side: str, workload: str, path: Path) -> Dict[str, object]:
+    """What a side in C or in Python printed of a workload."""
+    words = [side, workload, str(path), f"n={row.documents}", f"l={row.length}", f"q={row.questions}",
              f"threads={row.threads}"]
-    command = [str(programs.peers), row.side, workload, str(path)] + words
-    return json.loads(_run(command, path.parent).stdout)
+    if side in PYTHON_SIDES:
+        command = [str(programs.python), str(FROM_PYTHON)]
+    else:
+        command = [str(programs.peers)]
+        words += [f"bs={row.block_size}", f"hot={row.hot}"]
+    return json.loads(_run(command + words, path.parent).stdout)
 
 
 def make(programs: Programs, row: Row) -> str:
     """Makes the store that a row reads, if it isn't there. Answers the check of a walk over it, or nothing."""
     path = store_path(programs, row)
-    if row.side not in C_SIDES or row.workload == "write" or path.exists():
+    is_file_side = row.side in C_SIDES + PYTHON_SIDES + RUST_SIDES
+    if not is_file_side or row.workload == "write" or path.exists():
         return ""
-    return str(_peers(programs, row, "write", path)["check"])
+    return str(_told(programs, row, WRITER_OF.get(row.side, row.side), "write", path)["check"])
 
 
-def _run_c_side(programs: Programs, row: Row) -> Dict[str, object]:
-    if row.workload != "write":
-        return _peers(programs, row, row.workload, store_path(programs, row))
-    path = programs.folder(row.place) / f"{row.side}-written"
-    told = _peers(programs, row, "write", path)
-    remove(path)
+def _run_file_side(programs: Programs, row: Row) -> Dict[str, object]:
+    """A side that reads a store of a file, or writes one; what it wrote or changed is removed."""
+    path = store_path(programs, row)
+    if row.workload not in ("write", "append"):
+        return _told(programs, row, row.side, row.workload, path)
+    written = programs.folder(row.place) / f"{row.side}-written"
+    if row.workload == "append":
+        copy(path, written)
+    told = _told(programs, row, row.side, row.workload, written)
+    remove(written)
     return told
 
 
-def _run_store_side(programs: Programs, row: Row) -> Dict[str, object]:
-    """crates/bench_store, or a program that takes the same words and tells the same lines."""
-    program = programs.outside.get(row.side, programs.bench_store)
-    workload = STORE_WORKLOADS.get(row.side, STORE_WORKLOADS["reader"])[row.workload]
+def _run_rust(programs: Programs, row: Row) -> Dict[str, object]:
+    path = store_path(programs, row)
+    return json.loads(_run([str(programs.rust), str(path), f"q={row.questions}"], path.parent).stdout)
+
+
+def _store_words(row: Row) -> List[str]:
     words = [f"n={row.documents}", f"l={row.length}", f"bs={row.block_size}", "reps=1"]
-    if row.workload not in ("iterate", "write"):
+    if row.workload == "stack":
+        words.append(f"k={row.questions}")
+    elif row.workload not in ("iterate", "write"):
         words.append(f"q={row.questions}")
     if row.workload == "hot":
         words.append(f"hot={row.hot}")
-    answer = _run([str(program), workload] + words, programs.folder(row.place))
+    return words
+
+
+def _run_store_side(programs: Programs, row: Row) -> Dict[str, object]:
+    """crates/bench_store, or a program that takes the same words and prints the same lines."""
+    program = programs.outside.get(row.side, programs.bench_store)
+    workload = STORE_WORKLOADS.get(row.side, STORE_WORKLOADS["reader"])[row.workload]
+    answer = _run([str(program), workload] + _store_words(row), programs.folder(row.place))
     _, count, nanoseconds = answer.stdout.split()[:3]
     told: Dict[str, object] = {"count": int(count), "ns": int(nanoseconds)}
     check = re.search(r"check=(\d+)", answer.stderr)
@@ -98,11 +125,30 @@ def _run_store_side(programs: Programs, row: Row) -> Dict[str, object]:
     return told
 
 
+def _run_shell_side(programs: Programs, row: Row) -> Dict[str, object]:
+    text = shell_sides.text_of(programs.folder(row.place), row.documents, row.length)
+    try:
+        return shell_sides.run(row.side, row.workload, programs.program, text, row.documents)
+    except (OSError, ValueError, subprocess.CalledProcessError) as why:
+        raise Failed(f"{row.side} {row.workload}: {why}") from why
+
+
 def run(programs: Programs, row: Row) -> Dict[str, object]:
     """What one round of a row took and did."""
-    if row.side in C_SIDES:
-        return _run_c_side(programs, row)
+    if row.side in C_SIDES + PYTHON_SIDES:
+        return _run_file_side(programs, row)
+    if row.side in RUST_SIDES:
+        return _run_rust(programs, row)
+    if row.side in shell_sides.WORKLOADS:
+        return _run_shell_side(programs, row)
     return _run_store_side(programs, row)
+
+
+def copy(path: Path, other: Path) -> None:
+    if path.is_dir():
+        shutil.copytree(path, other)
+    else:
+        shutil.copyfile(path, other)
 
 
 def remove(path: Path) -> None:

@@ -7,10 +7,11 @@ A figure is the median of the rounds; where the quartiles lie more than 15 % of 
 import argparse
 import sys
 from pathlib import Path
-from typing import Dict, List, Optional, Tuple
+from typing import Dict, List, Tuple
 
-from figures import EVEN, Figures, Spread, label_of
-from plan import BLOCK_EACH, GROUPS, OWN_C_SIDES, PEERS, RATTLE_SIDES
+from figures import Figures, label_of
+from plan import BLOCK_EACH, C_SIDES, GROUPS, RATTLE_SIDES
+from texts import in_table
 
 HERE = Path(__file__).resolve().parent
 
@@ -32,24 +33,21 @@ def shown(value: float) -> str:
     return f"{value:.1f}" if value < 100 else f"{value:.0f}"
 
 
-def spread_text(spread: Optional[Spread]) -> str:
-    """The median, and the quartiles where they lie far apart."""
-    if spread is None:
-        return ""
-    if spread.share <= EVEN:
-        return shown(spread.middle)
-    return f"{shown(spread.middle)} [{shown(spread.low)}, {shown(spread.high)}]"
+def sides_of(figures: Figures, group: str) -> List[str]:
+    """The sides of a group: those in C and in Rattle first."""
+    there = [str(row["side"]) for row in figures.find(group=group)]
+    return sorted(dict.fromkeys(there), key=lambda side: side not in C_SIDES + RATTLE_SIDES)
 
 
 def table_of(figures: Figures, group: str) -> List[str]:
     """A row for each work of a group, a column for each side; an empty place where a side does not do it."""
     rows = figures.find(group=group)
-    sides = figures.sides(OWN_C_SIDES + RATTLE_SIDES + PEERS + ["plain"], group=group)
+    sides = sides_of(figures, group)
     lines = [f"| {group} | " + " | ".join(label_of(side) for side in sides) + " |", "|---" * (len(sides) + 1) + "|"]
     for work in dict.fromkeys(work_of(row) for row in rows):
         workload, place, documents, length, threads = work
         wanted = dict(group=group, workload=workload, place=place, documents=documents, length=length, threads=threads)
-        texts = [spread_text(figures.spread(side=side, **wanted)) for side in sides]
+        texts = [in_table(figures.spread(side=side, **wanted), shown) for side in sides]
         lines.append(f"| {name_of(work)} | " + " | ".join(texts) + " |")
     return lines
 

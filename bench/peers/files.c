@@ -128,3 +128,20 @@ void map_scattered(struct map map) {
 void unmap_file(struct map map) {
     munmap(map.start, map.length);
 }
+
+struct ranges ranges_open(const char *path) {
+    struct stat status;
+    int file = open(path, O_RDONLY);
+    require(file >= 0 && fstat(file, &status) == 0, "files", path);
+    return (struct ranges){file, (size_t)status.st_size, 0, 0};
+}
+
+void ranges_read(struct ranges *ranges, size_t start, size_t length, uint8_t *into) {
+    require(pread(ranges->file, into, length, (off_t)start) == (ssize_t)length, "files", "a range can't be read");
+    ranges->reads++;
+    ranges->bytes += length;
+}
+
+void ranges_close(struct ranges *ranges) {
+    close(ranges->file);
+}

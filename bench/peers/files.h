@@ -32,4 +32,19 @@ struct map map_file(const char *path);
 void map_scattered(struct map map);
 void unmap_file(struct map map);
 
+/* A file that is read by ranges, as one that lies elsewhere is: each range is asked for by itself, and counted. */
+struct ranges {
+    int file;
+    size_t length;
+    uint64_t reads;
+    uint64_t bytes;
+};
+
+struct ranges ranges_open(const char *path);
+
+/* Reads `length` bytes from `start` on. */
+void ranges_read(struct ranges *ranges, size_t start, size_t length, uint8_t *into);
+
+void ranges_close(struct ranges *ranges);
+
 #endif

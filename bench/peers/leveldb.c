@@ -59,15 +59,15 @@ static void leveldb_close_store(void *closed) {
     free(store);
 }
 
-static void put_all(leveldb_t *database, const struct documents *documents, uint32_t count) {
+static void put_all(leveldb_t *database, const struct documents *documents, uint32_t first, uint32_t end) {
     leveldb_writeoptions_t *how = leveldb_writeoptions_create();
     leveldb_writebatch_t *batch = leveldb_writebatch_create();
     char *why = NULL;
-    for (uint32_t number = 0; number < count; number++) {
+    for (uint32_t number = first; number < end; number++) {
         struct bytes document = document_at(documents, number);
         struct key key = key_of(number);
         leveldb_writebatch_put(batch, key.bytes, KEY_LENGTH, (const char *)document.start, document.length);
-        if (number % BATCH == BATCH - 1 || number == count - 1) {
+        if (number % BATCH == BATCH - 1 || number == end - 1) {
             leveldb_write(database, how, batch, &why);
             expect(why);
             leveldb_writebatch_clear(batch);
@@ -79,8 +79,18 @@ static void put_all(leveldb_t *database, const struct documents *documents, uint
 
 static void leveldb_write_all(const char *path, const struct documents *documents, const struct settings *settings) {
     struct leveldb_store *store = opened(path, settings->cache_bytes, true);
-    put_all(store->database, documents, settings->count);
+    put_all(store->database, documents, 0, settings->count);
     leveldb_compact_range(store->database, NULL, 0, NULL, 0);
+    leveldb_close_store(store);
+}
+
+/* Only the tables that have new keys are merged. */
+static void leveldb_append(const char *path, const struct documents *documents, const struct settings *settings,
+                           uint32_t more) {
+    struct leveldb_store *store = opened(path, settings->cache_bytes, false);
+    struct key first = key_of(settings->count), last = key_of(settings->count + more - 1);
+    put_all(store->database, documents, settings->count, settings->count + more);
+    leveldb_compact_range(store->database, first.bytes, KEY_LENGTH, last.bytes, KEY_LENGTH);
     leveldb_close_store(store);
 }
 
@@ -128,6 +138,7 @@ static void leveldb_iterate(void *begun, struct check *check) {
 const struct side leveldb_side = {
     .name = "leveldb",
     .write = leveldb_write_all,
+    .append = leveldb_append,
     .open = leveldb_open_store,
     .begin = leveldb_begin,
     .end = leveldb_end,

@@ -27,7 +27,8 @@ static MDB_env *environment_of(const char *path, unsigned flags) {
     return environment;
 }
 
-static void lmdb_write(const char *path, const struct documents *documents, const struct settings *settings) {
+/* Puts the documents from one number up to another, after all that are there. */
+static void put_all(const char *path, const struct documents *documents, uint32_t first, uint32_t end) {
     MDB_env *environment = environment_of(path, MDB_NOSYNC | MDB_NOMEMINIT | MDB_WRITEMAP);
     MDB_txn *transaction;
     MDB_dbi table;
@@ -35,7 +36,7 @@ static void lmdb_write(const char *path, const struct documents *documents, cons
     expect(mdb_txn_begin(environment, NULL, 0, &transaction));
     expect(mdb_dbi_open(transaction, NULL, MDB_INTEGERKEY, &table));
     expect(mdb_cursor_open(transaction, table, &cursor));
-    for (uint32_t number = 0; number < settings->count; number++) {
+    for (uint32_t number = first; number < end; number++) {
         struct bytes document = document_at(documents, number);
         MDB_val key = {sizeof number, &number}, value = {document.length, (void *)(uintptr_t)document.start};
         expect(mdb_cursor_put(cursor, &key, &value, MDB_APPEND));
@@ -43,6 +44,15 @@ static void lmdb_write(const char *path, const struct documents *documents, cons
     mdb_cursor_close(cursor);
     expect(mdb_txn_commit(transaction));
     mdb_env_close(environment);
+}
+
+static void lmdb_write(const char *path, const struct documents *documents, const struct settings *settings) {
+    put_all(path, documents, 0, settings->count);
+}
+
+static void lmdb_append(const char *path, const struct documents *documents, const struct settings *settings,
+                        uint32_t more) {
+    put_all(path, documents, settings->count, settings->count + more);
 }
 
 static void *lmdb_open(const char *path, const struct settings *settings) {
@@ -97,6 +107,7 @@ static void lmdb_close(void *opened) {
 const struct side lmdb_side = {
     .name = "lmdb",
     .write = lmdb_write,
+    .append = lmdb_append,
     .open = lmdb_open,
     .begin = lmdb_begin,
     .end = lmdb_end,

@@ -2,9 +2,10 @@
  *
  * usage: peers SIDE WORKLOAD PATH [key=number ...]
  *
- * SIDE: plain, lmdb, sqlite, leveldb, rocksdb, cdb, zevk or unopened. PATH: the store, which `write` makes and the
- * others read.
- * WORKLOAD: write, uniform, hot, zipf, sequence, iterate, open, cold, threads or size.
+ * SIDE: plain, lmdb, sqlite, leveldb, rocksdb, cdb, zevk, unopened, path, unchecked, ranged or plain_ranged. PATH: the
+ * store, which `write` makes, `append` changes and the others read.
+ * WORKLOAD: write, append, uniform, hot, zipf, sequence, keep_uniform, keep_sequence, iterate, open, cold, threads,
+ * ranges or size.
  * Keys: n documents, l bytes of each, bs bytes of a block, cache bytes that a reader may keep, q questions (of each
  * thread), hot documents that are asked for most, threads.
  */
@@ -16,7 +17,8 @@
 #include "workloads.h"
 
 static const struct side *const sides[] = {&plain_side,   &lmdb_side, &sqlite_side, &leveldb_side,
-                                           &rocksdb_side, &cdb_side,  &zevk_side,   &unopened_side};
+                                           &rocksdb_side, &cdb_side,  &zevk_side,   &unopened_side,
+                                           &path_side,    &unchecked_side, &ranged_side, &plain_ranged_side};
 
 static const struct {
     const char *name;
@@ -26,7 +28,9 @@ static const struct {
     {"write", work_write, UNIFORM},     {"uniform", work_get, UNIFORM},   {"hot", work_get, HOT},
     {"zipf", work_get, ZIPF},           {"sequence", work_get, SEQUENCE}, {"iterate", work_iterate, UNIFORM},
     {"open", work_open, UNIFORM},       {"cold", work_cold, UNIFORM},     {"threads", work_threads, UNIFORM},
-    {"size", work_size, UNIFORM},
+    {"size", work_size, UNIFORM},         {"append", work_append, UNIFORM},
+    {"keep_uniform", work_keep, UNIFORM}, {"keep_sequence", work_keep, SEQUENCE},
+    {"ranges", work_ranges, UNIFORM},
 };
 
 _Noreturn void stop(const char *who, const char *why) {
@@ -88,9 +92,10 @@ static void take_word(struct work *work, const char *word) {
 static void print_told(struct told told) {
     printf("{\"count\": %" PRIu64 ", \"ns\": %" PRIu64 ", \"open_ns\": %" PRIu64 ", \"sync_ns\": %" PRIu64
            ", \"file_bytes\": %" PRIu64 ", \"own_bytes\": %" PRIu64 ", \"peak_bytes\": %" PRIu64
-           ", \"check\": \"%" PRIu64 "\"}\n",
+           ", \"reads\": %" PRIu64 ", \"read_bytes\": %" PRIu64 ", \"open_reads\": %" PRIu64
+           ", \"open_read_bytes\": %" PRIu64 ", \"check\": \"%" PRIu64 "\"}\n",
            told.count, told.nanoseconds, told.open_nanoseconds, told.sync_nanoseconds, told.file_bytes, told.own_bytes,
-           told.peak_bytes, told.check);
+           told.peak_bytes, told.reads, told.read_bytes, told.open_reads, told.open_read_bytes, told.check);
 }
 
 int main(int argc, char **argv) {

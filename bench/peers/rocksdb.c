@@ -77,13 +77,13 @@ static void rocksdb_close_store(void *closed) {
 }
 
 static void write_table(const char *table, rocksdb_options_t *options, const struct documents *documents,
-                        uint32_t count) {
+                        uint32_t first, uint32_t end) {
     rocksdb_envoptions_t *environment = rocksdb_envoptions_create();
     rocksdb_sstfilewriter_t *writer = rocksdb_sstfilewriter_create(environment, options);
     char *why = NULL;
     rocksdb_sstfilewriter_open(writer, table, &why);
     expect(why);
-    for (uint32_t number = 0; number < count; number++) {
+    for (uint32_t number = first; number < end; number++) {
         struct bytes document = document_at(documents, number);
         struct key key = key_of(number);
         rocksdb_sstfilewriter_put(writer, key.bytes, KEY_LENGTH, (const char *)document.start, document.length, &why);
@@ -95,13 +95,15 @@ static void write_table(const char *table, rocksdb_options_t *options, const str
     rocksdb_envoptions_destroy(environment);
 }
 
-static void rocksdb_write_all(const char *path, const struct documents *documents, const struct settings *settings) {
+/* Hands a table with the documents from one number up to another to the database, which is made if it is not there. */
+static void ingest(const char *path, const struct documents *documents, const struct settings *settings, uint32_t first,
+                   uint32_t end) {
     char table[PATH_MAX];
     const char *tables[] = {table};
     char *why = NULL;
     require(snprintf(table, sizeof table, "%s.table", path) < (int)sizeof table, "rocksdb", "a path that is too long");
     struct rocksdb_store *store = store_of(settings);
-    write_table(table, store->options, documents, settings->count);
+    write_table(table, store->options, documents, first, end);
     store->database = rocksdb_open(store->options, path, &why);
     expect(why);
     rocksdb_ingestexternalfileoptions_t *how = rocksdb_ingestexternalfileoptions_create();
@@ -110,6 +112,15 @@ static void rocksdb_write_all(const char *path, const struct documents *document
     expect(why);
     rocksdb_ingestexternalfileoptions_destroy(how);
     rocksdb_close_store(store);
+}
+
+static void rocksdb_write_all(const char *path, const struct documents *documents, const struct settings *settings) {
+    ingest(path, documents, settings, 0, settings->count);
+}
+
+static void rocksdb_append(const char *path, const struct documents *documents, const struct settings *settings,
+                           uint32_t more) {
+    ingest(path, documents, settings, settings->count, settings->count + more);
 }
 
 static void *rocksdb_open_store(const char *path, const struct settings *settings) {
@@ -171,6 +182,7 @@ static void rocksdb_iterate(void *begun, struct check *check) {
 const struct side rocksdb_side = {
     .name = "rocksdb",
     .write = rocksdb_write_all,
+    .append = rocksdb_append,
     .open = rocksdb_open_store,
     .begin = rocksdb_begin,
     .end = rocksdb_end,

@@ -8,6 +8,7 @@
 
 #include "check.h"
 #include "documents.h"
+#include "files.h"
 
 /* How a store is written and read. */
 struct settings {
@@ -28,6 +29,10 @@ struct side {
     /* Writes all documents by their numbers, and ends with a file that needs no more work before it is opened. */
     void (*write)(const char *path, const struct documents *documents, const struct settings *settings);
 
+    /* Adds `more` documents after the `settings->count` of a store that was written, with the next numbers. NULL where a
+     * library can't. */
+    void (*append)(const char *path, const struct documents *documents, const struct settings *settings, uint32_t more);
+
     /* Opens what was written. All threads share it. */
     void *(*open)(const char *path, const struct settings *settings);
 
@@ -42,10 +47,22 @@ struct side {
     void (*iterate)(void *reader, struct check *check);
 
     void (*close)(void *store);
+
+    /* The ranges of its file that a reader has asked for so far. NULL for a side that reads no ranges. */
+    const struct ranges *(*ranges)(const void *reader);
 };
 
 extern const struct side plain_side, lmdb_side, sqlite_side, leveldb_side, rocksdb_side, cdb_side, zevk_side,
-    unopened_side;
+    unopened_side, path_side, unchecked_side, ranged_side, plain_ranged_side;
+
+/* Beginning and end of a reader, for a side whose threads all read by the store itself. */
+static inline void *begin_shared(void *store) {
+    return store;
+}
+
+static inline void end_shared(void *reader) {
+    (void)reader;
+}
 
 /* Ends the program with a text, and where it came from. */
 _Noreturn void stop(const char *who, const char *why);

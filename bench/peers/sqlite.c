@@ -46,8 +46,8 @@ static void sqlite_prepare(const struct settings *settings) {
     expect(sqlite3_config(SQLITE_CONFIG_MEMSTATUS, 0));
 }
 
-static void insert_all(sqlite3_stmt *insert, const struct documents *documents, uint32_t count) {
-    for (uint32_t number = 0; number < count; number++) {
+static void insert_all(sqlite3_stmt *insert, const struct documents *documents, uint32_t first, uint32_t end) {
+    for (uint32_t number = first; number < end; number++) {
         struct bytes document = document_at(documents, number);
         expect(sqlite3_bind_int64(insert, 1, number));
         expect(sqlite3_bind_blob(insert, 2, document.start, (int)document.length, SQLITE_STATIC));
@@ -56,7 +56,9 @@ static void insert_all(sqlite3_stmt *insert, const struct documents *documents, 
     }
 }
 
-static void sqlite_write(const char *path, const struct documents *documents, const struct settings *settings) {
+/* Writes the documents from one number up to another in one transaction, to a new table where there is none. */
+static void write_range(const char *path, const struct documents *documents, const struct settings *settings,
+                        uint32_t first, uint32_t end) {
     sqlite3 *connection;
     expect(sqlite3_open_v2(path, &connection, SQLITE_OPEN_READWRITE | SQLITE_OPEN_CREATE, NULL));
     run(connection, "PRAGMA page_size = 4096");
@@ -64,13 +66,22 @@ static void sqlite_write(const char *path, const struct documents *documents, co
     run(connection, "PRAGMA synchronous = OFF");
     run(connection, "PRAGMA locking_mode = EXCLUSIVE");
     run_with(connection, "PRAGMA cache_size = -", (int64_t)(settings->cache_bytes / 1024));
-    run(connection, "CREATE TABLE store(number INTEGER PRIMARY KEY, document BLOB)");
+    run(connection, "CREATE TABLE IF NOT EXISTS store(number INTEGER PRIMARY KEY, document BLOB)");
     sqlite3_stmt *insert = prepared(connection, "INSERT INTO store(number, document) VALUES(?, ?)");
     run(connection, "BEGIN");
-    insert_all(insert, documents, settings->count);
+    insert_all(insert, documents, first, end);
     run(connection, "COMMIT");
     expect(sqlite3_finalize(insert));
     expect(sqlite3_close(connection));
+}
+
+static void sqlite_write(const char *path, const struct documents *documents, const struct settings *settings) {
+    write_range(path, documents, settings, 0, settings->count);
+}
+
+static void sqlite_append(const char *path, const struct documents *documents, const struct settings *settings,
+                          uint32_t more) {
+    write_range(path, documents, settings, settings->count, settings->count + more);
 }
 
 static void *sqlite_open(const char *path, const struct settings *settings) {
@@ -133,6 +144,7 @@ const struct side sqlite_side = {
     .name = "sqlite",
     .prepare = sqlite_prepare,
     .write = sqlite_write,
+    .append = sqlite_append,
     .open = sqlite_open,
     .begin = sqlite_begin,
     .end = sqlite_end,

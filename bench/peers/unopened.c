@@ -17,14 +17,6 @@ static void *open_store(const char *path, const struct settings *settings) {
     return map;
 }
 
-static void *begin(void *store) {
-    return store;
-}
-
-static void end(void *reader) {
-    (void)reader;
-}
-
 static struct bytes get(void *reader, uint32_t number) {
     const struct map *map = reader;
     zevk_place place;
@@ -57,8 +49,8 @@ const struct side unopened_side = {
     .name = "unopened",
     .write = write_store,
     .open = open_store,
-    .begin = begin,
-    .end = end,
+    .begin = begin_shared,
+    .end = end_shared,
     .get = get,
     .iterate = iterate,
     .close = close_store,

@@ -1,6 +1,7 @@
 #include "workloads.h"
 
 #include <stdlib.h>
+#include <string.h>
 
 #include "clock.h"
 #include "files.h"
@@ -142,6 +143,85 @@ struct told work_open(const struct work *work) {
         .nanoseconds = sum,
         .own_bytes = more(own_memory(), before),
         .peak_bytes = peak_memory(),
+        .check = check.value,
+    };
+}
+
+struct told work_keep(const struct work *work) {
+    const struct settings *settings = &work->settings;
+    uint32_t *numbers = numbers_of(work->order, work->questions, settings->count, work->hot, 0);
+    uint8_t **copies = calloc(work->questions, sizeof *copies);
+    require(copies != NULL, work->side->name, "no memory");
+    void *store = work->side->open(work->path, settings);
+    void *reader = work->side->begin(store);
+    warm(work, reader);
+    struct check check = {0, 0};
+    uint64_t start = clock_now();
+    for (size_t at = 0; at < work->questions; at++) {
+        struct bytes document = work->side->get(reader, numbers[at]);
+        copies[at] = malloc(document.length);
+        require(copies[at] != NULL, work->side->name, "no memory");
+        memcpy(copies[at], document.start, document.length);
+        check_add(&check, (struct bytes){copies[at], document.length});
+    }
+    uint64_t end = clock_now();
+    work->side->end(reader);
+    work->side->close(store);
+    return (struct told){.count = check.count, .nanoseconds = end - start, .check = check.value};
+}
+
+struct told work_append(const struct work *work) {
+    require(work->side->append != NULL, work->side->name, "it can't append");
+    struct work longer = *work;
+    longer.settings.count += (uint32_t)work->questions;
+    struct documents documents = documents_of(work->settings.length);
+    path_sync(work->path);  /* what was written before is not this append's */
+    uint64_t start = clock_now();
+    work->side->append(work->path, &documents, &work->settings, (uint32_t)work->questions);
+    uint64_t closed = clock_now();
+    path_sync(work->path);
+    uint64_t synced = clock_now();
+    documents_free(&documents);
+    void *store = work->side->open(work->path, &longer.settings);
+    void *reader = work->side->begin(store);
+    struct check check = walked(&longer, reader);
+    work->side->end(reader);
+    work->side->close(store);
+    return (struct told){
+        .count = 1,
+        .nanoseconds = closed - start,
+        .sync_nanoseconds = synced - closed,
+        .file_bytes = path_size(work->path),
+        .peak_bytes = peak_memory(),
+        .check = check.value,
+    };
+}
+
+struct told work_ranges(const struct work *work) {
+    require(work->side->ranges != NULL, work->side->name, "it reads no ranges");
+    uint32_t *numbers = numbers_of(work->order, work->questions, work->settings.count, work->hot, 0);
+    uint64_t start = clock_now();
+    void *store = work->side->open(work->path, &work->settings);
+    void *reader = work->side->begin(store);
+    uint64_t opened = clock_now();
+    const struct ranges before = *work->side->ranges(reader);
+    got(work->side, reader, numbers, work->questions);
+    uint64_t warmed = clock_now();
+    const struct ranges between = *work->side->ranges(reader);
+    struct check check = got(work->side, reader, numbers, work->questions);
+    uint64_t end = clock_now();
+    const struct ranges after = *work->side->ranges(reader);
+    work->side->end(reader);
+    work->side->close(store);
+    free(numbers);
+    return (struct told){
+        .count = check.count,
+        .nanoseconds = end - warmed,
+        .open_nanoseconds = opened - start,
+        .reads = after.reads - between.reads,
+        .read_bytes = after.bytes - between.bytes,
+        .open_reads = before.reads,
+        .open_read_bytes = before.bytes,
         .check = check.value,
     };
 }

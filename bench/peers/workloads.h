@@ -22,6 +22,10 @@ struct told {
     uint64_t file_bytes;
     uint64_t own_bytes;         /* of memory, more than before the store was opened */
     uint64_t peak_bytes;
+    uint64_t reads;             /* ranges of a file that were asked for, and their bytes */
+    uint64_t read_bytes;
+    uint64_t open_reads;        /* the same of opening */
+    uint64_t open_read_bytes;
     uint64_t check;
 };
 
@@ -39,6 +43,15 @@ struct told work_threads(const struct work *work);
 
 /* All documents in order. */
 struct told work_iterate(const struct work *work);
+
+/* Gets by one thread, each document copied to memory of its own that is kept. */
+struct told work_keep(const struct work *work);
+
+/* Adds as many documents as there are questions to a store, once, with the sync told apart. */
+struct told work_append(const struct work *work);
+
+/* Gets by one thread from a side that reads its file by ranges. */
+struct told work_ranges(const struct work *work);
 
 /* Opens the store and gets its document 0, again and again. */
 struct told work_open(const struct work *work);

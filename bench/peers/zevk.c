@@ -102,14 +102,6 @@ static void *open_store(const char *path, const struct settings *settings) {
     return store;
 }
 
-static void *begin(void *store) {
-    return store;
-}
-
-static void end(void *reader) {
-    (void)reader;
-}
-
 static struct bytes get(void *reader, uint32_t number) {
     const struct zevk_store *store = reader;
     zevk_place place;
@@ -146,8 +138,8 @@ const struct side zevk_side = {
     .name = "zevk",
     .write = write_store,
     .open = open_store,
-    .begin = begin,
-    .end = end,
+    .begin = begin_shared,
+    .end = end_shared,
     .get = get,
     .iterate = iterate,
     .close = close_store,
