@@ -1,5 +1,6 @@
 #!/usr/bin/env bash
-# Makes the folder that is released: the program, the library for C, and the packages for Python and Rust.
+# Makes the folder that is released: the program with its man page and completions, the library for C, and the packages
+# for Python and Rust.
 #
 # usage: dist.sh [--program FILE] [--library FILE] [FOLDER]
 #
@@ -31,7 +32,10 @@ refuse() {
 
 [ -x "$program" ] || refuse "there is no $program; 'rt run' in crates/zevkhadun builds it"
 [ -f "$library" ] || refuse "there is no $library; 'rt lib' in crates/store_c builds it"
-[ "$("$program" --version)" = "zevkhadun $version" ] || refuse "$program is not of version $version"
+case "$("$program" --version)" in
+    "zevkhadun $version "*) ;;
+    *) refuse "$program is not of version $version" ;;
+esac
 if [ -e "$folder" ] && [ ! -f "$folder/SHA256SUMS" ]; then
     refuse "$folder is there, and was not made by this script"
 fi
@@ -40,6 +44,10 @@ trap 'rm -rf "$work"' EXIT
 made=$work/dist
 
 install -D -m 755 "$program" "$made/bin/zevkhadun"
+install -D -m 644 "$top/bindings/shell/zevkhadun.1" "$made/share/man/man1/zevkhadun.1"
+install -D -m 644 "$top/bindings/shell/zevkhadun.bash" "$made/share/bash-completion/completions/zevkhadun"
+install -D -m 644 "$top/bindings/shell/_zevkhadun" "$made/share/zsh/site-functions/_zevkhadun"
+install -D -m 644 "$top/bindings/shell/zevkhadun.fish" "$made/share/fish/vendor_completions.d/zevkhadun.fish"
 bash "$top/bindings/c/build.sh" "$made" "$library"
 mkdir "$made/python"
 PYTHONDONTWRITEBYTECODE=1 PYTHONPATH=$top/bindings/python/backend ZEVKHADUN_PREFIX=$made \
@@ -59,7 +67,7 @@ find "$made" -exec touch -h -d "@$SOURCE_DATE_EPOCH" {} +
 name=zevkhadun-$version-linux-x86_64
 tar -C "$made" --sort=name --owner=0 --group=0 --numeric-owner --mode=u=rwX,go=rX \
     --format=gnu --transform "s,^,$name/,S" \
-    -cf - README.md LICENSE bin include lib | gzip -9 -n >"$work/$name.tar.gz"
+    -cf - README.md LICENSE bin include lib share | gzip -9 -n >"$work/$name.tar.gz"
 mv "$work/$name.tar.gz" "$made"
 (cd "$made" && find . -type f -printf '%P\0' | LC_ALL=C sort -z | xargs -0 sha256sum >"$work/SHA256SUMS")
 mv "$work/SHA256SUMS" "$made"

@@ -23,7 +23,9 @@ REACHED = re.compile(r"^ +(\S+) +reached$", re.M)
 VERDICT = re.compile(r"^logic=proved( .*)$", re.M)
 # A type of which the clauses about contents say nothing: no clause of the system's calls says what they do.
 NOT_HONEST = re.compile(r"ghost honest = \{ (?:λ _\. )?false \}")
-IMPL = re.compile(r"^impl(?:<[^>]*>)? (\w+) for (\w+).*?^\}", re.M | re.S)
+IMPL = re.compile(r"^impl(?:<[^\n]*>)? (\w+) for (\w+).*?^\}", re.M | re.S)
+# Traits whose clauses have the premise that another trait of the type states.
+RESTS_ON_OTHERS = ("ReadableFolder",)
 
 
 @dataclass(frozen=True)
@@ -38,13 +40,18 @@ class Theorem:
 
 THEOREMS = (
     Theorem("the main theorem", "main_theorem",
-            ("written_and_asked", "index_read_and_written", "stacked_in_two_orders"), ("memory aside", "usize")),
+            ("written_and_asked", "index_read_and_written", "stacked_in_two_orders"),
+            ("memory aside", "usize", "whole live sets")),
     Theorem("a merge has the documents that are alive", "store_merge",
             ("merge", "merge_in_parts"), ("memory aside", "usize", "honest file")),
-    Theorem("what the program finds out, gives and merges", "store_commands",
+    Theorem("the program's answers are those of the stores", "store_commands",
             ("give_documents", "check_blocks", "merge_store"), ("memory aside", "usize", "honest file")),
     Theorem("a crash leaves the old store or the new one", "store_published",
             ("publish_store", "write_published", "finish_published"), ("memory aside", "usize", "honest folder")),
+    Theorem("a record that a sync acknowledged is never lost", "record_log",
+            ("sync", "call_all", "open_and_call"), ("memory aside", "usize", "true device")),
+    Theorem("a folder's log keeps each record that a sync acknowledged", "segmented_log",
+            ("open", "sync", "seal"), ("memory aside", "usize", "honest folder")),
     Theorem("a call from C gives the document of the bytes", "store_c",
             ("zevk_get", "zevk_locate", "zevk_writer_close"), ("memory aside", "usize", "rules of zevkhadun.h")),
 )
@@ -63,11 +70,12 @@ class Body:
 def bodies() -> list[Body]:
     """The methods of the library's types that are not honest by definition, of which the premises have to hold."""
     found = []
-    for path in sorted((TOP / "crates").glob("store_*/src/**/*.rt")):
-        text = path.read_text()
-        for impl in IMPL.finditer(text):
-            if not NOT_HONEST.search(impl[0]):
-                continue
+    texts = {path: path.read_text() for path in sorted((TOP / "crates").glob("store_*/src/**/*.rt"))}
+    impls = [(path, impl) for path, text in texts.items() for impl in IMPL.finditer(text)]
+    types = {impl[2] for _, impl in impls if NOT_HONEST.search(impl[0])}
+    for path, impl in impls:
+        text = texts[path]
+        if NOT_HONEST.search(impl[0]) or (impl[1] in RESTS_ON_OTHERS and impl[2] in types):
             for method in re.finditer(r"^    fn (\w+)", impl[0], re.M):
                 line = text[:impl.start() + method.start()].count("\n") + 1
                 place = f"{path.relative_to(TOP)}:{line}"

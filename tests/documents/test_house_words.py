@@ -20,7 +20,7 @@ from documents.pages import at, documents, files, prose, text_of
 OLD_WORDS = (
     "so many", "at hand", "(?:is|are|was|were) told", "tells? of", "told of", "behind", "asked of", "hands? on",
     "handed (?:on|back)", "want of", "who has", "whoever", "stands? there", "as it stands", "words are wrong",
-    "weighs? more", "owes?", "anew", "go(?:es|ne)? out",
+    "weighs? more", "owes?", "anew", "go(?:es|ne)? out", "(?:is|was) wanting",
 )
 # Whether the comments of the Rattle sources and of their definitions are looked at, too.
 COVERS_RATTLE = True

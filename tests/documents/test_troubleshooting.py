@@ -19,7 +19,7 @@ WRITTEN = {
     "store_commands/src/broken_part.rt": r'(?:f,\s+|f\.write_str\()"([^"]+)"',
     "store_commands/src/checking.rt": r'(?:f,\s+|f\.write_str\()"([^"]+)"',
 }
-WRONG_WORDS = r'wrong_words\(\w+(?:\.alloc\(\))?, "([^"]+)"'
+WRONG_WORDS = r'wrong_words\(\s*\w+(?:\.alloc\(\))?,\s+"([^"]+)"'
 
 
 def crate_text(path: str) -> str:
@@ -41,15 +41,26 @@ def source_texts() -> set[str]:
         texts.update(re.findall(form, crate_text(path)))
     for path in (TOP / "crates/zevkhadun/src").glob("*.rt"):
         texts.update(f"{why}: '{{word}}'" for why in re.findall(WRONG_WORDS, text_of(path)))
-    # The program has a text of its own for compressed blocks.
-    texts.discard("block kind {0} is not raw")
+    # The program has texts of its own for compressed blocks and for a damaged index.
+    texts -= {"block kind {0} is not raw", "index is not the encoding of a list of checkpoints"}
     return {text for text in texts if re.search("[a-z]", re.sub(r"\{[^}]*\}", "", text))}
+
+
+def section(heading: str) -> list[str]:
+    """The lines below a heading."""
+    parts = re.split(r"^## ", text_of(PAGE), flags=re.M)
+    return next(part for part in parts if part.startswith(f"{heading}\n")).splitlines()
+
+
+def entries(heading: str) -> set[str]:
+    """The texts that the lists below a heading explain: that of each entry is between its first backticks."""
+    found = (re.match(r"- `([^`]+)`: \S", line) for line in section(heading) if line.startswith("- "))
+    return {entry[1] if entry else "an entry without a text" for entry in found}
 
 
 def rows(heading: str) -> list[list[str]]:
     """The rows of the tables below a heading, without their heads."""
-    section = re.split(r"^## ", text_of(PAGE), flags=re.M)
-    lines = next(part for part in section if part.startswith(f"{heading}\n")).splitlines()
+    lines = section(heading)
     tables = [line for i, line in enumerate(lines) if line.startswith("|")]
     heads = {i - 1 for i, line in enumerate(tables) if line.startswith("|---")}
     cells = [line for i, line in enumerate(tables) if i not in heads and not line.startswith("|---")]
@@ -82,8 +93,7 @@ class Troubleshooting(Rules):
     def test_each_text_of_the_program_is_on_the_page_and_no_other(self):
         texts = source_texts()
         self.assert_looked_at(len(texts), 40, "texts")
-        cells = [row[0] for part in ("Errors of the program", "What verify reports") for row in rows(part)]
-        shown = {cell.strip("`") for cell in cells}
+        shown = entries("Errors of the program") | entries("What verify reports")
         patterns = {text: as_pattern(text) for text in texts}
         missing = sorted(text for text, form in patterns.items() if not any(map(form.fullmatch, shown)))
         unknown = sorted(one for one in shown if not any(form.fullmatch(one) for form in patterns.values()))

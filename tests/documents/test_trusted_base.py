@@ -28,6 +28,13 @@ axioms os: none reached of the 22 declared
 logic=proved functions=7 axioms=3 target=x86_64 sum=dac8208d native=nat,char,string logic-built=trusted
 """
 AXIOMS = ["libc::heap::rattle_alloc", "libc::heap::rattle_dealloc", "libc::write"]
+# What a check prints of a crate that reached no C function, shortened.
+PRINTED_OF_NONE = """\
+fn hello::greets: proved
+axioms libc: none reached of the 128 declared
+  libc::close
+logic=proved functions=1 sum=dac8208d native=nat,char,string logic-built=trusted
+"""
 
 
 def loaded():
@@ -48,13 +55,20 @@ def rows(head: str) -> list[list[str]]:
     return [[cell.strip().replace("`", "") for cell in line.split("|")[1:-1]] for line in table]
 
 
+def printed_of(outputs: dict[str, str]) -> subprocess.CompletedProcess:
+    """What the tool prints for the outputs of checks, by their crates."""
+    with tempfile.TemporaryDirectory() as folder:
+        command = [sys.executable, TOOL]
+        for crate, output in outputs.items():
+            log = Path(folder, crate)
+            log.write_text(output)
+            command += ["--log", f"{crate}={log}"]
+        return subprocess.run(command, capture_output=True, text=True, timeout=60)
+
+
 def printed_for(output: str) -> subprocess.CompletedProcess:
     """What the tool prints for the output of a check."""
-    with tempfile.NamedTemporaryFile("w") as log:
-        log.write(output)
-        log.flush()
-        command = [sys.executable, TOOL, "--log", f"hello={log.name}"]
-        return subprocess.run(command, capture_output=True, text=True, timeout=60)
+    return printed_of({"hello": output})
 
 
 class TrustedBase(Rules):
@@ -66,6 +80,20 @@ class TrustedBase(Rules):
         self.assertEqual([line.strip() for line in lines[1:4]], AXIOMS)
         self.assertEqual(lines[4], "premises of the theorems:")
 
+    def test_it_takes_the_checks_of_all_crates_of_the_theorems(self):
+        crates = [theorem.crate for theorem in tool.THEOREMS]
+        self.assertEqual(len(set(crates)), len(crates))
+        for crate in ("main_theorem", "store_published", "record_log"):
+            self.assertIn(crate, crates)
+        done = printed_of(dict.fromkeys(crates, PRINTED_OF_NONE))
+        self.assertEqual(done.returncode, 0, done.stderr)
+        lines = done.stdout.splitlines()
+        heads = [f"{crate}: proved; contracts of C functions that are assumed: none" for crate in crates]
+        self.assertEqual(lines[:len(crates) + 1], [*heads, "premises of the theorems:"])
+        for theorem in tool.THEOREMS:
+            at = lines.index(f"    {theorem.name} ({theorem.crate}: {', '.join(theorem.functions)})")
+            self.assertEqual(lines[at + 1].strip(), ", ".join(theorem.premises))
+
     def test_it_refuses_a_list_that_is_not_whole_and_a_check_that_proved_nothing(self):
         for what, output in (
             ("a line less", PRINTED.replace("libc::write   reached", "libc::write")),
@@ -76,8 +104,13 @@ class TrustedBase(Rules):
                 self.assertEqual((done.returncode, done.stdout), (1, ""))
 
     def test_each_theorem_is_on_the_page_and_its_functions_are_public(self):
-        wanted = [[one.name, one.crate, ", ".join(one.functions), ", ".join(one.premises)] for one in tool.THEOREMS]
-        self.assertEqual(rows("theorem | crate | functions | premises"), wanted)
+        self.assertEqual(
+            rows("theorem | crate | premises"),
+            [[one.name, one.crate, ", ".join(one.premises)] for one in tool.THEOREMS],
+        )
+        self.assertEqual(
+            rows("crate | functions"), [[one.crate, ", ".join(one.functions)] for one in tool.THEOREMS]
+        )
         for theorem in tool.THEOREMS:
             sources = "".join(map(text_of, Path(TOP, "crates", theorem.crate, "src").rglob("*.rt")))
             for name in theorem.functions:

@@ -48,7 +48,7 @@ class OldStoreCase(ProgramCase):
 
     def assert_refused(self, file: str, reason: str, *words, **how) -> None:
         """A command fails with one line, which names the file and the reason; the old store is whole and alone."""
-        done = self.program.fails(1, reason, *words, **how)
+        done = self.program.fails(3, reason, *words, **how)
         self.assertIn(file, done.stderr.decode(errors="replace"))
         self.assert_old()
 

@@ -42,10 +42,18 @@ class Claimed(OldStoreCase):
 
     def test_verify_counts_the_damaged_documents(self):
         for path, sound in self.stores():
-            done = self.run_limited("verify", path)
+            done = self.run_limited("verify", "-q", path)
             said = f"damaged: {CLAIM - sound} of {CLAIM} documents, 1 of 1 blocks"
             self.assertEqual((done.returncode, done.stderr), (1, b""))
             self.assertIn(said, done.stdout.decode())
+
+    def test_the_damaged_documents_are_one_range(self):
+        for path, sound in self.stores():
+            done = self.run_limited("verify", "--list", path)
+            self.assertEqual((done.returncode, done.stdout), (1, b"%d..%d\n" % (sound, CLAIM)))
+            done = self.run_limited("cat", "--keep-going", path)
+            self.assertEqual((done.returncode, done.stdout), (1, b"one\ntwo\nthree\n" if sound else b""))
+            self.assertIn(f"damaged documents were skipped: {sound}..{CLAIM}\n", done.stderr.decode())
 
     def test_stat_counts_the_documents(self):
         for path, _ in self.stores():

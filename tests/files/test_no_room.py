@@ -38,7 +38,7 @@ class NoRoom(OldStoreCase):
         if done.returncode == 77 or b"unshare:" in done.stderr:
             self.skipTest("no device can be mounted here")
         self.assertIn(b"No space left on device", done.stderr)
-        self.assertEqual((done.returncode, done.stdout), (0, b"1\n" + self.OLD))
+        self.assertEqual((done.returncode, done.stdout), (0, b"3\n" + self.OLD))
 
     def test_a_limit_on_the_size_of_files_leaves_the_old_store(self):
         self.assert_too_large(MIB, self.NEW)

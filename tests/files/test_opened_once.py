@@ -51,7 +51,7 @@ class OpenedOnce(OldStoreCase):
 
     def test_each_command_that_reads_opens_its_store_once(self):
         page = self.folder / "page.html"
-        for words in (["cat", self.path], ["verify", self.path], ["inspect", self.path, "--html", page]):
+        for words in (["cat", self.path], ["verify", "-q", self.path], ["inspect", self.path, "--html", page]):
             with self.subTest(words[0]):
                 self.assertEqual(self.opened(*words), 1)
 

@@ -25,7 +25,11 @@ PIECE = re.compile(r"<!-- run by: bindings/python/tests/test_documents\.py -->\n
 ARCHIVE = f"zevkhadun-{VERSION}-linux-x86_64"
 HEADERS = {"zevkhadun.h", "zevkhadun.hpp", "zevkhadun_file.h"}
 LIBRARIES = {"libzevkhadun.a", "libzevkhadun.so", "libzevkhadun.so.1", "pkgconfig/zevkhadun.pc"}
-INSTALLED = {"bin/zevkhadun", "LICENSE", "README.md"}
+SHELL = {
+    "man/man1/zevkhadun.1", "bash-completion/completions/zevkhadun", "zsh/site-functions/_zevkhadun",
+    "fish/vendor_completions.d/zevkhadun.fish",
+}
+INSTALLED = {"bin/zevkhadun", "LICENSE", "README.md"} | {f"share/{name}" for name in SHELL}
 INSTALLED |= {f"include/{name}" for name in HEADERS} | {f"lib/{name}" for name in LIBRARIES}
 
 
@@ -87,7 +91,8 @@ class Used(DistCase):
         self.assertEqual(files_below(unpacked), INSTALLED)
         for name in INSTALLED:
             self.assert_same((unpacked / name).read_bytes(), (dist() / name).read_bytes(), name)
-        self.assertEqual(self.alone(unpacked / "bin/zevkhadun", "--version"), f"zevkhadun {VERSION}\n")
+        shown = self.alone(unpacked / "bin/zevkhadun", "--version")
+        self.assertTrue(shown.startswith(f"zevkhadun {VERSION} (writes format "), shown)
 
 
 class Made(DistCase):

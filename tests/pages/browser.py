@@ -4,8 +4,10 @@ from __future__ import annotations
 
 import json
 import os
+import re
 import shutil
 import subprocess
+import time
 from pathlib import Path
 
 NAMES = ("chromium", "chromium-browser", "google-chrome")
@@ -97,6 +99,32 @@ class Browser:
         feature = {"name": "prefers-color-scheme", "value": scheme}
         self.call("Emulation.setEmulatedMedia", media=media, features=[feature])
         return self.call("Runtime.evaluate", expression=script, returnByValue=True)["result"]["value"]
+
+    def evaluate(self, script: str):
+        """What a script returns, or what its promise comes to."""
+        answer = self.call("Runtime.evaluate", expression=script, returnByValue=True, awaitPromise=True)
+        return answer["result"].get("value")
+
+    def wait_for(self, script: str, pattern: str, seconds: float = 60) -> str:
+        """What a script returns once it has this pattern."""
+        end = time.monotonic() + seconds
+        while not re.search(pattern, text := str(self.evaluate(script))):
+            if time.monotonic() > end:
+                raise BrowserError(f"{script} is {text!r}, and has no {pattern!r}")
+            time.sleep(0.05)
+        return text
+
+    def choose(self, selector: str, path: Path) -> None:
+        """Chooses a file as a reader does by the dialogue of an input."""
+        root = self.call("DOM.getDocument")["root"]["nodeId"]
+        node = self.call("DOM.querySelector", nodeId=root, selector=selector)["nodeId"]
+        self.call("DOM.setFileInputFiles", nodeId=node, files=[str(path)])
+
+    def drop(self, path: Path) -> None:
+        """Drops a file on the page."""
+        data = {"items": [], "files": [str(path)], "dragOperationsMask": 1}
+        for kind in ("dragEnter", "dragOver", "drop"):
+            self.call("Input.dispatchDragEvent", type=kind, x=100, y=100, data=data)
 
     def faults(self) -> list[str]:
         """What a whole page has none of: errors, words on the console, and other things to load."""

@@ -10,8 +10,8 @@ import os
 from collections.abc import Sequence
 from pathlib import Path
 
-from harness import ProgramCase, changed, numbers
-from pages.browser import Browser, find
+from harness import changed, numbers
+from pages.case import PageCase
 
 WIDE, NARROW = 1280, 360
 SCHEMES = ("light", "dark")
@@ -48,20 +48,11 @@ def contrast(one: Sequence[float], other: Sequence[float]) -> float:
     return (lighter + 0.05) / (darker + 0.05)
 
 
-class Pages(ProgramCase):
-    def setUp(self):
-        super().setUp()
-        path = find()
-        if path is None:
-            self.skipTest("there is no Chromium")
-        self.browser = Browser(path, self.new_folder())
-        self.addCleanup(self.browser.end)
-        self.browser.begin()
-
+class Pages(PageCase):
     def assert_to_scale(self, measured):
         """The file's parts have widths by their sizes."""
         parts, sizes = measured["parts"], measured["bytes"]
-        self.assertEqual((len(parts), len(sizes), measured["headings"]), (3, 3, 5), "the page lacks a part")
+        self.assertEqual((len(parts), len(sizes), measured["headings"]), (3, 3, 6), "the page lacks a part")
         for width, size in zip(parts, sizes):
             # A part has two pixels at least; what they take, the others lack.
             what = f"{size} of {sum(sizes)} bytes have {width} of {sum(parts)} pixels"

@@ -34,7 +34,7 @@ DAMAGES = {
         lambda store: changed(store, -20, b"\xff"), "index offset is past the body", "footer: "
     ),
     "a broken index": Damage(
-        lambda store: changed(store, -29, b"\0"), "index is not the encoding", "index: layer 0 at byte"
+        lambda store: changed(store, -29, b"\0"), "the index is damaged; 'zevkhadun verify'", "index: layer 0 at byte"
     ),
 }
 # Bytes at which an index is changed, and the layer that is then broken. Twenty blocks of 191 bytes together, and three
@@ -52,7 +52,7 @@ LAYERS = {
 class DamagedCase(ProgramCase):
     def assert_broken(self, name, verdict):
         """`verify` prints the fault on a line, and ends with 1."""
-        done = self.program.run("verify", name)
+        done = self.program.run("verify", "-q", name)
         said = (done.stdout + done.stderr).decode()
         self.assertEqual((done.returncode, done.stderr), (1, b""), said)
         self.assertIn(f"{name}: broken: {verdict}", said)
@@ -87,7 +87,7 @@ class Unreadable(DamagedCase):
         self.program.gives("pack", "--framing", "files", "whole.store", "abc")
         whole = self.read("whole.store")
         self.write("bad.store", changed(whole[:11] + b"more" + whole[11:], -24, b"\x0f"))
-        self.assert_unreadable("bad.store", "index is not the encoding")
+        self.assert_unreadable("bad.store", "the index is damaged")
         self.assert_broken("bad.store", "coverage: the blocks end at byte 11, the data ends at byte 15")
 
     def test_verify_reports_where_an_index_is_broken(self):
@@ -98,8 +98,9 @@ class Unreadable(DamagedCase):
                 self.assert_broken("bad.store", f"index: {where}\n")
 
     def test_a_missing_file_and_a_folder_are_reported(self):
-        self.program.fails(1, "gone: No such file", "cat", "gone")
-        self.program.fails(1, f"{self.folder}: not a plain file", "cat", self.folder)
+        for words in (["cat", "gone"], ["get", "gone", "0"], ["merge", "x.store", "gone"]):
+            self.program.fails(3, "gone: No such file", *words)
+        self.program.fails(3, f"{self.folder}: not a plain file", "cat", self.folder)
 
 
 class DamagedDocuments(DamagedCase):

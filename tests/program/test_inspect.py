@@ -10,7 +10,7 @@ from program.texts import NUMBERS
 class Elements(html.parser.HTMLParser):
     """Counts the elements that are open, and keeps what a page refers to and which ends are wrong."""
 
-    VOID = {"meta", "rect", "polygon"}
+    VOID = {"meta", "rect", "polygon", "input"}
 
     def __init__(self):
         super().__init__()
@@ -41,7 +41,8 @@ class Inspect(ProgramCase):
         elements = Elements()
         elements.feed(text)
         self.assertEqual((elements.open, elements.wrong, elements.references), ([], [], []))
-        self.assertNotIn("<script", text)
+        self.assertEqual(re.findall("<script.*", text), ["<script>"])
+        self.assertIn("default-src 'none'", text)
         self.assertIn("@media print", text)
         self.assertIn("prefers-color-scheme: dark", text)
 
@@ -56,6 +57,16 @@ class Inspect(ProgramCase):
         (self.folder / "<b>&").mkdir()
         self.pack("<b>&/a.store", NUMBERS)
         self.assertNotIn("<b>", self.page("<b>&/a.store"))
+
+    def test_documents_are_written_as_digits(self):
+        self.pack("a.store", b"</pre><script>\n", "--block-size", "0")
+        text = self.page("a.store")
+        self.assertIn(f'<pre class="hex">{b"</pre><script>".hex()}</pre>', text)
+        self.assertEqual(text.count("<script"), 1)
+
+    def test_a_page_shows_at_most_1000_documents(self):
+        self.pack("a.store", NUMBERS, "--block-size", "0")
+        self.assertEqual(self.page("a.store").count('<pre class="hex">'), 1000)
 
     def test_an_empty_store_has_a_page(self):
         self.pack("none.store", b"")

@@ -60,5 +60,5 @@ class Merge(ProgramCase):
         self.program.fails(1, "a.store: no document 9", "merge", "x.store", "a.store", "--without", "a.store=9")
 
     def test_a_missing_input_is_reported(self):
-        self.program.fails(1, "gone.store: No such file", "merge", "x.store", "a.store", "gone.store")
+        self.program.fails(3, "gone.store: No such file", "merge", "x.store", "a.store", "gone.store")
         self.assert_missing("x.store")

@@ -18,19 +18,19 @@ class OldFile(ProgramCase):
 
     def test_a_full_disk_leaves_the_old_file(self):
         self.write("numbers.txt", NUMBERS)
-        self.program.fails(1, "kept.store: ", "pack", "kept.store", "numbers.txt", preexec_fn=SMALL_DISK)
+        self.program.fails(3, "kept.store: ", "pack", "kept.store", "numbers.txt", preexec_fn=SMALL_DISK)
         self.assert_kept("kept.store", self.old)
 
     def test_a_merge_on_a_full_disk_leaves_the_old_file(self):
         self.pack("numbers.store", NUMBERS)
-        self.program.fails(1, "kept.store: ", "merge", "kept.store", "numbers.store", preexec_fn=SMALL_DISK)
+        self.program.fails(3, "kept.store: ", "merge", "kept.store", "numbers.store", preexec_fn=SMALL_DISK)
         self.assert_kept("kept.store", self.old)
 
     def test_a_refused_input_leaves_the_old_file(self):
         self.write("cut.bin", b"\5\0\0\0ab")
         reason = "cut.bin: the input ends inside a document"
         self.program.fails(1, reason, "pack", "--framing", "lengths", "kept.store", "cut.bin")
-        self.program.fails(1, "gone: No such file", "pack", "kept.store", "gone")
+        self.program.fails(3, "gone: No such file", "pack", "kept.store", "gone")
         self.assert_kept("kept.store", self.old)
 
 
@@ -78,5 +78,5 @@ class Replacing(ProgramCase):
         self.assertEqual(self.pack("./-", LINES), whole)
 
     def test_a_missing_folder_and_a_folder_are_refused(self):
-        self.program.fails(1, "gone/x.store: No such file", "pack", "gone/x.store", "lines.txt")
-        self.program.fails(1, "not a plain file", "pack", self.folder, "lines.txt")
+        self.program.fails(3, "gone/x.store: No such file", "pack", "gone/x.store", "lines.txt")
+        self.program.fails(3, "not a plain file", "pack", self.folder, "lines.txt")

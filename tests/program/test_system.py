@@ -1,10 +1,11 @@
 """What the program does with full outputs, closed pipes, terminals and other writers."""
 
 import os
+import re
 import subprocess
 import time
 
-from harness import ProgramCase, numbers
+from harness import ProgramCase, numbers, read_to_end
 from program.texts import LINES, NUMBERS
 
 READERS = (
@@ -12,6 +13,10 @@ READERS = (
     ["get", "numbers.store", "0.."],
     ["stat", "numbers.store", "numbers.store"],
     ["verify", "numbers.store"],
+    ["cat", "--json", "numbers.store"],
+    ["cat", "--number", "numbers.store"],
+    ["stat", "--json", "numbers.store"],
+    ["verify", "--json", "numbers.store"],
 )
 
 
@@ -23,7 +28,7 @@ class Outputs(ProgramCase):
     def test_a_full_output_is_reported(self):
         for words in READERS:
             with self.subTest(words[0]), open("/dev/full", "wb") as full:
-                self.program.fails(1, "standard output: No space", *words, stdout=full)
+                self.program.fails(3, "standard output: No space", *words, stdout=full)
 
     def test_a_closed_pipe_is_silent_and_ends_with_0(self):
         for words in READERS:
@@ -71,7 +76,7 @@ class OtherWriter(ProgramCase):
 
     def test_an_output_that_another_writes_is_refused(self):
         reason = "kept.store.part is being written by another"
-        self.program.fails(1, reason, "pack", "kept.store", input=LINES)
+        self.program.fails(3, reason, "pack", "kept.store", input=LINES)
         self.assert_same(self.read("kept.store"), self.old, "kept.store")
 
     def test_a_writer_that_is_killed_leaves_the_old_file(self):
@@ -107,9 +112,34 @@ class Terminal(ProgramCase):
 
     def test_progress_is_shown(self):
         text = self.program.shows("pack", "a.store", "more.txt")
-        self.assertRegex(text, r"65536 documents, [0-9]+ bytes, [0-9]+ MB/s")
+        size = len(numbers(131_072)) / 1000
+        self.assertRegex(text, rf"{int(size * 100_000 / len(self.MORE))}% 0:00 left {int(size)} KB [0-9.]+ [KM]B/s")
+        text = self.program.shows("append", "a.store", "more.txt")
+        self.assertRegex(text, r"[0-9]+% 0:00 left [0-9.]+ KB [0-9.]+ [KMG]B/s")
         text = self.program.shows("merge", "all.store", "a.store", "a.store")
-        self.assertRegex(text, r"200000 documents, [0-9]+ bytes, [0-9]+ MB/s")
+        self.assertRegex(text, r"400000 documents [0-9.]+ MB [0-9.]+ [KMG]B/s")
+
+    def test_progress_fits_into_forty_columns(self):
+        self.program.shows("pack", "a.store", "more.txt")
+        for words in (["pack", "b.store", "more.txt"], ["append", "a.store", "more.txt"], ["verify", "a.store"],
+                      ["merge", "all.store", "a.store", "a.store"]):
+            with self.subTest(words[0]):
+                shown = re.findall(r"\r([^\r\n]+)\x1b\[K", self.program.shows(*words))
+                self.assertTrue([line for line in shown if line], "no progress is shown")
+                self.assertLess(max(map(len, shown)), 40)
+
+    def test_what_is_read_from_a_terminal_is_announced(self):
+        terminal, shown = os.openpty()
+        how = {"stdin": shown, "stdout": shown, "stderr": shown}
+        command = [self.program.path, "pack", "a.store"]
+        with open(terminal, "rb", buffering=0), subprocess.Popen(command, cwd=self.folder, **how) as running:
+            os.close(shown)
+            text = os.read(terminal, 1000).decode()
+            os.write(terminal, b"one\ntwo\n\4")
+            text += read_to_end(terminal).decode()
+        self.assertEqual(running.returncode, 0, text)
+        self.assertIn("reading documents from the terminal; end with Ctrl-D", text)
+        self.assert_documents("a.store", b"one\ntwo\n")
 
     def test_nothing_is_shown_where_there_is_no_terminal(self):
         self.program.gives("pack", "a.store", "more.txt")

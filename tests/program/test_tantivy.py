@@ -12,22 +12,40 @@ class Segment(ProgramCase):
         self.write("segment.store", self.pack("numbers.store", NUMBERS) + FOOTER)
 
     def test_it_is_read_by_each_command(self):
-        self.program.prints('"documents":20000', "stat", "--json", "--tantivy", "segment.store")
-        self.program.prints("sound: 20000", "verify", "--tantivy", "segment.store")
-        self.assert_documents("segment.store", NUMBERS, "--tantivy")
-        self.assertEqual(self.program.gives("get", "--tantivy", "segment.store", "41"), b"42\n")
+        for option in ([], ["--tantivy"]):
+            self.program.prints('"documents":20000', "stat", "--json", *option, "segment.store")
+            self.assertEqual(self.program.run("verify", *option, "segment.store").returncode, 0)
+            self.assert_documents("segment.store", NUMBERS, *option)
+            self.assertEqual(self.program.gives("get", *option, "segment.store", "41"), b"42\n")
 
     def test_it_has_a_page(self):
-        self.program.gives("inspect", "--tantivy", "segment.store", "--html", "page.html")
-        self.assertIn(b"<td>20000</td>", self.read("page.html"))
+        for option in ([], ["--tantivy"]):
+            self.program.gives("inspect", *option, "segment.store", "--html", "page.html")
+            self.assertIn(b"<td>20000</td>", self.read("page.html"))
 
     def test_it_is_merged(self):
         self.program.gives("merge", "--tantivy", "merged.store", "segment.store")
         self.assert_documents("merged.store", NUMBERS)
+        self.program.gives("merge", "merged.store", "segment.store", "numbers.store")
+        self.assert_documents("merged.store", NUMBERS * 2)
+
+    def test_its_store_is_found_by_every_length_of_the_text(self):
+        store = self.read("numbers.store")
+        for text in (b"", b"x", b"{}" * 40_000):
+            self.write("segment.store", store + text + len(text).to_bytes(4, "little") + b"\x39\5\0\0")
+            self.assert_documents("segment.store", NUMBERS)
+
+    def test_it_is_never_replaced(self):
+        before = self.read("segment.store")
+        for command, *inputs in (["pack"], ["append"], ["merge", "numbers.store"]):
+            reason = "segment.store: the file exists and is not a store"
+            self.program.fails(1, reason, command, "segment.store", *inputs)
+            self.assert_kept("segment.store", before)
+
+    def test_a_length_past_the_file_is_no_footer(self):
+        self.write("segment.store", b"x" * 40 + b"\xff\0\0\0\x39\5\0\0")
+        self.program.fails(1, "segment.store: unknown store version", "cat", "segment.store")
+        self.program.fails(1, "no footer of tantivy's directory", "cat", "--tantivy", "segment.store")
 
     def test_a_store_without_that_footer_is_refused(self):
         self.program.fails(1, "no footer of tantivy's directory", "cat", "--tantivy", "numbers.store")
-
-    def test_without_the_option_it_is_refused_and_the_option_is_named(self):
-        done = self.program.fails(1, "segment.store: ", "cat", "segment.store")
-        self.assertIn(b"--tantivy", done.stderr)

@@ -5,10 +5,10 @@ from pathlib import Path
 from harness import TOP, ProgramCase
 
 HELP = Path(__file__).resolve().parent / "help"
-COMMANDS = ("pack", "get", "cat", "stat", "verify", "merge", "inspect")
+COMMANDS = ("pack", "append", "get", "cat", "stat", "verify", "merge", "export", "inspect")
 WRONG = (
     "", "pac x", "pack", "get x", "cat", "stat", "verify", "merge x", "inspect x", "pack --framing bytes x y",
-    "cat --jsn x",
+    "cat --jsn x", "append", "verify --list --json x", "get", "cat --json --number x",
 )
 
 
@@ -24,8 +24,9 @@ class Words(ProgramCase):
         self.assertEqual(names, {"zevkhadun", *COMMANDS})
 
     def test_the_version_is_that_of_the_repository(self):
-        version = (TOP / "VERSION").read_text()
-        self.assertEqual(self.program.gives("--version").decode(), f"zevkhadun {version}")
+        version = (TOP / "VERSION").read_text().strip()
+        said = self.program.gives("--version").decode()
+        self.assertEqual(said, f"zevkhadun {version} (writes format 3, reads formats 1 to 3)\n")
 
     def test_wrong_words_end_with_2(self):
         for words in WRONG:

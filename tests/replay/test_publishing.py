@@ -1,4 +1,4 @@
-"""What a power cut leaves of a store that `pack` or `merge` publishes.
+"""What a power cut leaves of a store that `pack`, `append` or `merge` publishes.
 
 Each beginning of the recorded calls is replayed on the model of a disk: of other bytes than the synced ones none, a
 part, all or other bytes are left, and other names are new or old. The program then opens what is left: it must be the
@@ -58,7 +58,7 @@ class Replay:
 
 
 class Publishing(OldStoreCase):
-    """The calls of `pack` and `merge`."""
+    """The calls of `pack`, `append` and `merge`."""
 
     def setUp(self) -> None:
         self.require("strace")
@@ -96,6 +96,11 @@ class Publishing(OldStoreCase):
         self.write("new.txt", new)
         self.path.unlink()
         self.check(new, "pack", "a.store", "new.txt")
+
+    def test_documents_are_appended(self):
+        new = lines(20000)
+        self.write("new.txt", new)
+        self.check(self.OLD + new, "append", "a.store", "new.txt", before=("a.store",))
 
     def test_stores_are_merged(self):
         texts = [lines(20000, b"one"), lines(5, b"two"), lines(30000, b"three")]

@@ -17,6 +17,8 @@ from pathlib import Path
 from documents import pages
 from harness import PROGRAM, FolderCase
 
+# The pages of docs/ that have sessions.
+WITH_SESSIONS = ("CLI", "OPERATIONS", "RATTLE", "RECIPES", "SCRIPTS")
 MARKER = re.compile(r"<!-- run by: tests/sessions/test_sessions\.py(?:; prints: (.*?))? -->")
 
 
@@ -82,5 +84,5 @@ class Sessions(FolderCase):
         counts = {}
         for page in pages.documents():
             counts[str(page.relative_to(pages.TOP))] = self.run_page(page)
-        for name in ("README.md", "docs/CLI.md", "docs/OPERATIONS.md", "docs/RATTLE.md", "docs/SCRIPTS.md"):
+        for name in ("README.md", *(f"docs/{name}.md" for name in WITH_SESSIONS)):
             self.assertTrue(counts.get(name), f"{name} has no session")

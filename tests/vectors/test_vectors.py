@@ -19,7 +19,7 @@ class Vectors(ProgramCase):
 
     def is_sound(self, name: str) -> bool:
         """Whether a file is a sound store. All commands that read have to agree on it."""
-        verdict, stat = (self.run_reader(command, name).returncode for command in ("verify", "stat"))
+        verdict, stat = (self.run_reader(*words, name).returncode for words in (("verify", "-q"), ("stat",)))
         whole = self.run_reader("cat", name, "--framing", "lengths")
         single = self.run_reader("get", name, "0..", "--framing", "lengths")
         page = self.run_reader("inspect", name, "--html", f"{name}.html")
@@ -27,7 +27,19 @@ class Vectors(ProgramCase):
         self.assertEqual(stat, page.returncode, "stat and inspect differ")
         if verdict == 0:
             self.assertEqual((whole.returncode, stat), (0, 0), "it is sound, and can't be read")
+        if stat == 0:
+            self.check_salvage(name, whole)
         return verdict == 0
+
+    def check_salvage(self, name: str, whole: subprocess.CompletedProcess) -> None:
+        """What `cat --keep-going` prints is all but what `verify --list` lists: all, if that is nothing."""
+        listed = self.program.run("verify", "--list", name).stdout
+        ids = str(self.write(f"{name}.ids", listed))
+        kept = self.program.run("cat", "--keep-going", name, "--framing", "lengths")
+        others = self.program.gives("cat", name, "--without", f"@{ids}", "--framing", "lengths")
+        self.assertEqual((kept.stdout, kept.returncode), (others, 1 if listed else 0))
+        if not listed:
+            self.assertEqual((whole.returncode, whole.stdout), (0, others))
 
     def test_all_commands_agree_on_each_file(self):
         contents = files()

@@ -27,7 +27,8 @@
  *
  * The library is proved: for every argument that keeps these rules, a call reads and writes no byte outside what it is
  * given, and meets its contract in crates/store_c/src. This header says the same in words, by hand. A few lines of C
- * are only tested: they replace the address of an array of length 0 before each proved call (bindings/c/src/null_arrays.c).
+ * are only tested: they replace the address of an array of length 0 before each proved call
+ * (bindings/c/src/null_arrays.c).
  */
 #ifndef ZEVKHADUN_H
 #define ZEVKHADUN_H
@@ -67,7 +68,7 @@ enum zevk_refusal {
     ZEVK_OTHER_BLOCK = 37       /* the block doesn't have the document, or has another length */
 };
 
-/* How many bytes hold the text of any error and the zero byte after it. */
+/* A number of bytes that is enough for the text of any error and the zero byte after it. */
 #define ZEVK_TEXT_LEN 64
 
 /* Writes the text of an error's number and a zero byte, and returns the length of the text: less than ZEVK_TEXT_LEN.
@@ -178,7 +179,7 @@ uint32_t zevk_get_in(const uint8_t *block, size_t block_len, const zevk_block_pl
 
 /* ---- checking a file */
 
-/* Where a file breaks what the format says of it. */
+/* The first place at which a file breaks the format. */
 typedef struct zevk_fault {
     size_t byte;      /* of an index: the offset in the file at which the first run begins that breaks a rule */
     uint32_t layer;   /* of an index: the layer of that run, the bottom one at 0, or one of these two */

@@ -1,8 +1,8 @@
 /* zevkhadun_file.h: stores by path, for C and C++.
  *
  * This is the layer for programs that keep stores in files. It maps a file for reading, and it writes a file that gets
- * its name only once it is whole. Which bytes a store has, and where a document lies in them, the proved calls of
- * zevkhadun.h decide; the calls of the system here are tested. This prints the documents of a store
+ * its name only once it is whole. The proved calls of zevkhadun.h decide which bytes a store has, and where a document
+ * lies in them; the calls of the system here are tested. This prints the documents of a store
  * (bindings/c/examples/print_store.c):
  *
  *     int print_store(const char *path) {
@@ -57,7 +57,7 @@ const char *zevk_strerror(int error);
 /* An open store: the map of its file, and the table of its blocks. */
 typedef struct zevk_file zevk_file;
 
-/* A document: its bytes, which lie in the map of the file, and how many they are. They stay until the file is closed. */
+/* A document: its bytes, which lie in the map of the file, and their number. They stay until the file is closed. */
 typedef struct zevk_document {
     const uint8_t *bytes;
     size_t len;
@@ -68,8 +68,8 @@ typedef struct zevk_document {
  * that it needs: in a damaged file it may give the bytes of something else, which lie in the file all the same. */
 #define ZEVK_FILE_UNCHECKED 1u
 
-/* Opens the file of this name: maps it, checks its whole index unless a flag says otherwise, and sets `file`. `flags` is
- * 0 or ZEVK_FILE_UNCHECKED.
+/* Opens the file of this name: maps it, checks its whole index unless a flag says otherwise, and sets `file`. `flags`
+ * is 0 or ZEVK_FILE_UNCHECKED.
  *
  * Errors: those of the system; NOT_PLAIN_FILE; the file errors; NO_MEMORY. */
 int zevk_file_open(const char *path, unsigned flags, zevk_file **file);
@@ -88,8 +88,8 @@ int zevk_file_get(const zevk_file *file, uint32_t doc_id, zevk_document *documen
 /* How many places of documents a cursor finds at a time. */
 #define ZEVK_CURSOR_RUN 64
 
-/* A place in a store from which on its documents are read in order. Its memory is the caller's, and nothing has to be
- * freed. Only `doc_id` is for the caller to read. */
+/* A position in a store, from which its documents are read in order. Its memory is the caller's, and nothing has to be
+ * freed. The caller reads `doc_id` alone. */
 typedef struct zevk_cursor {
     const zevk_file *file;
     uint32_t doc_id;  /* the number of the document that the last zevk_cursor_next was about */
@@ -99,16 +99,16 @@ typedef struct zevk_cursor {
     zevk_place places[ZEVK_CURSOR_RUN];
 } zevk_cursor;
 
-/* Sets a cursor before the document of a number. */
+/* Sets a cursor before document `first`, which the next zevk_cursor_next returns. */
 void zevk_cursor_begin(zevk_cursor *cursor, const zevk_file *file, uint32_t first);
 
-/* Sets `document` to the next one, and moves on. In sequence it is quicker than zevk_file_get.
+/* Sets `document` to the next one, and moves on. To read in order this is quicker than zevk_file_get.
  *
  * Errors: NO_DOCUMENT at the end of the store, where the cursor stays; DAMAGED_DOCUMENT, after which the next call goes
  * on with the document after it; with ZEVK_FILE_UNCHECKED also BAD_INDEX, where the cursor stays. */
 int zevk_cursor_next(zevk_cursor *cursor, zevk_document *document);
 
-/* What is known of an open store. */
+/* Counts, sizes and versions of an open store. */
 typedef struct zevk_facts {
     const uint8_t *bytes;  /* the bytes of the file, for zevk_check and the other calls of zevkhadun.h */
     size_t len;            /* how many bytes the file has */
@@ -135,9 +135,9 @@ typedef struct zevk_file_writer zevk_file_writer;
 /* Begins a store without documents for the file of this name, and sets `writer`. tantivy's block size is 16384 and its
  * period 8; a period is from 2 to 64.
  *
- * Links are followed. Only a plain file is replaced; the new one gets its mode, and its owner and group where the system
- * lets us. The second file is locked: what a crash left there is taken over, and one that another writer holds, of this
- * library or of the program zevkhadun, is an error. The folder is opened, and synced at the end.
+ * Links are followed. Only a plain file is replaced; the new one gets its mode, and its owner and group where the
+ * system allows it. The second file is locked: one that a crash left is taken over, and one that another writer holds,
+ * of this library or of the program zevkhadun, is an error. The folder is opened, and synced at the end.
  *
  * Errors: BAD_PERIOD; those of the system; NOT_PLAIN_FILE; BUSY; NO_MEMORY. */
 int zevk_file_create(const char *path, size_t block_size, unsigned period, zevk_file_writer **writer);
@@ -174,8 +174,8 @@ int zevk_file_stack(zevk_file_writer *writer, const zevk_file *file);
 uint32_t zevk_file_writer_num_docs(const zevk_file_writer *writer);
 
 /* Ends the store and gives it its name. In any case it frees the writer. After an error the file of the name is as it
- * was and the second file is removed; one case differs: if the last step fails, the sync of the folder, the name has the
- * new file, and a crash may bring the old one back.
+ * was and the second file is removed; one case differs: if the last step fails, the sync of the folder, the name has
+ * the new file, and a crash may bring the old one back.
  *
  * Errors: FAILED; NO_MEMORY; those of the system. */
 int zevk_file_publish(zevk_file_writer *writer);
@@ -186,15 +186,15 @@ void zevk_file_discard(zevk_file_writer *writer);
 
 /* ---- rules for callers, which no call can check
  *
- * - Any number of threads may use one open file at once, by gets, cursors of their own, facts and zevk_file_stack, until
- *   one of them closes it. One thread at a time uses a cursor, and one a writer. Different files and writers are
+ * - Any number of threads may use one open file at once, by gets, cursors of their own, facts and zevk_file_stack,
+ *   until one of them closes it. One thread at a time uses a cursor, and one a writer. Different files and writers are
  *   independent.
  * - After a fork a writer is used by one of the two processes; the second file stays locked until both have ended or
  *   discarded it. A file may be read and closed by both.
  * - A file that is mapped may be replaced, as zevk_file_publish does; the map stays that of the old file. If another
  *   process cuts it, a read of its bytes ends the program with SIGBUS.
- * - No call is for signal handlers. A writer that ends by a signal leaves the second file, which the next writer takes
- *   over.
+ * - Call none of these in a signal handler. A process that a signal ends leaves the second file of its writer, which
+ *   the next writer takes over.
  * - The rules of zevkhadun.h hold here too. */
 
 #ifdef __cplusplus

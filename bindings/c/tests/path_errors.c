@@ -122,6 +122,8 @@ static void writers_are_refused(void) {
     WANT(beginning(".") == ZEVK_NOT_PLAIN_FILE && beginning("./") == ZEVK_NOT_PLAIN_FILE);
     WANT(beginning("/dev/null") == ZEVK_NOT_PLAIN_FILE && beginning("store/x") == -ENOTDIR);
     WANT(symlink("nowhere", "link") == 0 && beginning("link") == -ENOENT && is_missing("nowhere.part"));
+    WANT(symlink("nowhere", "store.part") == 0 && beginning("store") == -ELOOP && is_missing("nowhere"));
+    WANT(unlink("store.part") == 0);
     WANT(zevk_file_append("nothing", 16384, 0, &writer) == -ENOENT && is_missing("nothing.part"));
     write_file("text", (const uint8_t *)"words and words and words and words", 35);
     WANT(zevk_file_append("text", 16384, 0, &writer) == ZEVK_BAD_VERSION && is_missing("text.part"));

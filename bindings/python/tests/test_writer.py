@@ -2,16 +2,14 @@
 
 import array
 import errno
-import fcntl
 import io
 import mmap
 import os
 import resource
-import stat
-import tempfile
 import unittest
 from unittest import mock
 
+from in_folder import InFolder
 from sparse import end_of
 from zevkhadun import Store, Writer, refusals
 
@@ -21,48 +19,10 @@ with open(HEX, encoding="ascii") as text:
     FILE = bytes.fromhex(text.read())
 
 
-class Stop(Exception):
-    """What a test ends a `with` by."""
-
-
 def documents_of(count, seed):
     """Documents of 0, 8, 100 and 20000 bytes in turn, each of its own bytes."""
     lengths = [0, 8, 100, 0, 20000, 8]
     return [bytes([(seed + number) % 256]) * lengths[number % len(lengths)] for number in range(count)]
-
-
-class InFolder(unittest.TestCase):
-    def setUp(self):
-        folder = tempfile.TemporaryDirectory()
-        self.addCleanup(folder.cleanup)
-        self.folder = folder.name
-        self.path = os.path.join(self.folder, "a.store")
-        self.beside = self.path + ".part"
-
-    def at(self, name):
-        return os.path.join(self.folder, name)
-
-    def content(self, name="a.store"):
-        with open(self.at(name), "rb") as file:
-            return file.read()
-
-    def written(self, documents, name="a.store", **options):
-        with Writer(self.at(name), **options) as writer:
-            numbers = [writer.put(document) for document in documents]
-            self.assertEqual(numbers, list(range(len(documents))))
-            self.assertEqual(len(writer), len(documents))
-        return self.at(name)
-
-    def stacked(self, name, *parts, **options):
-        with Writer(self.at(name), **options) as writer:
-            for part in parts:
-                with Store(self.at(part)) as store:
-                    writer.stack(store)
-        return self.content(name)
-
-    def documents(self, name="a.store"):
-        with Store(self.at(name)) as store:
-            return list(store)
 
 
 class Contents(InFolder):
@@ -168,107 +128,6 @@ class Stacking(InFolder):
                     writer.stack(closed)
                 self.assertEqual(writer.put(document), number)
         self.assertEqual(self.content(), self.content("wanted"))
-
-
-class Files(InFolder):
-    def test_an_exception_leaves_the_old_file_and_none_beside(self):
-        self.written([b"old"])
-        before = self.content()
-        with self.assertRaises(Stop):
-            with Writer(self.path) as writer:
-                writer.put(b"new" * (1 << 20))
-                self.assertTrue(os.path.exists(self.beside))
-                raise Stop
-        self.assertEqual(self.content(), before)
-        self.assertEqual(os.listdir(self.folder), ["a.store"])
-
-    def test_an_exception_leaves_no_file_where_none_was(self):
-        with self.assertRaises(Stop):
-            with Writer(self.path):
-                raise Stop
-        self.assertEqual(os.listdir(self.folder), [])
-
-    def test_the_name_is_given_at_the_end(self):
-        self.written([b"old"])
-        with Writer(self.path) as writer:
-            writer.put(b"new")
-            self.assertEqual(self.documents(), [b"old"])
-        self.assertEqual(self.documents(), [b"new"])
-
-    def test_a_second_writer_is_busy(self):
-        with Writer(self.path) as writer:
-            writer.put(b"a")
-            with self.assertRaises(refusals.Busy):
-                Writer(self.path)
-            with open(self.beside, "rb") as other, self.assertRaises(BlockingIOError):
-                fcntl.flock(other, fcntl.LOCK_EX | fcntl.LOCK_NB)
-        self.assertEqual(self.documents(), [b"a"])
-        self.written([b"b"])
-
-    def test_a_file_beside_that_another_locked_is_left_as_it_is(self):
-        with open(self.beside, "wb") as other:
-            other.write(b"another's")
-            other.flush()
-            fcntl.flock(other, fcntl.LOCK_EX)
-            with self.assertRaises(refusals.Busy):
-                Writer(self.path)
-        self.assertEqual(self.content("a.store.part"), b"another's")
-
-    def test_a_file_beside_that_lost_its_name_meanwhile_is_busy(self):
-        def renamed(descriptor, operation):
-            os.rename(self.beside, self.path)
-
-        with mock.patch("fcntl.flock", renamed), self.assertRaises(refusals.Busy):
-            Writer(self.path)
-        self.assertEqual(os.listdir(self.folder), ["a.store"])
-
-    def test_the_file_is_synced_before_it_has_its_name_and_the_folder_after(self):
-        seen = []
-
-        def kept(descriptor):
-            is_folder = stat.S_ISDIR(os.fstat(descriptor).st_mode)
-            seen.append((is_folder, os.path.exists(self.path)))
-
-        with mock.patch("os.fsync", kept):
-            self.written([b"a"])
-        self.assertEqual(seen, [(False, False), (True, True)])
-
-    def test_what_a_crash_left_is_taken_over(self):
-        with open(self.beside, "wb") as file:
-            file.write(b"x" * 100000)
-        self.written([b"a"])
-        self.assertEqual(self.documents(), [b"a"])
-        self.assertEqual(os.listdir(self.folder), ["a.store"])
-
-    def test_the_mode_is_kept_and_links_are_followed(self):
-        self.written([b"old"])
-        for mode in [0o600, 0o754]:
-            os.chmod(self.path, mode)
-            self.written([b"new"])
-            self.assertEqual(stat.S_IMODE(os.stat(self.path).st_mode), mode)
-        os.symlink("a.store", self.at("link"))
-        self.written([b"by link"], "link")
-        self.assertTrue(os.path.islink(self.at("link")))
-        self.assertEqual(self.documents(), [b"by link"])
-
-    def test_what_is_no_plain_file_is_refused(self):
-        os.mkdir(self.path)
-        with self.assertRaises(refusals.NotPlainFile):
-            Writer(self.path)
-        os.symlink("nowhere", self.at("link"))
-        with self.assertRaises(FileNotFoundError):
-            Writer(self.at("link"))
-        with self.assertRaises(FileNotFoundError):
-            Writer(self.at("no/such/folder"))
-        self.assertEqual(sorted(os.listdir(self.folder)), ["a.store", "link"])
-
-    def test_a_path_without_a_folder_is_in_the_current_one(self):
-        before = os.getcwd()
-        self.addCleanup(os.chdir, before)
-        os.chdir(self.folder)
-        with Writer("plain.store") as writer:
-            writer.put(b"a")
-        self.assertEqual(self.documents("plain.store"), [b"a"])
 
 
 class Ends(InFolder):

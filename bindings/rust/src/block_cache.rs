@@ -15,7 +15,7 @@ pub(crate) struct BlockCache {
 #[derive(Default)]
 struct Kept {
     bytes: usize,
-    /// How many uses there were, which tells the older of two.
+    /// How many uses there were: the lower of two numbers is the older use.
     uses: u64,
     /// Each block, with its last use.
     blocks: HashMap<Span, (u64, Arc<[u8]>)>,

@@ -3,11 +3,14 @@
 use crate::error::Error;
 use std::fs::{self, File, Metadata, OpenOptions, Permissions, TryLockError};
 use std::io::{self, Write};
-use std::os::unix::fs::{fchown, MetadataExt, PermissionsExt};
+use std::os::unix::fs::{fchown, MetadataExt, OpenOptionsExt, PermissionsExt};
 use std::path::{Path, PathBuf};
 
 /// How many bytes are gathered before they go to the system.
 const BUFFER_SIZE: usize = 1 << 16;
+
+/// The flag `O_NOFOLLOW` of Linux on x86-64, the target that `build.rs` asks for: a link is not opened.
+const NO_FOLLOW: i32 = 0o400_000;
 
 /// The file beside: locked, and removed when it is dropped, unless it was published. It does what `DiskSink` of the
 /// crate `store_files` does, by the same names and locks, so that writers of both kinds exclude one another.
@@ -35,6 +38,7 @@ impl Part {
             .write(true)
             .create(true)
             .truncate(false)
+            .custom_flags(NO_FOLLOW)
             .open(&beside)
             .map_err(|error| failed(&beside, error))?;
         let is_ours = lock(&file, &beside);

@@ -22,11 +22,11 @@ use std::sync::Arc;
 /// ```
 #[derive(Clone, Copy, Debug, PartialEq, Eq, Hash)]
 pub struct RangedOptions {
-    /// How much of the end of the file is read at first. If the index is longer, a second read takes it whole.
+    /// How much of the end of the file the first read takes. If the index is longer, a second read takes it whole.
     pub tail: usize,
-    /// How much of the blocks that were read is kept at most.
+    /// The greatest size of the blocks that are kept.
     pub cache: usize,
-    /// How much is read at once at most, unless a block is longer.
+    /// The greatest size of one read, unless a block is longer.
     pub request: usize,
 }
 
@@ -169,7 +169,7 @@ impl<F: Fn(u64, usize) -> io::Result<Vec<u8>>> RangedStore<F> {
         self.range(..)
     }
 
-    /// The documents whose numbers lie in a range, in order. What lies past the end of the store is left out.
+    /// The documents whose numbers lie in a range, in order. Numbers past its end are ignored.
     pub fn range(&self, doc_ids: impl RangeBounds<u32>) -> RangedDocuments<'_, F> {
         RangedDocuments::new(self, numbers_in(doc_ids, self.count))
     }

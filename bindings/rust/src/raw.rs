@@ -27,7 +27,7 @@ pub(crate) struct BlockPlace {
     pub(crate) len: usize,
 }
 
-/// Where a file breaks what the format says of it.
+/// The first place at which a file breaks the format.
 #[repr(C)]
 #[derive(Clone, Copy, Default)]
 pub(crate) struct Fault {

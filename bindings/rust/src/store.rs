@@ -43,8 +43,8 @@ pub struct Store<D> {
 }
 
 impl<D: AsRef<[u8]>> Store<D> {
-    /// Opens the store whose file these bytes are. It checks the footer and the whole index, and takes time by the
-    /// size of the index.
+    /// Opens the store whose file these bytes are. It checks the footer and the whole index, in time proportional to
+    /// the size of the index.
     ///
     /// # Errors
     ///
@@ -102,7 +102,7 @@ impl<D: AsRef<[u8]>> Store<D> {
         self.range(..)
     }
 
-    /// The documents whose numbers lie in a range, in order. What lies past the end of the store is left out.
+    /// The documents whose numbers lie in a range, in order. Numbers past its end are ignored.
     ///
     /// ```
     /// # let mut writer = zevkhadun::Writer::new(Vec::new());
@@ -140,12 +140,12 @@ impl<D> Store<D> {
         self.facts
     }
 
-    /// What the store was opened with.
+    /// The value that the store was opened with.
     pub fn get_ref(&self) -> &D {
         &self.file
     }
 
-    /// What the store was opened with, without the store.
+    /// The value that the store was opened with, without the store.
     pub fn into_inner(self) -> D {
         self.file
     }

@@ -9,6 +9,9 @@ use std::path::Path;
 use support::{documents, read, written, Folder};
 use zevkhadun::{Error, FileWriter, Options, Refusal, Store};
 
+/// The error of Linux where a link is not followed.
+const ELOOP: i32 = 40;
+
 /// Publishes a store of these documents.
 fn publish(path: &Path, documents: &[Vec<u8>]) {
     let mut writer = FileWriter::create(path).unwrap();
@@ -159,11 +162,20 @@ fn what_a_crash_left_beside_is_taken_over() {
 }
 
 #[test]
-fn a_file_beside_that_is_a_link_is_not_written_through() {
+fn a_file_beside_that_is_a_link_is_not_opened() {
     let folder = Folder::new();
     fs::write(folder.path("other"), b"another's").unwrap();
-    symlink("other", folder.path("a.store.part")).unwrap();
-    assert_busy(&folder.path("a.store"));
+    let beside = folder.path("a.store.part");
+    for target in ["other", "nowhere"] {
+        symlink(target, &beside).unwrap();
+        let error = FileWriter::create(folder.path("a.store")).unwrap_err();
+        let Error::File { path, source } = &error else {
+            panic!("{error:?}");
+        };
+        assert_eq!((path, source.raw_os_error()), (&beside, Some(ELOOP)));
+        assert_eq!(folder.names(), ["a.store.part", "other"]);
+        fs::remove_file(&beside).unwrap();
+    }
     assert_eq!(fs::read(folder.path("other")).unwrap(), b"another's");
 }
 

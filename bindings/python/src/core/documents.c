@@ -282,7 +282,7 @@ static PyObject *length_hint(PyObject *object, PyObject *unused) {
 }
 
 static PyMethodDef methods[] = {
-    {"__length_hint__", length_hint, METH_NOARGS, "How many documents follow at most."},
+    {"__length_hint__", length_hint, METH_NOARGS, "The number of documents that follow, damaged ones too."},
     {NULL, NULL, 0, NULL},
 };
 

@@ -220,7 +220,7 @@ static PyObject *get_stage(PyObject *object, void *closure) {
 }
 
 static PyGetSetDef members[] = {
-    {"_stage", get_stage, NULL, "How far it has come: 'new', 'open', 'closed' or 'failed'.", NULL},
+    {"_stage", get_stage, NULL, "The state of the writer: 'new', 'open', 'closed' or 'failed'.", NULL},
     {NULL, NULL, NULL, NULL, NULL},
 };
 

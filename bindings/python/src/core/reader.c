@@ -348,8 +348,8 @@ static PyGetSetDef members[] = {
 
 static PyMethodDef methods[] = {
     {"_open_file", open_file, METH_VARARGS, "Maps the file of a descriptor, whose path is given, and opens it."},
-    {"_open_buffer", open_buffer, METH_O, "Opens the file that these bytes are."},
-    {"_footer", footer, METH_NOARGS, "The last bytes of the file. Raises Closed."},
+    {"_open_buffer", open_buffer, METH_O, "Opens the store whose file these bytes are."},
+    {"_footer", footer, METH_NOARGS, "The footer, the last 28 bytes of the file. Raises Closed."},
     {"_close", close_reader, METH_NOARGS, "Closes it. Raises BufferError if it has views."},
     {"get_many", get_many, METH_O,
      "get_many(numbers)\n--\n\nThe documents of many numbers, in the order of the numbers, as a list.\n\n"
@@ -357,11 +357,12 @@ static PyMethodDef methods[] = {
     {"__getitems__", get_many, METH_O, "The documents of many numbers: the name by which PyTorch asks for them."},
     {"view", view, METH_O,
      "view(number)\n--\n\nA document as a read-only memoryview of the file, without a copy.\n\n"
-     "The file stays open as long as the view is there. Raises NoDocument, DamagedDocument and Closed."},
+     "The store can't be closed as long as there is a view. Raises NoDocument, DamagedDocument and Closed."},
     {"verify", verify, METH_NOARGS,
      "verify()\n--\n\nChecks the whole file: footer, index, and the table of each block.\n\n"
      "Other threads run in the meantime. Raises DamagedDocument, whose `document` is the number of the first damaged\n"
-     "document; NoMemory and Closed. What a file says of its documents' bytes can't be checked: it has no checksums."},
+     "document; if the file was changed since it was opened, also what opening raises; NoMemory and Closed. Changed\n"
+     "bytes inside a document are not found: the format has no checksums."},
     {NULL, NULL, 0, NULL},
 };
 

@@ -74,8 +74,8 @@ def _open_folder(path: str) -> int:
 
 
 def _open_beside(path: str) -> int:
-    """Opens a file to write to it, and leaves what it holds: another may have locked it."""
-    return os.open(path, os.O_WRONLY | os.O_CREAT | os.O_CLOEXEC, 0o666)
+    """Opens a file to write to it, and leaves what it holds: another may have locked it. A link isn't followed."""
+    return os.open(path, os.O_WRONLY | os.O_CREAT | os.O_CLOEXEC | os.O_NOFOLLOW, 0o666)
 
 
 class Output:

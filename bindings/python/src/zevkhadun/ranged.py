@@ -22,7 +22,7 @@ Block = Tuple[int, int, int, int]
 
 
 class _Cache:
-    """Blocks that were read, those that were used last, up to a number of bytes."""
+    """The blocks that were used last, up to a number of bytes."""
 
     def __init__(self, most: int) -> None:
         self._most = most
@@ -84,8 +84,9 @@ class RangedStore(Sequence[bytes]):
     ) -> None:
         """Reads the index of a store whose file has `size` bytes.
 
-        `tail` is how many of the last bytes are asked for at first, `cache` how many bytes of blocks are kept at most,
-        `request` how many bytes are asked for at once at most, a longer block aside. `path` is for messages.
+        `tail` is the number of last bytes that the first request asks for. `cache` is the greatest number of bytes of
+        blocks that are kept. `request` is the greatest number of bytes of a request, unless one block is longer.
+        `path` is for messages.
 
         Raises what `read` raises, EOFError if it returns another number of bytes, and ShortFile, BadVersion,
         BadBlockKind, BadOffset, BadPeriod or BadIndex if the file is not that of a store.

@@ -18,7 +18,7 @@ class Refused(Exception):
     byte: Optional[int] = None
 
 
-#: the name that others would look for
+#: the same class, by the name of the package
 ZevkhadunError = Refused
 
 

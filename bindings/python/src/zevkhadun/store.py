@@ -57,7 +57,7 @@ class Store(Reader, Sequence[bytes]):
 
     @property
     def data_size(self) -> int:
-        """How many bytes the blocks of documents have. Raises Closed."""
+        """The number of bytes that the blocks of documents have. Raises Closed."""
         return self._facts()[1]
 
     @property
@@ -84,7 +84,7 @@ class Store(Reader, Sequence[bytes]):
         return Documents(self, "raise")
 
     def close(self) -> None:
-        """Closes the file. A second call does nothing. A get that runs at the same time in another thread ends well.
+        """Closes the file. A second call does nothing. A get that runs in another thread at the same time completes.
 
         Raises BufferError as long as there are views of its documents; the store stays open then.
         """

@@ -1,0 +1,85 @@
+# Completes the words of zevkhadun in bash. It is written by tools/completions/write.py from the help texts.
+_zevkhadun() {
+    local word=${COMP_WORDS[COMP_CWORD]} before=${COMP_WORDS[COMP_CWORD - 1]} command='' place=0 words='' files='' i
+    # The value of an option may follow an equals sign, which is a word of its own.
+    if [ "$word" = '=' ]; then
+        word=''
+    elif [ "$before" = '=' ]; then
+        before=${COMP_WORDS[COMP_CWORD - 2]}
+    fi
+    for ((i = 1; i < COMP_CWORD; i++)); do
+        case "$command ${COMP_WORDS[i]}" in
+            'pack --files-from' | \
+                'pack --framing' | \
+                'pack --block-size' | \
+                'pack --period' | \
+                'append --files-from' | \
+                'append --framing' | \
+                'append --block-size' | \
+                'get --framing' | \
+                'cat --without' | \
+                'cat --framing' | \
+                'merge --without' | \
+                'merge --block-size' | \
+                'merge --period' | \
+                'inspect --html')
+                if [ "${COMP_WORDS[i + 1]}" = '=' ]; then ((i++)); fi
+                ((i++))
+                ;;
+            *' -'?*) ;;
+            ' '*) command=${COMP_WORDS[i]} ;;
+            *) ((place++)) ;;
+        esac
+    done
+    case "$command $before" in
+        'pack --files-from') files=yes ;;
+        'pack --framing') words='lines text nul lengths files' ;;
+        'pack --block-size') : ;;
+        'pack --period') : ;;
+        'append --files-from') files=yes ;;
+        'append --framing') words='lines text nul lengths files' ;;
+        'append --block-size') : ;;
+        'get --framing') words='lines text nul lengths files' ;;
+        'cat --without') : ;;
+        'cat --framing') words='lines text nul lengths files' ;;
+        'merge --without') files=yes ;;
+        'merge --block-size') : ;;
+        'merge --period') : ;;
+        'inspect --html') files=yes ;;
+        *)
+            case "$command $place $word" in
+                ' 0 -'*) words='-h --help -V --version' ;;
+                ' 0 '*) words='pack append get cat stat verify merge export inspect help' ;;
+                'help 0 '*) words='pack append get cat stat verify merge export inspect help' ;;
+                'pack '*' -'*) words='--files-from --framing --block-size --period -q --quiet -h --help' ;;
+                'pack 0 '*) files=yes ;;
+                'pack '*) files=yes ;;
+                'append '*' -'*) words='--files-from --framing --block-size -q --quiet -h --help' ;;
+                'append 0 '*) files=yes ;;
+                'append '*) files=yes ;;
+                'get '*' -'*) words='--number --json --framing --tantivy -h --help' ;;
+                'get 0 '*) files=yes ;;
+                'cat '*' -'*) words='--without --keep-going --number --json --framing --tantivy -h --help' ;;
+                'cat 0 '*) files=yes ;;
+                'stat '*' -'*) words='--json --tantivy -h --help' ;;
+                'stat '*) files=yes ;;
+                'verify '*' -'*) words='--list --json --tantivy -q --quiet -h --help' ;;
+                'verify '*) files=yes ;;
+                'merge '*' -'*) words='--without --block-size --period --tantivy -q --quiet -h --help' ;;
+                'merge 0 '*) files=yes ;;
+                'merge '*) files=yes ;;
+                'export '*' -'*) words='--tantivy -q --quiet -h --help' ;;
+                'export 0 '*) files=yes ;;
+                'export 1 '*) files=yes ;;
+                'inspect '*' -'*) words='--html --tantivy -h --help' ;;
+                'inspect 0 '*) files=yes ;;
+            esac
+            ;;
+    esac
+    if [ "$files" ]; then
+        mapfile -t COMPREPLY < <(compgen -f -- "$word")
+    else
+        mapfile -t COMPREPLY < <(compgen -W "$words" -- "$word")
+    fi
+}
+complete -o filenames -F _zevkhadun zevkhadun
