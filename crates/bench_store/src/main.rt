@@ -21,13 +21,13 @@ mod workloads;
 
 use anyhow::Result;
 use arguments::Numbers;
-use measure::Telling;
+use measure::Report;
 use plans::{GROWTH, LARGE, SMALL};
 use std::env;
 use workloads::Bench;
 
 // Does each workload of a list.
-fn run_plan(rt: &HostRuntime, plan: &str, telling: Telling, numbers: Numbers) -> Result<()> {
+fn run_plan(rt: &HostRuntime, plan: &str, telling: Report, numbers: Numbers) -> Result<()> {
     let bench = Bench {
         rt,
         alloc: rt.alloc(),
@@ -47,7 +47,7 @@ fn run_plan(rt: &HostRuntime, plan: &str, telling: Telling, numbers: Numbers) ->
 fn main(rt: HostRuntime) -> Result<()> {
     let mut words = env::args(&rt)?.skip(1);
     let Some(name) = words.next() else {
-        return run_plan(&rt, SMALL, Telling::Checks, Numbers::once());
+        return run_plan(&rt, SMALL, Report::Checks, Numbers::once());
     };
     let mut numbers = Numbers::new();
     for word in words {
@@ -58,5 +58,5 @@ fn main(rt: HostRuntime) -> Result<()> {
         "growth" => GROWTH,
         workload => workload,
     };
-    run_plan(&rt, plan, Telling::Times, numbers)
+    run_plan(&rt, plan, Report::Times, numbers)
 }

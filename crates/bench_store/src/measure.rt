@@ -20,7 +20,7 @@ pub trait Workload {
 
 /// The figures of a workload.
 #[derive(Clone, Copy, PartialEq, Eq)]
-pub enum Telling {
+pub enum Report {
     /// Its check alone, which is the same at each run.
     Checks,
     /// How long it took too.
@@ -31,7 +31,7 @@ pub enum Telling {
 #[derive(Clone, Copy)]
 pub struct Measure {
     pub repetitions: u64,
-    pub telling: Telling,
+    pub telling: Report,
 }
 
 // The fastest of the repetitions. All have to do the same.
@@ -66,7 +66,7 @@ fn hundredths(number: u64, divisor: u64) -> u64 {
 }
 
 // Prints the time, that of each one, and the rate in units of 10^6 bytes a second; and the check as an error line.
-fn tell_times<R: Print + Eprint>(rt: &R, name: &str, run: Run) -> Result<()> {
+fn print_times<R: Print + Eprint>(rt: &R, name: &str, run: Run) -> Result<()> {
     let total = nanos(run.time);
     let each = hundredths(total, run.count);
     let rate = hundredths(run.bytes.saturating_mul(1000), total);
@@ -91,8 +91,8 @@ pub fn perform<R: Print + Eprint + Clock, W: Workload>(
 ) -> Result<()> {
     let best = fastest(rt, workload, how.repetitions)?;
     match how.telling {
-        Telling::Checks => println!(rt; "{name} {}", best.check)?,
-        Telling::Times => tell_times(rt, name, best)?,
+        Report::Checks => println!(rt; "{name} {}", best.check)?,
+        Report::Times => print_times(rt, name, best)?,
     }
     Ok(())
 }

@@ -7,7 +7,7 @@ use crate::disk_work::{GetDisk, IterateDisk, PATH, WriteDisk, write_disk};
 use crate::documents::Documents;
 use crate::ids::{Order, deleted, ids};
 use crate::index_work::{Build, OpenIndex, Seek, Walk};
-use crate::measure::{Measure, Telling, Workload, perform};
+use crate::measure::{Measure, Report, Workload, perform};
 use crate::store_work::{Get, Iterate, Open, Source, Stack, Write};
 use crate::stores::write_store;
 use crate::view_work::{GetView, IterateView, OpenView};
@@ -21,7 +21,7 @@ use std::fs;
 pub struct Bench<'a> {
     pub rt: &'a HostRuntime,
     pub alloc: Global,
-    pub telling: Telling,
+    pub telling: Report,
 }
 
 // Documents of this length.

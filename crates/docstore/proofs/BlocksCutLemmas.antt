@@ -13,7 +13,7 @@ use Rattle.store_reader.proofs.SeekLemmas.{bytes_go_on}
 use Rattle.store_reader.proofs.ReaderStoreLemmas.{blocks_of, slices_joined}
 use Rattle.docstore.specs.Stacking.{laid_from}
 
--- the bytes of the first block, and those behind it
+-- the bytes of the first block, and those after it
 record IsFirst (c : Checkpoint) (cs : List Checkpoint) (bytes : List ℕ) : Type 0 where
   front : length (take (byte_len c) bytes) ≡ byte_len c
   left : bytes_end c.byte_range.end cs ≡ c.byte_range.end + length (drop (byte_len c) bytes)

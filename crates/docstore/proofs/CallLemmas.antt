@@ -100,7 +100,7 @@ bytes_made bytes (Err e) old new stored failed err works = bytes_refused bytes e
 
 -- ---- stores
 
--- no store behind the pending documents
+-- no store after the pending documents
 pub store_of_none : (w : Writing) → with_store w [] ≡ flushed w
 store_of_none w = λ i. record w { pending = []; output = record w.output { finished = append-nil (flushed w).output.finished i; content = append-nil (flushed w).output.content i } }
 

@@ -8,7 +8,7 @@ use Rattle.store_base.proofs.ListLemmas.{all_append, all_take}
 use Rattle.docstore.specs.Trace.{weight, without_last, AreFlushed}
 use Rattle.store_format.specs.StoreFile.{block_of}
 
--- ---- groups that were cut, and what is pending behind them
+-- ---- groups that were cut, and what is pending after them
 
 -- a group that was cut when its last document came
 pub record IsFull (size : ℕ) (g : List (List ℕ)) : Type 0 where

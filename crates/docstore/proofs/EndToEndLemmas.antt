@@ -9,7 +9,7 @@ use Rattle.store_format.specs.StoreFile.{file}
 use Rattle.store_format.proofs.ApartLemmas.{stores_are_apart}
 use Rattle.docstore.proofs.MeaningLemmas.{blocks_mean_their_calls}
 
--- what stands behind a list stands at its length
+-- what stands after a list stands at its length
 at_length : (xs ys : List Slot) (x : Slot) → slice_get (xs ++ x ∷ ys) (length xs) ≡ Some x
 at_length [] ys x = refl
 at_length (y ∷ xs) ys x = at_length xs ys x

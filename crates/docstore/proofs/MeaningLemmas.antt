@@ -30,7 +30,7 @@ all_back : (bs cs : List StoreBlock) → AllByRecursion IsStoreBlock (bs ++ cs) 
 all_back [] cs h = h
 all_back (b ∷ bs) cs h = all_back bs cs h.1
 
--- the slots of a stretch, of what was put behind it, and of what comes after
+-- the slots of a stretch, of what was put after it, and of what comes after
 slots_joined : (size : ℕ) (docs : List (List ℕ)) (stacked : List StoreBlock) (trace : List Step) (bs : List StoreBlock)
     → ((cs : List StoreBlock) → AllByRecursion IsStoreBlock cs → BlocksFrom size [] trace cs → slots cs ≡ meaning trace)
     → AllByRecursion IsStoreBlock bs → AreJoined size docs stacked (λ cs. BlocksFrom size [] trace cs) bs → slots bs ≡ (map doc docs ++ slots stacked) ++ meaning trace

@@ -17,7 +17,7 @@ use Rattle.store_format.proofs.StoreLemmas.{docs_in-cons, docs_in-append, data_o
 use Rattle.store_format.proofs.StoreLemmas.{docs_in-blocks_at}
 use Rattle.store_format.proofs.StoreLemmas.{blocks_from, blocks_none}
 
--- what is known once these blocks are written behind the others
+-- what is known once these blocks are written after the others
 pub record AreAdded (period next_id : ℕ) (cs : List Checkpoint) (content : List ℕ) (written : ℕ) (bs : List StoreBlock) (bytes : List ℕ) (count : ℕ) : Type 0 where
   pub ids : next_id + count < 2 ^ 32
   pub fits : written + length bytes < 2 ^ 64

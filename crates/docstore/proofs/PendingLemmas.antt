@@ -33,10 +33,10 @@ between front d back end e =
     ∙ ap (take (length d)) (drop-append_seam front (d ++ back))
     ∙ take-append_seam d back
 
-documents_behind : (front : List ℕ) (docs : List (List ℕ)) → documents_at (starts_from (length front) docs) (front ++ concat docs) ≡ docs
+documents_after : (front : List ℕ) (docs : List (List ℕ)) → documents_at (starts_from (length front) docs) (front ++ concat docs) ≡ docs
 unfolding documents_at
-documents_behind front [] = refl
-documents_behind front (d ∷ docs) =
+documents_after front [] = refl
+documents_after front (d ∷ docs) =
     let size : length (front ++ (d ++ concat docs)) ≡ (length front + length d) + length (concat docs) = omega (arith, length-append front (d ++ concat docs), length-append d (concat docs)) in
     let end : first_or (starts_from (length front + length d) docs) (length (front ++ (d ++ concat docs))) ≡ length front + length d =
     first_of (length front + length d) (length (front ++ (d ++ concat docs))) docs size in
@@ -44,12 +44,12 @@ documents_behind front (d ∷ docs) =
     let others : documents_at (starts_from (length front + length d) docs) (front ++ (d ++ concat docs)) ≡ docs =
     ap (λ (p : ℕ). documents_at (starts_from p docs) (front ++ (d ++ concat docs))) (sym (length-append front d))
     ∙ ap (documents_at (starts_from (length (front ++ d)) docs)) (sym (append_assoc front d (concat docs)))
-    ∙ documents_behind (front ++ d) docs in
+    ∙ documents_after (front ++ d) docs in
     λ i. here i ∷ others i
 
 -- documents are told from their bytes and the places where they begin
 pub documents_back : (docs : List (List ℕ)) → documents_at (starts_from 0 docs) (concat docs) ≡ docs
-documents_back docs = documents_behind [] docs
+documents_back docs = documents_after [] docs
 
 pub documents_from : (starts bytes : List ℕ) (docs : List (List ℕ)) → starts ≡ starts_from 0 docs → bytes ≡ concat docs → documents_at starts bytes ≡ docs
 documents_from starts bytes docs s b = (λ i. documents_at (s i) (b i)) ∙ documents_back docs
@@ -87,7 +87,7 @@ pub length-block-seen : (docs : List (List ℕ)) (starts bytes : List ℕ) (limi
     → length (block (docs ++ d ∷ [])) ≡ length bytes + length d + 4 * (length starts + 2)
 length-block-seen docs starts bytes limit capacity d seen h = ap (λ (ds : List (List ℕ)). length (block (ds ++ d ∷ []))) (sym seen) ∙ length-block-pushed starts bytes limit capacity d h
 
--- where the documents begin once this one is behind them, and their bytes
+-- where the documents begin once this one is after them, and their bytes
 starts_pushed : (starts bytes : List ℕ) (limit capacity : ℕ) (d : List ℕ) → IsPending starts bytes limit capacity → starts ++ length bytes ∷ [] ≡ starts_from 0 (documents_at starts bytes ++ d ∷ [])
 starts_pushed starts bytes limit capacity d h =
     let docs = documents_at starts bytes in

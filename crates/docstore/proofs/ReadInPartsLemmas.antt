@@ -20,7 +20,7 @@ use Rattle.store_format.proofs.StoreLemmas.{docs_in-cons, docs_in-append, length
 use Rattle.store_reader.specs.Reading.{Reading, IsReadOnce, store_of, part_of}
 use Rattle.store_reader.specs.Parts.{byte_at, number_of_parts, EndsPart, IsPartFrom, IsPartRead}
 use Rattle.store_reader.specs.declared.reader.parts.StorePart.{StorePart}
-use Rattle.store_reader.proofs.PartLemmas.{block_at, byte_order, byte_within, none_behind}
+use Rattle.store_reader.proofs.PartLemmas.{block_at, byte_order, byte_within, none_following}
 use Rattle.store_reader.proofs.ReaderStoreLemmas.{blocks_of, store_is}
 use Rattle.store_reader.proofs.WalkingLemmas.{there}
 use Rattle.docstore.specs.BlockOutput.{BlockOutput, IsSound, with_blocks, with_risen, HasCause, FailsFor, AfterFailedBlock}
@@ -107,7 +107,7 @@ pub read_in_pieces : (size n : ℕ) (reader read : Reading) → Covers reader.ch
     → IsReadInPieces (number_of_parts size reader.checkpoints) reader read
 read_in_pieces size n reader read covers all up =
     let cs = reader.checkpoints in
-    let none = none_behind cs n all in
+    let none = none_following cs n all in
     let times : up.times ≡ number_of_parts size cs = omega (arith, up.parts, ap (λ (xs : List Checkpoint). number_of_parts size xs) none) in
     let end : byte_at n cs ≡ length reader.file.content = ap (bytes_end 0) (take_all n cs all) ∙ covers.end in
     subst (λ (k : ℕ). IsReadTimes k (length reader.file.content) reader read) times (subst (λ (k : ℕ). IsReadTimes up.times k reader read) end up.read)
@@ -155,7 +155,7 @@ is_slice cs total n m covers le =
       few_docs = omega (arith, sum, sum_by-append doc_count (take n cs) some, ends, all);
     }
 
--- ---- blocks that were put behind
+-- ---- blocks that were put after
 
 checkpoint_ends : (id byte : ℕ) (bs : List StoreBlock) → (docs_end id (checkpoints_from id byte bs) ≡ id + docs_in bs) × (bytes_end byte (checkpoints_from id byte bs) ≡ byte + length (data_of bs))
 checkpoint_ends id byte [] = (omega arith, omega arith)
@@ -198,7 +198,7 @@ slice_own reader n m bytes blocks covers s here before =
     (here ∙ ap (slice_range content (byte_at n cs)) (sym s.end)) in
     (λ i. before i ++ cut i) ∙ ap (λ (bs : List StoreBlock). bs ++ blocks_of content some) (taken n) ∙ sym (map-append f (take n cs) some) ∙ ap (blocks_of content) (sym s.front) ∙ sym (taken m)
 
--- a part is put behind those before it
+-- a part is put after those before it
 pub part_stacked : (size n : ℕ) (reader read : Reading) (times bytes : ℕ) (part : StorePart) (old mid new : BlockOutput) → Covers reader.checkpoints (length reader.file.content)
     → IsReadTimes times bytes reader read → IsPartFrom size read n part → StacksFirst reader n old mid
     → new ≡ with_risen new.failures (with_blocks mid (blocks_at (slice_range read.checkpoints part.blocks.start part.blocks.end) part.bytes)) → StacksFirst reader part.blocks.end old new
@@ -224,7 +224,7 @@ part_stacked size n reader read times bytes part old mid new covers kept p befor
       after = after ∙ (λ i. with_risen new.failures (with_blocks (before.after i) (cut_is i))) ∙ joined old before.blocks more new.failures mid.failures;
     }
 
--- a part that was read, and can be put behind those before it
+-- a part that was read, and can be put after those before it
 pub record IsPartTaken (size n : ℕ) (reader read new : Reading) (part : StorePart) (mid : BlockOutput) : Type 0 where
   pub covers : Covers reader.checkpoints (length reader.file.content)
   pub came : IsPartFrom size read n part
@@ -263,7 +263,7 @@ part_taken size n reader read new found part old mid covers_read up put few is c
           (record { doc = docs_end 0 (take n cs); byte = byte_at n cs; in_line = s.line; filled = s.filled; end = s.end ∙ sym len });
     }
 
--- and once it was written they are all behind the finished ones
+-- and once it was written they are all after the finished ones
 taken_stacked : (size n : ℕ) (reader read left : Reading) (part : StorePart) (old mid new : BlockOutput) (range : List Checkpoint) (text : List ℕ) → IsReadUpTo size n reader read
     → StacksFirst reader n old mid → IsPartTaken size n reader read left part mid → range ≡ slice_range left.checkpoints part.blocks.start part.blocks.end → text ≡ part.bytes
     → new ≡ with_risen new.failures (with_blocks mid (blocks_at range text)) → StacksFirst reader part.blocks.end old new
@@ -350,10 +350,10 @@ refused_read reader read left n old out e begins steady (inr is) risen (inl othe
     differ e m r = cc
 refused_read reader read left n old out e begins steady (inr is) risen (inr same) = subst (AfterStackingInParts reader left old out) (sym is) (begins, same ∙ steady)
 
--- a writer that fails behind what was put has failed
-pub fails_behind : (reader : Reading) (n : ℕ) (cause : Cause) (old mid new : BlockOutput) → old.failure ≡ None → StacksFirst reader n old mid → old.failures ≤ mid.failures → FailsFor cause mid new
+-- a writer that fails after what was put has failed
+pub fails_after : (reader : Reading) (n : ℕ) (cause : Cause) (old mid new : BlockOutput) → old.failure ≡ None → StacksFirst reader n old mid → old.failures ≤ mid.failures → FailsFor cause mid new
     → AfterFailedBlock old.failure cause old new
-fails_behind reader n cause old mid new works p le h = subst (λ (f : Option Cause). AfterFailedBlock f cause old new) (sym works) (record {
+fails_after reader n cause old mid new works p le h = subst (λ (f : Option Cause). AfterFailedBlock f cause old new) (sym works) (record {
   worked = works;
   failure = h.failure;
   why = why cause h.why;

@@ -17,7 +17,7 @@ use Rattle.docstore.proofs.CutLemmas.{IsFull, without_last-push, flushed_none, f
 abbrev joined : List (List (List ℕ)) → List (List ℕ)
 joined gs = flat_map (λ (g : List (List ℕ)). g) gs
 
--- Behind some blocks these groups were cut, and no full group is pending; and how the run goes on decides all its blocks.
+-- After some blocks these groups were cut, and no full group is pending; and how the run goes on decides all its blocks.
 pub record IsRunSoFar (size period : ℕ) (held : List ℕ) (trace : List Step) (w : Writing) : Type 0 where
   pub size_is : w.block_size ≡ size
   pub period_is : w.output.period ≡ period
@@ -118,7 +118,7 @@ run_stays : (size period : ℕ) (held : List ℕ) (trace : List Step) (step : St
 run_stays size period held trace step w is run = run_on size period held trace (trace ++ step ∷ []) w w run refl refl refl refl run.light
     (λ rest bs h. on size period held trace step w run rest bs (effect_by size step no_effect (joined run.groups ++ w.pending) rest bs is h))
 
--- what is pending is flushed behind the groups
+-- what is pending is flushed after the groups
 last_flush : (size : ℕ) (gs : List (List (List ℕ))) (pending : List (List ℕ)) → AllByRecursion (IsFull size) gs → weight pending ≤ size
     → AreFlushed size (joined gs ++ pending) (map block_of gs ++ blocks_of pending)
 last_flush size gs [] full light =
@@ -127,7 +127,7 @@ last_flush size gs [] full light =
     subst (AreFlushed size (joined gs ++ [])) (sym bs) (subst (λ (x : List (List ℕ)). AreFlushed size x (map block_of gs)) (sym docs) (flushed_none size gs full))
 last_flush size gs (d ∷ pending) full light = flushed_more size gs (d ∷ pending) full (omega arith) (omega (arith, light, weight-without_last (d ∷ pending)))
 
--- the documents of the stretch are flushed, and these blocks come behind
+-- the documents of the stretch are flushed, and these blocks come after
 run_ends : (size period : ℕ) (held : List ℕ) (trace : List Step) (step : Step) (w : Writing) (stacked : List StoreBlock)
     → ((docs : List (List ℕ)) (rest : List Step) (bs : List StoreBlock) → AreJoined size docs stacked (λ cs. BlocksFrom size [] rest cs) bs → BlocksFrom size docs (step ∷ rest) bs)
     → IsRunSoFar size period held trace w → IsRunSoFar size period held (trace ++ step ∷ []) (with_store w stacked)

@@ -1,4 +1,4 @@
--- Checkpoints that are put behind others, and the blocks that they cut from bytes.
+-- Checkpoints that are put after others, and the blocks that they cut from bytes.
 use Rattle.std.proofs.Common.{◌≡◌, ℕ, ◌+◌, ◌^◌, ◌<◌, List, [], ◌∷◌, ◌++◌, length, map, Option, None, refl, sym, ◌∙◌, ap, subst, arith}
 use Rattle.std.proofs.lemmas.List.Sums.{sum_by-cons}
 use Rattle.std.specs.List.{sum_by}
@@ -28,9 +28,9 @@ shifted-checkpoints docs bytes id byte (b ∷ bs) =
     let rest = others ∙ moved in
     λ i. checkpoint (id + docs) (ids i) (byte + bytes) (places i) ∷ rest i
 
--- the checkpoints of a store behind other blocks
-pub shifted_behind : (docs bytes : ℕ) (cs : List Checkpoint) (bs : List StoreBlock) → cs ≡ checkpoints_of bs → map (shifted docs bytes) cs ≡ checkpoints_from docs bytes bs
-shifted_behind docs bytes cs bs is =
+-- the checkpoints of a store after other blocks
+pub shifted_after : (docs bytes : ℕ) (cs : List Checkpoint) (bs : List StoreBlock) → cs ≡ checkpoints_of bs → map (shifted docs bytes) cs ≡ checkpoints_from docs bytes bs
+shifted_after docs bytes cs bs is =
     let id : 0 + docs ≡ docs = omega arith in
     let place : 0 + bytes ≡ bytes = omega arith in
     ap (map (shifted docs bytes)) is ∙ shifted-checkpoints docs bytes 0 0 bs ∙ (λ i. checkpoints_from (id i) (place i) bs)
@@ -45,7 +45,7 @@ sum_by-snoc : (cs : List Checkpoint) (c : Checkpoint) → sum_by doc_count (cs +
 sum_by-snoc [] c = omega (arith, sum_by-cons doc_count c [])
 sum_by-snoc (x ∷ cs) c = omega (arith, sum_by-cons doc_count x (cs ++ c ∷ []), sum_by-cons doc_count x cs, sum_by-snoc cs c)
 
--- it can be put behind, and the ids go on where it ends
+-- it can be put after, and the ids go on where it ends
 pub record IsNext (xs : List Checkpoint) (c : Checkpoint) : Type 0 where
   pub in_line : IsInLine (xs ++ c ∷ [])
   pub ends : sum_by doc_count (xs ++ c ∷ []) ≡ c.doc_range.end
@@ -70,9 +70,9 @@ next_laid all index left more id at c is first h =
     let parts : all ≡ index ++ checkpoint id (id + doc_count c) at (at + byte_len c) ∷ rest = sym is ∙ ap (λ (xs : List Checkpoint). index ++ laid_from id at xs) first in
     is_next index (checkpoint id (id + doc_count c) at (at + byte_len c)) rest (subst (IsInLineFrom 0 0) parts h)
 
--- ---- blocks that are put behind others
+-- ---- blocks that are put after others
 
--- what is known once the blocks that checkpoints cut from bytes are written behind the others
+-- what is known once the blocks that checkpoints cut from bytes are written after the others
 pub record AreCut (period next_id : ℕ) (cs : List Checkpoint) (content : List ℕ) (written : ℕ) (more : List Checkpoint) (bytes : List ℕ) : Type 0 where
   pub added : AreAdded period next_id cs content written (blocks_at more bytes) bytes (docs_in (blocks_at more bytes))
   pub places : laid_from next_id written more ≡ checkpoints_from next_id written (blocks_at more bytes)

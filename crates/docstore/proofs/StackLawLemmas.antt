@@ -36,7 +36,7 @@ stacked_slots_are_counted reader bs read =
 
 -- ---- files
 
--- nothing is pending behind a stacking
+-- nothing is pending after a stacking
 finished_by : (w : Writing) (stores : List (List StoreBlock)) → w.pending ≡ [] → (flushed (stacked w stores)).output.finished ≡ w.output.finished ++ flat_map (λ bs. bs) stores
 finished_by w [] none = ap (λ (docs : List (List ℕ)). w.output.finished ++ blocks_of docs) none
 finished_by w (bs ∷ stores) none =

@@ -21,7 +21,7 @@ use Rattle.store_reader.proofs.StoreSlotLemmas.{range_len, map_len}
 pub slots-append : (bs cs : List StoreBlock) → slots (bs ++ cs) ≡ slots bs ++ slots cs
 slots-append bs cs = flat_map-append (λ (b : StoreBlock). map (slot b.bytes) (range_with_len 0 b.count)) bs cs
 
--- documents put behind as a block bring their slots
+-- documents put after as a block bring their slots
 pub slots_flushed : (bs : List StoreBlock) (docs : List (List ℕ)) → (0 < length docs → length (block docs) < 2 ^ 32) → slots (bs ++ blocks_of docs) ≡ slots bs ++ map doc docs
 slots_flushed bs [] fits = ap slots (append-nil bs) ∙ sym (append-nil (slots bs))
 slots_flushed bs (d ∷ docs) fits = slots-append bs (block_of (d ∷ docs) ∷ []) ∙ ap (λ (x : List Slot). slots bs ++ x) (blocks_hold_documents (d ∷ docs) (fits (omega arith)))
@@ -45,7 +45,7 @@ either_way : (full : Bool) (w : Writing) → length (block w.pending) < 2 ^ 32 �
 either_way true w fits = append-nil (slots (w.output.finished ++ blocks_of w.pending)) ∙ slots_flushed w.output.finished w.pending (λ _. fits)
 either_way false w fits = refl
 
--- a document is put behind
+-- a document is put after
 pub documents_are_taken_in_order : DocumentsAreTakenInOrder
 documents_are_taken_in_order w document fits =
     let more = record w { pending = w.pending ++ document ∷ [] } in

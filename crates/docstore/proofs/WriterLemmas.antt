@@ -7,7 +7,7 @@ use Rattle.store_base.specs.declared.error.Cause.TheVariants.{Write, Memory as O
 use Rattle.store_base.specs.declared.error.StoreError.{StoreError}
 use Rattle.store_base.specs.declared.error.StoreError.TheVariants.{ShortFile, BadVersion, BadBlockKind, BadOffset, BadIndex, InvalidArgument, DamagedDocument, BadDocument, Read, Memory, OldVersion}
 use Rattle.store_base.specs.declared.error.StoreError.TheVariants.{Unserializable, BlockTooLarge, TooManyDocs, Failed, BadPeriod}
-use Rattle.store_base.specs.Outcome.{behind_bytes}
+use Rattle.store_base.specs.Outcome.{after_first_byte}
 use Rattle.store_format.specs.Block.{block}
 use Rattle.store_format.specs.StoreFile.{StoreBlock, data_of}
 use Rattle.store_format.proofs.BlockLemmas.{length-block}
@@ -29,14 +29,14 @@ cause_further OutOfMemory failures risen last old bytes mid new le is h = record
   parts = h.parts ∙ ap (λ (x : List ℕ). x ++ h.more) is ∙ append_assoc old bytes h.more;
 }
 
--- a refusal behind blocks that went out in the same call
-pub closed_behind : (e : StoreError) (old mid : BlockOutput) (bs : List StoreBlock) (content : List ℕ) (termination : Termination) (failures : ℕ) → mid ≡ with_risen mid.failures (with_blocks old bs)
-    → old.failures ≤ mid.failures → old.failure ≡ None → 0 < length (data_of bs) → AfterClose e mid content termination failures → AfterClose (behind_bytes e) old content termination failures
-closed_behind Memory old mid bs content termination failures is le none some h =
+-- a refusal after blocks that went out in the same call
+pub closed_after : (e : StoreError) (old mid : BlockOutput) (bs : List StoreBlock) (content : List ℕ) (termination : Termination) (failures : ℕ) → mid ≡ with_risen mid.failures (with_blocks old bs)
+    → old.failures ≤ mid.failures → old.failure ≡ None → 0 < length (data_of bs) → AfterClose e mid content termination failures → AfterClose (after_first_byte e) old content termination failures
+closed_after Memory old mid bs content termination failures is le none some h =
     let grown : content ≡ old.content ++ data_of bs = h.1 ∙ ap (λ (out : BlockOutput). out.content) is in
     let ends : termination ≡ old.termination = h.3 ∙ ap (λ (out : BlockOutput). out.termination) is in
     subst (λ (f : Option Cause). AfterFailedClose f OutOfMemory old content termination failures) (sym none) (record { more = data_of bs; some = some; parts = grown }, ends)
-closed_behind (Failed cause) old mid bs content termination failures is le none some h =
+closed_after (Failed cause) old mid bs content termination failures is le none some h =
     let mid_none : mid.failure ≡ None = ap (λ (out : BlockOutput). out.failure) is ∙ none in
     let why : HasCause cause mid.failures failures mid.content content × HasNotEnded cause mid.termination termination =
     subst (λ (f : Option Cause). AfterFailedClose f cause mid content termination failures) mid_none h in
@@ -45,17 +45,17 @@ closed_behind (Failed cause) old mid bs content termination failures is le none 
       cause_further cause old.failures mid.failures failures old.content (data_of bs) mid.content content le (ap (λ (out : BlockOutput). out.content) is) why.0,
       subst (λ (t : Termination). HasNotEnded cause t termination) ends why.1,
     )
-closed_behind (ShortFile n) old mid bs content termination failures is le none some h = absurd h
-closed_behind (BadVersion n) old mid bs content termination failures is le none some h = absurd h
-closed_behind (BadBlockKind n) old mid bs content termination failures is le none some h = absurd h
-closed_behind BadOffset old mid bs content termination failures is le none some h = absurd h
-closed_behind BadIndex old mid bs content termination failures is le none some h = absurd h
-closed_behind (InvalidArgument n) old mid bs content termination failures is le none some h = absurd h
-closed_behind (DamagedDocument n) old mid bs content termination failures is le none some h = absurd h
-closed_behind BadDocument old mid bs content termination failures is le none some h = absurd h
-closed_behind Read old mid bs content termination failures is le none some h = absurd h
-closed_behind OldVersion old mid bs content termination failures is le none some h = absurd h
-closed_behind Unserializable old mid bs content termination failures is le none some h = absurd h
-closed_behind BlockTooLarge old mid bs content termination failures is le none some h = absurd h
-closed_behind TooManyDocs old mid bs content termination failures is le none some h = absurd h
-closed_behind (BadPeriod n) old mid bs content termination failures is le none some h = absurd h
+closed_after (ShortFile n) old mid bs content termination failures is le none some h = absurd h
+closed_after (BadVersion n) old mid bs content termination failures is le none some h = absurd h
+closed_after (BadBlockKind n) old mid bs content termination failures is le none some h = absurd h
+closed_after BadOffset old mid bs content termination failures is le none some h = absurd h
+closed_after BadIndex old mid bs content termination failures is le none some h = absurd h
+closed_after (InvalidArgument n) old mid bs content termination failures is le none some h = absurd h
+closed_after (DamagedDocument n) old mid bs content termination failures is le none some h = absurd h
+closed_after BadDocument old mid bs content termination failures is le none some h = absurd h
+closed_after Read old mid bs content termination failures is le none some h = absurd h
+closed_after OldVersion old mid bs content termination failures is le none some h = absurd h
+closed_after Unserializable old mid bs content termination failures is le none some h = absurd h
+closed_after BlockTooLarge old mid bs content termination failures is le none some h = absurd h
+closed_after TooManyDocs old mid bs content termination failures is le none some h = absurd h
+closed_after (BadPeriod n) old mid bs content termination failures is le none some h = absurd h

@@ -105,17 +105,17 @@ pub record IsUnclosed {D H : Type 0} (size : ℕ) (doc_bytes : D
   pub output : new ≡ old ++ data_of blocks
 
 -- what is known of an output: what it holds, its ends, and how often it failed
-pub record Told : Type 0 where
+pub record OutputState : Type 0 where
   pub content : List ℕ
   pub termination : Termination
   pub failures : ℕ
 
-abbrev pub told : List ℕ → Termination → ℕ → Told
-told content termination failures = record { content = content; termination = termination; failures = failures }
+abbrev pub output_state : List ℕ → Termination → ℕ → OutputState
+output_state content termination failures = record { content = content; termination = termination; failures = failures }
 
 -- What a refused run leaves. If memory ran out for the results, no call was made, and the output is as it was given.
 abbrev pub AfterRun : {D H : Type 0} → ℕ → (D → Option (List ℕ)) → List (StoreCommand D H) → List (StoreCommand D H)
-    → Told → Told → StoreError → Type 0
+    → OutputState → OutputState → StoreError → Type 0
 AfterRun size doc_bytes commands left old new Memory = ((left ≡ commands) × (new ≡ old))
     ⊎ (IsUnclosed size doc_bytes commands left old.content new.content × (new.termination ≡ old.termination))
 AfterRun size doc_bytes commands left old new (Failed cause) =

@@ -1,7 +1,7 @@
 //! Why a writer was not closed.
 
 ghost use Rattle.std.specs.Prelude.{◌≡◌};
-ghost use Rattle.store_base.specs.Outcome.{behind_bytes};
+ghost use Rattle.store_base.specs.Outcome.{after_first_byte};
 
 use store_base::{Cause, StoreError};
 
@@ -15,7 +15,7 @@ pub struct CloseError<W> {
 impl<W: Drop> CloseError<W> {
     // The same after bytes were written: to run out of memory is then a failure.
     pub(crate) fn after_bytes(self) -> CloseError<W>
-        ensures error { result.error ≡ behind_bytes self.error }
+        ensures error { result.error ≡ after_first_byte self.error }
         ensures output { result.output ≡ self.output }
     {
         let CloseError { error, output } = self;

@@ -2,7 +2,7 @@
 
 ghost use Rattle.std.specs.Prelude.{◌≡◌, ◌≤◌, None, true, IfSome, IfOk, IfErr};
 ghost use Rattle.store_base.specs.Outputs.{terminated_once};
-ghost use Rattle.docstore.specs.Run.{told, IsCall, IsKept, AreCommandsKept, IsWritten, AfterRun};
+ghost use Rattle.docstore.specs.Run.{output_state, IsCall, IsKept, AreCommandsKept, IsWritten, AfterRun};
 ghost use Rattle.docstore.specs.Writer.{IsStoreWriter, AfterFailed};
 
 use crate::close_error::CloseError;
@@ -48,8 +48,8 @@ pub fn write_store<W: TerminatingWrite, D: Document, H: FileHandle>(
     ensures terminated { IfOk result (λ report. W.termination report.output
         ≡ terminated_once true (W.content report.output) (W.termination output)) }
     ensures err { IfErr result (λ e. AfterRun block_size (λ d. D.doc_bytes d schema.now) commands.old commands.new
-        (told (W.content output) (W.termination output) (W.failures output))
-        (told (W.content e.output) (W.termination e.output) (W.failures e.output)) e.error) }
+        (output_state (W.content output) (W.termination output) (W.failures output))
+        (output_state (W.content e.output) (W.termination e.output) (W.failures e.output)) e.error) }
 
     // Documents and bytes stay, and readers keep their stores.
     ensures kept { AreCommandsKept commands.old commands.new }
@@ -73,8 +73,8 @@ pub fn write_store_with_period<W: TerminatingWrite, D: Document, H: FileHandle>(
     ensures terminated { IfOk result (λ report. W.termination report.output
         ≡ terminated_once true (W.content report.output) (W.termination output)) }
     ensures err { IfErr result (λ e. AfterRun block_size (λ d. D.doc_bytes d schema.now) commands.old commands.new
-        (told (W.content output) (W.termination output) (W.failures output))
-        (told (W.content e.output) (W.termination e.output) (W.failures e.output)) e.error) }
+        (output_state (W.content output) (W.termination output) (W.failures output))
+        (output_state (W.content e.output) (W.termination e.output) (W.failures e.output)) e.error) }
     ensures kept { AreCommandsKept commands.old commands.new }
 {
     let Ok(mut results) = Vec::with_capacity(alloc, commands.len()) else {

@@ -171,11 +171,11 @@ some_block count doc byte bytes a b c (x ∷ cs) rest some few p q r s =
 pub record CountsSome (bytes : List ℕ) (h : Heading) (rest : List ℕ) : Type 0 where
   pub some : 0 < h.count
   pub few : h.count < 2 ^ 64
-  pub behind_count : List ℕ
-  pub behind_doc : List ℕ
-  pub takes_count : SplitsOff bytes (number h.count) behind_count
-  pub takes_doc : SplitsOff behind_count (number h.doc) behind_doc
-  pub takes_byte : SplitsOff behind_doc (number h.byte) rest
+  pub after_count : List ℕ
+  pub after_doc : List ℕ
+  pub takes_count : SplitsOff bytes (number h.count) after_count
+  pub takes_doc : SplitsOff after_count (number h.doc) after_doc
+  pub takes_byte : SplitsOff after_doc (number h.byte) rest
 
 -- if it counts none
 pub record CountsNone (bytes : List ℕ) (h : Heading) (rest : List ℕ) : Type 0 where
@@ -197,7 +197,7 @@ starts_read count bytes a h rest some few takes e =
     let two = below_takes (2 ^ 64) p.0.1 q.0.0 q.0.1 one.0.rest_fits q.1 in
     let made : Heading × List ℕ = (record { count = count; doc = p.0.0; byte = q.0.0 }, q.0.1) in
     subst (λ (x : Heading × List ℕ). CountsSome bytes x.0 x.1) (some_is made (h, rest) q.2)
-    (record { some = some; few = few; behind_count = a; behind_doc = p.0.1; takes_count = takes; takes_doc = one.0; takes_byte = two.0 })
+    (record { some = some; few = few; after_count = a; after_doc = p.0.1; takes_count = takes; takes_doc = one.0; takes_byte = two.0 })
 
 pub heading_read : (bytes : List ℕ) (h : Heading) (rest : List ℕ) → IsBytes bytes → heading_at bytes ≡ Some (h, rest) → CountsNone bytes h rest ⊎ CountsSome bytes h rest
 unfolding heading_at
@@ -246,7 +246,7 @@ block_read bytes cs rest fits e =
           let nothing = no_steps h.doc h.byte a.0.1 cs rest (ap (λ (n : ℕ). steps_at n h.doc h.byte a.0.1) (sym none.none) ∙ a.2) in
           let takes : SplitsOff bytes (checkpoint_block []) rest = subst (λ (t : List ℕ). SplitsOff bytes t rest) (sym block_none) (subst (λ (r : List ℕ). SplitsOff bytes (number 0) r) nothing.1 none.takes) in
           subst (λ (xs : List Checkpoint). IsBlock bytes xs rest) (sym nothing.0) (record { in_line = tt; few = omega arith; takes = takes })
-      | inr some ↦ some_block h.count h.doc h.byte bytes some.behind_count some.behind_doc a.0.1 cs rest some.some some.few some.takes_count some.takes_doc some.takes_byte
+      | inr some ↦ some_block h.count h.doc h.byte bytes some.after_count some.after_doc a.0.1 cs rest some.some some.few some.takes_count some.takes_doc some.takes_byte
           (steps_read h.count h.doc h.byte a.0.1 cs rest some.takes_byte.rest_fits a.2)
     ]
 

@@ -42,7 +42,7 @@ pointer_last : (period place : ℕ) (xs : List Checkpoint) → length xs ≤ per
 pointer_last period place [] few = ap (pointers place) (groups_none period)
 pointer_last period place (x ∷ xs) few = ap (pointers place) (groups_one period (x ∷ xs) (omega arith) few)
 
--- ---- a layer, and some more behind its list
+-- ---- a layer, and some more after its list
 
 layer_groups : (period : ℕ) (cs : List Checkpoint) (runs : List (List Checkpoint)) (l : Layer) (more : List Checkpoint) → 1 ≤ period → IsLayer period cs runs l
     → groups period (cs ++ more) ≡ runs ++ groups period (l.rest ++ more)
@@ -208,7 +208,7 @@ list_is period cs (l ∷ ls) one small built h =
     let runs = full_are_runs period from.0 from.1 built.0 one built.1.full (in_line-split from.0 from.1 (flat_map (λ (r : List Checkpoint). r) built.0) l.rest from.2).0 in
     ap (λ (xs : List Checkpoint). xs ++ l.rest) (ap (items 0 0 0) built.1.written ∙ items_runs period 0 0 built.0 small runs) ∙ built.1.joined
 
--- an insertion puts the checkpoint behind the list
+-- an insertion puts the checkpoint after the list
 pub list_of-inserted : (period : ℕ) (ls : List Layer) (c : Checkpoint) → IsBuilder period ls → IsInLine (list_of ls ++ c ∷ []) → list_of (inserted period ls c) ≡ list_of ls ++ c ∷ []
 list_of-inserted period ls c is h = list_is period (list_of ls ++ c ∷ []) (inserted period ls c) (omega (arith, is.least)) is.most (inserted_built period (list_of ls) ls c is.least is.built) h
 

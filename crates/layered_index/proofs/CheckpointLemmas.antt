@@ -33,8 +33,8 @@ steps_apart doc byte (c ∷ cs) (d ∷ ds) r s p q n e =
     let regrouped : step c ++ (flat_map step cs ++ r) ≡ step d ++ (flat_map step ds ++ s) =
     sym (append_assoc (step c) (flat_map step cs) r) ∙ e ∙ append_assoc (step d) (flat_map step ds) s in
     let here = step_apart c d (flat_map step cs ++ r) (flat_map step ds ++ s) p.2 q.2 (p.0 ∙ sym q.0) (p.1 ∙ sym q.1) regrouped in
-    let behind : IsInLineFrom c.doc_range.end c.byte_range.end ds = subst (λ (x : Checkpoint). IsInLineFrom x.doc_range.end x.byte_range.end ds) (sym here.0) q.3 in
-    let others = steps_apart c.doc_range.end c.byte_range.end cs ds r s p.3 behind (omega arith) here.1 in
+    let following : IsInLineFrom c.doc_range.end c.byte_range.end ds = subst (λ (x : Checkpoint). IsInLineFrom x.doc_range.end x.byte_range.end ds) (sym here.0) q.3 in
+    let others = steps_apart c.doc_range.end c.byte_range.end cs ds r s p.3 following (omega arith) here.1 in
     (λ i. here.0 i ∷ others.0 i, others.1)
 
 -- the block of checkpoints, with what follows it
@@ -53,8 +53,8 @@ starts_apart (c ∷ cs) (d ∷ ds) r s p q n e =
     ∙ append_assoc (number d.doc_range.start) (number d.byte_range.start) (flat_map step (d ∷ ds) ++ s) in
     let docs = numbers_are_apart c.doc_range.start d.doc_range.start _ _ regrouped in
     let bytes = numbers_are_apart c.byte_range.start d.byte_range.start _ _ docs.1 in
-    let behind : IsInLineFrom c.doc_range.start c.byte_range.start (d ∷ ds) = (sym docs.0, sym bytes.0, q.2, q.3) in
-    steps_apart c.doc_range.start c.byte_range.start (c ∷ cs) (d ∷ ds) r s p behind n bytes.1
+    let following : IsInLineFrom c.doc_range.start c.byte_range.start (d ∷ ds) = (sym docs.0, sym bytes.0, q.2, q.3) in
+    steps_apart c.doc_range.start c.byte_range.start (c ∷ cs) (d ∷ ds) r s p following n bytes.1
 
 pub checkpoint_blocks_are_apart : CheckpointBlocksAreApart
 checkpoint_blocks_are_apart cs ds r s p q e =

@@ -106,12 +106,12 @@ pub closed_next : (ls : List Layer) (at : ℕ) (l new : Layer) (o : Option Check
     → texts_of (take (at + 1) (set ls at new)) ++ closed (drop (at + 1) (set ls at new)) (last_pointer (put_some l o)) ≡ texts_of (take at ls) ++ closed (drop at ls) o
 closed_next ls at l new o here e =
     let same : drop (at + 1) (set ls at new) ≡ drop (at + 1) ls = drop-set-lt (at + 1) ls at new (omega arith) in
-    let behind = closed (drop (at + 1) ls) (last_pointer (put_some l o)) in
+    let following = closed (drop (at + 1) ls) (last_pointer (put_some l o)) in
     let front : texts_of (take (at + 1) (set ls at new)) ≡ texts_of (take at ls) ++ closed_text (put_some l o) ∷ [] =
     ap texts_of (take_more_set ls at new here.within) ∙ map-append (λ (x : Layer). x.bytes) (take at ls) (new ∷ [])
     ∙ ap (λ (t : List ℕ). texts_of (take at ls) ++ t ∷ []) e in
     (λ i. front i ++ closed (same i) (last_pointer (put_some l o)))
-    ∙ append_assoc (texts_of (take at ls)) (closed_text (put_some l o) ∷ []) behind
+    ∙ append_assoc (texts_of (take at ls)) (closed_text (put_some l o) ∷ []) following
     ∙ ap (λ (ts : List (List ℕ)). texts_of (take at ls) ++ ts) (sym (ap (λ (xs : List Layer). closed xs o) (from_here ls at l here) ∙ closed_some l (drop (at + 1) ls) o))
 
 pub closed_all : (ls : List Layer) (at : ℕ) (o : Option Checkpoint) → length ls ≤ at → texts_of ls ≡ texts_of (take at ls) ++ closed (drop at ls) o

@@ -120,35 +120,35 @@ turns (suc f) (suc g) left doc byte bytes p q =
     (omega (arith, next_shorter left doc byte bytes x e)))
 
 -- what a reading gives, and then the others
-abbrev pub items_behind : Option (Checkpoint × ℕ × List ℕ) → List Checkpoint
-items_behind o = option_map_or (λ n. n.0 ∷ items n.1 n.0.doc_range.end n.0.byte_range.end n.2) o []
+abbrev pub items_after : Option (Checkpoint × ℕ × List ℕ) → List Checkpoint
+items_after o = option_map_or (λ n. n.0 ∷ items n.1 n.0.doc_range.end n.0.byte_range.end n.2) o []
 
 step_of : (left doc byte : ℕ) (bytes : List ℕ) → items_within (suc (length bytes)) left doc byte bytes ≡ items_of (length bytes) (next_at left doc byte bytes)
 unfolding items_within
 step_of left doc byte bytes = refl
 
-behind_of : (k : ℕ) (o : Option (Checkpoint × ℕ × List ℕ)) → ((x : Checkpoint × ℕ × List ℕ) → o ≡ Some x → length x.2 ≤ k) → items_of k o ≡ items_behind o
+after_of : (k : ℕ) (o : Option (Checkpoint × ℕ × List ℕ)) → ((x : Checkpoint × ℕ × List ℕ) → o ≡ Some x → length x.2 ≤ k) → items_of k o ≡ items_after o
 unfolding items
-behind_of k None h = refl
-behind_of k (Some x) h = ap (λ (cs : List Checkpoint). x.0 ∷ cs) (turns k (length x.2) x.1 x.0.doc_range.end x.0.byte_range.end x.2 (h x refl) (omega arith))
+after_of k None h = refl
+after_of k (Some x) h = ap (λ (cs : List Checkpoint). x.0 ∷ cs) (turns k (length x.2) x.1 x.0.doc_range.end x.0.byte_range.end x.2 (h x refl) (omega arith))
 
 widened : (left doc byte : ℕ) (bytes : List ℕ) → items left doc byte bytes ≡ items_within (suc (length bytes)) left doc byte bytes
 unfolding items
 widened left doc byte bytes = turns (length bytes) (suc (length bytes)) left doc byte bytes (omega arith) (omega arith)
 
-pub items_next : (left doc byte : ℕ) (bytes : List ℕ) → items left doc byte bytes ≡ items_behind (next_at left doc byte bytes)
+pub items_next : (left doc byte : ℕ) (bytes : List ℕ) → items left doc byte bytes ≡ items_after (next_at left doc byte bytes)
 items_next left doc byte bytes =
-    widened left doc byte bytes ∙ step_of left doc byte bytes ∙ behind_of (length bytes) (next_at left doc byte bytes) (λ x e. omega (arith, next_shorter left doc byte bytes x e))
+    widened left doc byte bytes ∙ step_of left doc byte bytes ∙ after_of (length bytes) (next_at left doc byte bytes) (λ x e. omega (arith, next_shorter left doc byte bytes x e))
 
 -- ---- the text of a layer
 
--- behind a block it does not matter where the block ended
+-- after a block it does not matter where the block ended
 next_anew : (d b : ℕ) (bytes : List ℕ) → next_at 0 d b bytes ≡ next_at 0 0 0 bytes
 unfolding next_at
 next_anew d b bytes = refl
 
 pub items_anew : (d b : ℕ) (bytes : List ℕ) → items 0 d b bytes ≡ items 0 0 0 bytes
-items_anew d b bytes = items_next 0 d b bytes ∙ ap items_behind (next_anew d b bytes) ∙ sym (items_next 0 0 0 bytes)
+items_anew d b bytes = items_next 0 d b bytes ∙ ap items_after (next_anew d b bytes) ∙ sym (items_next 0 0 0 bytes)
 
 next_is_step : (left doc byte : ℕ) (bytes : List ℕ) → next_at (suc left) doc byte bytes ≡ (step_at doc byte bytes >>= λ c. Some (c.0, left, c.1))
 unfolding next_at next_in_block
@@ -159,7 +159,7 @@ pub items_step : (left doc byte : ℕ) (bytes : List ℕ) (c : Checkpoint) (rest
     → items (suc left) doc byte bytes ≡ c ∷ items left c.doc_range.end c.byte_range.end rest
 items_step left doc byte bytes c rest e =
     let next : next_at (suc left) doc byte bytes ≡ Some (c, left, rest) = next_is_step left doc byte bytes ∙ rw e refl in
-    items_next (suc left) doc byte bytes ∙ ap items_behind next
+    items_next (suc left) doc byte bytes ∙ ap items_after next
 
 -- the same in a loop, and where it ends
 pub items_left : (count i doc byte : ℕ) (bytes : List ℕ) (c : Checkpoint) (rest : List ℕ) → i < count → step_at doc byte bytes ≡ Some (c, rest)
@@ -176,23 +176,23 @@ items_over count i doc byte bytes le =
 pub items_steps : (doc byte : ℕ) (cs : List Checkpoint) (rest : List ℕ) → IsInLineFrom doc byte cs → items (length cs) doc byte (flat_map step cs ++ rest) ≡ cs ++ items 0 0 0 rest
 items_steps doc byte [] rest h = items_anew doc byte rest
 items_steps doc byte (c ∷ cs) rest h =
-    let behind = flat_map step cs ++ rest in
-    let first : step_at doc byte (step c ++ behind) ≡ Some (c, behind) = (λ i. step_at (sym h.0 i) (sym h.1 i) (step c ++ behind)) ∙ step_again c behind h.2 in
+    let following = flat_map step cs ++ rest in
+    let first : step_at doc byte (step c ++ following) ≡ Some (c, following) = (λ i. step_at (sym h.0 i) (sym h.1 i) (step c ++ following)) ∙ step_again c following h.2 in
     ap (items (suc (length cs)) doc byte) (append_assoc (step c) (flat_map step cs) rest)
-    ∙ items_step (length cs) doc byte (step c ++ behind) c behind first
+    ∙ items_step (length cs) doc byte (step c ++ following) c following first
     ∙ ap (λ (xs : List Checkpoint). c ∷ xs) (items_steps c.doc_range.end c.byte_range.end cs rest h.3)
 
 next_of_heading : (d b : ℕ) (bytes : List ℕ) (h : Heading) (rest : List ℕ) (left : ℕ) → heading_at bytes ≡ Some (h, rest) → h.count ≡ suc left → next_at 0 d b bytes ≡ next_at h.count h.doc h.byte rest
 unfolding next_at
 next_of_heading d b bytes h rest left e some = rw (e, some) refl
 
--- the checkpoints of a block behind its heading
+-- the checkpoints of a block after its heading
 pub items_heading : (d b : ℕ) (bytes : List ℕ) (h : Heading) (rest : List ℕ) → heading_at bytes ≡ Some (h, rest) → 0 < h.count → items 0 d b bytes ≡ items h.count h.doc h.byte rest
 items_heading d b bytes h rest e some = by_count h.count refl some
   where
     by_count : (n : ℕ) → h.count ≡ n → 0 < n → items 0 d b bytes ≡ items h.count h.doc h.byte rest
     by_count zero same lt = absurd (omega arith)
-    by_count (suc left) same lt = items_next 0 d b bytes ∙ ap items_behind (next_of_heading d b bytes h rest left e same) ∙ sym (items_next h.count h.doc h.byte rest)
+    by_count (suc left) same lt = items_next 0 d b bytes ∙ ap items_after (next_of_heading d b bytes h rest left e same) ∙ sym (items_next h.count h.doc h.byte rest)
 
 pub items_block : (d b : ℕ) (cs : List Checkpoint) (rest : List ℕ) → 0 < length cs → IsInLine cs → length cs < 2 ^ 64 → items 0 d b (checkpoint_block cs ++ rest) ≡ cs ++ items 0 0 0 rest
 items_block d b [] rest some h few = absurd (omega arith)
@@ -209,7 +209,7 @@ unfolding next_at heading_at number_at
 next_none d b = refl
 
 pub items_none : (d b : ℕ) → items 0 d b [] ≡ []
-items_none d b = items_next 0 d b [] ∙ ap items_behind (next_none d b)
+items_none d b = items_next 0 d b [] ∙ ap items_after (next_none d b)
 
 -- the joined blocks of runs give the runs joined
 pub items_runs : (period d b : ℕ) (gs : List (List Checkpoint)) → period ≤ 64 → AllByRecursion (IsRun period) gs → items 0 d b (flat_map checkpoint_block gs) ≡ flat_map (λ g. g) gs

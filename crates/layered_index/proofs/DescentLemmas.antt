@@ -80,7 +80,7 @@ pub leads_first : (period target : ℕ) (bytes : List ℕ) (count : ℕ) (ends t
 leads_first period target bytes count ends texts cs run head fits is =
     let ts = texts_down period cs in (
       ts,
-      head_left bytes count ends texts ts head.counted head.behind (opens_again period bytes cs head.two head.few fits is).0,
+      head_left bytes count ends texts ts head.counted head.following (opens_again period bytes cs head.two head.few fits is).0,
       leads_all period target
           (digit_count period (length cs)) cs run head.two head.few is.0 refl (small_texts period bytes cs fits is),
     )
@@ -93,7 +93,7 @@ leads_next period target bottom found run count i place ends texts lt none leads
     let next = is_next (count - (i + 1)) place ends texts leads.0 (ap (λ (n : ℕ). layers_left n place ends texts) (sym k) ∙ leads.1) in
     none_is_some (next_layer place ends texts) none next.next
 
--- what is known of it, and of the layers behind it
+-- what is known of it, and of the layers after it
 record IsLed (period target : ℕ) (bottom : List Checkpoint) (found : Option Checkpoint) (count i : ℕ) (layer : List ℕ) (end : ℕ) (more_ends more : List ℕ) : Type 0 where
   list : List Checkpoint
   in_line : IsInLine list
@@ -151,7 +151,7 @@ leads_on period target bottom found (Some c) run count i place ends texts layer 
     let l = led period target bottom found run count i place ends texts layer end more_ends more lt e leads in
     l.goes_on c (sym (some_is (Some c) (first_past l.list target) (seeks l.list l.in_line l.text l.above)))
 
--- behind the last layer
+-- after the last layer
 pub leads_last : (period target : ℕ) (bottom : List Checkpoint) (found : Option Checkpoint) (run : List ℕ) (count i place : ℕ) (ends texts : List ℕ) → count ≤ i
     → LeadsOn period target bottom found run (layers_left (count - i) place ends texts) → (first_past bottom target ≡ found) × AreOn bottom target found run × (length texts ≡ 0)
 leads_last period target bottom found run count i place ends texts le leads =

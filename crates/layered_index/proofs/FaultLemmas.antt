@@ -18,7 +18,7 @@ use Rattle.layered_index.proofs.WalkLemmas.{run_takes, run_none, heads, none_som
 
 -- ---- the runs that may stand
 
--- what points to a run, and what is to come behind it
+-- what points to a run, and what is to come after it
 abbrev pointer_to : ℕ → ℕ → Run × List ℕ → Checkpoint
 pointer_to place len r = checkpoint r.0.doc r.0.doc_end place (place + (len - length r.1))
 

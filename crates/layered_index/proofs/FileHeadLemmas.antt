@@ -16,27 +16,27 @@ use Rattle.layered_index.specs.Sought.{after_numbers, IsHeaded}
 use Rattle.layered_index.proofs.CutOffLemmas.{below_grown, below_kept}
 use Rattle.layered_index.proofs.IndexHeadLemmas.{no_count, no_ends, head_few, put_front, rest_of}
 
--- ---- what follows numbers is behind them
+-- ---- what follows numbers is after them
 
-number_behind : (bytes : List ℕ) (n : ℕ) (rest : List ℕ) → number_at bytes ≡ Some (n, rest) → (front : List ℕ) × (bytes ≡ front ++ rest)
+number_after : (bytes : List ℕ) (n : ℕ) (rest : List ℕ) → number_at bytes ≡ Some (n, rest) → (front : List ℕ) × (bytes ≡ front ++ rest)
 unfolding number_at
-number_behind [] n rest e = absurd (cc)
-number_behind (b ∷ bytes) n rest e = elim (cases_lt b 128) [
+number_after [] n rest e = absurd (cc)
+number_after (b ∷ bytes) n rest e = elim (cases_lt b 128) [
   | inl lt ↦
       let a = bind_some (number_at bytes) (λ high. cond (eqb high.0 0) None (Some (b + 128 * high.0, high.1))) (n, rest) (sym (goes_on b bytes lt) ∙ e) in
       let p = guard_some (eqb a.0.0 0) (b + 128 * a.0.0, a.0.1) (n, rest) a.2 in
-      let on = number_behind bytes a.0.0 a.0.1 a.1 in
+      let on = number_after bytes a.0.0 a.0.1 a.1 in
       (b ∷ on.0, ap (λ (t : List ℕ). b ∷ t) on.1 ∙ ap (λ (x : ℕ × List ℕ). b ∷ (on.0 ++ x.1)) p.1)
   | inr le ↦
       let same = some_is (b - 128, bytes) (n, rest) (sym (last b bytes le) ∙ e) in
       (b ∷ [], ap (λ (x : ℕ × List ℕ). b ∷ x.1) same)
 ]
 
-pub below_behind : (limit : ℕ) (bytes : List ℕ) (n : ℕ) (rest : List ℕ) → number_below limit bytes ≡ Some (n, rest) → (front : List ℕ) × (bytes ≡ front ++ rest)
-below_behind limit bytes n rest e =
+pub below_after : (limit : ℕ) (bytes : List ℕ) (n : ℕ) (rest : List ℕ) → number_below limit bytes ≡ Some (n, rest) → (front : List ℕ) × (bytes ≡ front ++ rest)
+below_after limit bytes n rest e =
     let a = bind_some (number_at bytes) (λ m. cond (ltb m.0 limit) (Some m) None) (n, rest) e in
     let p = pass_some (ltb a.0.0 limit) a.0 (n, rest) a.2 in
-    let on = number_behind bytes a.0.0 a.0.1 a.1 in
+    let on = number_after bytes a.0.0 a.0.1 a.1 in
     (on.0, on.1 ∙ ap (λ (x : ℕ × List ℕ). on.0 ++ x.1) p.1)
 
 pub drop_front : (bytes front rest : List ℕ) → bytes ≡ front ++ rest → (drop (length bytes - length rest) bytes ≡ rest) × (length rest ≤ length bytes)
@@ -74,12 +74,12 @@ none_again : (bytes rest : List ℕ) → bytes ≡ rest → after_numbers 0 byte
 unfolding numbers_at
 none_again bytes rest e = ap (λ (t : List ℕ). Some t) e
 
-pub numbers_behind : (count : ℕ) (bytes rest : List ℕ) → after_numbers count bytes ≡ Some rest → (front : List ℕ) × (bytes ≡ front ++ rest)
-numbers_behind zero bytes rest e = ([], none_after bytes rest e)
-numbers_behind (suc count) bytes rest e =
+pub numbers_after : (count : ℕ) (bytes rest : List ℕ) → after_numbers count bytes ≡ Some rest → (front : List ℕ) × (bytes ≡ front ++ rest)
+numbers_after zero bytes rest e = ([], none_after bytes rest e)
+numbers_after (suc count) bytes rest e =
     let one = is_after_one count bytes rest e in
-    let first = below_behind (2 ^ 64) bytes one.n one.more one.read in
-    let on = numbers_behind count one.more rest one.on in
+    let first = below_after (2 ^ 64) bytes one.n one.more one.read in
+    let on = numbers_after count one.more rest one.on in
     (first.0 ++ on.0, first.1 ∙ ap (λ (t : List ℕ). first.0 ++ t) on.1 ∙ sym (append_assoc first.0 on.0 rest))
 
 numbers_grown : (count : ℕ) (bytes rest back : List ℕ) → after_numbers count bytes ≡ Some rest → after_numbers count (bytes ++ back) ≡ Some (rest ++ back)
@@ -103,8 +103,8 @@ numbers_kept (suc count) front back rest long e =
 -- a head of the bytes is in a front of them that is long enough
 head_kept : (bytes : List ℕ) (count : ℕ) (ends texts : List ℕ) → count ≤ 64 → number_below 65 bytes ≡ Some (count, ends) → after_numbers count ends ≡ Some texts
     → HasNoHead (take longest_head bytes) → ⊥
-head_kept bytes count ends texts few counted behind none = elim (cases_lt (length bytes) longest_head) [
-  | inl short ↦ none count ends texts (ap (number_below 65) (take_all longest_head bytes (omega arith)) ∙ counted) behind
+head_kept bytes count ends texts few counted following none = elim (cases_lt (length bytes) longest_head) [
+  | inl short ↦ none count ends texts (ap (number_below 65) (take_all longest_head bytes (omega arith)) ∙ counted) following
   | inr long ↦
       let front = take longest_head bytes in
       let back = drop longest_head bytes in
@@ -113,7 +113,7 @@ head_kept bytes count ends texts few counted behind none = elim (cases_lt (lengt
       let first = below_kept 65 0 front back count ends (omega (arith, size)) (omega arith) (ap (number_below 65) whole ∙ counted) in
       let same = some_is (first.n, first.more ++ back) (count, ends) (sym first.whole ∙ ap (number_below 65) whole ∙ counted) in
       let number : first.n ≡ count = ap (λ (x : ℕ × List ℕ). x.0) same in
-      let on = numbers_kept first.n first.more back texts (omega (arith, first.size, size, number)) (ap (λ (x : ℕ × List ℕ). after_numbers x.0 x.1) same ∙ behind) in
+      let on = numbers_kept first.n first.more back texts (omega (arith, first.size, size, number)) (ap (λ (x : ℕ × List ℕ). after_numbers x.0 x.1) same ∙ following) in
       none first.n first.more on.0 first.here on.1
 ]
 
@@ -128,7 +128,7 @@ no_head period bytes two small fits none has = by_count (number_below 65 bytes) 
     by_count None e = no_count period bytes two small fits e has
     by_count (Some x) e = by_ends x.0 x.1 (after_numbers x.0 x.1) e refl
 
--- bytes that lack the count, or a number behind it
+-- bytes that lack the count, or a number after it
 pub not_counted : (bytes : List ℕ) → number_below 65 bytes ≡ None → HasNoHead bytes
 not_counted bytes none count ends rest e f = some_none e none
   where
@@ -160,10 +160,10 @@ front_read content start end len most order least = elim (cases_lt (end - start)
 -- the head that is in these bytes
 pub head_made : (head : HeadBytes) (bytes : List ℕ) (count : ℕ) (ends rest : List ℕ) → bytes ≡ head.front → 2 ≤ head.period → head.period ≤ 64 → head.start + length head.front ≤ head.end
     → head.end < 2 ^ 64 → number_below 65 bytes ≡ Some (count, ends) → after_numbers count ends ≡ Some rest → IsHead head count (length bytes - length ends) (head.start + (length bytes - length rest))
-head_made head bytes count ends rest same two few within fits counted behind =
-    let first = below_behind 65 bytes count ends counted in
+head_made head bytes count ends rest same two few within fits counted following =
+    let first = below_after 65 bytes count ends counted in
     let cut = drop_front bytes first.0 ends first.1 in
-    let on = numbers_behind count ends rest behind in
+    let on = numbers_after count ends rest following in
     let more = drop_front ends on.0 rest on.1 in
     let ends_are : drop (length bytes - length ends) head.front ≡ ends = ap (drop (length bytes - length ends)) (sym same) ∙ cut.0 in
     record {
@@ -174,7 +174,7 @@ head_made head bytes count ends rest same two few within fits counted behind =
       inside = omega (arith, ap length same);
       counted = ap (number_below 65) (sym same) ∙ counted ∙ ap (λ (t : List ℕ). Some (count, t)) (sym ends_are);
       rest = rest;
-      behind = ap (after_numbers count) ends_are ∙ behind;
+      following = ap (after_numbers count) ends_are ∙ following;
       placed = omega (arith, ap length same, cut.1, more.1);
     }
 
@@ -203,9 +203,9 @@ heads content head count ends texts is same =
     let bytes = index_in content head in
     let front = head.front in
     let back = drop longest_head bytes in
-    let behind = drop ends front in
+    let following = drop ends front in
     let whole : front ++ back ≡ bytes = ap (λ (t : List ℕ). t ++ back) same ∙ take-append-drop longest_head bytes in
-    let on = numbers_behind count behind is.rest is.behind in
+    let on = numbers_after count following is.rest is.following in
     let before = take ends front ++ on.0 in
     let front_is : front ≡ before ++ is.rest =
     sym (take-append-drop ends front) ∙ ap (λ (t : List ℕ). take ends front ++ t) on.1 ∙ sym (append_assoc (take ends front) on.0 is.rest) in
@@ -219,11 +219,11 @@ heads content head count ends texts is same =
       headed = record {
         two = is.two;
         few = is.few;
-        counted = ap (number_below 65) (sym whole) ∙ below_grown 65 front back count behind is.counted;
-        behind = numbers_grown count behind is.rest back is.behind ∙ ap (λ (t : List ℕ). Some t) texts_are;
+        counted = ap (number_below 65) (sym whole) ∙ below_grown 65 front back count following is.counted;
+        following = numbers_grown count following is.rest back is.following ∙ ap (λ (t : List ℕ). Some t) texts_are;
       };
       rest = is.rest;
-      left = is.behind;
+      left = is.following;
       before = omega (arith, place, later);
     }
 

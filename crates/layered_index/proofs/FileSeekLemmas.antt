@@ -63,11 +63,11 @@ next_before content back ends texts end place n more read lt =
     let test : ltb n place ≡ true = lt-ltb _ _ lt in
     rw (grown, test) refl
 
-pub next_behind : (content back ends : List ℕ) (texts end place n : ℕ) (more : List ℕ)
+pub next_after : (content back ends : List ℕ) (texts end place n : ℕ) (more : List ℕ)
     → end ≤ length content → number_below (2 ^ 64) ends ≡ Some (n, more) → place ≤ n → place ≤ end - texts → end - texts < n
     → next_layer place (ends ++ back) (drop place (slice_range content texts end)) ≡ None
 unfolding next_layer
-next_behind content back ends texts end place n more within read le here long =
+next_after content back ends texts end place n more within read le here long =
     let all = slice_range content texts end in
     let grown = below_grown (2 ^ 64) ends back n more read in
     let test : ltb n place ≡ false = le-ltb _ _ le in
@@ -87,8 +87,8 @@ next_here content back ends texts end place n more within read le fits order =
     let layer : take (n - place) (drop place all) ≡ slice_range content (texts + place) (texts + n) =
     sym (part_of_part content all texts end place n refl order within le (omega (arith, length-slice content texts end within))) in
     let sum : place + (n - place) ≡ n = omega arith in
-    let behind : drop (n - place) (drop place all) ≡ drop n all = drop-drop (n - place) place all ∙ ap (λ (k : ℕ). drop k all) sum in
-    rw (grown, test, near) (λ i. Some (layer i, n, more ++ back, behind i))
+    let following : drop (n - place) (drop place all) ≡ drop n all = drop-drop (n - place) place all ∙ ap (λ (k : ℕ). drop k all) sum in
+    rw (grown, test, near) (λ i. Some (layer i, n, more ++ back, following i))
 
 -- ---- a layer is found bad, or sought
 
@@ -99,7 +99,7 @@ bad_layer content ends head target count i place texts n more found lt within re
     let back = drop longest_head (index_in content head) in
     let none : next_layer place (ends ++ back) (drop place (slice_range content texts head.end)) ≡ None = elim off [
       | inl before ↦ next_before content back ends texts head.end place n more read before
-      | inr behind ↦ next_behind content back ends texts head.end place n more within read behind.0 here behind.1
+      | inr following ↦ next_after content back ends texts head.end place n more within read following.0 here following.1
     ] in
     found_no_layer false head.period target count i place (ends ++ back) (drop place (slice_range content texts head.end)) found (found_of content head target) lt none so_far
 
@@ -144,7 +144,7 @@ layer_goes_on content ends head target count i place texts n more found answer n
     found_goes_on false head.period target (count - (i + 1)) n _ _ answer (found_of content head target) some
     (layer_found content ends head target count i place texts n more found (Some answer) next so_far (sym answers))
 
--- ---- behind the last layer
+-- ---- after the last layer
 
 pub bytes_left : (content ends : List ℕ) (head : HeadBytes) (target count i place texts : ℕ) (found : Option Checkpoint) → count ≤ i → head.end ≤ length content → place < head.end - texts
     → Seeks content head target count i place ends texts found → found_of content head target ≡ None

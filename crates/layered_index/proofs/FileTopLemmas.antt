@@ -14,7 +14,7 @@ use Rattle.layered_index.specs.IndexHeads.{longest_head, longest_run, run_end, e
 use Rattle.layered_index.specs.Sought.{sought_at, after_numbers, next_layer, IsHeaded}
 use Rattle.layered_index.proofs.LayerLemmas.{length-steps-le, length-starts-le}
 use Rattle.layered_index.proofs.FileHeadLemmas.{Heads, heads, seen_head, numbers_of}
-use Rattle.layered_index.proofs.FileSeekLemmas.{some_end, next_behind, next_here}
+use Rattle.layered_index.proofs.FileSeekLemmas.{some_end, next_after, next_here}
 use Rattle.layered_index.proofs.OuterLayersLemmas.{IsTop, top_there, top_is, top_read}
 use Rattle.layered_index.proofs.SoughtLemmas.{one_block}
 
@@ -86,7 +86,7 @@ top_is_there content head count ends texts numbers cs n more has read long =
     let back = drop longest_head (index_in content head) in
     let here : number_below (2 ^ 64) (drop ends head.front) ≡ Some (n, more) = ap (number_below (2 ^ 64)) (sym has.numbers_are) ∙ read in
     top_there head.period (index_in content head) count (drop ends head.front ++ back) (slice_range content texts head.end) cs has.heads.headed (index_fits content head has.fits) has.some has.part
-    (next_behind content back (drop ends head.front) texts head.end 0 n more has.within here (omega arith) (omega arith) long)
+    (next_after content back (drop ends head.front) texts head.end 0 n more has.within here (omega arith) (omega arith) long)
 
 pub top_tells : (content : List ℕ) (head : HeadBytes) (count ends texts : ℕ) (numbers : List ℕ) (cs : List Checkpoint) (n : ℕ) (more : List ℕ) → HasLayers content head count ends texts numbers cs
     → number_below (2 ^ 64) numbers ≡ Some (n, more) → n ≤ head.end - texts → run_end head.period (slice_range content texts (texts + n)) ≡ Some (docs_end 0 cs)
@@ -104,14 +104,14 @@ top_tells content head count ends texts numbers cs n more has read fits =
 
 pub ends_at_none : (period count : ℕ) (bytes ends texts : List ℕ) → IsHeaded period bytes count ends texts → count ≡ 0 → end_in_index period bytes ≡ Some 0
 unfolding end_in_index
-ends_at_none period zero bytes ends texts headed none = rw headed.counted (rw headed.behind (refl))
+ends_at_none period zero bytes ends texts headed none = rw headed.counted (rw headed.following (refl))
 ends_at_none period (suc more) bytes ends texts headed none = absurd cc
 
 ends_by_layer : (period count : ℕ) (bytes ends texts : List ℕ) → IsHeaded period bytes count ends texts → (count ≡ 0 → ⊥)
     → end_in_index period bytes ≡ (next_layer 0 ends texts >>= λ top. run_end period top.0)
 unfolding end_in_index
 ends_by_layer period count bytes ends texts headed some =
-    rw headed.counted (rw headed.behind (cond-false (eqb count 0) (Some 0) (next_layer 0 ends texts >>= λ top. run_end period top.0) (ne_eqb count 0 some)))
+    rw headed.counted (rw headed.following (cond-false (eqb count 0) (Some 0) (next_layer 0 ends texts >>= λ top. run_end period top.0) (ne_eqb count 0 some)))
 
 -- the top layer leaves the index
 pub ends_nowhere : (content : List ℕ) (head : HeadBytes) (count ends texts n : ℕ) (more : List ℕ) → Heads content head count ends texts → (count ≡ 0 → ⊥) → head.end ≤ length content
@@ -119,7 +119,7 @@ pub ends_nowhere : (content : List ℕ) (head : HeadBytes) (count ends texts n :
 ends_nowhere content head count ends texts n more heads some within read long =
     ends_by_layer head.period count (index_in content head) _ _ heads.headed some
     ∙ ap (λ (o : Option (List ℕ × ℕ × List ℕ × List ℕ)). o >>= λ top. run_end head.period top.0)
-    (next_behind content (drop longest_head (index_in content head)) (drop ends head.front) texts head.end 0 n more within read (omega arith) (omega arith) long)
+    (next_after content (drop longest_head (index_in content head)) (drop ends head.front) texts head.end 0 n more within read (omega arith) (omega arith) long)
 
 -- the top layer ends there
 pub ends_by_top : (content : List ℕ) (head : HeadBytes) (count ends texts n : ℕ) (more : List ℕ) → Heads content head count ends texts → (count ≡ 0 → ⊥) → head.end ≤ length content

@@ -33,7 +33,7 @@ found_first u v whole target count ends texts e headed =
     let all : count - 0 ≡ count = omega arith in
     ap (λ (n : ℕ). found_down whole u.period target n 0 ends texts None) all
     ∙ sym (ap (λ (o : Option (ℕ × List ℕ)). o >>= λ c. after_numbers c.0 c.1 >>= λ t. found_down whole u.period target c.0 0 c.1 t None) headed.counted
-    ∙ ap (λ (o : Option (List ℕ)). o >>= λ t. found_down whole u.period target count 0 ends t None) headed.behind)
+    ∙ ap (λ (o : Option (List ℕ)). o >>= λ t. found_down whole u.period target count 0 ends t None) headed.following)
     ∙ ap (λ (w : IndexBytes). found_in_index whole w.period target w.bytes) e
 
 -- what is still to be found is what is found in all

@@ -28,7 +28,7 @@ groups_more {A} period x xs one =
     let shorter : length (drop period (x ∷ xs)) + 1 ≤ length (x ∷ xs) = omega (arith, length-drop period (x ∷ xs)) in
     ap (λ (runs : List (List A)). take period (x ∷ xs) ∷ runs) (turns (length xs) (length (drop period (x ∷ xs))) period (drop period (x ∷ xs)) one (omega arith) (omega arith))
 
--- Runs by induction: what holds of the empty list, and of a list where it holds of what is behind its first run, holds of each list.
+-- Runs by induction: what holds of the empty list, and of a list where it holds of what is after its first run, holds of each list.
 pub by_runs : {A : Type 0} (period : ℕ) (P : List A → Type 0) → 1 ≤ period → P [] → ((x : A) (xs : List A) → P (drop period (x ∷ xs)) → P (x ∷ xs)) → (xs : List A) → P xs
 by_runs {A} period P one none more xs = go (length xs) xs (omega arith)
   where

@@ -14,7 +14,7 @@ groups_one period [] some few = absurd (omega arith)
 groups_one {A} period (x ∷ xs) some few =
     groups_more period x xs (omega arith) ∙ (λ i. take_all period (x ∷ xs) few i ∷ (ap (groups period) (drop_all period (x ∷ xs) few) ∙ groups_none period) i)
 
--- behind whole runs the others begin anew
+-- after whole runs the others begin anew
 pub groups-append : {A : Type 0} (runs period : ℕ) (xs ys : List A) → 1 ≤ period → length xs ≡ runs * period → groups period (xs ++ ys) ≡ groups period xs ++ groups period ys
 groups-append zero period [] ys one whole = ap (λ g. g ++ groups period ys) (sym (groups_none period))
 groups-append zero period (x ∷ xs) ys one whole = absurd (omega arith)
@@ -44,7 +44,7 @@ pub layer_above-append : (runs period : ℕ) (cs ds : List Checkpoint) → 1 ≤
 layer_above-append runs period cs ds one whole = ap (pointers 0) (groups-append runs period cs ds one whole) ∙ pointers-append 0 (groups period cs) (groups period ds)
     ∙ ap (λ (p : ℕ). layer_above period cs ++ pointers p (groups period ds)) (omega arith)
 
--- one more run behind whole runs is one more pointer
+-- one more run after whole runs is one more pointer
 pub layer_above_one_more : (runs period : ℕ) (cs run : List Checkpoint) → length cs ≡ runs * period → 0 < length run → length run ≤ period
     → layer_above period (cs ++ run) ≡ layer_above period cs ++ checkpoint (docs_start run) (docs_end 0 run) (length (layer_text period cs))
     (length (layer_text period cs) + length (checkpoint_block run)) ∷ []

@@ -11,16 +11,16 @@ use Rattle.layered_index.specs.Seeking.{NoneBelow, EndsPast, LiesBetween}
 use Rattle.layered_index.proofs.LineLemmas.{in_line_somewhere}
 use Rattle.layered_index.proofs.DigitLemmas.{below_digits}
 
--- none stands behind the last
+-- none stands after the last
 pub past_end : (cs : List Checkpoint) (target n : ℕ) → length cs ≤ n → EndsPast target (slice_get cs n)
 past_end [] target n le = tt
 past_end (c ∷ cs) target zero le = absurd (omega arith)
 past_end (c ∷ cs) target (suc n) le = past_end cs target n (omega arith)
 
-pub none_behind : (cs : List Checkpoint) (n : ℕ) → length cs ≤ n → slice_get cs n ≡ None
-none_behind [] n le = refl
-none_behind (c ∷ cs) zero le = absurd (omega arith)
-none_behind (c ∷ cs) (suc n) le = none_behind cs n (omega arith)
+pub none_following : (cs : List Checkpoint) (n : ℕ) → length cs ≤ n → slice_get cs n ≡ None
+none_following [] n le = refl
+none_following (c ∷ cs) zero le = absurd (omega arith)
+none_following (c ∷ cs) (suc n) le = none_following cs n (omega arith)
 
 -- the answer of a seek is one of all, or none
 pub all_between : (cs : List Checkpoint) (target high : ℕ) → high ≡ length cs → LiesBetween cs target 0 high
@@ -28,7 +28,7 @@ all_between cs target high is = record {
   order = omega arith;
   within = omega (arith, is);
   before = λ i c lt e. absurd (omega arith);
-  past = let none = none_behind cs high (omega (arith, is)) in rw none tt;
+  past = let none = none_following cs high (omega (arith, is)) in rw none tt;
 }
 
 -- then it is the answer

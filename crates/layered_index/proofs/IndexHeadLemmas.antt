@@ -49,15 +49,15 @@ no_ends period bytes count ends two small fits head none has =
     let read : numbers_at count ends ≡ Some (cut.numbers, cut.texts) = ap (λ (x : ℕ × List ℕ). numbers_at x.0 x.1) (sym same) ∙ cut.read in
     none_is_some (after_numbers count ends) none (ap (λ (o : Option (List ℕ × List ℕ)). o >>= λ ns. Some ns.1) read)
 
--- the layers of bytes that can be cut are those behind the head
+-- the layers of bytes that can be cut are those after the head
 pub head_left : (bytes : List ℕ) (count : ℕ) (ends texts : List ℕ) (ts : List (List ℕ)) → number_below 65 bytes ≡ Some (count, ends) → after_numbers count ends ≡ Some texts → split_at bytes ≡ Some ts
     → layers_left count 0 ends texts ≡ Some ts
 unfolding layers_left
-head_left bytes count ends texts ts head behind e =
+head_left bytes count ends texts ts head following e =
     let cut = is_cut bytes ts e in
     let same = some_is (cut.count, cut.ends) (count, ends) (sym cut.counted ∙ head) in
     let read : numbers_at count ends ≡ Some (cut.numbers, cut.texts) = ap (λ (x : ℕ × List ℕ). numbers_at x.0 x.1) (sym same) ∙ cut.read in
-    let rest : cut.texts ≡ texts = some_is cut.texts texts (sym (ap (λ (o : Option (List ℕ × List ℕ)). o >>= λ ns. Some ns.1) read) ∙ behind) in
+    let rest : cut.texts ≡ texts = some_is cut.texts texts (sym (ap (λ (o : Option (List ℕ × List ℕ)). o >>= λ ns. Some ns.1) read) ∙ following) in
     ap (λ (o : Option (List ℕ × List ℕ)). o >>= λ ns. texts_at 0 ns.0 texts) read ∙ ap (texts_at 0 cut.numbers) (sym rest) ∙ cut.cut
 
 -- ---- numbers passed over

@@ -61,9 +61,9 @@ top_at period ls at c e =
 pub stays_at : (period : ℕ) (ls : List Layer) (at : ℕ) (l new : Layer) (c : Checkpoint) → IsAt ls at l → length (put l c).rest < period → new ≡ put l c
     → set ls at new ≡ take at ls ++ inserted period (drop at ls) c
 stays_at period ls at l new c here lt e =
-    let behind : inserted period (drop at ls) c ≡ put l c ∷ drop (at + 1) ls = ap (λ (xs : List Layer). inserted period xs c) (from_here ls at l here)
+    let following : inserted period (drop at ls) c ≡ put l c ∷ drop (at + 1) ls = ap (λ (xs : List Layer). inserted period xs c) (from_here ls at l here)
     ∙ inserted_stays period l (drop (at + 1) ls) c lt in
-    split ls at l new here ∙ ap (λ (x : Layer). take at ls ++ x ∷ drop (at + 1) ls) e ∙ ap (λ (xs : List Layer). take at ls ++ xs) (sym behind)
+    split ls at l new here ∙ ap (λ (x : Layer). take at ls ++ x ∷ drop (at + 1) ls) e ∙ ap (λ (xs : List Layer). take at ls ++ xs) (sym following)
 
 pub flushes_at : (period : ℕ) (ls : List Layer) (at : ℕ) (l mid found new : Layer) (c pointer : Checkpoint) (above : List Layer) → IsAt ls at l → period ≤ length (put l c).rest
     → mid ≡ written (put l c) → pointer ≡ pointer_to (put l c)
@@ -71,17 +71,17 @@ pub flushes_at : (period : ℕ) (ls : List Layer) (at : ℕ) (l mid found new : 
     → set above at new ≡ take at ls ++ inserted period (drop at ls) c
 flushes_at period ls at l mid found new c pointer above here full mid_is pointer_is above_is found_is new_is =
     let rest = drop (at + 1) ls in
-    let behind = inserted period rest (pointer_to (put l c)) in
+    let following = inserted period rest (pointer_to (put l c)) in
     let len : length (take at ls) ≡ at = omega (arith, length-take at ls, here.within) in
     let same : drop (at + 1) (set ls at mid) ≡ rest = drop-set-lt (at + 1) ls at mid (omega arith) in
-    let whole : above ≡ take at ls ++ mid ∷ behind =
-    above_is ∙ (λ i. take_more_set ls at mid here.within i ++ inserted period (same i) (pointer_is i)) ∙ append_assoc (take at ls) (mid ∷ []) behind in
-    let it : found ≡ mid = found_is ∙ ap (λ (xs : List Layer). get_or xs at found) whole ∙ get_or_at (take at ls) mid behind found at len in
+    let whole : above ≡ take at ls ++ mid ∷ following =
+    above_is ∙ (λ i. take_more_set ls at mid here.within i ++ inserted period (same i) (pointer_is i)) ∙ append_assoc (take at ls) (mid ∷ []) following in
+    let it : found ≡ mid = found_is ∙ ap (λ (xs : List Layer). get_or xs at found) whole ∙ get_or_at (take at ls) mid following found at len in
     let new_flushed : new ≡ flushed (put l c) = new_is ∙ ap (λ (x : Layer). record { bytes = x.bytes; rest = [] }) (it ∙ mid_is) in
-    let wanted : inserted period (drop at ls) c ≡ flushed (put l c) ∷ behind = ap (λ (xs : List Layer). inserted period xs c) (from_here ls at l here) ∙ inserted_flushes period l rest c full in
+    let wanted : inserted period (drop at ls) c ≡ flushed (put l c) ∷ following = ap (λ (xs : List Layer). inserted period xs c) (from_here ls at l here) ∙ inserted_flushes period l rest c full in
     ap (λ (xs : List Layer). set xs at new) whole
-    ∙ set_at (take at ls) mid behind new at len
-    ∙ ap (λ (x : Layer). take at ls ++ x ∷ behind) new_flushed
+    ∙ set_at (take at ls) mid following new at len
+    ∙ ap (λ (x : Layer). take at ls ++ x ∷ following) new_flushed
     ∙ ap (λ (xs : List Layer). take at ls ++ xs) (sym wanted)
 
 pub back_at : (ls : List Layer) (at start : ℕ) (l mid found new : Layer) (c : Checkpoint) (above : List Layer) → IsAt ls at l → start ≡ length l.bytes → mid ≡ written (put l c) → above ≡ set ls at mid

@@ -29,7 +29,7 @@ use Rattle.layered_index.proofs.GroupLemmas.{groups_none, groups_more, by_runs}
 use Rattle.layered_index.proofs.GrowthLemmas.{groups_one, groups-append}
 use Rattle.layered_index.proofs.LineLemmas.{in_line-split, in_line-join, in_line_from, in_line_somewhere}
 use Rattle.layered_index.proofs.RunLemmas.{IsRun, groups_are_runs}
-use Rattle.layered_index.proofs.WalkLemmas.{run_takes, plus, len_then, len_from_none, len_from_some, pointers_behind, pointers_next, pointers_end}
+use Rattle.layered_index.proofs.WalkLemmas.{run_takes, plus, len_then, len_from_none, len_from_some, pointers_after, pointers_next, pointers_end}
 
 -- ---- one run
 
@@ -86,7 +86,7 @@ run_read bytes r rest fits some e =
       | inl none ↦ absurd (omega (arith, none.none))
       | inr more ↦
           let steps = steps_read h.count h.doc h.byte a.0.1 s.0.0 s.0.1 more.takes_byte.rest_fits s.1 in
-          let block = some_block h.count h.doc h.byte bytes more.behind_count more.behind_doc a.0.1 s.0.0 s.0.1 more.some more.few more.takes_count more.takes_doc more.takes_byte steps in
+          let block = some_block h.count h.doc h.byte bytes more.after_count more.after_doc a.0.1 s.0.0 s.0.1 more.some more.few more.takes_count more.takes_doc more.takes_byte steps in
           let whole : ReadsRun bytes made s.0.1 = record {
             run = s.0.0;
             runs = steps.runs;
@@ -110,7 +110,7 @@ pointers_again period place ((c ∷ cs) ∷ gs) small runs =
     let more = flat_map checkpoint_block gs in
     let places : place + (length (block ++ more) - length more) ≡ place + length block = omega (arith, length-append block more) in
     pointers_next place (block ++ more)
-    ∙ ap (pointers_behind place (length (block ++ more))) (run_again (c ∷ cs) more runs.0.some (omega (arith, runs.0.few)) runs.0.in_line)
+    ∙ ap (pointers_after place (length (block ++ more))) (run_again (c ∷ cs) more runs.0.some (omega (arith, runs.0.few)) runs.0.in_line)
     ∙ (λ i. checkpoint c.doc_range.start (docs_end c.doc_range.end cs) place (places i) ∷ pointers_at (places i) more)
     ∙ ap (λ (ps : List Checkpoint). checkpoint c.doc_range.start (docs_end c.doc_range.end cs) place (place + length block) ∷ ps) (pointers_again period (place + length block) gs small runs.1)
 
@@ -160,17 +160,17 @@ len_again period cs one small = by_runs period (λ xs. (d b : ℕ) → IsInLineF
     let some : 0 < length g = omega (arith, length-take period (x ∷ xs)) in
     let few : length g ≤ period = omega (arith, length-take period (x ∷ xs)) in
     let short = in_short d b g some both.0 in
-    let behind = layer_text period rest in
-    let stands : may_stand period d b (run_of g) (length behind) ≡ true = all_true _ _ _ _ _ (eq-eqb _ _ short.docs) (eq-eqb _ _ short.bytes) (lt-ltb _ _ (omega (arith, short.counted)))
+    let following = layer_text period rest in
+    let stands : may_stand period d b (run_of g) (length following) ≡ true = all_true _ _ _ _ _ (eq-eqb _ _ short.docs) (eq-eqb _ _ short.bytes) (lt-ltb _ _ (omega (arith, short.counted)))
     (le-leb _ _ (omega (arith, short.counted)))
-    (ap (λ (n : ℕ). eqb n period || eqb (length behind) 0) short.counted ∙ last_or_full period x xs one) in
-    let counted : len_from period (run_of g).doc_end (run_of g).byte_end behind ≡ Some (length rest) = (λ i. len_from period (short.docs_done i) (short.bytes_done i) behind)
+    (ap (λ (n : ℕ). eqb n period || eqb (length following) 0) short.counted ∙ last_or_full period x xs one) in
+    let counted : len_from period (run_of g).doc_end (run_of g).byte_end following ≡ Some (length rest) = (λ i. len_from period (short.docs_done i) (short.bytes_done i) following)
     ∙ others (docs_end d g) (bytes_end b g) both.1 in
     let whole : (run_of g).count + length rest ≡ length (x ∷ xs) = omega (arith, short.counted, length-append g rest, ap length parts) in
     ap (len_from period d b) (text_more period x xs one)
-    ∙ len_from_some period d b (checkpoint_block g ++ behind) (omega (arith, block_some g, length-append (checkpoint_block g) behind))
-    ∙ ap (len_then period d b) (run_again g behind some (omega arith) (in_line_from d b g both.0))
-    ∙ cond-true (may_stand period d b (run_of g) (length behind)) (plus (run_of g).count (len_from period (run_of g).doc_end (run_of g).byte_end behind)) None stands
+    ∙ len_from_some period d b (checkpoint_block g ++ following) (omega (arith, block_some g, length-append (checkpoint_block g) following))
+    ∙ ap (len_then period d b) (run_again g following some (omega arith) (in_line_from d b g both.0))
+    ∙ cond-true (may_stand period d b (run_of g) (length following)) (plus (run_of g).count (len_from period (run_of g).doc_end (run_of g).byte_end following)) None stands
     ∙ ap (plus (run_of g).count) counted
     ∙ ap (λ (n : ℕ). Some n) whole)
     cs
@@ -194,19 +194,19 @@ text_cons period g [] one some few (inr none) =
     ap (layer_text period) (append-nil g) ∙ ap (flat_map checkpoint_block) (groups_one period g some few) ∙ ap (λ (t : List ℕ). checkpoint_block g ++ t) (sym (text_none period))
 
 -- what a run that may stand is
-record Stands (period doc byte : ℕ) (r : Run) (behind : ℕ) : Type 0 where
+record Stands (period doc byte : ℕ) (r : Run) (following : ℕ) : Type 0 where
   docs : r.doc ≡ doc
   bytes : r.byte ≡ byte
   some : 0 < r.count
   few : r.count ≤ period
-  last_or_full : (r.count ≡ period) ⊎ (behind ≡ 0)
+  last_or_full : (r.count ≡ period) ⊎ (following ≡ 0)
 
 or_cases : (a b : Bool) → (a || b) ≡ true → (a ≡ true) ⊎ (b ≡ true)
 or_cases true b e = inl refl
 or_cases false b e = inr e
 
-stands_from : (period doc byte : ℕ) (r : Run) (behind : ℕ) → may_stand period doc byte r behind ≡ true → Stands period doc byte r behind
-stands_from period doc byte r behind e =
+stands_from : (period doc byte : ℕ) (r : Run) (following : ℕ) → may_stand period doc byte r following ≡ true → Stands period doc byte r following
+stands_from period doc byte r following e =
     let a = and_parts _ _ e in
     let b = and_parts _ _ a.0 in
     let c = and_parts _ _ b.0 in
@@ -216,7 +216,7 @@ stands_from period doc byte r behind e =
       bytes = eqb-true r.byte byte d.1;
       some = ltb-true 0 r.count c.1;
       few = leb-true r.count period b.1;
-      last_or_full = elim (or_cases (eqb r.count period) (eqb behind 0) a.1) [ inl full ↦ inl (eqb-true r.count period full) | inr last ↦ inr (eqb-true behind 0 last) ];
+      last_or_full = elim (or_cases (eqb r.count period) (eqb following 0) a.1) [ inl full ↦ inl (eqb-true r.count period full) | inr last ↦ inr (eqb-true following 0 last) ];
     }
 
 -- nothing is counted in no bytes
@@ -233,7 +233,7 @@ reads_more period doc byte bytes n r rest m one fits e stands counts total other
     let g = reads.run in
     let cs = more.list in
     let moved : IsInLineFrom doc byte g = subst (λ (b : ℕ). IsInLineFrom doc b g) stands.bytes (subst (λ (d : ℕ). IsInLineFrom d r.byte g) stands.docs reads.runs) in
-    let behind : IsInLineFrom (docs_end doc g) (bytes_end byte g) cs =
+    let following : IsInLineFrom (docs_end doc g) (bytes_end byte g) cs =
     subst (λ (b : ℕ). IsInLineFrom (docs_end doc g) b cs) (reads.short.bytes_done ∙ ap (λ (b : ℕ). bytes_end b g) stands.bytes)
     (subst (λ (d : ℕ). IsInLineFrom d r.byte_end cs) (reads.short.docs_done ∙ ap (λ (d : ℕ). docs_end d g) stands.docs) more.runs) in
     let last_or_full : (length g ≡ period) ⊎ (length cs ≡ 0) = elim stands.last_or_full [
@@ -242,7 +242,7 @@ reads_more period doc byte bytes n r rest m one fits e stands counts total other
     ] in
     record {
       list = g ++ cs;
-      runs = in_line-join doc byte g cs moved behind;
+      runs = in_line-join doc byte g cs moved following;
       text = reads.takes.parts ∙ ap (λ (t : List ℕ). checkpoint_block g ++ t) more.text ∙ sym
           (text_cons period g cs one (omega (arith, reads.short.counted, stands.some)) (omega (arith, reads.short.counted, stands.few)) last_or_full);
       counted = omega (arith, length-append g cs, reads.short.counted, more.counted, total);

@@ -34,7 +34,7 @@ in_line_take n cs h =
     in_line_from from.0 from.1 (take n cs) (in_line-split from.0 from.1 (take n cs) (drop n cs)
     (subst (IsInLineFrom from.0 from.1) (sym (take-append-drop n cs)) from.2)).0
 
--- the end of what one more was put behind
+-- the end of what one more was put after
 pub docs_end-put : (doc : ℕ) (cs : List Checkpoint) (c : Checkpoint) → docs_end doc (cs ++ c ∷ []) ≡ c.doc_range.end
 docs_end-put doc [] c = refl
 docs_end-put doc (x ∷ xs) c = docs_end-put x.doc_range.end xs c

@@ -21,7 +21,7 @@ use Rattle.layered_index.specs.Refusal.{Fails, RefusedOnlyUnless, in_list}
 use Rattle.layered_index.specs.IndexReading.{texts_at, ends_at, split_at, AreLayersBelow, AreLayers, last_items, last_ends, IsIndexPart, HasIndex}
 use Rattle.layered_index.proofs.IndexLemmas.{index_parts, length-texts_down}
 use Rattle.layered_index.proofs.SplitLemmas.{joined, texts_read, split_read, split_again, texts_are_bytes}
-use Rattle.layered_index.proofs.SplitLoopLemmas.{ends_behind, behind_shorter}
+use Rattle.layered_index.proofs.SplitLoopLemmas.{ends_following, after_shorter}
 use Rattle.layered_index.proofs.PassLemmas.{AreLayersAbove, first_items, turned, last_is_first, above_read, above_again, few_layers}
 
 pub all_reverse : {A : Type 0} (P : A → Type 0) (xs : List A) → AllByRecursion P xs → AllByRecursion P (reverse xs)
@@ -115,7 +115,7 @@ pub split_within : (bytes : List ℕ) (ts : List (List ℕ)) → split_at bytes 
 unfolding split_at
 split_within bytes ts e =
     let a = bind_some (ends_at bytes) (λ ends. texts_at 0 ends.0 ends.1) ts e in
-    omega (arith, behind_shorter bytes a.0.1 (ends_behind bytes a.0 a.1), ap length (texts_read 0 a.0.0 a.0.1 ts a.2).1)
+    omega (arith, after_shorter bytes a.0.1 (ends_following bytes a.0 a.1), ap length (texts_read 0 a.0.0 a.0.1 ts a.2).1)
 
 -- where the last one's checkpoints end
 pub last_kept : (cs : List Checkpoint) (ts : List (List ℕ)) → last_ends (with_ends no_ends cs) ts ≡ with_ends no_ends (last_items cs ts)

@@ -91,10 +91,10 @@ head_none period bytes count ends texts cs head none is = no_layers period cs he
 
 record FirstIsTop (period end : ℕ) (ends texts : List ℕ) : Type 0 where
   top : List ℕ
-  behind : ℕ
+  following : ℕ
   more_ends : List ℕ
   more : List ℕ
-  next : next_layer 0 ends texts ≡ Some (top, behind, more_ends, more)
+  next : next_layer 0 ends texts ≡ Some (top, following, more_ends, more)
   is : IsTop period end top
 
 first_is_top : (period : ℕ) (bytes : List ℕ) (count : ℕ) (ends texts : List ℕ) (cs : List Checkpoint) → IsHeaded period bytes count ends texts → length bytes < 2 ^ 64 → (count ≡ 0 → ⊥)
@@ -104,10 +104,10 @@ first_is_top period bytes (suc count) ends texts cs head fits some is =
     let digits = sym (head_digits period bytes (suc count) ends texts cs head is) in
     let all = subst (λ (d : ℕ). AllByRecursion (λ t. length t < 2 ^ 64) (map (layer_text period) (layers_from period d cs))) digits (small_texts period bytes cs fits is) in
     let has = subst (λ (d : ℕ). HasTop period (docs_end 0 cs) (reverse (map (layer_text period) (layers_from period d cs)))) (sym digits) (top_of period count cs head.two head.few is.0 digits all) in
-    let left = head_left bytes (suc count) ends texts (texts_down period cs) head.counted head.behind (opens_again period bytes cs head.two head.few fits is).0 in
+    let left = head_left bytes (suc count) ends texts (texts_down period cs) head.counted head.following (opens_again period bytes cs head.two head.few fits is).0 in
     let next = is_next count 0 ends texts (texts_down period cs) left in
     let same : next.layer ≡ has.top = firsts next.layer has.top next.others has.others (sym next.parts ∙ has.parts) in
-    record { top = next.layer; behind = next.end; more_ends = next.more_ends; more = next.more; next = next.next; is = subst (IsTop period (docs_end 0 cs)) (sym same) has.is }
+    record { top = next.layer; following = next.end; more_ends = next.more_ends; more = next.more; next = next.next; is = subst (IsTop period (docs_end 0 cs)) (sym same) has.is }
   where
     firsts : (x y : List ℕ) (xs ys : List (List ℕ)) → x ∷ xs ≡ y ∷ ys → x ≡ y
     firsts x y xs ys e = cc
@@ -117,12 +117,12 @@ pub top_there : (period : ℕ) (bytes : List ℕ) (count : ℕ) (ends texts : Li
     → IsIndexPart period bytes cs → next_layer 0 ends texts ≡ None → ⊥
 top_there period bytes count ends texts cs head fits some is none = none_is_some (next_layer 0 ends texts) none (first_is_top period bytes count ends texts cs head fits some is).next
 
-pub top_is : (period : ℕ) (bytes : List ℕ) (count : ℕ) (ends texts : List ℕ) (cs : List Checkpoint) (top : List ℕ) (behind : ℕ) (more_ends more : List ℕ) → IsHeaded period bytes count ends texts
-    → length bytes < 2 ^ 64 → (count ≡ 0 → ⊥) → IsIndexPart period bytes cs → next_layer 0 ends texts ≡ Some (top, behind, more_ends, more) → IsTop period (docs_end 0 cs) top
-top_is period bytes count ends texts cs top behind more_ends more head fits some is e =
+pub top_is : (period : ℕ) (bytes : List ℕ) (count : ℕ) (ends texts : List ℕ) (cs : List Checkpoint) (top : List ℕ) (following : ℕ) (more_ends more : List ℕ) → IsHeaded period bytes count ends texts
+    → length bytes < 2 ^ 64 → (count ≡ 0 → ⊥) → IsIndexPart period bytes cs → next_layer 0 ends texts ≡ Some (top, following, more_ends, more) → IsTop period (docs_end 0 cs) top
+top_is period bytes count ends texts cs top following more_ends more head fits some is e =
     let first = first_is_top period bytes count ends texts cs head fits some is in
     subst (IsTop period (docs_end 0 cs)) (ap (λ (x : List ℕ × ℕ × List ℕ × List ℕ). x.0)
-    (some_is (first.top, first.behind, first.more_ends, first.more) (top, behind, more_ends, more) (sym first.next ∙ e))) first.is
+    (some_is (first.top, first.following, first.more_ends, first.more) (top, following, more_ends, more) (sym first.next ∙ e))) first.is
 
 -- ---- the bottom layer
 
@@ -138,7 +138,7 @@ last_gives period bytes count ends texts cs none head fits empty is =
     let again = above_again period cs head.two head.few is.0 (small_texts period bytes cs fits is) in
     let last : last_items [] ts ≡ cs = last_is_first ts ∙ ap first_items (reverse-reverse up) ∙ again.1 in
     let nothing : items 0 0 0 none ≡ [] = ap (items 0 0 0) empty ∙ items_none 0 0 in
-    (ts, head_left bytes count ends texts ts head.counted head.behind (opens_again period bytes cs head.two head.few fits is).0, ap (λ (xs : List Checkpoint). last_items xs ts) nothing ∙ last)
+    (ts, head_left bytes count ends texts ts head.counted head.following (opens_again period bytes cs head.two head.few fits is).0, ap (λ (xs : List Checkpoint). last_items xs ts) nothing ∙ last)
 
 pub last_there : (cs : List Checkpoint) (before : List ℕ) (count i place : ℕ) (ends texts : List ℕ) → i < count → LastGives cs before (layers_left (count - i) place ends texts)
     → next_layer place ends texts ≡ None → ⊥

@@ -44,7 +44,7 @@ first_is_on (c ∷ cs) target = by_test (ltb target c.doc_range.end) (first_is_o
     by_test true e = refl
     by_test false e = e
 
--- the list has it, with those after it behind it
+-- the list has it, with those after it after it
 pub on_parts : (cs : List Checkpoint) (target : ℕ) (c : Checkpoint) (left : List Checkpoint) → past_on cs target ≡ Some (c, left) → (before : List Checkpoint) × (cs ≡ before ++ c ∷ left)
 on_parts [] target c left e = absurd (cc)
 on_parts (x ∷ xs) target c left e = elim (cases_lt target x.doc_range.end) [

@@ -7,7 +7,7 @@ use Rattle.std.specs.Option.{option_or}
 use Rattle.std.specs.List.{flat_map}
 use Rattle.store_base.proofs.ListLemmas.{pass_none}
 use Rattle.store_base.specs.VInt.{◌>>=◌}
-use Rattle.store_base.specs.ReadingLemmas.{bind_some, some_is, pass_some, bytes_behind}
+use Rattle.store_base.specs.ReadingLemmas.{bind_some, some_is, pass_some, bytes_after}
 use Rattle.store_base.specs.Serialize.{IsBytes}
 use Rattle.layered_index.specs.declared.checkpoint.Checkpoint.{Checkpoint}
 use Rattle.layered_index.specs.declared.run_seek.Sought.{Sought}
@@ -191,11 +191,11 @@ scan_again : (target doc byte : ℕ) (cs : List Checkpoint) (rest : List ℕ) �
 unfolding scanned
 scan_again target doc byte [] rest h = refl
 scan_again target doc byte (c ∷ cs) rest h =
-    let behind = flat_map step cs ++ rest in
-    let first : step_at doc byte (step c ++ behind) ≡ Some (c, behind) = (λ i. step_at (sym h.0 i) (sym h.1 i) (step c ++ behind)) ∙ step_again c behind h.2 in
+    let following = flat_map step cs ++ rest in
+    let first : step_at doc byte (step c ++ following) ≡ Some (c, following) = (λ i. step_at (sym h.0 i) (sym h.1 i) (step c ++ following)) ∙ step_again c following h.2 in
     let on = scan_again target c.doc_range.end c.byte_range.end cs rest h.3 in
     ap (scanned target (suc (length cs)) doc byte) (append_assoc (step c) (flat_map step cs) rest)
-    ∙ rw first (by_test (ltb target c.doc_range.end) (scanned target (length cs) c.doc_range.end c.byte_range.end behind) on)
+    ∙ rw first (by_test (ltb target c.doc_range.end) (scanned target (length cs) c.doc_range.end c.byte_range.end following) on)
   where
     by_test : (b : Bool) (read : Option (Option Checkpoint)) → read ≡ Some (first_past cs target) → cond b (Some (Some c)) read ≡ Some (cond b (Some c) (first_past cs target))
     by_test true read e = refl
@@ -282,5 +282,5 @@ bytes_front (x ∷ xs) ys h = (h.0, bytes_front xs ys h.1)
 
 pub part_is_bytes : (bytes : List ℕ) (start end : ℕ) → IsBytes bytes → IsBytes (slice_range bytes start end)
 part_is_bytes bytes start end fits =
-    let behind : IsBytes (drop start bytes) = bytes_behind (take start bytes) (drop start bytes) (subst IsBytes (sym (take-append-drop start bytes)) fits) in
-    bytes_front (take (end - start) (drop start bytes)) (drop (end - start) (drop start bytes)) (subst IsBytes (sym (take-append-drop (end - start) (drop start bytes))) behind)
+    let following : IsBytes (drop start bytes) = bytes_after (take start bytes) (drop start bytes) (subst IsBytes (sym (take-append-drop start bytes)) fits) in
+    bytes_front (take (end - start) (drop start bytes)) (drop (end - start) (drop start bytes)) (subst IsBytes (sym (take-append-drop (end - start) (drop start bytes))) following)

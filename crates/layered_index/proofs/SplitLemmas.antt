@@ -9,7 +9,7 @@ use Rattle.store_base.specs.NumbersLemmas.{length-numbers}
 use Rattle.store_base.proofs.ListLemmas.{pass_none}
 use Rattle.store_base.specs.VInt.{number}
 use Rattle.store_base.specs.VInt.{◌>>=◌, number_below}
-use Rattle.store_base.specs.ReadingLemmas.{bind_some, some_is, pass_some, below_again, below_takes, bytes_behind, SplitsOff, takes_then}
+use Rattle.store_base.specs.ReadingLemmas.{bind_some, some_is, pass_some, below_again, below_takes, bytes_after, SplitsOff, takes_then}
 use Rattle.store_base.specs.Serialize.{IsBytes}
 use Rattle.layered_index.specs.Layers.{ends_from}
 use Rattle.layered_index.specs.IndexReading.{numbers_at, texts_at, ends_at, split_at}
@@ -115,7 +115,7 @@ split_again ts few fits =
 -- each text of bytes is of bytes
 pub texts_are_bytes : (ts : List (List ℕ)) → IsBytes (concat ts) → AllByRecursion IsBytes ts
 texts_are_bytes [] h = tt
-texts_are_bytes (t ∷ ts) h = (bytes_before t (concat ts) h, texts_are_bytes ts (bytes_behind t (concat ts) h))
+texts_are_bytes (t ∷ ts) h = (bytes_before t (concat ts) h, texts_are_bytes ts (bytes_after t (concat ts) h))
   where
     bytes_before : (xs ys : List ℕ) → IsBytes (xs ++ ys) → IsBytes xs
     bytes_before [] ys h = tt

@@ -122,60 +122,60 @@ texts_left front base place i ends given total le within differ known so_far =
 
 -- ---- what is read is in front
 
-pub record IsBehind (bytes rest : List ℕ) : Type 0 where
+pub record Follows (bytes rest : List ℕ) : Type 0 where
   pub front : List ℕ
   pub parts : bytes ≡ front ++ rest
 
-behind_then : (a b c : List ℕ) → IsBehind a b → IsBehind b c → IsBehind a c
-behind_then a b c p q = record { front = p.front ++ q.front; parts = p.parts ∙ ap (λ (t : List ℕ). p.front ++ t) q.parts ∙ sym (append_assoc p.front q.front c) }
+after_then : (a b c : List ℕ) → Follows a b → Follows b c → Follows a c
+after_then a b c p q = record { front = p.front ++ q.front; parts = p.parts ∙ ap (λ (t : List ℕ). p.front ++ t) q.parts ∙ sym (append_assoc p.front q.front c) }
 
-behind_to : (bytes a b : List ℕ) → a ≡ b → IsBehind bytes a → IsBehind bytes b
-behind_to bytes a b e p = record { front = p.front; parts = p.parts ∙ ap (λ (t : List ℕ). p.front ++ t) e }
+after_to : (bytes a b : List ℕ) → a ≡ b → Follows bytes a → Follows bytes b
+after_to bytes a b e p = record { front = p.front; parts = p.parts ∙ ap (λ (t : List ℕ). p.front ++ t) e }
 
-number_behind : (bytes : List ℕ) (x : ℕ × List ℕ) → number_at bytes ≡ Some x → IsBehind bytes x.1
+number_after : (bytes : List ℕ) (x : ℕ × List ℕ) → number_at bytes ≡ Some x → Follows bytes x.1
 unfolding number_at
-number_behind [] x e = absurd (cc)
-number_behind (b ∷ bytes) x e = elim (leb 128 b) as (λ v. cond v (Some (b - 128, bytes)) (number_at bytes >>= λ high. cond (eqb high.0 0) None (Some (b + 128 * high.0, high.1))) ≡ Some x
-    → IsBehind (b ∷ bytes) x.1) [
-      | true ↦ λ h. behind_to (b ∷ bytes) bytes x.1 (ap (λ (y : ℕ × List ℕ). y.1) (some_is (b - 128, bytes) x h)) (record { front = b ∷ []; parts = refl })
+number_after [] x e = absurd (cc)
+number_after (b ∷ bytes) x e = elim (leb 128 b) as (λ v. cond v (Some (b - 128, bytes)) (number_at bytes >>= λ high. cond (eqb high.0 0) None (Some (b + 128 * high.0, high.1))) ≡ Some x
+    → Follows (b ∷ bytes) x.1) [
+      | true ↦ λ h. after_to (b ∷ bytes) bytes x.1 (ap (λ (y : ℕ × List ℕ). y.1) (some_is (b - 128, bytes) x h)) (record { front = b ∷ []; parts = refl })
       | false ↦ λ h.
           let found = bind_some (number_at bytes) (λ high. cond (eqb high.0 0) None (Some (b + 128 * high.0, high.1))) x h in
           let passed = guard_some (eqb found.0.0 0) (b + 128 * found.0.0, found.0.1) x found.2 in
-          let inner = number_behind bytes found.0 found.1 in
-          behind_to (b ∷ bytes) found.0.1 x.1 (ap (λ (y : ℕ × List ℕ). y.1) passed.1) (record { front = b ∷ inner.front; parts = ap (λ (t : List ℕ). b ∷ t) inner.parts })
+          let inner = number_after bytes found.0 found.1 in
+          after_to (b ∷ bytes) found.0.1 x.1 (ap (λ (y : ℕ × List ℕ). y.1) passed.1) (record { front = b ∷ inner.front; parts = ap (λ (t : List ℕ). b ∷ t) inner.parts })
     ] e
 
-below_behind : (limit : ℕ) (bytes : List ℕ) (x : ℕ × List ℕ) → number_below limit bytes ≡ Some x → IsBehind bytes x.1
-below_behind limit bytes x e =
+below_after : (limit : ℕ) (bytes : List ℕ) (x : ℕ × List ℕ) → number_below limit bytes ≡ Some x → Follows bytes x.1
+below_after limit bytes x e =
     let a = bind_some (number_at bytes) (λ m. cond (ltb m.0 limit) (Some m) None) x e in
     let p = pass_some (ltb a.0.0 limit) a.0 x a.2 in
-    behind_to bytes a.0.1 x.1 (ap (λ (y : ℕ × List ℕ). y.1) p.1) (number_behind bytes a.0 a.1)
+    after_to bytes a.0.1 x.1 (ap (λ (y : ℕ × List ℕ). y.1) p.1) (number_after bytes a.0 a.1)
 
-numbers_behind : (count : ℕ) (bytes : List ℕ) (x : List ℕ × List ℕ) → numbers_at count bytes ≡ Some x → IsBehind bytes x.1
+numbers_after : (count : ℕ) (bytes : List ℕ) (x : List ℕ × List ℕ) → numbers_at count bytes ≡ Some x → Follows bytes x.1
 unfolding numbers_at
-numbers_behind zero bytes x e = behind_to bytes bytes x.1 (ap (λ (y : List ℕ × List ℕ). y.1) (some_is ([], bytes) x e)) (record { front = []; parts = refl })
-numbers_behind (suc count) bytes x e =
+numbers_after zero bytes x e = after_to bytes bytes x.1 (ap (λ (y : List ℕ × List ℕ). y.1) (some_is ([], bytes) x e)) (record { front = []; parts = refl })
+numbers_after (suc count) bytes x e =
     let a = bind_some (number_below (2 ^ 64) bytes) (λ n. numbers_at count n.1 >>= λ others. Some (n.0 ∷ others.0, others.1)) x e in
     let b = bind_some (numbers_at count a.0.1) (λ others. Some (a.0.0 ∷ others.0, others.1)) x a.2 in
-    behind_to bytes b.0.1 x.1 (ap (λ (y : List ℕ × List ℕ). y.1) (some_is (a.0.0 ∷ b.0.0, b.0.1) x b.2))
-    (behind_then bytes a.0.1 b.0.1 (below_behind (2 ^ 64) bytes a.0 a.1) (numbers_behind count a.0.1 b.0 b.1))
+    after_to bytes b.0.1 x.1 (ap (λ (y : List ℕ × List ℕ). y.1) (some_is (a.0.0 ∷ b.0.0, b.0.1) x b.2))
+    (after_then bytes a.0.1 b.0.1 (below_after (2 ^ 64) bytes a.0 a.1) (numbers_after count a.0.1 b.0 b.1))
 
-pub ends_behind : (bytes : List ℕ) (x : List ℕ × List ℕ) → ends_at bytes ≡ Some x → IsBehind bytes x.1
+pub ends_following : (bytes : List ℕ) (x : List ℕ × List ℕ) → ends_at bytes ≡ Some x → Follows bytes x.1
 unfolding ends_at
-ends_behind bytes x e =
+ends_following bytes x e =
     let b = bind_some (number_below 65 bytes) (λ count. cond (ltb (length count.1) count.0) None (numbers_at count.0 count.1)) x e in
     let p = pass_none (ltb (length b.0.1) b.0.0) (numbers_at b.0.0 b.0.1) x b.2 in
-    behind_then bytes b.0.1 x.1 (below_behind 65 bytes b.0 b.1) (numbers_behind b.0.0 b.0.1 x p.1)
+    after_then bytes b.0.1 x.1 (below_after 65 bytes b.0 b.1) (numbers_after b.0.0 b.0.1 x p.1)
   where
     pass_none : {A : Type 0} (b : Bool) (x : Option A) (y : A) → cond b None x ≡ Some y → (b ≡ false) × (x ≡ Some y)
     pass_none true x y e = absurd (cc)
     pass_none false x y e = (refl, e)
 
-pub behind_shorter : (bytes rest : List ℕ) → IsBehind bytes rest → length rest ≤ length bytes
-behind_shorter bytes rest p = omega (arith, ap length p.parts, length-append p.front rest)
+pub after_shorter : (bytes rest : List ℕ) → Follows bytes rest → length rest ≤ length bytes
+after_shorter bytes rest p = omega (arith, ap length p.parts, length-append p.front rest)
 
-pub behind_drop : (bytes rest : List ℕ) → IsBehind bytes rest → drop (length bytes - length rest) bytes ≡ rest
-behind_drop bytes rest p =
+pub after_drop : (bytes rest : List ℕ) → Follows bytes rest → drop (length bytes - length rest) bytes ≡ rest
+after_drop bytes rest p =
     let size : length bytes - length rest ≡ length p.front = omega (arith, ap length p.parts, length-append p.front rest) in
     (λ i. drop (size i) (p.parts i)) ∙ drop-append_seam p.front rest
 
@@ -183,7 +183,7 @@ behind_drop bytes rest p =
 
 pub split_is : (bytes : List ℕ) (ends rest : List ℕ) → ends_at bytes ≡ Some (ends, rest) → split_at bytes ≡ texts_at 0 ends (drop (length bytes - length rest) bytes)
 unfolding split_at
-split_is bytes ends rest e = ap (λ (o : Option (List ℕ × List ℕ)). o >>= λ x. texts_at 0 x.0 x.1) e ∙ ap (texts_at 0 ends) (sym (behind_drop bytes rest (ends_behind bytes (ends, rest) e)))
+split_is bytes ends rest e = ap (λ (o : Option (List ℕ × List ℕ)). o >>= λ x. texts_at 0 x.0 x.1) e ∙ ap (texts_at 0 ends) (sym (after_drop bytes rest (ends_following bytes (ends, rest) e)))
 
 pub split_fails : (bytes : List ℕ) (e : ReadFault) → Fails e (ends_at bytes) → Fails e (split_at bytes)
 unfolding split_at

@@ -49,14 +49,14 @@ first_between doc byte (x ∷ docs) (y ∷ bytes) cs start zero d b view none fr
 first_between doc byte (x ∷ docs) (y ∷ bytes) cs start (suc i) d b view none from e f = absurd (omega arith)
 
 -- any other, which begins where the one before it ends
-behind : (doc byte : ℕ) (docs bytes : List ℕ) (i d b d_end b_end : ℕ) → slice_get docs i ≡ Some d → slice_get bytes i ≡ Some b → slice_get docs (suc i) ≡ Some d_end
+following : (doc byte : ℕ) (docs bytes : List ℕ) (i d b d_end b_end : ℕ) → slice_get docs i ≡ Some d → slice_get bytes i ≡ Some b → slice_get docs (suc i) ≡ Some d_end
     → slice_get bytes (suc i) ≡ Some b_end
     → slice_get (between doc byte docs bytes) (suc i) ≡ Some (checkpoint d d_end b b_end)
-behind doc byte [] bytes i d b d_end b_end e f g h = absurd (no_item i d e)
-behind doc byte (x ∷ docs) [] i d b d_end b_end e f g h = absurd (no_item i b f)
-behind doc byte (x ∷ docs) (y ∷ bytes) zero d b d_end b_end e f g h =
+following doc byte [] bytes i d b d_end b_end e f g h = absurd (no_item i d e)
+following doc byte (x ∷ docs) [] i d b d_end b_end e f g h = absurd (no_item i b f)
+following doc byte (x ∷ docs) (y ∷ bytes) zero d b d_end b_end e f g h =
     first_between x y docs bytes (between x y docs bytes) (d, b) 0 d_end b_end refl refl (λ j. (sym (some_is x d e) j, sym (some_is y b f) j)) g h
-behind doc byte (x ∷ docs) (y ∷ bytes) (suc i) d b d_end b_end e f g h = behind x y docs bytes i d b d_end b_end e f g h
+following doc byte (x ∷ docs) (y ∷ bytes) (suc i) d b d_end b_end e f g h = following x y docs bytes i d b d_end b_end e f g h
 
 pub later_between : (doc byte : ℕ) (docs bytes : List ℕ) (cs : List Checkpoint) (start before : ℕ × ℕ) (i d b : ℕ) → between doc byte docs bytes ≡ cs → (i ≡ 0 → ⊥) → start ≡ before
     → slice_get docs (i - 1) ≡ Some before.0 → slice_get bytes (i - 1) ≡ Some before.1 → slice_get docs i ≡ Some d → slice_get bytes i ≡ Some b → slice_get cs i ≡ Some (checkpoint start.0 d start.1 b)
@@ -64,5 +64,5 @@ later_between doc byte docs bytes cs start before zero d b view some from e f g 
 later_between doc byte docs bytes cs start before (suc i) d b view some from e f g h =
     let at : i ≡ suc i - 1 = omega arith in
     ap (λ (all : List Checkpoint). slice_get all (suc i)) (sym view)
-    ∙ behind doc byte docs bytes i before.0 before.1 d b (ap (slice_get docs) at ∙ e) (ap (slice_get bytes) at ∙ f) g h
+    ∙ following doc byte docs bytes i before.0 before.1 d b (ap (slice_get docs) at ∙ e) (ap (slice_get bytes) at ∙ f) g h
     ∙ (λ j. Some (checkpoint (sym from j).0 d (sym from j).1 b))

@@ -64,12 +64,12 @@ pub plus_plus : (a b : ℕ) (o : Option ℕ) → plus a (plus b o) ≡ plus (a +
 plus_plus a b (Some m) = ap (λ (k : ℕ). Some k) (omega arith)
 plus_plus a b None = refl
 
--- what is counted behind a run that was read
-abbrev len_behind : ℕ → ℕ → ℕ → ℕ → Option (Run × List ℕ) → Option ℕ
-len_behind more period doc byte o = o >>= λ r. cond (may_stand period doc byte r.0 (length r.1)) (plus r.0.count (len_within more period r.0.doc_end r.0.byte_end r.1)) None
+-- what is counted after a run that was read
+abbrev len_after : ℕ → ℕ → ℕ → ℕ → Option (Run × List ℕ) → Option ℕ
+len_after more period doc byte o = o >>= λ r. cond (may_stand period doc byte r.0 (length r.1)) (plus r.0.count (len_within more period r.0.doc_end r.0.byte_end r.1)) None
 
 len_same : (f g period doc byte : ℕ) (o : Option (Run × List ℕ)) → ((r : Run × List ℕ) → o ≡ Some r
-    → len_within f period r.0.doc_end r.0.byte_end r.1 ≡ len_within g period r.0.doc_end r.0.byte_end r.1) → len_behind f period doc byte o ≡ len_behind g period doc byte o
+    → len_within f period r.0.doc_end r.0.byte_end r.1 ≡ len_within g period r.0.doc_end r.0.byte_end r.1) → len_after f period doc byte o ≡ len_after g period doc byte o
 len_same f g period doc byte None h = refl
 len_same f g period doc byte (Some r) h = ap (λ (o : Option ℕ). cond (may_stand period doc byte r.0 (length r.1)) (plus r.0.count o) None) (h r refl)
 
@@ -78,7 +78,7 @@ unfolding len_within
 len_none zero period doc byte = refl
 len_none (suc more) period doc byte = refl
 
-len_some : (more period doc byte b : ℕ) (bytes : List ℕ) → len_within (suc more) period doc byte (b ∷ bytes) ≡ len_behind more period doc byte (run_at (b ∷ bytes))
+len_some : (more period doc byte b : ℕ) (bytes : List ℕ) → len_within (suc more) period doc byte (b ∷ bytes) ≡ len_after more period doc byte (run_at (b ∷ bytes))
 unfolding len_within
 len_some more period doc byte b bytes = refl
 
@@ -95,17 +95,17 @@ pub len_from_none : (period doc byte : ℕ) → len_from period doc byte [] ≡ 
 unfolding len_from
 len_from_none period doc byte = len_none 0 period doc byte
 
--- what is counted behind a run
+-- what is counted after a run
 abbrev pub len_then : ℕ → ℕ → ℕ → Option (Run × List ℕ) → Option ℕ
 len_then period doc byte o = o >>= λ r. cond (may_stand period doc byte r.0 (length r.1)) (plus r.0.count (len_from period r.0.doc_end r.0.byte_end r.1)) None
 
-len_then_is : (more period doc byte : ℕ) (o : Option (Run × List ℕ)) → ((r : Run × List ℕ) → o ≡ Some r → length r.1 ≤ more) → len_behind more period doc byte o ≡ len_then period doc byte o
+len_then_is : (more period doc byte : ℕ) (o : Option (Run × List ℕ)) → ((r : Run × List ℕ) → o ≡ Some r → length r.1 ≤ more) → len_after more period doc byte o ≡ len_then period doc byte o
 unfolding len_from
 len_then_is more period doc byte None h = refl
 len_then_is more period doc byte (Some r) h = ap (λ (o : Option ℕ). cond (may_stand period doc byte r.0 (length r.1)) (plus r.0.count o) None)
     (len_turns more (length r.1) period r.0.doc_end r.0.byte_end r.1 (h r refl) (omega arith))
 
-len_from_more : (period doc byte b : ℕ) (bytes : List ℕ) → len_from period doc byte (b ∷ bytes) ≡ len_behind (length bytes) period doc byte (run_at (b ∷ bytes))
+len_from_more : (period doc byte b : ℕ) (bytes : List ℕ) → len_from period doc byte (b ∷ bytes) ≡ len_after (length bytes) period doc byte (run_at (b ∷ bytes))
 unfolding len_from
 len_from_more period doc byte b bytes = len_some (length bytes) period doc byte b bytes
 
@@ -138,13 +138,13 @@ pointers_turns (suc f) (suc g) place bytes p q = pointers_same f g place (length
     (λ r at e. pointers_turns f g at r.1 (omega (arith, run_takes bytes r e)) (omega (arith, run_takes bytes r e)))
 
 -- the pointer to a run that was read, and then the others
-abbrev pub pointers_behind : ℕ → ℕ → Option (Run × List ℕ) → List Checkpoint
-pointers_behind place len o = option_map_or (λ r. checkpoint r.0.doc r.0.doc_end place (place + (len - length r.1)) ∷ pointers_at (place + (len - length r.1)) r.1) o []
+abbrev pub pointers_after : ℕ → ℕ → Option (Run × List ℕ) → List Checkpoint
+pointers_after place len o = option_map_or (λ r. checkpoint r.0.doc r.0.doc_end place (place + (len - length r.1)) ∷ pointers_at (place + (len - length r.1)) r.1) o []
 
-pointers_behind_is : (more place len : ℕ) (o : Option (Run × List ℕ)) → ((r : Run × List ℕ) → o ≡ Some r → length r.1 ≤ more) → pointers_of more place len o ≡ pointers_behind place len o
+pointers_after_is : (more place len : ℕ) (o : Option (Run × List ℕ)) → ((r : Run × List ℕ) → o ≡ Some r → length r.1 ≤ more) → pointers_of more place len o ≡ pointers_after place len o
 unfolding pointers_at
-pointers_behind_is more place len None h = refl
-pointers_behind_is more place len (Some r) h =
+pointers_after_is more place len None h = refl
+pointers_after_is more place len (Some r) h =
     ap (λ (ps : List Checkpoint). checkpoint r.0.doc r.0.doc_end place (place + (len - length r.1)) ∷ ps) (pointers_turns more (length r.1) (place + (len - length r.1)) r.1 (h r refl) (omega arith))
 
 pointers_step : (place : ℕ) (bytes : List ℕ) → pointers_within (suc (length bytes)) place bytes ≡ pointers_of (length bytes) place (length bytes) (run_at bytes)
@@ -155,9 +155,9 @@ pointers_wide : (place : ℕ) (bytes : List ℕ) → pointers_at place bytes ≡
 unfolding pointers_at
 pointers_wide place bytes = pointers_turns (length bytes) (suc (length bytes)) place bytes (omega arith) (omega arith)
 
-pub pointers_next : (place : ℕ) (bytes : List ℕ) → pointers_at place bytes ≡ pointers_behind place (length bytes) (run_at bytes)
+pub pointers_next : (place : ℕ) (bytes : List ℕ) → pointers_at place bytes ≡ pointers_after place (length bytes) (run_at bytes)
 pointers_next place bytes =
-    pointers_wide place bytes ∙ pointers_step place bytes ∙ pointers_behind_is (length bytes) place (length bytes) (run_at bytes) (λ r e. omega (arith, run_takes bytes r e))
+    pointers_wide place bytes ∙ pointers_step place bytes ∙ pointers_after_is (length bytes) place (length bytes) (run_at bytes) (λ r e. omega (arith, run_takes bytes r e))
 
 -- ---- a loop over the runs
 
@@ -196,18 +196,18 @@ walk_done period doc byte [] total none so_far = subst IsSome (sym (ap (plus so_
 walk_done period doc byte (b ∷ rest) total none so_far = absurd (omega arith)
 
 -- a run that may stand has a checkpoint
-pub standing_some : (period doc byte : ℕ) (r : Run) (behind : ℕ) → may_stand period doc byte r behind ≡ true → 0 < r.count
-standing_some period doc byte r behind e = ltb-true 0 r.count (and_parts _ _ (and_parts _ _ (and_parts _ _ e).0).0).1
+pub standing_some : (period doc byte : ℕ) (r : Run) (following : ℕ) → may_stand period doc byte r following ≡ true → 0 < r.count
+standing_some period doc byte r following e = ltb-true 0 r.count (and_parts _ _ (and_parts _ _ (and_parts _ _ e).0).0).1
 
 -- ---- a loop over the pointers
 
 pub pointers_end : (place : ℕ) (rest : List ℕ) → length rest ≡ 0 → pointers_at place rest ≡ []
-pointers_end place [] none = pointers_next place [] ∙ ap (pointers_behind place 0) run_none
+pointers_end place [] none = pointers_next place [] ∙ ap (pointers_after place 0) run_none
 pointers_end place (b ∷ rest) none = absurd (omega arith)
 
 pub pointers_go_on : (place : ℕ) (rest : List ℕ) (r : Run) (after : List ℕ) → run_at rest ≡ Some (r, after)
     → pointers_at place rest ≡ checkpoint r.doc r.doc_end place (place + (length rest - length after)) ∷ pointers_at (place + (length rest - length after)) after
-pointers_go_on place rest r after e = pointers_next place rest ∙ ap (pointers_behind place (length rest)) e
+pointers_go_on place rest r after e = pointers_next place rest ∙ ap (pointers_after place (length rest)) e
 
 -- ---- one pointer of the layer above
 

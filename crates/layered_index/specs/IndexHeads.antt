@@ -57,7 +57,7 @@ pub record IsHead (head : HeadBytes) (count ends texts : ℕ) : Type 0 where
   pub inside : ends ≤ length head.front
   pub counted : number_below 65 head.front ≡ Some (count, drop ends head.front)
   pub rest : List ℕ
-  pub behind : after_numbers count (drop ends head.front) ≡ Some rest
+  pub following : after_numbers count (drop ends head.front) ≡ Some rest
   pub placed : texts + length rest ≡ head.start + length head.front
 
 -- The bytes don't begin with a number below 65 and then this many numbers.

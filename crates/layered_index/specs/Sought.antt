@@ -144,4 +144,4 @@ pub record IsHeaded (period : ℕ) (bytes : List ℕ) (count : ℕ) (ends texts 
   pub two : 2 ≤ period
   pub few : period ≤ 64
   pub counted : number_below 65 bytes ≡ Some (count, ends)
-  pub behind : after_numbers count ends ≡ Some texts
+  pub following : after_numbers count ends ≡ Some texts

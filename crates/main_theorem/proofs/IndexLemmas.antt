@@ -14,7 +14,7 @@ front_in_line xs ys all is h =
     let from = in_line_somewhere all h in
     in_line_from from.0 from.1 xs (in_line-split from.0 from.1 xs ys (subst (IsInLineFrom from.0 from.1) (sym is) from.2)).0
 
--- the next of those that are left can be put behind the others
+-- the next of those that are left can be put after the others
 pub next_in_line : (xs left more all : List Checkpoint) (c : Checkpoint) → xs ++ left ≡ all → left ≡ c ∷ more → IsInLine all → IsInLine (xs ++ c ∷ [])
 next_in_line xs left more all c is first h =
     front_in_line (xs ++ c ∷ []) more all (append_assoc xs (c ∷ []) more ∙ ap (λ (ys : List Checkpoint). xs ++ ys) (sym first) ∙ is) h
@@ -26,7 +26,7 @@ take_next cs i c is =
     ∙ take-suc cs i c (slice_get_within cs i c is)
     ∙ ap (λ (x : Checkpoint). take i cs ++ x ∷ []) (get_or_from_slice_get cs i c c is)
 
--- it can be put behind the front
+-- it can be put after the front
 pub take_next_in_line : (cs xs : List Checkpoint) (i : ℕ) (c : Checkpoint) → xs ≡ take i cs → slice_get cs i ≡ Some c → IsInLine cs → IsInLine (xs ++ c ∷ [])
 take_next_in_line cs xs i c front is h =
     subst IsInLine (take_next cs i c is ∙ ap (λ (ys : List Checkpoint). ys ++ c ∷ []) (sym front)) (in_line_take (i + 1) cs h)

@@ -44,29 +44,29 @@ is_that bytes bs r apart new store seen =
       docs = omega (arith, ap (λ (cs : List Checkpoint). docs_end 0 cs) seen.checkpoints_are, checkpoints_end 0 0 (store_of r), ap docs_in same.2);
     }
 
-pub put_behind : (r left : Reading) (bs : List StoreBlock) (old new : Writing) (result : Result (Unit {0}) StoreError) → IsThat r bs → IsTrue r.file.honest → r.file.failures ≡ 0
+pub put_after : (r left : Reading) (bs : List StoreBlock) (old new : Writing) (result : Result (Unit {0}) StoreError) → IsThat r bs → IsTrue r.file.honest → r.file.failures ≡ 0
     → left.file.failures ≡ 0 → num_docs old + docs_in bs < 2 ^ 32
     → OnOk result ((cs : List StoreBlock) × AreRead r cs × (new ≡ with_failures new.output.failures (with_store old cs)))
     → (IsErrOf result OldVersion ↔ IsOld old r) → (IsErrOf result TooManyDocs ↔ HasTooMany old r) → IfErr result (AfterStack r left old new)
     → MatchResult result (λ x. new ≡ with_failures new.output.failures (with_store old bs)) IsWant
-put_behind r left bs old new (Ok x) that honest zero none few stacked is_old many err =
+put_after r left bs old new (Ok x) that honest zero none few stacked is_old many err =
     stacked.2 ∙ ap (λ (cs : List StoreBlock). with_failures new.output.failures (with_store old cs)) (stacked.1.honest honest ∙ that.same)
-put_behind r left bs old new (Err Memory) that honest zero none few stacked is_old many err = inl refl
-put_behind r left bs old new (Err (Failed cause)) that honest zero none few stacked is_old many err = inr (cause, refl)
-put_behind r left bs old new (Err Read) that honest zero none few stacked is_old many err = absurd (no_rise _ _ zero none err.2)
-put_behind r left bs old new (Err OldVersion) that honest zero none few stacked is_old many err = absurd (that.newer (is_old.0 refl).version)
-put_behind r left bs old new (Err TooManyDocs) that honest zero none few stacked is_old many err = absurd (omega (arith, (many.0 refl).many, that.docs, few))
-put_behind r left bs old new (Err (ShortFile n)) that honest zero none few stacked is_old many err = absurd err
-put_behind r left bs old new (Err (BadVersion n)) that honest zero none few stacked is_old many err = absurd err
-put_behind r left bs old new (Err (BadBlockKind n)) that honest zero none few stacked is_old many err = absurd err
-put_behind r left bs old new (Err BadOffset) that honest zero none few stacked is_old many err = absurd err
-put_behind r left bs old new (Err BadIndex) that honest zero none few stacked is_old many err = absurd err
-put_behind r left bs old new (Err (InvalidArgument n)) that honest zero none few stacked is_old many err = absurd err
-put_behind r left bs old new (Err (DamagedDocument n)) that honest zero none few stacked is_old many err = absurd err
-put_behind r left bs old new (Err BadDocument) that honest zero none few stacked is_old many err = absurd err
-put_behind r left bs old new (Err Unserializable) that honest zero none few stacked is_old many err = absurd err
-put_behind r left bs old new (Err BlockTooLarge) that honest zero none few stacked is_old many err = absurd err
-put_behind r left bs old new (Err (BadPeriod n)) that honest zero none few stacked is_old many err = absurd err
+put_after r left bs old new (Err Memory) that honest zero none few stacked is_old many err = inl refl
+put_after r left bs old new (Err (Failed cause)) that honest zero none few stacked is_old many err = inr (cause, refl)
+put_after r left bs old new (Err Read) that honest zero none few stacked is_old many err = absurd (no_rise _ _ zero none err.2)
+put_after r left bs old new (Err OldVersion) that honest zero none few stacked is_old many err = absurd (that.newer (is_old.0 refl).version)
+put_after r left bs old new (Err TooManyDocs) that honest zero none few stacked is_old many err = absurd (omega (arith, (many.0 refl).many, that.docs, few))
+put_after r left bs old new (Err (ShortFile n)) that honest zero none few stacked is_old many err = absurd err
+put_after r left bs old new (Err (BadVersion n)) that honest zero none few stacked is_old many err = absurd err
+put_after r left bs old new (Err (BadBlockKind n)) that honest zero none few stacked is_old many err = absurd err
+put_after r left bs old new (Err BadOffset) that honest zero none few stacked is_old many err = absurd err
+put_after r left bs old new (Err BadIndex) that honest zero none few stacked is_old many err = absurd err
+put_after r left bs old new (Err (InvalidArgument n)) that honest zero none few stacked is_old many err = absurd err
+put_after r left bs old new (Err (DamagedDocument n)) that honest zero none few stacked is_old many err = absurd err
+put_after r left bs old new (Err BadDocument) that honest zero none few stacked is_old many err = absurd err
+put_after r left bs old new (Err Unserializable) that honest zero none few stacked is_old many err = absurd err
+put_after r left bs old new (Err BlockTooLarge) that honest zero none few stacked is_old many err = absurd err
+put_after r left bs old new (Err (BadPeriod n)) that honest zero none few stacked is_old many err = absurd err
 
 -- ---- two stackings
 
@@ -79,7 +79,7 @@ pub record HasTwo (last : Writing) (period : ℕ) (bs cs : List StoreBlock) : Ty
 pub first_docs : (first : Writing) (size : ℕ) (output : BlockOutput) → first ≡ new_writing size output → output.finished ≡ [] → num_docs first ≡ 0
 first_docs first size output is none = ap num_docs is ∙ ap (λ (xs : List StoreBlock). docs_in xs + 0) none
 
--- the blocks behind the first stacking
+-- the blocks after the first stacking
 mid_finished : (first mid : Writing) (size : ℕ) (output : BlockOutput) (bs : List StoreBlock) → first ≡ new_writing size output → output.finished ≡ []
     → mid ≡ with_failures mid.output.failures (with_store first bs) → mid.output.finished ≡ bs
 mid_finished first mid size output bs is none one =

@@ -23,29 +23,29 @@ low_positive l (suc p) (suc h) some more = omega arith
 low_positive l zero h some more = absurd (omega arith)
 low_positive l (suc p) zero some more = absurd (omega arith)
 
--- a number that is not 0 behind them
-number_at_behind : (ds rest others : List ℕ) (high : ℕ) → AllByRecursion (λ d. d < 128) ds → 0 < high → number_at rest ≡ Some (high, others)
+-- a number that is not 0 after them
+number_at_after : (ds rest others : List ℕ) (high : ℕ) → AllByRecursion (λ d. d < 128) ds → 0 < high → number_at rest ≡ Some (high, others)
     → number_at (ds ++ rest) ≡ Some (low ds + 128 ^ length ds * high, others)
-number_at_behind [] rest others high below some e = e ∙ ap (λ (v : ℕ). Some (v, others)) (omega (arith, pow-zero 128))
-number_at_behind (d ∷ ds) rest others high below some e =
+number_at_after [] rest others high below some e = e ∙ ap (λ (v : ℕ). Some (v, others)) (omega (arith, pow-zero 128))
+number_at_after (d ∷ ds) rest others high below some e =
     let value : d + 128 * (low ds + 128 ^ length ds * high) ≡ low (d ∷ ds) + 128 ^ length (d ∷ ds) * high =
     low_value d (low ds) (128 ^ length ds) high ∙ ap (λ (p : ℕ). low (d ∷ ds) + p * high) (sym (pow-suc 128 (length ds))) in
     let positive = low_positive (low ds) (128 ^ length ds) high (one-le-pow (length ds) 128 (omega arith)) some in
-    longer d (ds ++ rest) others (low ds + 128 ^ length ds * high) below.0 positive (number_at_behind ds rest others high below.1 some e)
+    longer d (ds ++ rest) others (low ds + 128 ^ length ds * high) below.0 positive (number_at_after ds rest others high below.1 some e)
     ∙ ap (λ (v : ℕ). Some (v, others)) value
 
--- nothing behind them is read
-number_at_none_behind : (ds rest : List ℕ) → AllByRecursion (λ d. d < 128) ds → number_at rest ≡ None → number_at (ds ++ rest) ≡ None
-number_at_none_behind [] rest below e = e
-number_at_none_behind (d ∷ ds) rest below e =
-    goes_on d (ds ++ rest) below.0 ∙ ap (λ (o : Option (ℕ × List ℕ)). o >>= λ high. cond (eqb high.0 0) None (Some (d + 128 * high.0, high.1))) (number_at_none_behind ds rest below.1 e)
+-- nothing after them is read
+number_at_none_after : (ds rest : List ℕ) → AllByRecursion (λ d. d < 128) ds → number_at rest ≡ None → number_at (ds ++ rest) ≡ None
+number_at_none_after [] rest below e = e
+number_at_none_after (d ∷ ds) rest below e =
+    goes_on d (ds ++ rest) below.0 ∙ ap (λ (o : Option (ℕ × List ℕ)). o >>= λ high. cond (eqb high.0 0) None (Some (d + 128 * high.0, high.1))) (number_at_none_after ds rest below.1 e)
 
--- a 0 behind them is no spelling
-number_at_zero_behind : (d : ℕ) (ds rest others : List ℕ) → AllByRecursion (λ d. d < 128) (d ∷ ds) → number_at rest ≡ Some (0, others) → number_at ((d ∷ ds) ++ rest) ≡ None
-number_at_zero_behind d [] rest others below e =
+-- a 0 after them is no spelling
+number_at_zero_after : (d : ℕ) (ds rest others : List ℕ) → AllByRecursion (λ d. d < 128) (d ∷ ds) → number_at rest ≡ Some (0, others) → number_at ((d ∷ ds) ++ rest) ≡ None
+number_at_zero_after d [] rest others below e =
     goes_on d rest below.0 ∙ ap (λ (o : Option (ℕ × List ℕ)). o >>= λ high. cond (eqb high.0 0) None (Some (d + 128 * high.0, high.1))) e
-number_at_zero_behind d (c ∷ ds) rest others below e =
-    goes_on d ((c ∷ ds) ++ rest) below.0 ∙ ap (λ (o : Option (ℕ × List ℕ)). o >>= λ high. cond (eqb high.0 0) None (Some (d + 128 * high.0, high.1))) (number_at_zero_behind c ds rest others below.1 e)
+number_at_zero_after d (c ∷ ds) rest others below e =
+    goes_on d ((c ∷ ds) ++ rest) below.0 ∙ ap (λ (o : Option (ℕ × List ℕ)). o >>= λ high. cond (eqb high.0 0) None (Some (d + 128 * high.0, high.1))) (number_at_zero_after c ds rest others below.1 e)
 
 -- ---- one byte more
 
@@ -84,7 +84,7 @@ front_found bytes (suc i) lt below le some =
     let positive : 0 < high = elim some [ inl h ↦ h | inr e ↦ absurd (omega arith) ] in
     let len : length (take (suc i) bytes) ≡ suc i = omega (arith, length-take (suc i) bytes) in
     ap number_at (parts_at bytes (suc i) lt)
-    ∙ number_at_behind (take (suc i) bytes) (get_or bytes (suc i) 0 ∷ drop (suc i + 1) bytes) (drop (suc i + 1) bytes) high below positive (last (get_or bytes (suc i) 0) (drop (suc i + 1) bytes) le)
+    ∙ number_at_after (take (suc i) bytes) (get_or bytes (suc i) 0 ∷ drop (suc i + 1) bytes) (drop (suc i + 1) bytes) high below positive (last (get_or bytes (suc i) 0) (drop (suc i + 1) bytes) le)
     ∙ ap (λ (n : ℕ). Some (low (take (suc i) bytes) + 128 ^ n * high, drop (suc i + 1) bytes)) len
 
 -- it is 0 and not the only one
@@ -95,12 +95,12 @@ front_zero (x ∷ xs) (suc i) lt below is some =
     let rest = drop (suc i + 1) (x ∷ xs) in
     let zero_high : get_or (x ∷ xs) (suc i) 0 - 128 ≡ 0 = omega (arith, is) in
     ap number_at (parts_at (x ∷ xs) (suc i) lt)
-    ∙ number_at_zero_behind x (take i xs) (get_or (x ∷ xs) (suc i) 0 ∷ rest) rest below (last (get_or (x ∷ xs) (suc i) 0) rest (omega (arith, is)) ∙ ap (λ (v : ℕ). Some (v, rest)) zero_high)
+    ∙ number_at_zero_after x (take i xs) (get_or (x ∷ xs) (suc i) 0 ∷ rest) rest below (last (get_or (x ∷ xs) (suc i) 0) rest (omega (arith, is)) ∙ ap (λ (v : ℕ). Some (v, rest)) zero_high)
 
 -- there is none
 pub front_short : (bytes : List ℕ) → AllByRecursion (λ d. d < 128) bytes → number_at bytes ≡ None
 unfolding number_at
-front_short bytes below = ap number_at (sym (append-nil bytes)) ∙ number_at_none_behind bytes [] below refl
+front_short bytes below = ap number_at (sym (append-nil bytes)) ∙ number_at_none_after bytes [] below refl
 
 -- ten bytes below 128 are too many for a number below 2^64
 pub front_long : (bytes : List ℕ) → 10 ≤ length bytes → AllByRecursion (λ d. d < 128) (take 10 bytes) → number_below (2 ^ 64) bytes ≡ None
@@ -117,14 +117,14 @@ front_long (x ∷ xs) le below = go (number_at (drop 10 (x ∷ xs))) refl
     nothing e = rw e refl
 
     go : (o : Option (ℕ × List ℕ)) → number_at (drop 10 (x ∷ xs)) ≡ o → number_below (2 ^ 64) (x ∷ xs) ≡ None
-    go None e = nothing (ap number_at (sym whole) ∙ number_at_none_behind (take 10 (x ∷ xs)) (drop 10 (x ∷ xs)) below e)
+    go None e = nothing (ap number_at (sym whole) ∙ number_at_none_after (take 10 (x ∷ xs)) (drop 10 (x ∷ xs)) below e)
     go (Some n) e = by_high n.0 n.1 e
       where
         by_high : (high : ℕ) (others : List ℕ) → number_at (drop 10 (x ∷ xs)) ≡ Some (high, others) → number_below (2 ^ 64) (x ∷ xs) ≡ None
-        by_high zero others e = nothing (ap number_at (sym whole) ∙ number_at_zero_behind x (take 9 xs) (drop 10 (x ∷ xs)) others below e)
+        by_high zero others e = nothing (ap number_at (sym whole) ∙ number_at_zero_after x (take 9 xs) (drop 10 (x ∷ xs)) others below e)
         by_high (suc high) others e =
             let v = low (take 10 (x ∷ xs)) + 128 ^ length (take 10 (x ∷ xs)) * suc high in
-            let found : number_at (x ∷ xs) ≡ Some (v, others) = ap number_at (sym whole) ∙ number_at_behind (take 10 (x ∷ xs)) (drop 10 (x ∷ xs)) others (suc high) below (omega arith) e in
+            let found : number_at (x ∷ xs) ≡ Some (v, others) = ap number_at (sym whole) ∙ number_at_after (take 10 (x ∷ xs)) (drop 10 (x ∷ xs)) others (suc high) below (omega arith) e in
             let len : length (take 10 (x ∷ xs)) ≡ 10 = omega (arith, length-take 10 (x ∷ xs)) in
             let large : 2 ^ 64 ≤ v = omega (arith, ap (λ (n : ℕ). 128 ^ n * suc high) len) in
             let test : ltb v (2 ^ 64) ≡ false = le-ltb v (2 ^ 64) large in
@@ -163,6 +163,6 @@ three_bytes [] a b c some low middle more fits e f g = absurd (omega arith)
 three_bytes (x ∷ []) a b c some low middle more fits e f g = absurd (omega arith)
 three_bytes (x ∷ y ∷ []) a b c some low middle more fits e f g = absurd (omega arith)
 three_bytes (x ∷ y ∷ z ∷ bytes) a b c some low middle more fits e f g =
-    let behind = longer y (z ∷ bytes) bytes (z - 128) middle (omega (arith, more)) (last z bytes (omega (arith, more))) in
+    let following = longer y (z ∷ bytes) bytes (z - 128) middle (omega (arith, more)) (last z bytes (omega (arith, more))) in
     found_below (2 ^ 64) (x ∷ y ∷ z ∷ bytes) (a + 128 * (b + 128 * c)) bytes
-    (longer x (y ∷ z ∷ bytes) bytes (y + 128 * (z - 128)) low (omega (arith, more)) behind ∙ ap (λ (v : ℕ). Some (v, bytes)) (omega (arith, e, f, g))) (omega (arith, e, f, g, low, middle, fits))
+    (longer x (y ∷ z ∷ bytes) bytes (y + 128 * (z - 128)) low (omega (arith, more)) following ∙ ap (λ (v : ℕ). Some (v, bytes)) (omega (arith, e, f, g))) (omega (arith, e, f, g, low, middle, fits))

@@ -30,9 +30,9 @@ number_of (Failed _) = 15
 number_of (BadPeriod _) = 16
 
 -- once bytes went out, lack of memory is a failure
-abbrev pub behind_bytes : StoreError → StoreError
-behind_bytes Memory = Failed OutOfMemory
-behind_bytes e = e
+abbrev pub after_first_byte : StoreError → StoreError
+after_first_byte Memory = Failed OutOfMemory
+after_first_byte e = e
 
 -- the refusal that a read that failed is answered by
 abbrev pub read_refusal : ReadFault → StoreError

@@ -77,9 +77,9 @@ spelled_last : (b : ℕ) (bytes : List ℕ) (n : ℕ) (rest : List ℕ) → b < 
 spelled_last b bytes n rest fits le e =
     let same = some_is (b - 128, bytes) (n, rest) (sym (last b bytes le) ∙ e) in
     let value : b - 128 ≡ n = ap (λ (x : ℕ × List ℕ). x.0) same in
-    let behind : bytes ≡ rest = ap (λ (x : ℕ × List ℕ). x.1) same in
+    let following : bytes ≡ rest = ap (λ (x : ℕ × List ℕ). x.1) same in
     let byte : b ≡ n + 128 = omega arith in
-    (λ i. byte i ∷ behind i) ∙ sym (number_small_then n rest (omega arith))
+    (λ i. byte i ∷ following i) ∙ sym (number_small_then n rest (omega arith))
 
 spelled_longer : (b : ℕ) (bytes : List ℕ) (n : ℕ) (rest : List ℕ) → b < 128
     → ((m : ℕ) (r : List ℕ) → number_at bytes ≡ Some (m, r) → bytes ≡ number m ++ r)
@@ -93,11 +93,11 @@ spelled_longer b bytes n rest lt before e =
     let passed = guard_some (eqb high 0) (b + 128 * high, found.0.1) (n, rest) found.2 in
     let some = eqb-false high 0 passed.0 in
     let value : b + 128 * high ≡ n = ap (λ (x : ℕ × List ℕ). x.0) passed.1 in
-    let behind : found.0.1 ≡ rest = ap (λ (x : ℕ × List ℕ). x.1) passed.1 in
+    let following : found.0.1 ≡ rest = ap (λ (x : ℕ × List ℕ). x.1) passed.1 in
     let positive : 0 < high = pos_of_ne-zero some in
     let byte : b ≡ n % 128 = omega arith in
     let over : high ≡ n / 128 = omega arith in
-    ap (λ (x : List ℕ). b ∷ x) (before high found.0.1 found.1) ∙ (λ i. byte i ∷ (number (over i) ++ behind i))
+    ap (λ (x : List ℕ). b ∷ x) (before high found.0.1 found.1) ∙ (λ i. byte i ∷ (number (over i) ++ following i))
     ∙ sym (number_large_then n rest (omega arith))
 
 pub numbers_read_are_spelled : NumbersReadAreSpelled
@@ -115,9 +115,9 @@ below_again limit n rest lt =
 
 -- ---- numbers below a limit
 
-pub bytes_behind : (xs ys : List ℕ) → IsBytes (xs ++ ys) → IsBytes ys
-bytes_behind [] ys h = h
-bytes_behind (x ∷ xs) ys h = bytes_behind xs ys h.1
+pub bytes_after : (xs ys : List ℕ) → IsBytes (xs ++ ys) → IsBytes ys
+bytes_after [] ys h = h
+bytes_after (x ∷ xs) ys h = bytes_after xs ys h.1
 
 -- what a field took from the front: its text, and the rest is still bytes
 pub record SplitsOff (bytes text rest : List ℕ) : Type 0 where
@@ -128,7 +128,7 @@ pub takes_from : (bytes text rest : List ℕ) → IsBytes bytes → bytes ≡ te
 takes_from bytes text rest fits parts = record {
   parts = parts;
   rest_fits =
-      bytes_behind text rest (subst IsBytes parts fits);
+      bytes_after text rest (subst IsBytes parts fits);
 }
 
 pub takes_then : (a x b y c : List ℕ) → SplitsOff a x b → SplitsOff b y c → SplitsOff a (x ++ y) c

@@ -26,7 +26,7 @@ same_blocks doc byte (c ∷ cs) (d ∷ ds) p q e =
     (subst (λ (n : ℕ). IsInLineFrom n d.byte_range.end cs) doc_end (subst (λ (n : ℕ). IsInLineFrom c.doc_range.end n cs) byte_end p.3)) q.3 rest in
     λ i. here i ∷ others i
 
--- a block that ends behind others that are in line is within the limits
+-- a block that ends after others that are in line is within the limits
 pub next_within : (doc byte : ℕ) (cs done : List Checkpoint) (start end : BlockEnd) (left : List BlockEnd) → IsInLineFrom doc byte cs → IsInLineFrom doc byte done → docs_end doc done ≡ start.end_doc
     → bytes_end byte done ≡ start.end_byte → map ends_of cs ≡ map ends_of done ++ end ∷ left → IsWithinLimits (between start end)
 next_within doc byte [] [] start end left p q d b e = absurd cc
@@ -56,7 +56,7 @@ last_byte doc byte (c ∷ cs) (b ∷ ends) e =
 
 -- ---- one block after the other
 
--- one more is in line behind those so far
+-- one more is in line after those so far
 pub one_more_end : (table : List Block) (i : ℕ) (d : Block) (done : List Checkpoint) (start end : BlockEnd) (c : Checkpoint) → i < length table → map ends_of done ≡ take i (ends_in table)
     → EndsAt start.end_doc start.end_byte done → end ≡ end_of (get_or table i d) → c ≡ between start end → IsWithinLimits c
     → (map ends_of (done ++ c ∷ []) ≡ take (i + 1) (ends_in table)) × EndsAt end.end_doc end.end_byte (done ++ c ∷ [])
@@ -67,7 +67,7 @@ one_more_end table i d done start end c lt are at row is within =
       subst (λ (x : Checkpoint). EndsAt x.doc_range.end x.byte_range.end (done ++ c ∷ [])) is next,
     )
 
--- one that isn't within the limits ends no block behind them
+-- one that isn't within the limits ends no block after them
 pub none_more : (table : List Block) (i : ℕ) (d : Block) (done : List Checkpoint) (start end : BlockEnd) → i < length table → map ends_of done ≡ take i (ends_in table)
     → EndsAt start.end_doc start.end_byte done → end ≡ end_of (get_or table i d) → (IsWithinLimits (between start end) → ⊥)
     → (cs : List Checkpoint) → IsInLineFrom 0 0 cs → ends_in table ≡ map ends_of cs → ⊥

@@ -26,7 +26,7 @@ same_block a b docs bytes = λ i. record { end_doc = docs i; end_byte = bytes i 
 
 -- ---- the rows of the finished blocks
 
--- the last row ends behind the last block
+-- the last row ends after the last block
 pub last_ends : (id byte : ℕ) (bs : List StoreBlock) (rows : List BlockEnd) → take (length bs) rows ≡ map ends_of (checkpoints_from id byte bs)
     → start_in (record { end_doc = id; end_byte = byte }) rows (length bs) ≡ record { end_doc = id + docs_in bs; end_byte = byte + length (data_of bs) }
 last_ends id byte [] rows e = same_block _ _ (omega arith) (omega arith)
@@ -56,7 +56,7 @@ open_at m w h = ap (start_in zero_block (ends_in m.table)) h.blocks ∙ last_end
 
 -- ---- a block that is ended
 
--- the block of these documents can stand behind the finished ones
+-- the block of these documents can stand after the finished ones
 pub blocks_with : (m : Memory) (w : Writing) (docs : List (List ℕ)) → HasFinished m w → 0 < length docs → length (block docs) < 2 ^ 32 → docs_in w.output.finished + length docs < 2 ^ 32
     → AreBlocks (w.output.finished ++ block_of docs ∷ [])
 blocks_with m w docs h some short few =

@@ -41,15 +41,15 @@ pub one_more_in : (file : List ℕ) (first n : ℕ) (ps : List Place) (p : Place
     → ArePlacesIn file first (set ps n p) (n + 1)
 one_more_in file first = one_more_of (λ j. IsPlaceIn file (first + j))
 
--- what stays behind a place stays behind a later one
+-- what stays after a place stays after a later one
 pub further_stay : (n m : ℕ) (ps qs : List Place) → n ≤ m → drop n ps ≡ drop n qs → drop m ps ≡ drop m qs
 further_stay n m ps qs le e =
     let whole : n + (m - n) ≡ m = omega arith in
     subst (λ (k : ℕ). drop k ps ≡ drop k qs) whole (sym (drop-drop (m - n) n ps) ∙ ap (drop (m - n)) e ∙ drop-drop (m - n) n qs)
 
--- those behind it stay
+-- those after it stay
 pub fewer_stay : {X : Type 0} (n : ℕ) (xs ys : List X) → drop n xs ≡ drop n ys → drop (n + 1) xs ≡ drop (n + 1) ys
 fewer_stay n xs ys e = sym (drop-drop 1 n xs) ∙ ap (drop 1) e ∙ drop-drop 1 n ys
 
-pub behind_stay : {X : Type 0} (n : ℕ) (xs ys : List X) (x : X) → drop n xs ≡ drop n ys → drop (n + 1) (set xs n x) ≡ drop (n + 1) ys
-behind_stay n xs ys x e = drop-set-lt (n + 1) xs n x (omega arith) ∙ fewer_stay n xs ys e
+pub after_stay : {X : Type 0} (n : ℕ) (xs ys : List X) (x : X) → drop n xs ≡ drop n ys → drop (n + 1) (set xs n x) ≡ drop (n + 1) ys
+after_stay n xs ys x e = drop-set-lt (n + 1) xs n x (omega arith) ∙ fewer_stay n xs ys e

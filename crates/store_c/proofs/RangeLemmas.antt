@@ -36,7 +36,7 @@ pub no_other_block : (at : BlockPlace) (block : List ℕ) (id : ℕ) → at.firs
 no_other_block at block id from to size fits other = elim other [
   | inl before ↦ absurd (omega (arith, before))
   | inr more ↦ elim more [
-    | inl behind ↦ absurd (omega (arith, behind))
+    | inl following ↦ absurd (omega (arith, following))
     | inr rest ↦ elim rest [
       | inl longer ↦ absurd (longer size)
       | inr far ↦ absurd (omega (arith, far))

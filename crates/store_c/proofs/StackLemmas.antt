@@ -1,4 +1,4 @@
--- The caller's memory of a writer once a store is put behind it.
+-- The caller's memory of a writer once a store is put after it.
 use Rattle.std.proofs.Common.{◌≡◌, ℕ, suc, ◌+◌, ◌-◌, ◌^◌, ◌<◌, ◌≤◌, List, [], ◌∷◌, ◌++◌, length, take, map, refl, sym, ap, ◌∙◌, subst, arith, append_assoc, length-append}
 use Rattle.std.proofs.lemmas.List.{append-nil, map-append, take-map, drop-map, length-map, length-take, length-take-le, take-append-drop, take_all}
 use Rattle.std.proofs.lemmas.Slice.{take-put_mid}
@@ -16,7 +16,7 @@ use Rattle.store_reader.specs.Viewing.{Viewing, count_in}
 use Rattle.docstore.specs.BlockOutput.{BlockOutput, with_blocks}
 use Rattle.docstore.specs.Stacking.{shifted, with_store}
 use Rattle.docstore.specs.Writer.{Writing, blocks_of}
-use Rattle.docstore.proofs.ShiftedCheckpointLemmas.{shifted_behind}
+use Rattle.docstore.proofs.ShiftedCheckpointLemmas.{shifted_after}
 use Rattle.docstore.proofs.TakenLemmas.{length-slots}
 use Rattle.store_c.specs.declared.block.Block.{Block}
 use Rattle.store_c.specs.declared.block.BlockEnd.{BlockEnd}
@@ -26,13 +26,13 @@ use Rattle.store_c.specs.Writing.{memory, Holds, PutsBlocks, IsOther, HasNumbers
 use Rattle.store_c.proofs.TableLemmas.{zero_block, length-front}
 use Rattle.store_c.proofs.MemoryLemmas.{has_finished, open_at, none_pending}
 
--- ---- blocks behind others
+-- ---- blocks after others
 
 -- they are in line there
-pub in_line_behind : (docs bytes : ℕ) (cs : List Checkpoint) (bs : List StoreBlock) → cs ≡ checkpoints_of bs → AllByRecursion IsStoreBlock bs → docs + docs_in bs < 2 ^ 32
+pub in_line_after : (docs bytes : ℕ) (cs : List Checkpoint) (bs : List StoreBlock) → cs ≡ checkpoints_of bs → AllByRecursion IsStoreBlock bs → docs + docs_in bs < 2 ^ 32
     → bytes + length (data_of bs) < 2 ^ 64 → IsInLineFrom docs bytes (map (shifted docs bytes) cs)
-in_line_behind docs bytes cs bs is each few fits =
-    subst (IsInLineFrom docs bytes) (sym (shifted_behind docs bytes cs bs is)) (checkpoints_in_line_from docs bytes bs each few fits)
+in_line_after docs bytes cs bs is each few fits =
+    subst (IsInLineFrom docs bytes) (sym (shifted_after docs bytes cs bs is)) (checkpoints_in_line_from docs bytes bs each few fits)
 
 ends_joined : (start : BlockEnd) (cs : List Checkpoint) → map (ends_after start) cs ≡ map ends_of (map (shifted start.end_doc start.end_byte) cs)
 ends_joined start [] = refl
@@ -40,7 +40,7 @@ ends_joined start (c ∷ cs) = ap (λ (bs : List BlockEnd). ends_after start c �
 
 -- where they end
 ends_there : (start : BlockEnd) (cs : List Checkpoint) (bs : List StoreBlock) → cs ≡ checkpoints_of bs → map (ends_after start) cs ≡ map ends_of (checkpoints_from start.end_doc start.end_byte bs)
-ends_there start cs bs is = ends_joined start cs ∙ ap (map ends_of) (shifted_behind start.end_doc start.end_byte cs bs is)
+ends_there start cs bs is = ends_joined start cs ∙ ap (map ends_of) (shifted_after start.end_doc start.end_byte cs bs is)
 
 -- ---- a writer without an open block
 
@@ -61,7 +61,7 @@ rows_fit writer table short starts text w h =
     let size = length-map (checkpoints_of w.output.finished) ends_of in
     omega (arith, h.blocks, ap length h.rows, length-checkpoints 0 0 w.output.finished, size, length-take (length w.output.finished) (ends_in table), length-map table end_of)
 
--- the documents behind those of the rows can be numbered
+-- the documents after those of the rows can be numbered
 pub numbers_with : (view : Viewing) (writer : Writer) (table : List Block) (start : BlockEnd) → writer.docs ≡ 0 → start ≡ start_in zero_block (ends_in table) writer.blocks
     → start.end_doc + count_in view < 2 ^ 32 → HasNumbersWith view writer table
 numbers_with view writer table start closed from few starts text w h =
@@ -71,7 +71,7 @@ numbers_with view writer table start closed from few starts text w h =
 
 -- ---- the table with more rows
 
--- the rows so far, and those of more blocks written behind them
+-- the rows so far, and those of more blocks written after them
 rows_written : (table mid ys rs : List BlockEnd) (from k n : ℕ) → from ≤ length table → ys ≡ with_front rs mid → length rs ≤ length ys → n ≡ from + length rs
     → take n (put_mid from k table ys) ≡ take from table ++ rs
 rows_written table mid ys rs from k n fits is room size =
@@ -104,14 +104,14 @@ module _ (writer : Writer) (table mid ys : List Block) (k count : ℕ) (start : 
     (are : cs ≡ checkpoints_of view.store) (closed : writer.docs ≡ 0) (fits : writer.blocks ≤ length table) (from : start ≡ start_in zero_block (ends_in table) writer.blocks)
     (few : count_in view ≤ 4294967295 - start.end_doc) where
   -- what is known of a writer of this memory
-  record IsBehind (text : List ℕ) (w : Writing) : Type 0 where
+  record Follows (text : List ℕ) (w : Writing) : Type 0 where
     pub none : w.pending ≡ []
     pub doc : start.end_doc ≡ docs_in w.output.finished
     pub byte : start.end_byte ≡ length (data_of w.output.finished)
     pub blocks : AreBlocks (w.output.finished ++ view.store)
 
-  behind : (starts text : List ℕ) (w : Writing) → Holds (memory writer starts table) text w → IsBehind text w
-  behind starts text w h =
+  following : (starts text : List ℕ) (w : Writing) → Holds (memory writer starts table) text w → Follows text w
+  following starts text w h =
       let m = memory writer starts table in
       let at = from ∙ open_at m w (has_finished m text w h) in
       let doc = ap (λ (b : BlockEnd). b.end_doc) at in
@@ -126,7 +126,7 @@ module _ (writer : Writer) (table mid ys : List Block) (k count : ℕ) (start : 
   -- its blocks have their place in the file
   pub has_place : 18446744073709551615 - start.end_byte < length (data_of view.store) → IsOther writer table
   has_place large starts text w h =
-      let b = behind starts text w h in
+      let b = following starts text w h in
       omega (
         arith,
         b.byte,
@@ -138,7 +138,7 @@ module _ (writer : Writer) (table mid ys : List Block) (k count : ℕ) (start : 
   pub stacked : ends_in ys ≡ with_front (map (ends_after start) cs) (ends_in mid) → count ≡ length cs → count ≤ length ys
       → PutsBlocks view writer table (with_more writer count) (put_mid writer.blocks k table ys)
   stacked is counted room starts text w h =
-      let b = behind starts text w h in
+      let b = following starts text w h in
       let bs = w.output.finished in
       let rs = map (ends_after start) cs in
       let doc : start.end_doc ≡ 0 + docs_in bs = omega (arith, b.doc) in

@@ -77,11 +77,11 @@ no_block : (at : ℕ) (b : BlockEnd) → slice_get no_blocks at ≡ Some b → �
 no_block zero b e = cc
 no_block (suc at) b e = cc
 
--- where the block behind another begins
-pub starts_behind : (start : BlockEnd) (table : List Block) (at : ℕ) (d : Block) → at < length table → start_in start (ends_in table) (suc at) ≡ end_of (slice_index_or table at d)
-starts_behind start [] at d lt = absurd (omega arith)
-starts_behind start (row ∷ table) zero d lt = refl
-starts_behind start (row ∷ table) (suc at) d lt = starts_behind (end_of row) table at d (omega arith)
+-- where the block after another begins
+pub starts_after : (start : BlockEnd) (table : List Block) (at : ℕ) (d : Block) → at < length table → start_in start (ends_in table) (suc at) ≡ end_of (slice_index_or table at d)
+starts_after start [] at d lt = absurd (omega arith)
+starts_after start (row ∷ table) zero d lt = refl
+starts_after start (row ∷ table) (suc at) d lt = starts_after (end_of row) table at d (omega arith)
 
 -- a block in line begins where the one before it ends
 begins_there : (doc byte : ℕ) (cs : List Checkpoint) (at : ℕ) (c : Checkpoint) → IsInLineFrom doc byte cs → slice_get cs at ≡ Some c
@@ -109,7 +109,7 @@ row_tells table cs at d start is line lt from =
     (λ i. Some (checkpoint (from' i).end_doc (row.2 i).end_doc (from' i).end_byte (row.2 i).end_byte))
     ∙ ap Some (begins_there 0 0 cs at row.0 line row.1) ∙ sym row.1
 
--- the last block ends behind the last document
+-- the last block ends after the last document
 pub last_ends : (doc : ℕ) (cs : List Checkpoint) (at : ℕ) (b : BlockEnd) → at ≡ length cs - 1 → slice_get (map ends_of cs) at ≡ Some b → docs_end doc cs ≡ b.end_doc
 last_ends doc [] at b e is = absurd (no_block at b is)
 last_ends doc (c ∷ []) zero b e is = let same : ends_of c ≡ b = cc in ap (λ (x : BlockEnd). x.end_doc) same
@@ -127,7 +127,7 @@ num_docs_is table cs b is last =
     got (row ∷ table) zero b is = let same : row ≡ b = cc in ap (λ (x : Block). Some (end_of x)) same
     got (row ∷ table) (suc at) b is = got table at b is
 
--- ---- blocks behind others
+-- ---- blocks after others
 
 -- each of the checkpoints keeps within the limits
 pub limits_of : (docs bytes : ℕ) (done rest all : List Checkpoint) (c : Checkpoint) → done ++ c ∷ rest ≡ all → IsInLineFrom docs bytes (map (shifted docs bytes) all)
@@ -137,7 +137,7 @@ limits_of docs bytes done rest all c is line =
     ap (map (shifted docs bytes)) (sym is) ∙ map-append (shifted docs bytes) done (c ∷ rest) in
     (in_line-split docs bytes (map (shifted docs bytes) done) (shifted docs bytes c ∷ map (shifted docs bytes) rest) (subst (IsInLineFrom docs bytes) parts line)).1.2
 
--- behind nothing they stand where they are
+-- after nothing they stand where they are
 pub first_shifted : (cs : List Checkpoint) → map (shifted 0 0) cs ≡ cs
 first_shifted [] = refl
 first_shifted (c ∷ cs) =

@@ -59,8 +59,8 @@ cut_at front rest b position lt =
     (append_assoc (slots_in b.bytes position) (slot b.bytes position ∷ map (slot b.bytes) (range_with_len (position + 1) (b.count - (position + 1)))) (slots rest))
     ∙ sym (append_assoc (slots front) (slots_in b.bytes position) (slot b.bytes position ∷ slots_after b rest position))
 
-slot_behind : (xs ys : List Slot) (s : Slot) (id : ℕ) → id ≡ length xs → slice_get (xs ++ s ∷ ys) id ≡ Some s
-slot_behind xs ys s id e =
+slot_following : (xs ys : List Slot) (s : Slot) (id : ℕ) → id ≡ length xs → slice_get (xs ++ s ∷ ys) id ≡ Some s
+slot_following xs ys s id e =
     let all = length-append xs (s ∷ ys) in
     slice_get-get_or (xs ++ s ∷ ys) id s (omega arith)
     ∙ ap (λ (k : ℕ). Some (get_or (xs ++ s ∷ ys) k s)) e
@@ -100,7 +100,7 @@ slot_at : {T : Type 0} (takes : T → List ℕ → T → Type 0) (set : Option (
     (n : IsNext r h.front next part) → position < n.block.count → IsTrue r.file.honest → slice_get (slots (store_of r)) (part.ids.start + position) ≡ Some (slot part.bytes position)
 slot_at takes set r now next position old middle part h n lt honest =
     ap (λ (xs : List Slot). slice_get xs (part.ids.start + position)) (cut_store takes set r now next position old middle part h n lt)
-    ∙ slot_behind (slots h.front ++ slots_in n.block.bytes position) (slots_after n.block n.rest position) (slot n.block.bytes position) (part.ids.start + position)
+    ∙ slot_following (slots h.front ++ slots_in n.block.bytes position) (slots_after n.block n.rest position) (slot n.block.bytes position) (part.ids.start + position)
     (id_in takes set r now next position old middle part h n)
     ∙ ap (λ (xs : List ℕ). Some (slot xs position)) (sym (n.bytes honest))
 

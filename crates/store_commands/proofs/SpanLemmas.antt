@@ -24,7 +24,7 @@ pub end_after_push : (from : ℕ) (spans : List IdSpan) (s : IdSpan) → end_aft
 end_after_push from [] s = refl
 end_after_push from (x ∷ xs) s = end_after_push (x.end + 1) xs s
 
--- neither begins nor ends after the one behind it
+-- neither begins nor ends after the one after it
 adjacent : (from : ℕ) (spans : List IdSpan) → AreApartFrom from spans → (k : ℕ) (d : IdSpan) → k + 1 < length spans
     → ((get_or spans k d).start ≤ (get_or spans (k + 1) d).start) × ((get_or spans k d).end ≤ (get_or spans (k + 1) d).end)
 adjacent from [] h k d lt = absurd (omega arith)
@@ -127,9 +127,9 @@ merging_first spans first rest e filled rise = subst (λ (xs : List IdSpan). IsM
 })
 
 -- what follows the first one stands one place further
-pub place_behind : (spans : List IdSpan) (first : IdSpan) (others : List IdSpan) (k : ℕ) (z : IdSpan) → spans ≡ first ∷ others → k < length others
+pub place_following : (spans : List IdSpan) (first : IdSpan) (others : List IdSpan) (k : ℕ) (z : IdSpan) → spans ≡ first ∷ others → k < length others
     → (k + 1 < length spans) × (get_or others k z ≡ get_or spans (k + 1) (get_or others k z))
-place_behind spans first others k z e lt =
+place_following spans first others k z e lt =
     let x = get_or others k z in
     let more : k + 1 ≡ suc k = omega arith in
     (omega (arith, ap length e), get_or_default others k z x lt ∙ sym (ap (λ (xs : List IdSpan). get_or xs (k + 1) x) e ∙ ap (λ (j : ℕ). get_or (first ∷ others) j x) more))

@@ -8,7 +8,7 @@ use Rattle.std.proofs.lemmas.List.{append-nil}
 use Rattle.std.proofs.lemmas.List.Concat.{flat_map-append}
 use Rattle.docstore.proofs.StackLawLemmas.{checkpoints_end}
 use Rattle.store_format.proofs.StoreLemmas.{docs_in-cons, docs_in-append}
-use Rattle.store_base.proofs.ListLemmas.{all_behind, range_at}
+use Rattle.store_base.proofs.ListLemmas.{all_following, range_at}
 use Rattle.layered_index.specs.declared.checkpoint.Checkpoint.{Checkpoint}
 use Rattle.layered_index.specs.Checkpoint.{byte_len, Covers, checkpoint, docs_end, first_past}
 use Rattle.store_format.specs.StoreFile.{StoreBlock, IsStoreBlock, docs_in, data_of, checkpoints_from, checkpoints_of}
@@ -19,7 +19,7 @@ use Rattle.store_reader.proofs.ReaderStoreLemmas.{store_seen}
 
 -- ---- blocks by their first document
 
--- a seek for the first document behind some blocks finds the next block
+-- a seek for the first document after some blocks finds the next block
 found : (id byte : ℕ) (front : List StoreBlock) (b : StoreBlock) (rest : List StoreBlock) (target place : ℕ) → 0 < b.count → target ≡ id + docs_in front → place ≡ byte + length (data_of front)
     → first_past (checkpoints_from id byte (front ++ b ∷ rest)) target ≡ Some (checkpoint target (target + b.count) place (place + length b.bytes))
 found id byte [] b rest target place some t p =
@@ -30,7 +30,7 @@ found id byte (x ∷ xs) b rest target place some t p =
     let bytes : place ≡ (byte + length x.bytes) + length (data_of xs) = omega (arith, p, length-append x.bytes (data_of xs)) in
     rw (le-ltb target (id + x.count) (omega (arith, docs))) (found (id + x.count) (byte + length x.bytes) xs b rest target place some docs bytes)
 
--- behind all blocks it finds none
+-- after all blocks it finds none
 none_found : (id byte : ℕ) (bs : List StoreBlock) (target : ℕ) → id + docs_in bs ≤ target → first_past (checkpoints_from id byte bs) target ≡ None
 none_found id byte [] target le = refl
 none_found id byte (x ∷ xs) target le =
@@ -80,7 +80,7 @@ is_next r front next part covers come seeks given = by come.rest come.parts
         absurd (let bad : Some (place_of part) ≡ None = seeks ∙ ap (λ (cs : List Checkpoint). first_past cs next) (sym seen.checkpoints_are) ∙ none in cc)
     by (b ∷ rest) parts =
         let seen = store_seen r.file.content r.checkpoints covers in
-        let each : AllByRecursion IsStoreBlock (b ∷ rest) = all_behind IsStoreBlock front (b ∷ rest) (subst (AllByRecursion IsStoreBlock) parts seen.blocks.each) in
+        let each : AllByRecursion IsStoreBlock (b ∷ rest) = all_following IsStoreBlock front (b ∷ rest) (subst (AllByRecursion IsStoreBlock) parts seen.blocks.each) in
         let some : 0 < b.count = each.0.some_docs in
         let place = length (data_of front) in
         let here : first_past (checkpoints_of (store_of r)) next ≡ Some (checkpoint next (next + b.count) place (place + length b.bytes)) =
@@ -135,7 +135,7 @@ has_come_on r front next part come n = record {
   next_is = let joined = docs_in-append front (n.block ∷ []) in let cons = docs_in-cons n.block [] in omega (arith, n.end, come.next_is, joined, cons);
 }
 
--- behind the last document it has come to the end
+-- after the last document it has come to the end
 pub has_ended : (r : Reading) (front : List StoreBlock) (next : ℕ) → Covers r.checkpoints (length r.file.content) → HasCome r front next → num_docs r ≤ next → store_of r ≡ front
 has_ended r front next covers come le = by come.rest come.parts
   where
@@ -143,7 +143,7 @@ has_ended r front next covers come le = by come.rest come.parts
     by [] parts = parts ∙ append-nil front
     by (b ∷ rest) parts =
         let seen = store_seen r.file.content r.checkpoints covers in
-        let each : AllByRecursion IsStoreBlock (b ∷ rest) = all_behind IsStoreBlock front (b ∷ rest) (subst (AllByRecursion IsStoreBlock) parts seen.blocks.each) in
+        let each : AllByRecursion IsStoreBlock (b ∷ rest) = all_following IsStoreBlock front (b ∷ rest) (subst (AllByRecursion IsStoreBlock) parts seen.blocks.each) in
         let joined = docs_in-append front (b ∷ rest) in let cons = docs_in-cons b rest in
         absurd (omega (arith, each.0.some_docs, ap docs_in parts, joined, cons, come.next_is, le, docs_of_all r covers))
 

@@ -122,17 +122,17 @@ slot-block front d back j is fits =
     ∙ ap doc (ap (λ (x : List ℕ). slice_range x (start_of (block docs) j) (end_of (block docs) j)) bytes
     ∙ slice_between (concat front) d (concat back ++ (flat_map (fixed 4) (starts_from 0 docs) ++ fixed 4 (length docs))) (start_of (block docs) j) (end_of (block docs) j) start end)
 
--- the slots of the documents behind a front
-slots_behind : (front back : List (List ℕ)) (j : ℕ) → j ≡ length front → length (block (front ++ back)) < 2 ^ 32 → map (slot (block (front ++ back))) (range_with_len j (length back)) ≡ map doc back
-slots_behind front [] j is fits = refl
-slots_behind front (d ∷ back) j is fits =
+-- the slots of the documents after a front
+slots_following : (front back : List (List ℕ)) (j : ℕ) → j ≡ length front → length (block (front ++ back)) < 2 ^ 32 → map (slot (block (front ++ back))) (range_with_len j (length back)) ≡ map doc back
+slots_following front [] j is fits = refl
+slots_following front (d ∷ back) j is fits =
     let shifted : front ++ d ∷ back ≡ (front ++ d ∷ []) ++ back = sym (append_assoc front (d ∷ []) back) in
     let first = slot-block front d back j is fits in
-    let others = slots_behind (front ++ d ∷ []) back (j + 1) (omega (arith, is, length-append front (d ∷ []))) (subst (λ (x : List (List ℕ)). length (block x) < 2 ^ 32) shifted fits) in
+    let others = slots_following (front ++ d ∷ []) back (j + 1) (omega (arith, is, length-append front (d ∷ []))) (subst (λ (x : List (List ℕ)). length (block x) < 2 ^ 32) shifted fits) in
     let moved : map (slot (block (front ++ d ∷ back))) (range_with_len (j + 1) (length back)) ≡ map doc back =
     ap (λ (x : List (List ℕ)). map (slot (block x)) (range_with_len (j + 1) (length back))) shifted ∙ others in
     λ i. first i ∷ moved i
 
 -- the slots of a block are its documents
 pub blocks_hold_documents : BlocksHoldDocuments
-blocks_hold_documents docs fits = append-nil (map (slot (block docs)) (range_with_len 0 (length docs))) ∙ slots_behind [] docs 0 refl fits
+blocks_hold_documents docs fits = append-nil (map (slot (block docs)) (range_with_len 0 (length docs))) ∙ slots_following [] docs 0 refl fits

@@ -35,11 +35,11 @@ use Rattle.store_merge.specs.Refusals.{RefusesItem, StopsAt}
 
 -- ---- slots that are alive
 
--- the slots of the set, of those that are behind so many others
-abbrev pub alive_behind : ℕ → List Slot → Option (ℕ → Bool) → List Slot
-alive_behind n xs set = map (λ (x : ℕ × Slot). x.1) (filter (λ (x : ℕ × Slot). is_in set x.0) (enumerate_from n xs))
+-- the slots of the set, of those that are after so many others
+abbrev pub alive_following : ℕ → List Slot → Option (ℕ → Bool) → List Slot
+alive_following n xs set = map (λ (x : ℕ × Slot). x.1) (filter (λ (x : ℕ × Slot). is_in set x.0) (enumerate_from n xs))
 
-pub alive_append : (set : Option (ℕ → Bool)) (xs ys : List Slot) → alive (xs ++ ys) set ≡ alive xs set ++ alive_behind (length xs) ys set
+pub alive_append : (set : Option (ℕ → Bool)) (xs ys : List Slot) → alive (xs ++ ys) set ≡ alive xs set ++ alive_following (length xs) ys set
 alive_append set xs ys =
     let p : ℕ × Slot → Bool = λ y. is_in set y.0 in
     let second : ℕ × Slot → Slot = λ y. y.1 in

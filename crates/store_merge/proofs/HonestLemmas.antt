@@ -16,7 +16,7 @@ use Rattle.store_merge.specs.Bringing.{Brought, stacked, copied, slots_brought, 
 use Rattle.store_merge.specs.Choice.{flags_of, is_first_version, first_old, alive_slots}
 use Rattle.store_merge.specs.Inputs.{HasWholeSet, CanBeTaken}
 use Rattle.store_merge.specs.Merge.{IsHonest}
-use Rattle.store_merge.proofs.CopyLemmas.{alive_behind}
+use Rattle.store_merge.proofs.CopyLemmas.{alive_following}
 
 -- ---- versions
 
@@ -42,7 +42,7 @@ can_be_taken {H} xs h none =
 -- ---- slots
 
 -- where each id is in the set, so is each slot
-pub all_alive : (set : Option (ℕ → Bool)) (n : ℕ) (xs : List Slot) → list_all (is_in set) (range_with_len n (length xs)) ≡ true → alive_behind n xs set ≡ xs
+pub all_alive : (set : Option (ℕ → Bool)) (n : ℕ) (xs : List Slot) → list_all (is_in set) (range_with_len n (length xs)) ≡ true → alive_following n xs set ≡ xs
 all_alive set n [] is = refl
 all_alive set n (x ∷ xs) is =
     let h = both (is_in set n) (list_all (is_in set) (range_with_len (n + 1) (length xs))) is in

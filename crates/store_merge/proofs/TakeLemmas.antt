@@ -19,7 +19,7 @@ use Rattle.store_merge.specs.Bringing.{stacked, copied, IsCopied}
 use Rattle.store_merge.specs.Choice.{flags_of, is_stacked, alive_of, alive_slots}
 use Rattle.store_merge.specs.Inputs.{IsStacked, IsInputTaken}
 use Rattle.store_merge.specs.Refusals.{RefusesBytes, StopsAt, HasGrown}
-use Rattle.store_merge.proofs.CopyLemmas.{alive_append, alive_behind, same_failure}
+use Rattle.store_merge.proofs.CopyLemmas.{alive_append, alive_following, same_failure}
 
 pub ok_then : {T E : Type 0} (P Q : Type 0) (r : Result T E) → (P → Q) → OnOk r P → OnOk r Q
 ok_then P Q (Ok x) on h = on h
@@ -69,7 +69,7 @@ refused_bytes bytes old new OldVersion same h = absurd h
 refused_bytes bytes old new Unserializable same h = absurd h
 refused_bytes bytes old new (BadPeriod k) same h = absurd h
 
--- what a copying that stops has put behind
+-- what a copying that stops has put after
 pub stopped_grown : {H : Type 0} (x : MergeInput H) (set : Option (ℕ → Bool)) (read : Reading) (old new : Writing) (e : StoreError) → set ≡ flags_of x.alive
     → StopsAt set x.reader read old new e
     → new.output.failure ≡ old.output.failure → HasGrown x old new
@@ -80,14 +80,14 @@ stopped_grown x set read old new e same s unchanged =
       | inl c ↦ c.1
       | inr c ↦ refused_bytes c.bytes s.before new e (unchanged ∙ sym before_is) c.refused
     ] in
-    let split : alive_slots x ≡ alive (take s.id all) set ++ alive_behind (length (take s.id all)) (drop s.id all) set =
+    let split : alive_slots x ≡ alive (take s.id all) set ++ alive_following (length (take s.id all)) (drop s.id all) set =
     ap (alive_of x.reader) (sym same) ∙ ap (λ (xs : List Slot). alive xs set) (sym (take-append-drop s.id all)) ∙ alive_append set (take s.id all) (drop s.id all) in
     record {
       more = map doc s.copied.docs;
       grown = ap taken stays ∙ s.copied.grown;
       front = λ honest. (
-        alive_behind (length (take s.id all)) (drop s.id all) set,
-        split ∙ ap (λ (xs : List Slot). xs ++ alive_behind (length (take s.id all)) (drop s.id all) set)
+        alive_following (length (take s.id all)) (drop s.id all) set,
+        split ∙ ap (λ (xs : List Slot). xs ++ alive_following (length (take s.id all)) (drop s.id all) set)
             (sym (s.copied.came.truly honest)),
       );
     }

@@ -3,7 +3,7 @@
 ghost use Rattle.std.specs.Prelude.{◌≡◌, ℕ, List, [], length, IsTrue, IfOk, IfErr, Some};
 ghost use Rattle.docstore.specs.Writer.{flushed, num_docs};
 ghost use Rattle.store_published.specs.Contents.{content_of};
-ghost use Rattle.docstore.specs.Run.{IsWritten, AfterRun, told, Told};
+ghost use Rattle.docstore.specs.Run.{IsWritten, AfterRun, output_state, OutputState};
 ghost use Rattle.store_folder.specs.Moments.{LeavesOnly};
 ghost use Rattle.store_folder.specs.Folder.{Keeps};
 ghost use Rattle.store_folder.specs.Publishing.{IsOldOrWhole, IsSafe};
@@ -108,9 +108,9 @@ fn write_since<F: Folder, K: Origin, D: Document, H: FileHandle>(
         × (IsTrue F.honest → Keeps K.name (Some content) (F.may_leave r.folder))
         × (IsTrue F.honest → LeavesOnlySince F.moment F.left_since K.began K.past r.folder
         (IsOldOrWhole K.before K.beside K.name (Some content)))) }
-    ensures refused { IfErr result (λ e. (left : Told)
+    ensures refused { IfErr result (λ e. (left : OutputState)
         × AfterRun block_size (λ d. D.doc_bytes d schema.now) commands.old commands.new
-        (told output.content output.termination output.failures) left e.error
+        (output_state output.content output.termination output.failures) left e.error
         × (IsTrue F.honest → LeavesOnlySince F.moment F.left_since K.began K.past e.folder
         (IsOldOrWhole K.before K.beside K.name (Some left.content)))) }
 {
@@ -145,9 +145,9 @@ pub fn write_published<F: Folder, D: Document, H: FileHandle>(
         commands.old commands.new r.results.items [] content
         × (IsTrue F.honest → IsKept F.may_leave F.moment F.left_since output.first r.folder
         output.beside output.name content)) }
-    ensures refused { IfErr result (λ e. (left : Told)
+    ensures refused { IfErr result (λ e. (left : OutputState)
         × AfterRun block_size (λ d. D.doc_bytes d schema.now) commands.old commands.new
-        (told output.content output.termination output.failures) left e.error
+        (output_state output.content output.termination output.failures) left e.error
         × (IsTrue F.honest → LeavesOnly F.moment F.left_since output.first e.folder
         (IsOldOrWhole (F.may_leave output.first) output.beside output.name (Some left.content)))) }
 {

@@ -42,7 +42,7 @@ module _ (set : Option (ℕ → Bool)) where
       let split = alive-split a n 1 in
       omega (arith, split, one, counted)
 
-  -- behind an item
+  -- after an item
   looked_at : (doc byte : ℕ) (cs : List Checkpoint) (p id : ℕ) → IsInLineFrom doc byte cs → p < length cs → doc ≤ id → docs_end doc (take p cs) ≤ id → id < docs_end doc (take (suc p) cs)
       → is_in set id ≡ true
       → keys_along (take (suc p) cs) ≡ looked_along cs set (alive_in doc (id + 1 - doc))
@@ -103,13 +103,13 @@ pub take_length_one : (cs : List Checkpoint) → take (length (take 1 cs)) cs �
 take_length_one [] = refl
 take_length_one (c ∷ cs) = refl
 
--- behind an item, by the place
-behind : (r : Reading) (w : Walk) (set : Option (ℕ → Bool)) (place : ℕ) → w.place ≡ place → Covers r.checkpoints (length r.file.content) → IsWalk r w → (id : ℕ) → w.next ≡ id + 1 → w.first ≤ id
+-- after an item, by the place
+following : (r : Reading) (w : Walk) (set : Option (ℕ → Bool)) (place : ℕ) → w.place ≡ place → Covers r.checkpoints (length r.file.content) → IsWalk r w → (id : ℕ) → w.next ≡ id + 1 → w.first ≤ id
     → is_in set id ≡ true
     → keys_along (take place r.checkpoints) ≡ looked_along r.checkpoints set (alive_below set (id + 1))
-behind r w set zero here covers is id next above alive =
+following r w set zero here covers is id next above alive =
     absurd (let end : w.end ≡ docs_end 0 (take 0 r.checkpoints) = is.end ∙ ap (λ (k : ℕ). docs_end 0 (take k r.checkpoints)) here in let below = is.below in omega arith)
-behind r w set (suc p) here covers is id next above alive =
+following r w set (suc p) here covers is id next above alive =
     let before : w.place - 1 ≡ p = omega arith in
     let first : w.first ≡ docs_end 0 (take p r.checkpoints) = is.first ∙ ap (λ (k : ℕ). docs_end 0 (take k r.checkpoints)) before in
     let end : w.end ≡ docs_end 0 (take (suc p) r.checkpoints) = is.end ∙ ap (λ (k : ℕ). docs_end 0 (take k r.checkpoints)) here in
@@ -121,7 +121,7 @@ behind r w set (suc p) here covers is id next above alive =
 pub walks_look_up : WalksLookUp
 walks_look_up r w set covers is = record {
   none = λ place. ap (λ (n : ℕ). keys_along (take n r.checkpoints)) place ∙ ap keys_along (take_length_one r.checkpoints) ∙ looked_none set r.checkpoints;
-  item = λ id next above alive. behind r w set w.place refl covers is id next above alive ∙ ap (λ (n : ℕ). looked_along r.checkpoints set (alive_below set n)) (sym next);
+  item = λ id next above alive. following r w set w.place refl covers is id next above alive ∙ ap (λ (n : ℕ). looked_along r.checkpoints set (alive_below set n)) (sym next);
   all = λ count next lt.
       let below = is.below in let end = is.end in
       let whole : num_docs r - 0 ≡ num_docs r = omega arith in

@@ -4,7 +4,7 @@ use Rattle.std.specs.Prelude.{Result, Ok, Err, slice_range}
 use Rattle.std.specs.List.{AllByRecursion}
 use Rattle.std.proofs.lemmas.Bool.{lt-ltb, le-ltb}
 use Rattle.std.proofs.lemmas.List.{append-nil}
-use Rattle.store_base.proofs.ListLemmas.{all_behind}
+use Rattle.store_base.proofs.ListLemmas.{all_following}
 use Rattle.store_base.specs.declared.error.StoreError.{StoreError}
 use Rattle.store_base.specs.declared.error.StoreError.TheVariants.{BadIndex}
 use Rattle.layered_index.specs.declared.checkpoint.Checkpoint.{Checkpoint}
@@ -45,7 +45,7 @@ is_next bytes s before c rest parts =
     let covers = checkpoints_cover s.blocks s.store.blocks in
     let line : IsInLineFrom 0 0 (before ++ c ∷ rest) = subst (IsInLineFrom 0 0) parts covers.in_line in
     let both = in_line-split 0 0 before (c ∷ rest) line in
-    let filled = (all_behind IsFilled before (c ∷ rest) (subst (AllByRecursion IsFilled) parts covers.filled)).0 in
+    let filled = (all_following IsFilled before (c ∷ rest) (subst (AllByRecursion IsFilled) parts covers.filled)).0 in
     let some : c.doc_range.start < c.doc_range.end = omega (arith, filled.0) in
     let seeks : first_past (checkpoints_of s.blocks) c.doc_range.start ≡ Some c = ap (λ (cs : List Checkpoint). first_past cs c.doc_range.start) parts ∙ first_here 0 0 before c rest line some in
     record {
@@ -126,7 +126,7 @@ left_block file s left c rest b are is at part id from to =
       block_is = part.part_is ∙ (λ i. slice_range (are.bytes_is i) (at.start_is i) (at.bytes_end_is i));
     }
 
--- the checkpoints behind it are left
+-- the checkpoints after it are left
 pub left_on : (file : List ℕ) (s : IsSomeStore file) (left : BlocksLeft) (c : Checkpoint) (rest : List Checkpoint) (end : ℕ) → AreLeft file s left → left.checkpoints ≡ c ∷ rest → end ≡ c.doc_range.end
     → AreLeft file s (record left { next = end; checkpoints = rest })
 left_on file s left c rest end are is end_is = record {

@@ -56,18 +56,18 @@ below_few set a (suc n) =
       | false ↦ λ t. let counted : ◌≡◌ {A = ℕ} (cond {A = ℕ} (is_in set a) 1 0) 0 = rw t refl in omega (arith, one, counted, on)
     ]) refl
 
--- The walk stands behind an id of the set, in its block.
-pub record IsBehind (set : Option (ℕ → Bool)) (w : Walk) : Type 0 where
+-- The walk stands after an id of the set, in its block.
+pub record Follows (set : Option (ℕ → Bool)) (w : Walk) : Type 0 where
   pub id : ℕ
   pub next : w.next ≡ id + 1
   pub above : w.first ≤ id
   pub alive : is_in set id ≡ true
 
--- The blocks up to the walk's place were looked up, for so many items; it stands behind the last of them, or where it began.
+-- The blocks up to the walk's place were looked up, for so many items; it stands after the last of them, or where it began.
 pub record IsListedTo (first : Reading) (set : Option (ℕ → Bool)) (count : ℕ) (now : Reading) (w : Walk) : Type 0 where
   pub looks : LooksAlong (take w.place first.checkpoints) first None now (taken_last w)
   pub counted : alive_below set w.next ≡ count
-  pub stands : ((count ≡ 0) × (w.place ≡ length (take 1 first.checkpoints))) ⊎ IsBehind set w
+  pub stands : ((count ≡ 0) × (w.place ≡ length (take 1 first.checkpoints))) ⊎ Follows set w
 
 -- before the first item
 pub listed_first : (first : Reading) (set : Option (ℕ → Bool)) (now : Reading) (w : Walk) → w.next ≡ 0 → w.place ≡ length (take 1 first.checkpoints)
@@ -131,7 +131,7 @@ listed_enough first set count now w same covers walk listed =
     (subst (λ (xs : List Checkpoint). keys_along (take w.place xs) ≡ looked_along xs set count) same.checkpoints is) in
     elim listed.stands [
       | inl began ↦ mine (law.none (began.1 ∙ ap (λ (xs : List Checkpoint). length (take 1 xs)) (sym same.checkpoints)) ∙ ap (looked_along cs set) (sym began.0))
-      | inr behind ↦ mine (law.item behind.id behind.next behind.above behind.alive ∙ ap (looked_along cs set) listed.counted)
+      | inr following ↦ mine (law.item following.id following.next following.above following.alive ∙ ap (looked_along cs set) listed.counted)
     ]
 
 -- all that there are, where more were asked for

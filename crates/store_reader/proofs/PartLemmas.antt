@@ -48,17 +48,17 @@ block_at cs total n c covers e =
       rest = drop_at cs n c e ∙ ap (λ (k : ℕ). c ∷ drop k cs) next;
     }
 
--- behind the last block there is none
+-- after the last block there is none
 pub none_at : (cs : List Checkpoint) (n : ℕ) → slice_get cs n ≡ None → length cs ≤ n
 none_at [] n e = omega arith
 none_at (x ∷ cs) zero e = absurd cc
 none_at (x ∷ cs) (suc n) e = omega (arith, none_at cs n e)
 
-pub none_behind : {A : Type 0} (xs : List A) (n : ℕ) → length xs ≤ n → drop n xs ≡ []
-none_behind [] zero le = refl
-none_behind [] (suc n) le = refl
-none_behind (x ∷ xs) zero le = absurd (omega arith)
-none_behind (x ∷ xs) (suc n) le = none_behind xs n (omega arith)
+pub none_following : {A : Type 0} (xs : List A) (n : ℕ) → length xs ≤ n → drop n xs ≡ []
+none_following [] zero le = refl
+none_following [] (suc n) le = refl
+none_following (x ∷ xs) zero le = absurd (omega arith)
+none_following (x ∷ xs) (suc n) le = none_following xs n (omega arith)
 
 -- ---- bytes
 
@@ -99,7 +99,7 @@ few_blocks cs total covers = let on = few_from 0 0 cs (omega arith) covers.in_li
 
 -- ---- parts
 
--- a block past the limit begins a part, as it would behind none
+-- a block past the limit begins a part, as it would after none
 pub fresh_part : (size limit : ℕ) (c : Checkpoint) (cs : List Checkpoint) → limit < c.byte_range.end → parts_beyond size limit (c ∷ cs) ≡ number_of_parts size (c ∷ cs)
 fresh_part size limit c cs past =
     let beyond : nat_le c.byte_range.end limit ≡ false = lt-leb c.byte_range.end limit past in
@@ -112,7 +112,7 @@ some_parts size c cs some =
     let beyond : nat_le c.byte_range.end 0 ≡ false = lt-leb c.byte_range.end 0 some in
     rw beyond (omega arith)
 
--- a part begins with the first block, and holds those that end within so many bytes behind its beginning
+-- a part begins with the first block, and holds those that end within so many bytes after its beginning
 pub first_part : (size : ℕ) (c : Checkpoint) (cs : List Checkpoint) → 0 < c.byte_range.end → number_of_parts size (c ∷ cs) ≡ 1 + parts_beyond size (c.byte_range.start + size) cs
 first_part size c cs some =
     let beyond : nat_le c.byte_range.end 0 ≡ false = lt-leb c.byte_range.end 0 some in
@@ -132,11 +132,11 @@ pub part_from : (size : ℕ) (reader : Reading) (number end : ℕ) (first : Chec
 part_from size reader number end first bytes covers e p len own =
     let cs = reader.checkpoints in
     let here = block_at cs (length reader.file.content) number first covers e in
-    let behind = byte_order cs (length reader.file.content) number end first covers e p.some in
+    let following = byte_order cs (length reader.file.content) number end first covers e p.some in
     record {
       first = refl;
       ends = p;
-      len = omega (arith, len, here.byte_start, here.some_bytes, behind);
+      len = omega (arith, len, here.byte_start, here.some_bytes, following);
       bytes = λ is. own is ∙ ap (λ (k : ℕ). slice_range reader.file.content k (byte_at end cs)) here.byte_start;
     }
 

@@ -81,7 +81,7 @@ some_below doc byte cs target r le lt = (elim (first_past cs target) as (λ o. f
   | None ↦ λ e. let past = none_past doc byte cs target r e le in absurd (omega arith)
 ]) refl
 
--- the document behind so many blocks is the first of the next one
+-- the document after so many blocks is the first of the next one
 pub next_block : (doc byte : ℕ) (cs : List Checkpoint) (n : ℕ) → IsInLineFrom doc byte cs → AllByRecursion IsFilled cs → n < length cs → first_past cs (docs_end doc (take n cs)) ≡ slice_get cs n
 next_block doc byte [] n r f lt = absurd (omega arith)
 next_block doc byte (c ∷ cs) zero r f lt = rw (lt-ltb doc c.doc_range.end (omega (arith, r.0, f.0.0))) refl
@@ -100,7 +100,7 @@ docs_end-take_more doc [] n c e = absurd cc
 docs_end-take_more doc (x ∷ cs) zero c e = let same : x ≡ c = cc in ap (λ (y : Checkpoint). y.doc_range.end) same
 docs_end-take_more doc (x ∷ cs) (suc n) c e = let on = docs_end-take_more x.doc_range.end cs n c e in rw (add-one) (rw (add-one) at on)
 
--- a document below the count stands behind fewer blocks than all
+-- a document below the count stands after fewer blocks than all
 pub not_all : (doc : ℕ) (cs : List Checkpoint) (n : ℕ) → docs_end doc (take n cs) < docs_end doc cs → n < length cs
 not_all doc [] zero lt = absurd (omega arith)
 not_all doc [] (suc n) lt = absurd (omega arith)

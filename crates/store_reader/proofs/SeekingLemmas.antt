@@ -61,7 +61,7 @@ footer_is old mid f honest r = elim (footer_found old mid (Ok f) honest r) [ inl
     ok_not_err : {e : StoreError} → ◌≡◌ {A = Result DocStoreFooter StoreError} (Ok f) (Err e) → ⊥
     ok_not_err e = cc
 
--- the head that was read behind the footer
+-- the head that was read after the footer
 pub record IsReadHead (mid : Part) (f : DocStoreFooter) (index : HeadBytes) (new : Part) : Type 0 where
   pub period : index.period ≡ f.period
   pub start : index.start ≡ f.offset
@@ -102,7 +102,7 @@ refused_footer old mid e r = record {
     same : (d : StoreError) × (◌≡◌ {A = Result DocStoreFooter StoreError} (Err e) (Err d)) × RefusesRead d → RefusesRead e
     same failed = let is : failed.0 ≡ e = (let given = failed.1 in cc) in subst RefusesRead is failed.2
 
--- the index would begin behind the footer's first byte
+-- the index would begin after the footer's first byte
 pub refused_offset : (old mid : Part) (f : DocStoreFooter) → ExtractsFooter old (Ok f) mid → length mid.content - 28 < f.offset → RefusesOpening old BadOffset
 refused_offset old mid f r past =
     let before = footer_read old mid (Ok f) r in

@@ -100,7 +100,7 @@ module _ (set : Option (ℕ → Bool)) (old : Reading) (from : Walk) (last : ℕ
       let nothing : slice_range old.checkpoints from.place to.place ≡ [] = ap (λ n. take n (drop from.place old.checkpoints)) none in
       subst (λ (xs : List Checkpoint). LooksAlong xs old (taken_last from) new (taken_last to)) nothing walks.looks
 
-  -- the block behind that of the beginning is passed over
+  -- the block after that of the beginning is passed over
   goes_past : from.place < length old.checkpoints → docs_end 0 (take (from.place + 1) old.checkpoints) ≤ last → PassesDead set old.checkpoints from.next last
   goes_past more hi = passed set old.checkpoints bytes from.place from.next last covers more (omega (arith, start.end, start.below)) hi walks.dead
 

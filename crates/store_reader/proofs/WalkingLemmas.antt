@@ -71,16 +71,16 @@ take_one_more [] n c e = absurd cc
 take_one_more (x ∷ cs) zero c e = let same : x ≡ c = cc in ap (λ y. y ∷ []) same
 take_one_more (x ∷ cs) (suc n) c e = let on = take_one_more cs n c e in rw add-one (ap (λ ys. x ∷ ys) (rw add-one at on))
 
-get_behind : (cs : List Checkpoint) (p k : ℕ) → slice_get (drop p cs) k ≡ slice_get cs (p + k)
-get_behind cs zero k = ap (slice_get cs) (omega arith)
-get_behind [] (suc p) k = refl
-get_behind (x ∷ cs) (suc p) k = let e : suc p + k ≡ suc (p + k) = omega arith in rw e (get_behind cs p k)
+get_after : (cs : List Checkpoint) (p k : ℕ) → slice_get (drop p cs) k ≡ slice_get cs (p + k)
+get_after cs zero k = ap (slice_get cs) (omega arith)
+get_after [] (suc p) k = refl
+get_after (x ∷ cs) (suc p) k = let e : suc p + k ≡ suc (p + k) = omega arith in rw e (get_after cs p k)
 
 pub range_more : (cs : List Checkpoint) (p q : ℕ) (c : Checkpoint) → p ≤ q → slice_get cs q ≡ Some c → slice_range cs p (q + 1) ≡ slice_range cs p q ++ c ∷ []
 range_more cs p q c le e =
     let n : (q + 1) - p ≡ (q - p) + 1 = omega arith in
     let place : p + (q - p) ≡ q = omega arith in
-    ap (λ k. take k (drop p cs)) n ∙ take_one_more (drop p cs) (q - p) c (get_behind cs p (q - p) ∙ ap (slice_get cs) place ∙ e)
+    ap (λ k. take k (drop p cs)) n ∙ take_one_more (drop p cs) (q - p) c (get_after cs p (q - p) ∙ ap (slice_get cs) place ∙ e)
 
 -- past a document that is not alive
 pub walks_past : (set : Option (ℕ → Bool)) (old : Reading) (from : Walk) (id : ℕ) (new : Reading) (to to' : Walk) → WalksTo set old from id new to → is_in set id ≡ false → to'.place ≡ to.place

@@ -40,14 +40,14 @@ impl Answer {
         ensures { IsTrue result ↔ Contains (results_of self.now) (Err StoreError.Memory) }
     {
         match self {
-            Answer::Got(outcome) => is_want_of_memory(outcome),
-            Answer::Listed(items) => items.iter().any(is_want_of_memory),
+            Answer::Got(outcome) => is_lack_of_memory(outcome),
+            Answer::Listed(items) => items.iter().any(is_lack_of_memory),
         }
     }
 }
 
 // Whether memory was refused.
-fn is_want_of_memory(outcome: &Result<OwnedBytes, StoreError>) -> bool
+fn is_lack_of_memory(outcome: &Result<OwnedBytes, StoreError>) -> bool
     ensures { IsTrue result ↔ IsErrOf outcome.now StoreError.Memory }
 {
     matches!(outcome, Err(StoreError::Memory))

@@ -7,7 +7,7 @@ use Rattle.store_base.proofs.ListLemmas.{front_more, rest_more}
 use Rattle.store_base.specs.declared.error.StoreError.{StoreError}
 use Rattle.docstore.specs.declared.run.StoreCommand.{StoreCommand}
 use Rattle.docstore.specs.Causes.{first_stage, HaveCauses}
-use Rattle.docstore.specs.Run.{told, stage_of, AreCommandsKept, IsTrace, AfterRun}
+use Rattle.docstore.specs.Run.{output_state, stage_of, AreCommandsKept, IsTrace, AfterRun}
 use Rattle.store_format.specs.StoreFile.{file, IsStore}
 use Rattle.docstore.specs.Trace.{Blocks}
 use Rattle.docstore.specs.Writer.{Writing, flushed}
@@ -92,7 +92,7 @@ returns-in_err-output-clause-err g c =
     let results = c.loop-command.results.items in
     let doc_bytes = λ (d : g.row.D.Denot). g.D.Document.doc_bytes d c.args.schema.now in
     let output = g.W.TerminatingWrite in
-    let tells = λ (w : g.row.W.Denot). told (output.content w) (output.termination w) (output.failures w) in
+    let tells = λ (w : g.row.W.Denot). output_state (output.content w) (output.termination w) (output.failures w) in
     let held = tells c.args.output in
     let writer = c.loop-command.writer in
     let e = c.in_err-output.field-0.0 in

@@ -1,7 +1,7 @@
 use Rattle.std.proofs.Common.{◌≡◌, ◌<◌, List, length, sym, ap, ◌∙◌, arith}
 use Rattle.layered_index.specs.declared.checkpoint.Checkpoint.{Checkpoint}
 use Rattle.layered_index.specs.Checkpoint.{first_past}
-use Rattle.layered_index.proofs.HalvingLemmas.{none_behind}
+use Rattle.layered_index.proofs.HalvingLemmas.{none_following}
 use Rattle.layered_index.proofs.NearLemmas.{near_looks, near_looks_but_one}
 use Rattle.layered_index.proofs.looks.seek_near.Goals as goal
 
@@ -17,7 +17,7 @@ returns-else-place-len-clause-answer g c =
     let between = c.narrow_near-between in
     let cs = s.list between.new.source in
     let cs_len : length cs ≡ c.len-len.result = ap (λ (xs : List Checkpoint). length xs) between.ensures.list ∙ sym c.len-len.ensures.len in
-    sym (none_behind cs c.halve-place.result.place (omega (arith, cs_len, c.if-place-len.false)))
+    sym (none_following cs c.halve-place.result.place (omega (arith, cs_len, c.if-place-len.false)))
     ∙ c.halve-place.ensures.answer
     ∙ ap (λ (xs : List Checkpoint). first_past xs c.args.target) between.ensures.list
 

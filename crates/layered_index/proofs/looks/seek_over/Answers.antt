@@ -2,7 +2,7 @@ use Rattle.std.proofs.Common.{◌≡◌, ◌-◌, length, inl, inr, sym, ap, ◌
 use Rattle.std.proofs.lemmas.Bool.{cases_lt}
 use Rattle.layered_index.specs.Layers.{digit_count}
 use Rattle.layered_index.proofs.DigitLemmas.{binary_digits}
-use Rattle.layered_index.proofs.HalvingLemmas.{all_between, none_behind}
+use Rattle.layered_index.proofs.HalvingLemmas.{all_between, none_following}
 use Rattle.layered_index.proofs.looks.seek_over.Goals as goal
 
 pub halve-requires-clause-between : goal.halve-requires-clause-between
@@ -16,7 +16,7 @@ returns-clause-answer g c =
       | inl below ↦ c.halve.ensures.found (omega (arith, below, c.len-len.ensures.len)) ∙ c.halve.ensures.answer
       | inr past ↦
           let last : halved.place ≡ c.len-len.result = omega (arith, past, c.len-len.ensures.len, c.halve.ensures.few) in
-          c.halve.ensures.none last ∙ sym (none_behind cs halved.place (omega (arith, past))) ∙ c.halve.ensures.answer
+          c.halve.ensures.none last ∙ sym (none_following cs halved.place (omega (arith, past))) ∙ c.halve.ensures.answer
     ]
 
 pub returns-clause-most : goal.returns-clause-most

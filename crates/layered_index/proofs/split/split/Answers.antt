@@ -1,7 +1,7 @@
 use Rattle.std.proofs.Common.{◌≡◌, ◌-◌, ◌∙◌, length, drop, ap, sym}
 use Rattle.std.proofs.lemmas.Result.{err_from_is_err_and}
 use Rattle.layered_index.specs.IndexReading.{texts_at, split_at}
-use Rattle.layered_index.proofs.SplitLoopLemmas.{ends_behind, behind_shorter, split_is, split_fails}
+use Rattle.layered_index.proofs.SplitLoopLemmas.{ends_following, after_shorter, split_is, split_fails}
 use Rattle.layered_index.proofs.split.split.Goals as goal
 
 pub returns-in_err-ends : goal.returns-in_err-ends
@@ -12,7 +12,7 @@ returns-in_err-ends c =
 pub overflow_sub-base : goal.overflow_sub-base
 overflow_sub-base c =
     let bytes = c.args.bytes.now in
-    behind_shorter bytes c.in_ok-ends.rest.now (ends_behind bytes (c.in_ok-ends.ends.items, c.in_ok-ends.rest.now) c.in_ok-ends.ensures)
+    after_shorter bytes c.in_ok-ends.rest.now (ends_following bytes (c.in_ok-ends.ends.items, c.in_ok-ends.rest.now) c.in_ok-ends.ensures)
 
 pub returns : goal.returns
 returns c =

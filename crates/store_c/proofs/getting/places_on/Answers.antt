@@ -1,5 +1,5 @@
 use Rattle.std.proofs.Common.{◌∙◌, length-set, arith}
-use Rattle.store_c.proofs.PlacesLemmas.{one_more_in, behind_stay}
+use Rattle.store_c.proofs.PlacesLemmas.{one_more_in, after_stay}
 use Rattle.store_c.proofs.getting.places_on.Goals as goal
 
 pub loop-at-preserved : goal.loop-at-preserved
@@ -12,6 +12,6 @@ loop-at-preserved c =
     record {
       on = omega (arith, kept.on);
       are = λ file held are. one_more_in file c.args.first l.at l.places p (omega (arith, kept.size)) (kept.are file held are) (c.in-Ok.ensures file held);
-      rest = behind_stay l.at l.places c.args.places.now p kept.rest;
+      rest = after_stay l.at l.places c.args.places.now p kept.rest;
       size = length-set _ _ _ ∙ kept.size;
     }

@@ -2,7 +2,7 @@ use Rattle.std.proofs.Common.{◌+◌, ◌≤◌, length-set, arith, ◌∙◌}
 use Rattle.layered_index.specs.Checkpoint.{docs_end}
 use Rattle.store_format.specs.StoreFile.{checkpoints_of}
 use Rattle.store_c.proofs.TableViewLemmas.{has_past}
-use Rattle.store_c.proofs.PlacesLemmas.{one_more, behind_stay}
+use Rattle.store_c.proofs.PlacesLemmas.{one_more, after_stay}
 use Rattle.store_c.proofs.locating.places_from.Goals as goal
 
 pub loop-at-preserved : goal.loop-at-preserved
@@ -14,7 +14,7 @@ loop-at-preserved c =
     let from = c.in-Ok.ensures.from in
     record {
       are = one_more _ _ _ _ _ _ (omega (arith, kept.size)) kept.are (c.in-Ok-place_in.ensures c.args.table.now c.in-Ok.ensures.block);
-      rest = behind_stay l.at l.places c.args.places.now c.in-Ok-place_in.found kept.rest;
+      rest = after_stay l.at l.places c.args.places.now c.in-Ok-place_in.found kept.rest;
       size = length-set _ _ _ ∙ kept.size;
       from = omega arith;
       held = c.in-Ok.ensures.block;

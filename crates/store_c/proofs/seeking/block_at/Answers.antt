@@ -1,7 +1,7 @@
 use Rattle.std.proofs.Common.{◌≡◌, ◌<◌, ◌≤◌, length, slice_index_or, Some, sym, ap, ◌∙◌, arith, rules}
 use Rattle.std.proofs.lemmas.Bool.{ltb-true}
 use Rattle.layered_index.specs.Checkpoint.{checkpoint}
-use Rattle.layered_index.proofs.HalvingLemmas.{none_behind}
+use Rattle.layered_index.proofs.HalvingLemmas.{none_following}
 use Rattle.store_c.specs.Calls.{end_of}
 use Rattle.store_c.proofs.TableLemmas.{row_tells}
 use Rattle.store_c.proofs.TableSeekLemmas.{size}
@@ -10,7 +10,7 @@ use Rattle.store_c.proofs.seeking.block_at.Goals as goal
 pub returns-in_err-row : goal.returns-in_err-row
 returns-in_err-row c cs is line =
     let past : length c.args.table.now ≤ c.args.at = search rules in
-    c.from_residual.ensures ∙ sym (none_behind cs c.args.at (omega (arith, past, size c.args.table.now cs is 0)))
+    c.from_residual.ensures ∙ sym (none_following cs c.args.at (omega (arith, past, size c.args.table.now cs is 0)))
 
 pub returns : goal.returns
 returns c cs is line =

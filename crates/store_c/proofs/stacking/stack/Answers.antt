@@ -7,7 +7,7 @@ use Rattle.store_c.specs.declared.block.BlockEnd.{BlockEnd}
 use Rattle.store_c.specs.Writing.{memory}
 use Rattle.store_c.proofs.TableViewLemmas.{no_more}
 use Rattle.store_c.proofs.MemoryLemmas.{has_finished, open_at}
-use Rattle.store_c.proofs.StackLemmas.{in_line_behind, rows_fit, has_place, numbers_with, stacked}
+use Rattle.store_c.proofs.StackLemmas.{in_line_after, rows_fit, has_place, numbers_with, stacked}
 use Rattle.store_c.proofs.stacking.stack.Goals as goal
 
 -- a view is one of its own bytes
@@ -49,7 +49,7 @@ fill-requires-clause-in_line c =
     let few = c.if-num_docs-start.false in
     let short = c.if-block_data-start.false in
     let text = ap length c.block_data.ensures.«data» in
-    in_line_behind c.start_of-start.result.end_doc c.start_of-start.result.end_byte c.block_checkpoints.result v.store c.block_checkpoints.ensures c.num_docs.ensures.store.blocks.each
+    in_line_after c.start_of-start.result.end_doc c.start_of-start.result.end_byte c.block_checkpoints.result v.store c.block_checkpoints.ensures c.num_docs.ensures.store.blocks.each
     (omega (arith, length-slots v.store, c.num_docs.ensures.count)) (omega arith)
 
 pub returns-clause-stacked : goal.returns-clause-stacked

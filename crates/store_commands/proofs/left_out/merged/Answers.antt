@@ -1,7 +1,7 @@
 use Rattle.std.proofs.Common.{◌+◌, List, arith, ap, ◌∙◌, get_or}
 use Rattle.store_commands.specs.declared.left_out.IdSpan.{IdSpan}
 use Rattle.store_commands.specs.LeftOut.{is_among}
-use Rattle.store_commands.proofs.SpanLemmas.{merging_first, merging_touch, merging_apart, merging_apart_all, merging_all, place_behind}
+use Rattle.store_commands.proofs.SpanLemmas.{merging_first, merging_touch, merging_apart, merging_apart_all, merging_all, place_following}
 use Rattle.store_commands.proofs.left_out.merged.Goals as goal
 use Rattle.store_commands.proofs.left_out.merged.Goals.{then-span-last, else-span-last+in_ok-push}
 
@@ -14,7 +14,7 @@ loop-span-preserved c =
     let place = c.loop-span.span-index in
     let none : IdSpan = record { start = 0; end = 0 } in
     let x = get_or c.in-Some.others.now place none in
-    let here = place_behind c.args.spans.now c.in-Some.first.now c.in-Some.others.now place none c.in-Some.ensures.cases.0 c.loop-span-test.true in
+    let here = place_following c.args.spans.now c.in-Some.first.now c.in-Some.others.now place none c.in-Some.ensures.cases.0 c.loop-span-test.true in
     elim c.if-span-last.branch [
       | then-span-last w ↦ rw (w.merged-is, w.last-is, w.max.ensures)
           (merging_touch c.args.spans.now c.loop-span.merged.items c.loop-span.last x (place + 1) c.loop-span.invariant here.0 here.1 w.if-span-last.true)

@@ -8,8 +8,8 @@ use Rattle.store_format.proofs.laws.blocks_have_their_lengths.Goals as goal
 alone : (doc : List ℕ) → length (block (doc ∷ [])) ≡ length doc + 8
 alone doc = omega (arith, length-block (doc ∷ []), length-append doc [])
 
-behind_an_empty_one : (doc : List ℕ) → length (block ([] ∷ doc ∷ [])) ≡ length doc + 12
-behind_an_empty_one doc = omega (arith, length-block ([] ∷ doc ∷ []), length-append doc [])
+after_an_empty_one : (doc : List ℕ) → length (block ([] ∷ doc ∷ [])) ≡ length doc + 12
+after_an_empty_one doc = omega (arith, length-block ([] ∷ doc ∷ []), length-append doc [])
 
 pub returns-clause-lengths : goal.returns-clause-lengths
 returns-clause-lengths c = length-block
@@ -17,5 +17,5 @@ returns-clause-lengths c = length-block
 pub returns-clause-longest : goal.returns-clause-longest
 returns-clause-longest c doc = (
   ((λ h. omega (arith, h, alone doc)), (λ h. omega (arith, h, alone doc))),
-  ((λ h. omega (arith, h, behind_an_empty_one doc)), (λ h. omega (arith, h, behind_an_empty_one doc))),
+  ((λ h. omega (arith, h, after_an_empty_one doc)), (λ h. omega (arith, h, after_an_empty_one doc))),
 )

@@ -1,6 +1,6 @@
 use Rattle.std.proofs.Common.{◌≡◌, ◌∙◌, ap, subst, List, ℕ, []}
 use Rattle.store_base.specs.Outputs.{Termination}
-use Rattle.docstore.specs.Run.{IsWritten, AfterRun, told}
+use Rattle.docstore.specs.Run.{IsWritten, AfterRun, output_state}
 use Rattle.layered_index.specs.declared.checkpoint.TheConstants.{CHECKPOINT_PERIOD}
 use Rattle.store_folder.specs.Publishing.{Published}
 use Rattle.store_published.proofs.stores.write_since.Goals as goal
@@ -17,8 +17,8 @@ returns-in-Ok-clause-stored g c =
 
 pub returns-in-Err-clause-refused : goal.returns-in-Err-clause-refused
 returns-in-Err-clause-refused g c = (
-  told c.in-Err.refusal.output.content c.in-Err.refusal.output.termination c.in-Err.refusal.output.failures,
-  subst (λ (p : Published g.row.F.Denot). AfterRun c.args.block_size (λ d. g.D.Document.doc_bytes d c.args.schema.now) c.args.commands.now c.write_store.new.commands (told p.content p.termination p.failures) (told c.in-Err.refusal.output.content c.in-Err.refusal.output.termination c.in-Err.refusal.output.failures) c.in-Err.refusal.error)
+  output_state c.in-Err.refusal.output.content c.in-Err.refusal.output.termination c.in-Err.refusal.output.failures,
+  subst (λ (p : Published g.row.F.Denot). AfterRun c.args.block_size (λ d. g.D.Document.doc_bytes d c.args.schema.now) c.args.commands.now c.write_store.new.commands (output_state p.content p.termination p.failures) (output_state c.in-Err.refusal.output.content c.in-Err.refusal.output.termination c.in-Err.refusal.output.failures) c.in-Err.refusal.error)
       c.new-output.ensures c.in-Err.ensures.err,
   c.into_folder-in-Err.ensures.any_moment,
 )

@@ -4,7 +4,7 @@ use Rattle.layered_index.specs.Checkpoint.{checkpoint, EndsAt}
 use Rattle.layered_index.proofs.LineLemmas.{ends_in_line, ends_put}
 use Rattle.bench_store.proofs.checkpoint_list.CheckpointList.add.Goals as goal
 
--- what begins at the ends is put behind
+-- what begins at the ends is put after
 one_more : (doc docs doc_end byte bytes byte_end : ℕ) (cs : List Checkpoint) → EndsAt doc byte cs → doc_end ≡ doc + docs → doc_end < 2 ^ 32 → byte_end ≡ byte + bytes → bytes < 2 ^ 32
     → byte_end < 2 ^ 64
     → EndsAt doc_end byte_end (cs ++ checkpoint doc doc_end byte byte_end ∷ [])

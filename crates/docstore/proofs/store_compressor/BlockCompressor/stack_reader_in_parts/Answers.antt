@@ -2,7 +2,7 @@ use Rattle.std.proofs.Common.{◌≤◌, length, ap, arith}
 use Rattle.std.proofs.lemmas.Result.{err_from_is_err_and}
 use Rattle.store_base.proofs.Steady.{still}
 use Rattle.docstore.proofs.OutputLemmas.{length-blocks_at}
-use Rattle.docstore.proofs.ReadInPartsLemmas.{IsPartTaken, part_taken, stacked_more, refused_taken, read_at_most, fails_behind, all_stacked, none_came, some_left, same_checkpoints}
+use Rattle.docstore.proofs.ReadInPartsLemmas.{IsPartTaken, part_taken, stacked_more, refused_taken, read_at_most, fails_after, all_stacked, none_came, some_left, same_checkpoints}
 use Rattle.docstore.proofs.store_compressor.BlockCompressor.stack_reader_in_parts.Goals.{In-Some}
 use Rattle.docstore.proofs.store_compressor.BlockCompressor.stack_reader_in_parts.Goals as goal
 
@@ -32,7 +32,7 @@ pub returns-in_err-write_blocks-clause-err : goal.returns-in_err-write_blocks-cl
 returns-in_err-write_blocks-clause-err g c =
     let inv = c.loop-part.invariant in
     let given = err_from_is_err_and c.from_residual-in_err-write_blocks.result c.from_residual-in_err-write_blocks.ensures.1 in
-    rw (given.1, given.2) (fails_behind c.args.reader.now c.loop-part.next_block c.in_err-write_blocks.field-0.0 c.args.self.now c.loop-part.self c.write_blocks.new.self
+    rw (given.1, given.2) (fails_after c.args.reader.now c.loop-part.next_block c.in_err-write_blocks.field-0.0 c.args.self.now c.loop-part.self c.write_blocks.new.self
     c.in_ok-check_works.ensures.works inv.put inv.count c.in_err-write_blocks.ensures.err)
 
 pub returns-in_err-write_blocks-clause-kept : goal.returns-in_err-write_blocks-clause-kept

@@ -42,7 +42,7 @@ overflow_add-self g c =
     let a = block_added _ _ _ _ _ _ _ _ _ _ _ _ c.self.view_is c.self.invariant c.requires.works c.requires.some_bytes c.requires.few_bytes c.requires.some_docs c.requires.few_docs in
     omega (arith, a.ids)
 
--- the index and the output behind the call
+-- the index and the output after the call
 made : (g : Over) (c : goal.After-self-2-1 g)
     → (c.insert.new.self.checkpoints ≡ c.self.inside.index.checkpoints ++ checkpoints_from c.self.inside.first_doc_in_block c.self.inside.writer.written (block_of c.args.num_docs_in_block c.args.bytes.now))
     × (c.insert.new.self.period ≡ c.self.inside.index.period) × (g.W.TerminatingWrite.content c.write_all.new.self.output ≡ g.W.TerminatingWrite.content c.self.inside.writer.output ++ c.args.bytes.now)

@@ -3,7 +3,7 @@ use Rattle.std.proofs.lemmas.Grind.{common_steps}
 use Rattle.store_format.specs.StoreFile.{StoreBlock}
 use Rattle.docstore.specs.Writer.{Writing, blocks_of}
 use Rattle.docstore.specs.BlockOutput.{BlockOutput, with_blocks, with_risen, AfterClose}
-use Rattle.docstore.proofs.WriterLemmas.{closed_behind, some_flushed}
+use Rattle.docstore.proofs.WriterLemmas.{closed_after, some_flushed}
 use Rattle.docstore.proofs.writer.StoreWriter.close.Goals as goal
 
 pub returns-in-Err-clause-err : goal.returns-in-Err-clause-err
@@ -21,6 +21,6 @@ returns-in-Err-clause-err g c =
     let h : AfterClose c.in-Err.refusal.error mid (g.W.TerminatingWrite.content c.in-Err.refusal.output) (g.W.TerminatingWrite.termination c.in-Err.refusal.output)
     (g.W.TerminatingWrite.failures c.in-Err.refusal.output) = c.in-Err.ensures.err in
     rw (c.after_bytes.ensures.error, c.after_bytes.ensures.output)
-    (closed_behind c.in-Err.refusal.error old mid bs (g.W.TerminatingWrite.content c.in-Err.refusal.output) (g.W.TerminatingWrite.termination c.in-Err.refusal.output)
+    (closed_after c.in-Err.refusal.error old mid bs (g.W.TerminatingWrite.content c.in-Err.refusal.output) (g.W.TerminatingWrite.termination c.in-Err.refusal.output)
     (g.W.TerminatingWrite.failures c.in-Err.refusal.output)
     (mid_is ∙ ap (λ (out : BlockOutput). with_risen mid.failures (with_blocks out bs)) old_is) le none (some_flushed docs pending) h)

@@ -64,7 +64,7 @@ returns-in_default-clause-exact g c honest of =
     let numbers = take (length c.as_slice.result.now - s.ends) (drop s.ends c.as_slice.result.now) in
     let all : s.count - 0 ≡ s.count = omega arith in
     absurd (some_end s.count 0 numbers is.rest (omega (arith, c.if-self-eq0.false)) (sym c.in_default.ensures.read)
-    (ap (λ (n : ℕ). after_numbers n numbers) all ∙ ap (after_numbers s.count) same ∙ is.behind))
+    (ap (λ (n : ℕ). after_numbers n numbers) all ∙ ap (after_numbers s.count) same ∙ is.following))
 
 pub returns-then-self-end-clause-exact : goal.returns-then-self-end-clause-exact
 returns-then-self-end-clause-exact g c honest of =

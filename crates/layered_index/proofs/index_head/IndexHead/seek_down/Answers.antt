@@ -21,7 +21,7 @@ loop-init g c =
     let all : s.count - 0 ≡ s.count = omega arith in
     record {
       exact = λ honest of. seek_begins content head c.args.target s.count s.ends s.texts numbers same (heads content head s.count s.ends s.texts is of);
-      left = (is.rest, ap (λ (n : ℕ). after_numbers n numbers) all ∙ ap (after_numbers s.count) same ∙ is.behind);
+      left = (is.rest, ap (λ (n : ℕ). after_numbers n numbers) all ∙ ap (after_numbers s.count) same ∙ is.following);
       within = omega arith;
       past = tt;
       kept = no_runs head.period c.args.file.now;

@@ -1,7 +1,7 @@
 use Rattle.std.proofs.Common.{◌≡◌, ◌+◌, ◌<◌, ◌≤◌, inl, inr, List, [], drop, refl, sym, ◌∙◌, ap, arith}
 use Rattle.layered_index.specs.declared.checkpoint.Checkpoint.{Checkpoint}
 use Rattle.store_reader.specs.Parts.{parts_beyond, number_of_parts}
-use Rattle.store_reader.proofs.PartLemmas.{block_at, none_at, none_behind, few_blocks, first_part, fresh_part, same_part, few_part}
+use Rattle.store_reader.proofs.PartLemmas.{block_at, none_at, none_following, few_blocks, first_part, fresh_part, same_part, few_part}
 use Rattle.store_reader.proofs.reader.StoreReader.end_of_part.Goals as goal
 
 pub overflow_add-end : goal.overflow_add-end
@@ -12,13 +12,13 @@ overflow_add-end g c =
 pub loop-block-init : goal.loop-block-init
 loop-block-init g c =
     let here = block_at _ _ _ _ c.requires.covers c.requires.found in
-    record { some = omega arith; last = omega (arith, here.below); byte = here.byte_end; behind = omega arith; few_bytes = inl refl; parts = refl }
+    record { some = omega arith; last = omega (arith, here.below); byte = here.byte_end; following = omega arith; few_bytes = inl refl; parts = refl }
 
 pub overflow_sub-block : goal.overflow_sub-block
 overflow_sub-block g c =
     let first = block_at _ _ _ _ c.requires.covers c.requires.found in
     let next = block_at _ _ _ _ c.requires.covers (sym c.in-Some.ensures.checkpoint) in
-    omega (arith, first.some_bytes, next.some_bytes, next.byte_start, c.loop-block.invariant.byte, c.loop-block.invariant.behind)
+    omega (arith, first.some_bytes, next.some_bytes, next.byte_start, c.loop-block.invariant.byte, c.loop-block.invariant.following)
 
 pub overflow_add-end-in-Some : goal.overflow_add-end-in-Some
 overflow_add-end-in-Some g c =
@@ -37,12 +37,12 @@ loop-block-preserved g c =
     let inv = c.loop-block.invariant in
     let size = c.args.part_bytes in
     let limit = c.args.first.byte_range.start + size in
-    let within : c.in-Some.block.byte_range.end ≤ limit = omega (arith, c.if-block-start.false, first.some_bytes, next.some_bytes, next.byte_start, inv.byte, inv.behind) in
+    let within : c.in-Some.block.byte_range.end ≤ limit = omega (arith, c.if-block-start.false, first.some_bytes, next.some_bytes, next.byte_start, inv.byte, inv.following) in
     record {
       some = omega (arith, inv.some);
       last = omega (arith, next.below);
       byte = next.byte_end;
-      behind = omega (arith, next.some_bytes, next.byte_start, inv.byte, inv.behind);
+      following = omega (arith, next.some_bytes, next.byte_start, inv.byte, inv.following);
       few_bytes = inr within;
       parts = inv.parts ∙ ap (λ (cs : List Checkpoint). parts_beyond size limit cs) next.rest
           ∙ same_part size limit c.in-Some.block (drop (c.loop-block.end.block + 1) c.args.self.now.checkpoints) within;
@@ -56,7 +56,7 @@ returns-then-block-start-clause-part g c =
     let inv = c.loop-block.invariant in
     let size = c.args.part_bytes in
     let limit = c.args.first.byte_range.start + size in
-    let past : limit < c.in-Some.block.byte_range.end = omega (arith, c.if-block-start.true, first.some_bytes, next.some_bytes, next.byte_start, inv.byte, inv.behind) in
+    let past : limit < c.in-Some.block.byte_range.end = omega (arith, c.if-block-start.true, first.some_bytes, next.some_bytes, next.byte_start, inv.byte, inv.following) in
     record {
       some = inv.some;
       last = inv.last;
@@ -74,7 +74,7 @@ returns-in_default-clause-part g c =
     let inv = c.loop-block.invariant in
     let size = c.args.part_bytes in
     let limit = c.args.first.byte_range.start + size in
-    let none : drop c.loop-block.end.block cs ≡ [] = none_behind cs c.loop-block.end.block (none_at cs c.loop-block.end.block (sym c.in_default.ensures.checkpoint)) in
+    let none : drop c.loop-block.end.block cs ≡ [] = none_following cs c.loop-block.end.block (none_at cs c.loop-block.end.block (sym c.in_default.ensures.checkpoint)) in
     record {
       some = inv.some;
       last = inv.last;

@@ -7,7 +7,7 @@ invariant-loop-block g l = record {
   some : l.fn.number < l.end.block;
   last : l.end.block ≤ length l.self.checkpoints;
   byte : l.end.byte ≡ byte_at l.end.block l.self.checkpoints;
-  behind : l.fn.first.byte_range.end ≤ l.end.byte;
+  following : l.fn.first.byte_range.end ≤ l.end.byte;
   few_bytes : (l.end.block ≡ l.fn.number + 1) ⊎ (l.end.byte ≤ l.fn.first.byte_range.start + l.part_bytes);
   parts : parts_beyond l.part_bytes (l.fn.first.byte_range.start + l.part_bytes) (drop (l.fn.number + 1) l.self.checkpoints)
       ≡ parts_beyond l.part_bytes (l.fn.first.byte_range.start + l.part_bytes) (drop l.end.block l.self.checkpoints);

@@ -6,8 +6,8 @@ use Rattle.store_reader.proofs.reader.StoreReader.read_part.Goals as goal
 pub read_data-requires-clause-order : goal.read_data-requires-clause-order
 read_data-requires-clause-order g c =
     let first = block_at _ _ _ _ c.in-Some.ensures.covers (sym c.in-Some.ensures.checkpoint) in
-    let behind = byte_order _ _ _ _ _ c.in-Some.ensures.covers (sym c.in-Some.ensures.checkpoint) c.end_of_part-end.ensures.part.some in
-    omega (arith, first.some_bytes, behind, c.end_of_part-end.ensures.byte)
+    let following = byte_order _ _ _ _ _ c.in-Some.ensures.covers (sym c.in-Some.ensures.checkpoint) c.end_of_part-end.ensures.part.some in
+    omega (arith, first.some_bytes, following, c.end_of_part-end.ensures.byte)
 
 pub read_data-requires-clause-within : goal.read_data-requires-clause-within
 read_data-requires-clause-within g c =
