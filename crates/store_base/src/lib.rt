@@ -3,6 +3,7 @@
 #![tactic(auto)]
 
 pub mod alive_bitset;
+pub mod counting_writer;
 pub mod document;
 pub mod error;
 pub mod fault;
@@ -16,9 +17,9 @@ pub mod schema;
 pub mod serialize;
 pub mod space_usage;
 pub mod vint;
-pub mod writer;
 
 pub use alive_bitset::AliveBitSet;
+pub use counting_writer::{CountingWriter, TerminatingWrite};
 pub use document::{Document, DocumentDeserialize, StoredDocument};
 pub use error::{Cause, StoreError};
 pub use fault::{DecodeFault, DocFault, NoMemory, ReadFault, WriteFault};
@@ -31,7 +32,6 @@ pub use schema::{Field, Schema};
 pub use serialize::{BinarySerializable, FixedSize};
 pub use space_usage::StoreSpaceUsage;
 pub use vint::{GROUP, STOP_BIT, VInt, first_number, read_u32_vint};
-pub use writer::{CountingWriter, TerminatingWrite};
 
 /// The number of a document in its store: the first is 0.
 pub type DocId = u32;
