@@ -4,8 +4,8 @@ ghost use Rattle.std.specs.Prelude.{◌≡◌, ◌++◌, ◌≤◌, [], is_ok, I
 ghost use Rattle.store_base.specs.Counts.{HasRisen};
 ghost use Rattle.store_base.specs.Outputs.{never_terminated, terminated_once};
 
+use crate::counting_writer::TerminatingWrite;
 use crate::fault::WriteFault;
-use crate::writer::TerminatingWrite;
 use std::alloc::Global;
 use std::marker::Model;
 

@@ -8,9 +8,9 @@ ghost use Rattle.store_base.specs.Counts.{HasRisen};
 ghost use Rattle.store_base.specs.Serialize.{fixed};
 ghost use Rattle.store_base.specs.Reading.{IsBelow, Reads};
 
+use crate::counting_writer::TerminatingWrite;
 use crate::fault::{DecodeFault, WriteFault};
 use crate::vint::{VInt, read_number};
-use crate::writer::TerminatingWrite;
 use std::alloc::Global;
 
 /// A value that is written as bytes and read back from the front of bytes.

@@ -11,9 +11,9 @@ ghost use Rattle.store_base.specs.VInt.{number, number_below};
 ghost use Rattle.store_base.specs.Documents.{BeginsWith};
 ghost use Rattle.store_base.specs.Reading.{IsBelow, IsCutShort, Reads, ReadsPart, seen_by};
 
+use crate::counting_writer::TerminatingWrite;
 use crate::fault::{DecodeFault, NoMemory, WriteFault};
 use crate::serialize::BinarySerializable;
-use crate::writer::TerminatingWrite;
 use std::alloc::Global;
 
 /// What the last byte of a number has added.
