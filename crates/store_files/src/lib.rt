@@ -5,17 +5,17 @@
 pub mod create_error;
 pub mod disk_file;
 pub mod disk_sink;
+pub mod loading;
 pub mod locked_folder;
 pub mod os_folder;
 pub mod output_file;
 pub mod read_at;
-pub mod whole;
 
 pub use create_error::CreateError;
 pub use disk_file::DiskFile;
 pub use disk_sink::{DiskSink, begin_publication};
+pub use loading::{load, read_all};
 pub use locked_folder::LockedFolder;
 pub use os_folder::OsFolder;
 pub use output_file::LockFile;
 pub use read_at::{OsFile, ReadAt};
-pub use whole::{load, read_all};

@@ -5,9 +5,9 @@ ghost use Rattle.store_base.specs.Counts.{HasRisen};
 
 use crate::create_error::CreateError;
 use crate::disk_file::DiskFile;
+use crate::loading::read_all;
 use crate::output_file::{LockFile, lock, open_folder};
 use crate::read_at::OsFile;
-use crate::whole::read_all;
 use std::alloc::Global;
 use std::fs::{File, Files, OpenFile, OpenOptions};
 use std::io::{ErrorKind, Write};
@@ -269,7 +269,11 @@ where
 }
 
 impl<R: Files<File = File> + Drop> ReadableFolder for LockedFolder<R> {
+    ghost use Rattle.std.specs.Prelude.{false};
+
     type File = DiskFile<OsFile>;
+
+    ghost is_readable = { false };
 
     /// The name of each plain file, but for the lock and those that were not published.
     fn names(&self, alloc: Global) -> io::Result<Vec<String>> {

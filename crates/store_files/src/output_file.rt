@@ -143,6 +143,29 @@ where
     Ok(())
 }
 
+// Opens the file beside, which is made unless it is there. A link of its name is removed, so none is followed. A file
+// that came or went in the meantime is another's.
+fn open_beside<R: Files>(rt: &R, alloc: Global, beside: &str) -> Result<R::File, CreateError> {
+    let is_new = match found_at(rt, beside)? {
+        Some(found) if found.file_type().is_symlink() => {
+            rt.remove_file(beside)?;
+            true
+        }
+        found => found.is_none(),
+    };
+    match OpenOptions::new()
+        .write(true)
+        .create_new(is_new)
+        .open(rt, beside)
+    {
+        Ok(file) => Ok(file),
+        Err(error) => match error.kind() {
+            io::ErrorKind::AlreadyExists | io::ErrorKind::NotFound => Err(busy(alloc, beside)),
+            _ => Err(CreateError::System(error)),
+        },
+    }
+}
+
 /// Opens the file beside: locked, and with the access that the replaced file has. One that a crash left is taken over.
 /// Where the system refuses a call nothing is left beside.
 pub(crate) fn begin<R: Files>(
@@ -155,10 +178,7 @@ where
     R::File: LockFile,
     ensures { IfOk result (λ file. IsTrue (R.File.is_locked file)) }
 {
-    let file = OpenOptions::new()
-        .write(true)
-        .create(true)
-        .open(rt, beside)?;
+    let file = open_beside(rt, alloc, beside)?;
     match claim(rt, alloc, &file, beside, replaced) {
         Ok(()) => Ok(file),
         Err(CreateError::System(error)) => {

@@ -1,17 +1,17 @@
 -- What one change does to a folder in memory.
-use Rattle.std.proofs.Common.{◌≡◌, ◌≢◌, ◌⊎◌, inl, inr, ℕ, ◌+◌, ◌≤◌, ◌<◌, get_or, Bool, true, false, List, [], ◌∷◌, ◌++◌, length, take, Option, Some, None}
-use Rattle.std.proofs.Common.{string_bytes, nat_eq, refl, sym, ◌∙◌, ap, subst, arith, length-append}
+use Rattle.std.proofs.Common.{◌≡◌, ◌≢◌, ◌⊎◌, inl, inr, ℕ, ◌+◌, ◌<◌, get_or, Bool, true, false, List, [], ◌∷◌, ◌++◌, length, take, Option, Some, None}
+use Rattle.std.proofs.Common.{string_bytes, nat_eq, refl, sym, ◌∙◌, ap, subst}
 use Rattle.std.specs.Prelude.{if◌then◌else◌, unwrap_or, IsSome}
-use Rattle.std.proofs.lemmas.List.{append-nil, take-append-le, take_all, take_more}
+use Rattle.std.proofs.lemmas.List.{append-nil, take_more}
 use Rattle.std.proofs.lemmas.Cmp.{nat_list_eq_equiv}
-use Rattle.std.proofs.lemmas.Bool.{cases_lt}
 use Rattle.std.specs.Cmp.Lexicographic.{same_text}
 use Rattle.store_base.proofs.ListLemmas.{either}
 use lib.Pointwise.{pointwise}
 use Rattle.store_folder.specs.Moments.{ComesFrom, Elapses}
-use Rattle.store_folder.specs.Folder.{Look, Elsewhere, ElsewhereOfBoth, FilesElsewhere, Extends, Written, Renamed, bytes_of}
+use Rattle.store_folder.specs.Folder.{Look, Elsewhere, ElsewhereOfBoth, FilesElsewhere, Extends, Written, Renamed, LosesFile, bytes_of}
 use Rattle.store_folder.specs.Changes.{after, changed, nothing, look_of, Is, WasSince}
 use Rattle.store_folder.specs.declared.memory.Change.{Change}
+use Rattle.store_folder.proofs.Elapsing.{goes_on}
 
 differ : (a b : List ℕ) → a ≢ b → pointwise nat_eq a b ≡ false
 differ a b ne = told (pointwise nat_eq a b) refl
@@ -74,29 +74,8 @@ module _ (old new : List Change) (name gone : List ℕ) (bytes : Option (List �
   pub elsewhere : ElsewhereOfBoth name gone (look_of old) (look_of new)
   elsewhere n ne ng = look_is n ∙ after_other m.change (look_of old) n (λ q. ne (q ∙ m.name_is)) (λ q. ng (q ∙ m.gone_is))
 
-  longer : length new ≡ length old + 1
-  longer = ap length m.more ∙ length-append old (m.change ∷ [])
-
-  earlier : (k : ℕ) → k ≤ length old → take k new ≡ take k old
-  earlier k le = ap (λ (xs : List Change). take k xs) m.more ∙ take-append-le k old (m.change ∷ []) le
-
   pub elapses : Elapses (length old) (length new) (WasSince old) (WasSince new) (Is (look_of new))
-  elapses = record {
-    later = omega (arith, longer);
-    nothing_else = λ t c le was. elim (split was.0 was.2) [
-      | inl below ↦ inl (was.0, was.1, below, λ n. was.3 n ∙ ap (λ (xs : List Change). look_of xs n) (earlier was.0 below))
-      | inr above ↦ inr (λ n. was.3 n ∙ ap (λ (xs : List Change). look_of xs n) (take_all was.0 new above))
-    ];
-    keeps = λ t c le was. (was.0, was.1, omega (arith, longer, was.2), λ n. was.3 n ∙ ap (λ (xs : List Change). look_of xs n) (sym (earlier was.0 was.2)));
-  }
-    where
-      split : (k : ℕ) → k ≤ length new → (k ≤ length old) ⊎ (length new ≤ k)
-      split k le = elim (cases_lt (length old) k) [ inl above ↦ inr (omega (arith, longer)) | inr below ↦ inl below ]
-
-pub elapses_same : (old new : List Change) → new ≡ old → Elapses (length old) (length new) (WasSince old) (WasSince new) (Is (look_of new))
-elapses_same old new same =
-    subst (λ (xs : List Change). Elapses (length old) (length xs) (WasSince old) (WasSince xs) (Is (look_of xs))) (sym same)
-    (record { later = omega arith; nothing_else = λ t c le was. inl was; keeps = λ t c le was. was })
+  elapses = goes_on (λ xs. Is (look_of xs)) old new m.change m.more
 
 -- what is known of the names is known of the files and of a crash
 pub files_elsewhere : (name : List ℕ) (old new : Look) → Elsewhere name old new → FilesElsewhere name (λ n bytes. old n ≡ Some bytes) (λ n bytes. new n ≡ Some bytes)
@@ -104,6 +83,13 @@ files_elsewhere name old new e n bytes ne holds = sym (e n ne) ∙ holds
 
 pub crash_elsewhere : (name : List ℕ) (old new : Look) → Elsewhere name old new → ComesFrom (Elsewhere name) (Is old) (Is new)
 crash_elsewhere name old new e c is = (old, λ n. refl, λ n ne. is n ∙ e n ne)
+
+pub crash_lost : (name : List ℕ) (old new : Look) → Elsewhere name old new → (new name ≡ None) ⊎ (new name ≡ old name) → ComesFrom (LosesFile name) (Is old) (Is new)
+crash_lost name old new e which c is = (
+  old,
+  λ n. refl,
+  record { at_name = elim which [ inl none ↦ inr (is name ∙ none) | inr same ↦ inl (is name ∙ same) ]; elsewhere = λ n ne. is n ∙ e n ne },
+)
 
 pub crash_renamed : (from to : List ℕ) (old new : Look) → ElsewhereOfBoth from to old new → IsSome (old from) → (new to ≡ old from) ⊎ (new to ≡ old to)
     → ComesFrom (Renamed from to (λ bytes. old from ≡ Some bytes)) (Is old) (Is new)

@@ -5,7 +5,7 @@ ghost use Rattle.std.specs.Prelude.{OnOk, OnErr, unwrap_or};
 ghost use Rattle.store_base.specs.Counts.{HasRisen};
 ghost use Rattle.store_folder.specs.Moments.{ComesFrom, NoMore, Elapses};
 ghost use Rattle.store_folder.specs.Folder.{Elsewhere, ElsewhereOfBoth, FilesElsewhere, FilesElsewhereOfBoth};
-ghost use Rattle.store_folder.specs.Folder.{Extends, Written, Renamed, EntriesAreKept, LeadsTo, Keeps};
+ghost use Rattle.store_folder.specs.Folder.{Extends, Written, Renamed, LosesFile, EntriesAreKept, LeadsTo, Keeps};
 ghost use Rattle.store_folder.specs.Folder.{EntriesStay, EntriesStayElsewhere, EntriesStayElsewhereOfBoth};
 
 use std::io;
@@ -13,8 +13,9 @@ use std::io;
 /// A folder of files, each of which has one name.
 ///
 /// A crash may replace bytes that were not synced by any bytes of any length, or leave no file. Until the folder's next
-/// sync it may undo a rename, and leave anything under the old name. A file that was synced and not written since keeps
-/// its bytes, whatever name it has later; one that was appended to since begins with them.
+/// sync it may undo a removal, or a rename, and leave anything under the old name of a renamed one. A file that was
+/// synced and not written since keeps its bytes, whatever name it has later; one that was appended to since begins with
+/// them.
 ///
 /// Not in the model: hard links, other processes that change the folder, modes and owners.
 pub trait Folder: Drop {
@@ -111,12 +112,12 @@ pub trait Folder: Drop {
         ensures count { failures self.old ≤ failures self.new }
         ensures fault { OnErr result (HasRisen (failures self.old) (failures self.new)) };
 
-    /// Removes a file.
+    /// Removes a file. A crash leaves it under its name, as it would have been left before, or none.
     fn remove(&mut self, name: &str) -> io::Result<()>
         ensures removed { IsTrue honest → OnOk result (seen self.new name.now ≡ None) }
         ensures elsewhere { IsTrue honest → Elsewhere name.now (seen self.old) (seen self.new) }
         ensures files { IsTrue honest → FilesElsewhere name.now (may_hold self.old) (may_hold self.new) }
-        ensures crash { IsTrue honest → ComesFrom (Elsewhere name.now) (may_leave self.old) (may_leave self.new) }
+        ensures crash { IsTrue honest → ComesFrom (LosesFile name.now) (may_leave self.old) (may_leave self.new) }
         ensures entries { IsTrue honest
             → EntriesStayElsewhere name.now (entry_kept self.old) (entry_kept self.new) }
         ensures time { IsTrue honest → Elapses (moment self.old) (moment self.new)

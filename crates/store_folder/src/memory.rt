@@ -228,6 +228,8 @@ impl Folder for MemFolder {
 impl ReadableFolder for MemFolder {
     type File = MemFile;
 
+    ghost is_readable = { true };
+
     fn names(&self, alloc: Global) -> io::Result<Vec<String>> {
         Ok(names_in(alloc, &self.changes)?)
     }

@@ -37,16 +37,23 @@ pub(crate) enum Stage {
 pub struct Publication<F: Folder> {
     folder: F,
     name: String,
-    beside: String,
-    buffer: Vec<u8>,
-    // What was passed to the folder, and the folder as `create` got it. They take no memory: only clauses read them.
-    sent: Sent,
+    beside: FileBeside,
+    // The folder as `create` got it. It takes no memory: only clauses read it.
     first: Snapshot<F>,
     num_bytes: u64,
     stage: Stage,
     ends: u64,
     failures: u64,
     last_error: Option<io::Error>,
+}
+
+// The file beside the name, and the bytes that wait to be passed to it.
+#[derive(Drop)]
+struct FileBeside {
+    name: String,
+    buffer: Vec<u8>,
+    // What was passed to it. It takes no memory: only clauses read it.
+    sent: Sent,
 }
 
 /// Clauses see what was written, its ends, how often a call failed, the two names, and the folder at first and now.
@@ -60,25 +67,25 @@ impl<F: Folder> Model for Publication<F> {
     ghost Value = { Published F };
 
     ghost view = { λ s. record {
-      content = s.sent.bytes ++ s.buffer.items;
+      content = s.beside.sent.bytes ++ s.beside.buffer.items;
       termination = record {
         calls = s.ends;
-        at = end_of s.stage (s.sent.bytes ++ s.buffer.items);
+        at = end_of s.stage (s.beside.sent.bytes ++ s.beside.buffer.items);
       };
       failures = s.failures;
-      beside = string_bytes s.beside;
+      beside = string_bytes s.beside.name;
       name = string_bytes s.name;
       first = s.first.value;
       folder = s.folder;
     } };
 
-    ghost invariant = { λ s. (string_bytes s.beside ≢ string_bytes s.name) × (IsTrue F.honest
+    ghost invariant = { λ s. (string_bytes s.beside.name ≢ string_bytes s.name) × (IsTrue F.honest
         → IsSound F.seen F.may_leave F.moment F.left_since s.stage s.first.value s.folder
-        (string_bytes s.beside) (string_bytes s.name) s.sent.bytes
-        (s.sent.bytes ++ s.buffer.items)) × (IsTrue F.honest → s.ends ≡ 0
+        (string_bytes s.beside.name) (string_bytes s.name) s.beside.sent.bytes
+        (s.beside.sent.bytes ++ s.beside.buffer.items)) × (IsTrue F.honest → s.ends ≡ 0
         → LeavesOnly F.moment F.left_since s.first.value s.folder
-        (IsUntouched (F.may_leave s.first.value) (string_bytes s.beside)))
-        × (s.num_bytes ≡ length (s.sent.bytes ++ s.buffer.items)) };
+        (IsUntouched (F.may_leave s.first.value) (string_bytes s.beside.name)))
+        × (s.num_bytes ≡ length (s.beside.sent.bytes ++ s.beside.buffer.items)) };
 }
 
 // The name, and the name of the file beside.
@@ -107,27 +114,26 @@ fn pass_on<F: Folder>(folder: &mut F, beside: &str, bytes: &[u8], sent: &mut Sen
     Ok(())
 }
 
-// Passes what is held to the folder.
-fn hand_over<F: Folder>(
-    folder: &mut F,
-    beside: &str,
-    buffer: &mut Vec<u8>,
-    sent: &mut Sent,
-) -> io::Result<()>
-    requires { IsTrue F.honest → IsSome (F.seen folder.old beside.now) }
-    ensures sent { OnOk result (sent.new.bytes ≡ sent.old.bytes ++ buffer.old.items) }
-    ensures empty { OnOk result (buffer.new.items ≡ []) }
-    ensures content { sent.new.bytes ++ buffer.new.items ≡ sent.old.bytes ++ buffer.old.items }
-    ensures file { IsTrue F.honest → OnOk result
-        (F.seen folder.new beside.now ≡ Some (unwrap_or (F.seen folder.old beside.now) [] ++ buffer.old.items)) }
-    ensures crash { IsTrue F.honest
-        → ComesFrom (Elsewhere beside.now) (F.may_leave folder.old) (F.may_leave folder.new) }
-    ensures time { IsTrue F.honest → Elapses (F.moment folder.old) (F.moment folder.new)
-        (F.left_since folder.old) (F.left_since folder.new) (F.may_leave folder.new) }
-{
-    pass_on(folder, beside, buffer, sent)?;
-    buffer.clear();
-    Ok(())
+impl FileBeside {
+    // Passes what waits to the folder.
+    fn hand_over<F: Folder>(&mut self, folder: &mut F) -> io::Result<()>
+        requires { IsTrue F.honest → IsSome (F.seen folder.old (string_bytes self.old.name)) }
+        ensures sent { OnOk result (self.new.sent.bytes ≡ self.old.sent.bytes ++ self.old.buffer.items) }
+        ensures empty { OnOk result (self.new.buffer.items ≡ []) }
+        ensures name { self.new.name ≡ self.old.name }
+        ensures content { self.new.sent.bytes ++ self.new.buffer.items
+            ≡ self.old.sent.bytes ++ self.old.buffer.items }
+        ensures file { IsTrue F.honest → OnOk result (F.seen folder.new (string_bytes self.old.name)
+            ≡ Some (unwrap_or (F.seen folder.old (string_bytes self.old.name)) [] ++ self.old.buffer.items)) }
+        ensures crash { IsTrue F.honest → ComesFrom (Elsewhere (string_bytes self.old.name))
+            (F.may_leave folder.old) (F.may_leave folder.new) }
+        ensures time { IsTrue F.honest → Elapses (F.moment folder.old) (F.moment folder.new)
+            (F.left_since folder.old) (F.left_since folder.new) (F.may_leave folder.new) }
+    {
+        pass_on(folder, self.name.as_str(), &self.buffer, &mut self.sent)?;
+        self.buffer.clear();
+        Ok(())
+    }
 }
 
 impl<F: Folder> Publication<F> {
@@ -157,9 +163,11 @@ impl<F: Folder> Publication<F> {
         Ok(Publication {
             folder,
             name,
-            beside,
-            buffer: Vec::new(alloc),
-            sent: Sent::new(),
+            beside: FileBeside {
+                name: beside,
+                buffer: Vec::new(alloc),
+                sent: Sent::new(),
+            },
             first,
             num_bytes: 0,
             stage: Stage::Open,
@@ -239,19 +247,13 @@ impl<F: Folder> Publication<F> {
         ensures steady { OnOk result (self.new.failures ≡ self.old.failures) }
         ensures same { IsSameOutput self.old self.new }
     {
-        if len < BUFFER_SIZE || self.buffer.is_empty() {
+        if len < BUFFER_SIZE || self.beside.buffer.is_empty() {
             return Ok(());
         }
         if self.stage != Stage::Open {
             return self.refuse();
         }
-        let sent = hand_over(
-            &mut self.folder,
-            self.beside.as_str(),
-            &mut self.buffer,
-            &mut self.sent,
-        );
-        if let Err(error) = sent {
+        if let Err(error) = self.beside.hand_over(&mut self.folder) {
             self.stage = Stage::Failed;
             return self.fail(error);
         }
@@ -283,9 +285,9 @@ impl<F: Folder> TerminatingWrite for Publication<F> {
         let Some(num_bytes) = self.num_bytes.checked_add(bytes.len() as u64) else {
             return self.fail(io::ErrorKind::FileTooLarge.into());
         };
-        if bytes.len() >= BUFFER_SIZE && self.buffer.is_empty() {
-            let beside = self.beside.as_str();
-            let passed = pass_on(&mut self.folder, beside, bytes, &mut self.sent);
+        if bytes.len() >= BUFFER_SIZE && self.beside.buffer.is_empty() {
+            let beside = self.beside.name.as_str();
+            let passed = pass_on(&mut self.folder, beside, bytes, &mut self.beside.sent);
             if let Err(error) = passed {
                 self.stage = Stage::Failed;
                 return self.fail(error);
@@ -293,20 +295,14 @@ impl<F: Folder> TerminatingWrite for Publication<F> {
             self.num_bytes = num_bytes;
             return Ok(());
         }
-        if self.buffer.extend_from_slice(bytes).is_err() {
+        if self.beside.buffer.extend_from_slice(bytes).is_err() {
             return self.fail(io::ErrorKind::OutOfMemory.into());
         }
         self.num_bytes = num_bytes;
-        if self.buffer.len() < BUFFER_SIZE {
+        if self.beside.buffer.len() < BUFFER_SIZE {
             return Ok(());
         }
-        let sent = hand_over(
-            &mut self.folder,
-            self.beside.as_str(),
-            &mut self.buffer,
-            &mut self.sent,
-        );
-        if let Err(error) = sent {
+        if let Err(error) = self.beside.hand_over(&mut self.folder) {
             self.stage = Stage::Failed;
             return self.fail(error);
         }
@@ -329,17 +325,15 @@ impl<F: Folder> TerminatingWrite for Publication<F> {
         if self.stage != Stage::Open {
             return self.refuse();
         }
-        let sent = hand_over(
-            &mut self.folder,
-            self.beside.as_str(),
-            &mut self.buffer,
-            &mut self.sent,
-        );
-        if let Err(error) = sent {
+        if let Err(error) = self.beside.hand_over(&mut self.folder) {
             self.stage = Stage::Failed;
             return self.fail(error);
         }
-        let named = publish(&mut self.folder, self.beside.as_str(), self.name.as_str());
+        let named = publish(
+            &mut self.folder,
+            self.beside.name.as_str(),
+            self.name.as_str(),
+        );
         if let Err(error) = named {
             self.stage = Stage::Failed;
             return self.fail(error);

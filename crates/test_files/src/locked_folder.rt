@@ -113,21 +113,95 @@ fn what_is_written_is_read_by_another_opening(rt: HostRuntime) -> Result<(), Fai
     Ok(remove(&rt, "test_files_log")?)
 }
 
-// Whether each call refuses this name.
-fn refuses<F: ReadableFolder>(alloc: Global, folder: &mut F, name: &str) -> bool {
+// Whether the file of this name has these bytes.
+fn has<F: ReadableFolder>(alloc: Global, folder: &F, name: &str, bytes: &[u8]) -> io::Result<bool> {
+    Ok(match folder.read(alloc, name)? {
+        Some(found) => found.as_slice() == bytes,
+        None => false,
+    })
+}
+
+// Replaces the file that was written last, and renames it. Returns whether it can be written by its new name alone.
+fn follows_renames(alloc: Global, folder: &mut LockedFolder<HostRuntime>) -> io::Result<bool> {
+    folder.create("new")?;
+    folder.append("new", b"new")?;
+    folder.create("a")?;
+    folder.append("a", b"old")?;
+    folder.rename("new", "a")?;
+    folder.append("a", b"!")?;
+    folder.rename("a", "b")?;
+    let is_gone = folder.append("a", b"x").is_err();
+    folder.append("b", b"?")?;
+    Ok(is_gone && has(alloc, folder, "b", b"new!?")?)
+}
+
+// Makes a file twice, and removes it. Returns whether it was empty the second time, and can't be written then.
+fn begins_and_ends(alloc: Global, folder: &mut LockedFolder<HostRuntime>) -> io::Result<bool> {
+    folder.create("c")?;
+    folder.append("c", b"longer")?;
+    folder.create("c")?;
+    folder.append("c", b"x")?;
+    let is_cut = has(alloc, folder, "c", b"x")?;
+    folder.remove("c")?;
+    Ok(is_cut && folder.append("c", b"x").is_err() && folder.read(alloc, "c")?.is_none())
+}
+
+#[test]
+fn a_write_goes_to_the_file_that_has_the_name(rt: HostRuntime) -> Result<(), Fail> {
+    let alloc = rt.alloc();
+    make(&rt, "test_files_renamed")?;
+    let mut folder = LockedFolder::create(alloc, rt.clone()?, "test_files_renamed")?;
+    let follows = follows_renames(alloc, &mut folder);
+    let begins = begins_and_ends(alloc, &mut folder);
+    drop(folder);
+    assert!(rt; follows?);
+    assert!(rt; begins?);
+    Ok(remove(&rt, "test_files_renamed")?)
+}
+
+// Whether a folder with another one in it has no files, and a name that the system refuses is reported.
+fn has_plain_files_alone<F: ReadableFolder>(alloc: Global, folder: &F) -> Result<bool, Fail> {
+    let mut name = String::new(alloc);
+    for _ in 0..300 {
+        name.push('a')?;
+    }
+    Ok(folder.names(alloc)?.is_empty() && folder.read(alloc, name.as_str()).is_err())
+}
+
+#[test]
+fn what_cant_be_read_is_not_taken_for_a_file_or_for_none(rt: HostRuntime) -> Result<(), Fail> {
+    let alloc = rt.alloc();
+    make(&rt, "test_files_plain")?;
+    fs::create_dir(&rt, "test_files_plain/inner")?;
+    let folder = LockedFolder::create(alloc, rt.clone()?, "test_files_plain")?;
+    let has_plain_files_alone = has_plain_files_alone(alloc, &folder);
+    drop(folder);
+    assert!(rt; has_plain_files_alone?);
+    Ok(remove(&rt, "test_files_plain")?)
+}
+
+// Whether each call refuses this name. It is not `a`, since a rename requires two names.
+fn refuses(alloc: Global, folder: &mut LockedFolder<HostRuntime>, name: &str) -> bool {
     let is_refused = |outcome: io::Result<()>| match outcome {
         Ok(()) => false,
         Err(error) => error.kind() == ErrorKind::InvalidInput,
     };
-    is_refused(folder.create(name))
+    name != "a"
+        && is_refused(folder.create(name))
+        && is_refused(folder.append(name, b"x"))
+        && is_refused(folder.sync_file(name))
+        && is_refused(folder.rename("a", name))
+        && is_refused(folder.rename(name, "a"))
         && is_refused(folder.remove(name))
         && folder.read(alloc, name).is_err()
+        && folder.open(alloc, name).is_err()
 }
 
 #[test]
 fn names_that_lead_elsewhere_are_refused(rt: HostRuntime) -> Result<(), Fail> {
     let alloc = rt.alloc();
     make(&rt, "test_files_outside")?;
+    fs::write(&rt, "test_files_outside/a", b"a".as_slice())?;
     let mut folder = LockedFolder::create(alloc, rt.clone()?, "test_files_outside")?;
     let mut is_refused = true;
     for name in ["lock", "", ".", "..", "../a", "a/b"] {
@@ -135,7 +209,7 @@ fn names_that_lead_elsewhere_are_refused(rt: HostRuntime) -> Result<(), Fail> {
     }
     drop(folder);
     assert!(rt; is_refused);
-    assert_eq!(rt; count(&rt, "test_files_outside")?, 1);
+    assert_eq!(rt; count(&rt, "test_files_outside")?, 2);
     Ok(remove(&rt, "test_files_outside")?)
 }
 
@@ -174,4 +248,27 @@ fn each_failing_call_leaves_the_old_file_or_the_new_one(rt: HostRuntime) -> Resu
         assert_eq!(rt; calls.get(), failing_call.min(8), "{failing_call}");
     }
     Ok(remove(&rt, "test_files_fails")?)
+}
+
+// Makes a folder where the call of the system of this number fails. Returns whether it was opened.
+fn is_made(rt: &HostRuntime, calls: &Cell<u32>, failing_call: u32) -> Result<bool, Fail> {
+    let files = FailingFiles {
+        rt: rt.clone()?,
+        calls,
+        failing_call,
+    };
+    Ok(LockedFolder::create(rt.alloc(), files, "test_files_made/log").is_ok())
+}
+
+// The calls are: open the folder that it is in, and sync it; open the new folder, and open and lock its lock.
+#[test]
+fn a_new_folder_is_synced_in_the_one_that_it_is_in(rt: HostRuntime) -> Result<(), Fail> {
+    make(&rt, "test_files_made")?;
+    for failing_call in 1..7 {
+        let calls = Cell::new(0);
+        let is_made = is_made(&rt, &calls, failing_call)?;
+        assert_eq!(rt; is_made, failing_call == 6, "{failing_call}");
+        assert_eq!(rt; calls.get(), failing_call.min(5), "{failing_call}");
+    }
+    Ok(remove(&rt, "test_files_made")?)
 }

@@ -51,6 +51,25 @@ fn an_output_that_is_dropped_removes_what_it_began(rt: HostRuntime) -> Result<()
     Ok(remove(&rt, "test_files_dropped")?)
 }
 
+// Ends an output, begins the next one of its name, and drops the first. Returns whether the next one ends.
+fn is_followed(rt: &HostRuntime, path: &str) -> Result<bool, Fail> {
+    let mut first = DiskSink::create(rt.alloc(), rt.clone()?, path)?;
+    first.write_all(OLD)?;
+    first.terminate()?;
+    let mut next = DiskSink::create(rt.alloc(), rt.clone()?, path)?;
+    drop(first);
+    Ok(next.write_all(WHOLE).is_ok() && next.terminate().is_ok())
+}
+
+#[test]
+fn an_output_that_has_its_name_leaves_the_next_one_alone(rt: HostRuntime) -> Result<(), Fail> {
+    let path = "test_files_next/a.store";
+    make(&rt, "test_files_next")?;
+    assert!(rt; is_followed(&rt, path)?);
+    assert!(rt; holds(&rt, path, WHOLE)? && count(&rt, "test_files_next")? == 1);
+    Ok(remove(&rt, "test_files_next")?)
+}
+
 // How an output stands after the call of the system of this number failed.
 #[derive(Clone, Copy, Debug, PartialEq, Eq)]
 enum End {

@@ -93,6 +93,28 @@ fn links_are_followed(rt: HostRuntime) -> Result<(), Fail> {
 }
 
 #[test]
+fn a_link_beside_is_not_followed(rt: HostRuntime) -> Result<(), Fail> {
+    let beside = "test_files_beside/a.store.part";
+    make(&rt, "test_files_beside")?;
+    fs::write(&rt, "test_files_beside/other", b"other".as_slice())?;
+    for target in ["other", "none"] {
+        std::os::unix::fs::symlink(&rt, target, beside)?;
+        write_new(&rt, "test_files_beside/a.store")?;
+        assert!(rt;
+            holds(&rt, "test_files_beside/other", b"other")?,
+            "{target}"
+        );
+        assert!(rt;
+            holds(&rt, "test_files_beside/a.store", b"new")?,
+            "{target}"
+        );
+        // Nothing was made where the link led to nothing.
+        assert_eq!(rt; count(&rt, "test_files_beside")?, 2, "{target}");
+    }
+    Ok(remove(&rt, "test_files_beside")?)
+}
+
+#[test]
 fn a_link_to_nothing_is_refused(rt: HostRuntime) -> Result<(), Fail> {
     let link = "test_files_dangling/link.store";
     make(&rt, "test_files_dangling")?;

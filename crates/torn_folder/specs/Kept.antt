@@ -86,7 +86,7 @@ kept_leads (Created name ∷ events) n c kept left =
 kept_leads (Appended name more ∷ events) n c kept left = appended_leads name more events n left.0 c kept left.2 (kept_leads events n left.0 kept.1 left.1)
 kept_leads (Moved from to ∷ events) n c kept left = moved_leads from to events n left.0 c kept left.2 (kept_leads events n left.0 kept.2 left.1)
 kept_leads (Removed name ∷ events) n c kept left =
-    same_entry (seen_by events n) _ (held_by events n) _ (left.0 n) (c n) (put_elsewhere (string_bytes name) None (seen_by events) n kept.0) (left.2 n kept.0)
+    same_entry (seen_by events n) _ (held_by events n) _ (left.0 n) (c n) (put_elsewhere (string_bytes name) None (seen_by events) n kept.0) (left.2.elsewhere n kept.0)
     (λ bytes holds. holds) (kept_leads events n left.0 kept.1 left.1)
 kept_leads (FileSynced name ∷ events) n c kept left = synced_leads name events n c kept left (kept_leads events n c kept left.0)
 kept_leads (FolderSynced ∷ events) n c kept left = left.1 n

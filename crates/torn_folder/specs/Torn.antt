@@ -6,7 +6,7 @@ use Rattle.std.proofs.lemmas.List.{take_all}
 use Rattle.std.proofs.lemmas.Cmp.{nat_list_eq_equiv}
 use Rattle.std.specs.Cmp.Lexicographic.{same_text}
 use Rattle.std.specs.declared.alloc.Global.{Global}
-use Rattle.store_folder.specs.Folder.{Look, Elsewhere, Written, Renamed, LeadsTo}
+use Rattle.store_folder.specs.Folder.{Look, Elsewhere, Written, Renamed, LosesFile, LeadsTo}
 use Rattle.torn_folder.specs.declared.Event.{Event}
 use Rattle.torn_folder.specs.declared.Event.TheVariants.{Created, Appended, Moved, Removed, FileSynced, FolderSynced}
 
@@ -67,7 +67,7 @@ left_by [] c = (n : List ℕ) → c n ≡ None
 left_by (Created name ∷ events) c = (d : Look) × left_by events d × Elsewhere (string_bytes name) d c
 left_by (Appended name bytes ∷ events) c = (d : Look) × left_by events d × Written (string_bytes name) (held_by (Appended name bytes ∷ events) (string_bytes name)) d c
 left_by (Moved from to ∷ events) c = (d : Look) × left_by events d × Renamed (string_bytes from) (string_bytes to) (held_by events (string_bytes from)) d c
-left_by (Removed name ∷ events) c = (d : Look) × left_by events d × Elsewhere (string_bytes name) d c
+left_by (Removed name ∷ events) c = (d : Look) × left_by events d × LosesFile (string_bytes name) d c
 left_by (FileSynced name ∷ events) c = left_by events c × (kept_by events (string_bytes name) → c (string_bytes name) ≡ seen_by events (string_bytes name))
 left_by (FolderSynced ∷ events) c = left_by events c × ((n : List ℕ) → LeadsTo (seen_by events n) (held_by events n) (c n))
 
@@ -212,7 +212,10 @@ possible (Moved from to ∷ events) = moved_possible from to events (possible ev
 possible (Removed name ∷ events) =
     let was = possible events in
     let m = string_bytes name in
-    record { look = (seen_by events, was.look, put_elsewhere m None (seen_by events)); files = λ n bytes is. was.files n bytes (put_none (pointwise nat_eq m n) (seen_by events n) bytes is) }
+    record {
+      look = (seen_by events, was.look, record { at_name = inr (put_there m None (seen_by events)); elsewhere = put_elsewhere m None (seen_by events) });
+      files = λ n bytes is. was.files n bytes (put_none (pointwise nat_eq m n) (seen_by events n) bytes is);
+    }
 possible (FileSynced name ∷ events) =
     let was = possible events in
     record { look = (was.look, λ kept. refl); files = λ n bytes is. (was.files n bytes is, λ e. is) }

@@ -84,7 +84,11 @@ impl TornFolder {
 }
 
 impl ReadableFolder for TornFolder {
+    ghost use Rattle.std.specs.Prelude.{true};
+
     type File = MemFile;
+
+    ghost is_readable = { true };
 
     fn names(&self, alloc: Global) -> io::Result<Vec<String>> {
         match self.as_seen(alloc) {

@@ -12,55 +12,57 @@ use Rattle.store_folder.proofs.publication.PublicationTerminatingWrite.terminate
 
 -- the bytes beside the name, after what waited was handed over
 whole : (g : _) (c : After-publish-named g) → IsTrue g.F.Folder.honest
-    → IsBeside g.F.Folder.seen g.F.Folder.may_leave g.F.Folder.moment g.F.Folder.left_since c.self.inside.first.value c.hand_over-sent.new.folder
-    (string_bytes c.self.inside.beside) (c.self.inside.sent.bytes ++ c.self.inside.buffer.items)
+    → IsBeside g.F.Folder.seen g.F.Folder.may_leave g.F.Folder.moment g.F.Folder.left_since c.self.inside.first.value c.hand_over.new.folder
+    (string_bytes c.self.inside.beside.name) (c.self.inside.beside.sent.bytes ++ c.self.inside.beside.buffer.items)
 whole g c h =
     let F = g.F.Folder in
     let s = c.self.inside in
     let first = s.first.value in
-    let beside = string_bytes s.beside in
-    let content = s.sent.bytes ++ s.buffer.items in
-    let mid = c.hand_over-sent.new.folder in
+    let beside = string_bytes s.beside.name in
+    let content = s.beside.sent.bytes ++ s.beside.buffer.items in
+    let mid = c.hand_over.new.folder in
     let is_open : s.stage ≡ Open = search rules in
-    let was : IsBeside F.seen F.may_leave F.moment F.left_since first s.folder beside s.sent.bytes =
-    subst (λ st. IsSound F.seen F.may_leave F.moment F.left_since st first s.folder beside (string_bytes s.name) s.sent.bytes content) is_open (c.self.invariant.1 h)
+    let was : IsBeside F.seen F.may_leave F.moment F.left_since first s.folder beside s.beside.sent.bytes =
+    subst (λ st. IsSound F.seen F.may_leave F.moment F.left_since st first s.folder beside (string_bytes s.name) s.beside.sent.bytes content) is_open (c.self.invariant.1 h)
     in
-    let given = subst (λ (b : List ℕ). IsBeside F.seen F.may_leave F.moment F.left_since first s.folder b s.sent.bytes) (sym c.as_str.ensures.value) was in
-    let handed = appended F.seen F.may_leave F.moment F.left_since c.as_str.result.now first s.folder s.sent.bytes given mid s.buffer.items
-    (c.hand_over-sent.ensures.crash h) (c.hand_over-sent.ensures.time h)
+    appended F.seen F.may_leave F.moment F.left_since beside first s.folder s.beside.sent.bytes was mid s.beside.buffer.items (c.hand_over.ensures.crash h) (c.hand_over.ensures.time h)
     (c.in_default.ensures.file h)
-    in
-    subst (λ (b : List ℕ). IsBeside F.seen F.may_leave F.moment F.left_since first mid b content) c.as_str.ensures.value handed
+
+-- the name of the file beside stays
+beside_is : (g : _) (c : After-publish-named g) → string_bytes c.hand_over.new.self.name ≡ string_bytes c.self.inside.beside.name
+beside_is g c = ap string_bytes c.hand_over.ensures.name
 
 -- each moment since the first has the old file, or the whole one under the name
 old_or_whole : (g : _) (c : After-publish-named g) → IsTrue g.F.Folder.honest
     → LeavesOnly g.F.Folder.moment g.F.Folder.left_since c.self.inside.first.value c.publish-named.new.folder
-    (IsOldOrWhole (g.F.Folder.may_leave c.self.inside.first.value) (string_bytes c.self.inside.beside) (string_bytes c.self.inside.name)
-    (Some (c.self.inside.sent.bytes ++ c.self.inside.buffer.items)))
+    (IsOldOrWhole (g.F.Folder.may_leave c.self.inside.first.value) (string_bytes c.self.inside.beside.name) (string_bytes c.self.inside.name)
+    (Some (c.self.inside.beside.sent.bytes ++ c.self.inside.beside.buffer.items)))
 old_or_whole g c h =
     let F = g.F.Folder in
     let s = c.self.inside in
-    let beside = string_bytes s.beside in
-    let mid = c.hand_over-sent.new.folder in
+    let beside = string_bytes s.beside.name in
+    let mid = c.hand_over.new.folder in
     let new = c.publish-named.new.folder in
     let run = c.publish-named.ensures.any_moment h in
-    let run_beside = subst (λ (b : List ℕ). LeavesOnly F.moment F.left_since mid new (IsOldOrWhole (F.may_leave mid) b c.as_str-3.result.now (F.seen mid b))) c.as_str-2.ensures.value run in
-    let run_named = subst (λ (n : List ℕ). LeavesOnly F.moment F.left_since mid new (IsOldOrWhole (F.may_leave mid) beside n (F.seen mid beside))) c.as_str-3.ensures.value run_beside in
-    named F.seen F.may_leave F.moment F.left_since beside (string_bytes s.name) c.self.invariant.0 s.first.value mid (s.sent.bytes ++ s.buffer.items) (whole g c h) new run_named
+    let run_beside = subst (λ (b : List ℕ). LeavesOnly F.moment F.left_since mid new (IsOldOrWhole (F.may_leave mid) b c.as_str-2.result.now (F.seen mid b))) (c.as_str.ensures.value ∙ beside_is g c) run in
+    let run_named = subst (λ (n : List ℕ). LeavesOnly F.moment F.left_since mid new (IsOldOrWhole (F.may_leave mid) beside n (F.seen mid beside))) c.as_str-2.ensures.value run_beside in
+    named F.seen F.may_leave F.moment F.left_since beside (string_bytes s.name) c.self.invariant.0 s.first.value mid (s.beside.sent.bytes ++ s.beside.buffer.items) (whole g c h) new run_named
 
 -- the bytes that were sent then are those that were written
-content_is : (g : _) (c : After-publish-named g) → c.self.inside.sent.bytes ++ c.self.inside.buffer.items ≡ c.hand_over-sent.new.sent.bytes ++ c.hand_over-sent.new.buffer.items
-content_is g c = sym (ap (λ (b : List ℕ). c.hand_over-sent.new.sent.bytes ++ b) c.in_default.ensures.empty ∙ append-nil _ ∙ c.in_default.ensures.sent)
+content_is : (g : _) (c : After-publish-named g) → c.self.inside.beside.sent.bytes ++ c.self.inside.beside.buffer.items ≡ c.hand_over.new.self.sent.bytes ++ c.hand_over.new.self.buffer.items
+content_is g c = sym (ap (λ (b : List ℕ). c.hand_over.new.self.sent.bytes ++ b) c.in_default.ensures.empty ∙ append-nil _ ∙ c.in_default.ensures.sent)
 
 pub invariant_of-self-in-Err-named : goal.invariant_of-self-in-Err-named
 invariant_of-self-in-Err-named g c =
     let here = (goal.at.invariant_of-self-in-Err-named g c).After-publish-named in
     let F = g.F.Folder in
     let s = c.self.inside in (
-      c.self.invariant.0,
-      λ h. subst (λ (b : List ℕ). LeavesOnly F.moment F.left_since s.first.value c.publish-named.new.folder
-          (IsOldOrWhole (F.may_leave s.first.value) (string_bytes s.beside) (string_bytes s.name) (Some b)))
-          (content_is g here) (old_or_whole g here h),
+      λ e. c.self.invariant.0 (sym (beside_is g here) ∙ e),
+      λ h. subst (λ (n : List ℕ). LeavesOnly F.moment F.left_since s.first.value c.publish-named.new.folder
+          (IsOldOrWhole (F.may_leave s.first.value) n (string_bytes s.name) (Some (c.hand_over.new.self.sent.bytes ++ c.hand_over.new.self.buffer.items))))
+          (sym (beside_is g here)) (subst (λ (b : List ℕ). LeavesOnly F.moment F.left_since s.first.value c.publish-named.new.folder
+          (IsOldOrWhole (F.may_leave s.first.value) (string_bytes s.beside.name) (string_bytes s.name) (Some b)))
+          (content_is g here) (old_or_whole g here h)),
       λ h none. absurd (omega arith),
       c.self.invariant.3 ∙ ap length (content_is g here),
     )
@@ -71,17 +73,18 @@ invariant_of-self-2 g c =
     let F = g.F.Folder in
     let s = c.self.inside in
     let first = s.first.value in
-    let beside = string_bytes s.beside in
+    let beside = string_bytes s.beside.name in
     let name = string_bytes s.name in (
-      c.self.invariant.0,
+      λ e. c.self.invariant.0 (sym (beside_is g here) ∙ e),
       λ h.
-          let mid = c.hand_over-sent.new.folder in
+          let mid = c.hand_over.new.folder in
           let new = c.publish-named.new.folder in
           let kept = c.in_default-named.ensures.published h in
-          let kept_beside = subst (λ (b : List ℕ). Keeps c.as_str-3.result.now (F.seen mid b) (F.may_leave new)) c.as_str-2.ensures.value kept in
-          let kept_named = subst (λ (n : List ℕ). Keeps n (F.seen mid beside) (F.may_leave new)) c.as_str-3.ensures.value kept_beside in
-          let kept_all = named_kept F.seen F.may_leave F.moment F.left_since beside name c.self.invariant.0 first mid (s.sent.bytes ++ s.buffer.items) (whole g here h) new kept_named in
-          subst (λ (b : List ℕ). IsKept F.may_leave F.moment F.left_since first new beside name b) (content_is g here) (record { kept = kept_all; any_moment = old_or_whole g here h }),
+          let kept_beside = subst (λ (b : List ℕ). Keeps c.as_str-2.result.now (F.seen mid b) (F.may_leave new)) (c.as_str.ensures.value ∙ beside_is g here) kept in
+          let kept_named = subst (λ (n : List ℕ). Keeps n (F.seen mid beside) (F.may_leave new)) c.as_str-2.ensures.value kept_beside in
+          let kept_all = named_kept F.seen F.may_leave F.moment F.left_since beside name c.self.invariant.0 first mid (s.beside.sent.bytes ++ s.beside.buffer.items) (whole g here h) new kept_named in
+          subst (λ (n : List ℕ). IsKept F.may_leave F.moment F.left_since first new n name (c.hand_over.new.self.sent.bytes ++ c.hand_over.new.self.buffer.items)) (sym (beside_is g here))
+          (subst (λ (b : List ℕ). IsKept F.may_leave F.moment F.left_since first new beside name b) (content_is g here) (record { kept = kept_all; any_moment = old_or_whole g here h })),
       λ h none. absurd (omega arith),
       c.self.invariant.3 ∙ ap length (content_is g here),
     )
