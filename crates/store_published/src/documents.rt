@@ -1,6 +1,7 @@
 //! Documents that fill a store.
 
-ghost use Rattle.std.specs.Prelude.{◌≡◌, [], ◌∷◌, OnOk};
+ghost use Rattle.std.specs.Prelude.{◌≡◌, ◌≤◌, ◌+◌, ◌-◌, ◌^◌, [], ◌∷◌, length, OnOk, IsErrOf};
+ghost use Rattle.docstore.specs.Writer.{num_docs};
 ghost use Rattle.store_published.specs.Filling.{AddsDocuments};
 
 use crate::filling::Filling;
@@ -16,7 +17,11 @@ pub fn store_document<W: TerminatingWrite>(
     writer: &mut StoreWriter<W>,
     document: &[u8],
 ) -> Result<(), StoreError>
-    ensures { OnOk result (AddsDocuments (document.now ∷ []) writer.old writer.new) }
+    ensures stored { OnOk result (AddsDocuments (document.now ∷ []) writer.old writer.new) }
+    ensures size { OnOk result (writer.new.block_size ≡ writer.old.block_size) }
+    ensures too_many { IsErrOf result StoreError.TooManyDocs → num_docs writer.old ≡ 2 ^ 32 - 1 }
+    ensures too_large { IsErrOf result StoreError.BlockTooLarge
+        → 2 ^ 32 ≤ writer.old.block_size + length document.now + 8 }
 {
     laws::documents_are_taken_in_order();
     writer.store_bytes(document)

@@ -1,6 +1,6 @@
 //! Stores that are filled and published in one call, from the folder to the name.
 
-ghost use Rattle.std.specs.Prelude.{◌≡◌, ◌≢◌, ◌≤◌, ℕ, List, [], ◌++◌, IsTrue, IfOk, IsOk, OnOk, Some};
+ghost use Rattle.std.specs.Prelude.{◌≡◌, ◌≢◌, ◌≤◌, ℕ, List, [], ◌++◌, IsTrue, IfOk, IfErr, IsOk, OnOk, Some};
 ghost use Rattle.docstore.specs.Laws.{taken};
 ghost use Rattle.store_base.specs.Outputs.{never_terminated};
 ghost use Rattle.store_folder.specs.Moments.{LeavesOnly};
@@ -8,7 +8,7 @@ ghost use Rattle.store_folder.specs.Folder.{Keeps};
 ghost use Rattle.store_folder.specs.Publishing.{part, IsOldOrWhole};
 ghost use Rattle.store_published.specs.Filling.{IsStoreOf, AreNumbersOf, IsOldOrNew};
 ghost use Rattle.store_published.specs.Origin.{IsFrom, LeavesOnlySince};
-ghost use Rattle.store_published.specs.Outcome.{folder_left};
+ghost use Rattle.store_published.specs.Outcome.{folder_left, IsOfPublishing};
 
 use crate::filling::Filling;
 use crate::held::Held;
@@ -105,6 +105,7 @@ pub(crate) fn publish_held<F: Folder, K: Origin, E: Drop>(
     written: Written,
 ) -> Result<PublishedStore<F>, NotPublished<F, E>>
     ensures written { IfOk result (λ r. r.written ≡ written) }
+    ensures refused { IfErr result (λ e. IsOfPublishing e.error) }
     ensures kept { IsTrue F.honest
         → IfOk result (λ r. Keeps K.name (Some held.output.content) (F.may_leave r.folder)) }
     ensures any_moment { IsTrue F.honest → LeavesOnlySince F.moment F.left_since K.began K.past (folder_left result)

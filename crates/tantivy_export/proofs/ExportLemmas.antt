@@ -1,6 +1,6 @@
 -- Blocks that are copied a part at a time, and the file that they come to.
-use Rattle.std.proofs.Common.{◌≡◌, inl, inr, ℕ, ◌+◌, ◌<◌, ◌≤◌, IsTrue, List, [], ◌∷◌, ◌++◌, length, Option, Some, replicate, refl, sym, ◌∙◌, ap, subst, arith, append_assoc, length-append}
-use Rattle.std.specs.Prelude.{slice_range, IfSome, Result, Ok, Err, OnOk}
+use Rattle.std.proofs.Common.{◌≡◌, inl, inr, ℕ, ◌+◌, ◌≤◌, IsTrue, List, [], ◌∷◌, ◌++◌, length, replicate, refl, sym, ◌∙◌, ap, subst, arith, append_assoc, length-append}
+use Rattle.std.specs.Prelude.{slice_range, Result, Ok, Err, OnOk}
 use Rattle.std.proofs.lemmas.List.{append-nil, take_all}
 use Rattle.layered_index.specs.declared.checkpoint.Checkpoint.{Checkpoint}
 use Rattle.layered_index.specs.Checkpoint.{Covers, IsInLine, IsInLineFrom, bytes_end}
@@ -9,42 +9,17 @@ use Rattle.layered_index.proofs.LineLemmas.{in_line_from, in_line_somewhere, in_
 use Rattle.store_format.specs.Footer.{footer}
 use Rattle.store_format.specs.StoreFile.{StoreBlock, data_of, checkpoints_of, blocks_at, file, IsStore}
 use Rattle.store_reader.specs.Reading.{Reading}
-use Rattle.store_reader.specs.Parts.{byte_at, EndsPart, IsPartFrom, IsPartRead}
+use Rattle.store_reader.specs.Parts.{byte_at, IsPartFrom}
 use Rattle.store_reader.specs.declared.reader.parts.StorePart.{StorePart}
 use Rattle.store_reader.proofs.ReaderStoreLemmas.{slices_joined, all_of, store_seen}
 use Rattle.docstore.specs.Stacking.{AreRead}
 use Rattle.docstore.specs.StackingInParts.{IsReadTimes, IsReadUpTo}
-use Rattle.docstore.proofs.ReadInPartsLemmas.{same_checkpoints, covers_still, part_read}
+use Rattle.docstore.proofs.ReadInPartsLemmas.{IsPartTaken, same_checkpoints}
+use Rattle.store_base.specs.Outputs.{Output}
 use Rattle.tantivy_export.specs.Exporting.{IsCopied}
 
 pub none_copied : (reader : Reading) (content : List ℕ) → IsCopied reader 0 content content
 none_copied reader content = record { bytes = []; len = refl; honest = λ is. refl; after = sym (append-nil content) }
-
--- a part that was read
-pub record IsTaken (size n : ℕ) (reader read new : Reading) (part : StorePart) : Type 0 where
-  pub covers : Covers reader.checkpoints (length reader.file.content)
-  pub came : IsPartFrom size read n part
-  pub up : IsReadUpTo size part.blocks.end reader new
-  pub within : part.blocks.end ≤ length reader.checkpoints
-  pub more : n < part.blocks.end
-
-pub part_taken : (size n : ℕ) (reader read new : Reading) (found : Option StorePart) (part : StorePart) → Covers read.checkpoints (length read.file.content) → IsReadUpTo size n reader read
-    → found ≡ Some part → IfSome found (IsPartFrom size read n) → (n < length read.checkpoints → IsPartRead size read n (Ok found) new) → IsTaken size n reader read new part
-part_taken size n reader read new found part covers_read up is came once =
-    let cs = reader.checkpoints in
-    let covers = covers_still up.times (byte_at n cs) reader read up.read covers_read in
-    let same = same_checkpoints up.times (byte_at n cs) reader read up.read in
-    let p : IsPartFrom size read n part = subst (λ (o : Option StorePart). IfSome o (IsPartFrom size read n)) is came in
-    let ends : EndsPart size cs n part.blocks.end = subst (λ (xs : List Checkpoint). EndsPart size xs n part.blocks.end) same p.ends in
-    let r = once (omega (arith, p.ends.some, p.ends.last)) in
-    let end : part.blocks.end ≡ r.end = subst (λ (o : Option StorePart). IfSome o (λ q. q.blocks.end ≡ r.end)) is r.came in
-    record {
-      covers = covers;
-      came = p;
-      up = subst (λ (k : ℕ). IsReadUpTo size k reader new) (sym end) (part_read size n r.end reader read new covers up r.ends r.once);
-      within = ends.last;
-      more = ends.some;
-    }
 
 -- one more part is after those before it
 pub part_copied : (size n times bytes : ℕ) (reader read : Reading) (part : StorePart) (text old mid new : List ℕ) → IsReadTimes times bytes reader read → IsPartFrom size read n part
@@ -62,6 +37,27 @@ part_copied size n times bytes reader read part text old mid new kept p before t
       honest = λ is. (λ i. before.honest is i ++ here is i) ∙ sym (slices_joined reader.file.content 0 (byte_at n cs) (byte_at m cs) (omega arith) (omega (arith, len)));
       after = after ∙ (λ i. before.after i ++ text_is i) ∙ append_assoc old before.bytes part.bytes;
     }
+
+-- what is known once the blocks before a place were read and copied
+pub record HasCopied (size n : ℕ) (store now : Reading) (old new : Output) : Type 0 where
+  pub put : IsCopied store n old.content new.content
+  pub read : IsReadUpTo size n store now
+  pub within : n ≤ length store.checkpoints
+  pub reader : now.file.failures ≡ store.file.failures
+  pub termination : new.termination ≡ old.termination
+  pub steady : new.failures ≡ old.failures
+
+pub copied_more : (size n : ℕ) (store now left : Reading) (part : StorePart) (text : List ℕ) (old mid new : Output) → HasCopied size n store now old mid → IsPartTaken size n store now left part
+    → text ≡ part.bytes → new.content ≡ mid.content ++ text → left.file.failures ≡ now.file.failures → new.termination ≡ mid.termination → new.failures ≡ mid.failures
+    → HasCopied size part.blocks.end store left old new
+copied_more size n store now left part text old mid new has taken text_is after still termination steady = record {
+  put = part_copied size n has.read.times (byte_at n store.checkpoints) store now part text old.content mid.content new.content has.read.read taken.came has.put text_is after;
+  read = taken.up;
+  within = taken.within;
+  reader = still ∙ has.reader;
+  termination = termination ∙ has.termination;
+  steady = steady ∙ has.steady;
+}
 
 -- one more checkpoint of a list in line
 pub next_in_line : (before left more cs : List Checkpoint) (c : Checkpoint) → before ++ left ≡ cs → left ≡ c ∷ more → IsInLine cs → IsInLine (before ++ c ∷ [])

@@ -1,23 +1,17 @@
-use Rattle.std.proofs.Common.{List, ℕ, Some, refl, sym, ◌∙◌, subst}
-use Rattle.store_folder.specs.Folder.{Keeps}
-use Rattle.store_folder.proofs.Runs.{part_apart}
-use Rattle.store_published.proofs.Results.{if_ok_then}
-use Rattle.store_published.proofs.Sinces.{since_folder, not_begun}
+use Rattle.std.specs.Prelude.{IsTrue}
+use Rattle.store_published.proofs.Sinces.{from_itself, names_apart, under_name, since_folder, not_begun}
 use Rattle.store_published.specs.Outcome.{folder_left}
 use Rattle.store_published.proofs.exporting.publish_export.Goals as goal
 
 pub export_since-requires-clause-apart : goal.export_since-requires-clause-apart
-export_since-requires-clause-apart g c = λ e. part_apart c.args.name.now (sym c.in-Ok.ensures.beside ∙ e ∙ c.in-Ok.ensures.name)
+export_since-requires-clause-apart g c = names_apart c.args.name.now c.in-Ok.output.beside c.in-Ok.output.name c.in-Ok.ensures.beside c.in-Ok.ensures.name
 
 pub export_since-requires-clause-origin : goal.export_since-requires-clause-origin
-export_since-requires-clause-origin g c = λ h.
-    record { moment_is = refl; outcomes = λ l left. left; earlier = λ t l left. left; beside_is = refl; name_is = refl }
+export_since-requires-clause-origin g c = λ h. from_itself g.F.Folder.may_leave g.F.Folder.moment g.F.Folder.left_since c.in-Ok.output
 
 pub returns-in-Ok-clause-exported : goal.returns-in-Ok-clause-exported
 returns-in-Ok-clause-exported g c =
-    if_ok_then c.export_since.result _ _
-    (λ r s. (s.0, s.1, λ h. subst (λ (n : List ℕ). Keeps n (Some s.0) (g.F.Folder.may_leave r.folder)) c.in-Ok.ensures.name (s.2 h)))
-    c.export_since.ensures.exported
+    under_name g.F.Folder.may_leave (IsTrue g.F.Folder.honest) _ c.in-Ok.output.name c.args.name.now c.export_since.result c.in-Ok.ensures.name c.export_since.ensures.exported
 
 pub returns-in-Ok-clause-any_moment : goal.returns-in-Ok-clause-any_moment
 returns-in-Ok-clause-any_moment g c = λ h.
