@@ -1,11 +1,16 @@
+pub mod CauseLemmas
+pub mod CrashLemmas
+pub mod DropLemmas
 pub mod GrowLemmas
 pub mod HoldLemmas
 pub mod LoadLemmas
 pub mod NameLemmas
+pub mod NoLogLemmas
 pub mod NumberLemmas
 pub mod OpeningLemmas
 pub mod PartLemmas
 pub mod ReadLemmas
+pub mod RunLemmas
 pub mod ScanLemmas
 pub mod SealLemmas
 pub mod SegmentLemmas

@@ -63,6 +63,7 @@ pub numbers_same : (names : List (List ℕ)) (numbers name : List ℕ) → ((n :
 numbers_same names numbers name other known = record {
   each = λ k low among. ⊎_elim (λ before. known.each k low before) (λ is. absurd (other k low is)) (Contains-push_cases names name (segment_name k) among);
   only = λ k among. Contains-append_left names (name ∷ []) (segment_name k) (known.only k among);
+  fits = known.fits;
 }
 
 -- a segment's name
@@ -75,5 +76,7 @@ numbers_more names numbers name new number is fits new_is known = record {
   only = λ k among. ⊎_elim
       (λ before. Contains-append_left names (name ∷ []) (segment_name k) (known.only k before))
       (λ same. subst (λ (n : List ℕ). Contains (names ++ name ∷ []) n) (is ∙ ap segment_name same) (Contains-push names name))
+      (Contains-push_cases numbers number k (subst (λ (l : List ℕ). Contains l k) new_is among));
+  fits = λ k among. ⊎_elim (λ before. known.fits k before) (λ same. subst (λ (n : ℕ). n < 2 ^ 64) same fits)
       (Contains-push_cases numbers number k (subst (λ (l : List ℕ). Contains l k) new_is among));
 }

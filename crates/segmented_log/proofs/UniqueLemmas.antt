@@ -12,14 +12,14 @@ use Rattle.segmented_log.proofs.PartLemmas.{begin_before}
 use Rattle.segmented_log.proofs.StoreLemmas.{same_slots}
 
 -- each first number is one of these
-abbrev AreAmong : List Part → List Part → Type 0
+abbrev pub AreAmong : List Part → List Part → Type 0
 AreAmong parts others = AllByRecursion (λ part. Contains (firsts others) part.first) parts
 
 none_among : (k : ℕ) → Contains (firsts []) k → ⊥
 none_among k among = absurd (omega (arith, among.1))
 
 -- a number among the first ones is the front one, or comes after it
-among_cons : (p : Part) (parts : List Part) (k : ℕ) → Contains (firsts (p ∷ parts)) k → (p.first ≡ k) ⊎ Contains (firsts parts) k
+pub among_cons : (p : Part) (parts : List Part) (k : ℕ) → Contains (firsts (p ∷ parts)) k → (p.first ≡ k) ⊎ Contains (firsts parts) k
 among_cons p parts k (zero, within, is) = inl is
 among_cons p parts k (suc i, within, is) = inr (i, omega (arith, within), is)
 
@@ -36,7 +36,7 @@ later_among q others (p ∷ parts) n below up among = (
   later_among q others parts (p.first + 1) (omega (arith, below, up.0)) up.1 among.1,
 )
 
-same_parts : StoresAreApart → (c : Look) (n : ℕ) (parts others : List Part) → Ascend n parts → Ascend n others → AreAmong parts others → AreAmong others parts
+pub same_parts : StoresAreApart → (c : Look) (n : ℕ) (parts others : List Part) → Ascend n parts → Ascend n others → AreAmong parts others → AreAmong others parts
     → AllByRecursion (HasSegment c) parts → AllByRecursion (HasSegment c) others → parts ≡ others
 same_parts apart c n [] [] up up' in' in'' has has' = refl
 same_parts apart c n [] (q ∷ others) up up' in' in'' has has' = absurd (none_among q.first in''.0)
@@ -62,8 +62,12 @@ known_all c segments tail (p ∷ parts) end low below has held = (
     there : (content : List ℕ) → None ≡ Some content → ⊥
     there content e = cc e
 
-some_is : (a b : List ℕ) → Some a ≡ Some b → a ≡ b
+pub some_is : (a b : List ℕ) → Some a ≡ Some b → a ≡ b
 some_is a b e = cc e
+
+pub from_zero : (n : ℕ) (segments : List Part) → Ascend n segments → Ascend 0 segments
+from_zero n [] up = tt
+from_zero n (p ∷ segments) up = (omega arith, up.1)
 
 pub same_log : StoresAreApart → (c : Look) (first other : ℕ) (all slots : List Slot) → IsLog first all c → IsLog other slots c → (first ≡ other) × (all ≡ slots)
 same_log apart c first other all slots a b =
@@ -77,10 +81,6 @@ same_log apart c first other all slots a b =
       firsts_same,
       a.slots_are ∙ (λ i. log_slots (firsts_same i) (parts i) (tails i)) ∙ sym b.slots_are,
     )
-  where
-    from_zero : (n : ℕ) (segments : List Part) → Ascend n segments → Ascend 0 segments
-    from_zero n [] up = tt
-    from_zero n (p ∷ segments) up = (omega arith, up.1)
 
 -- a log has a tail
 pub not_blank : (c : Look) (first : ℕ) (all : List Slot) → IsLog first all c → IsBlank c → ⊥

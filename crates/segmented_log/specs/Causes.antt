@@ -1,7 +1,13 @@
 -- Which errors calls of a log report.
-use Rattle.std.specs.Prelude.{◌≡◌, ℕ}
+use Rattle.std.specs.Prelude.{◌≡◌, ◌≢◌, ◌⊎◌, ℕ, ◌+◌, ◌≤◌, ◌^◌, List, ◌++◌, length, map, None, IsSome}
+use Rattle.std.specs.List.{Any}
+use Rattle.std.specs.declared.io.ErrorKind.{ErrorKind}
+use Rattle.std.specs.declared.io.ErrorKind.TheVariants.{OutOfMemory}
 use Rattle.store_base.specs.declared.error.StoreError.{StoreError}
 use Rattle.store_base.specs.declared.error.StoreError.TheVariants.{DamagedDocument}
+use Rattle.store_folder.specs.Folder.{Look}
+use Rattle.store_format.specs.Block.{Slot, doc}
+use Rattle.segmented_log.specs.Names.{segment_name}
 use Rattle.segmented_log.specs.declared.error.LogError.{LogError}
 use Rattle.segmented_log.specs.declared.error.LogError.TheVariants.{Memory, Failed, Full, BatchFull, TooLong, Broken, NoLog, Damaged}
 
@@ -15,6 +21,17 @@ IsOfFolders TooLong = ⊥
 IsOfFolders Broken = ⊥
 IsOfFolders NoLog = ⊥
 IsOfFolders Damaged = ⊥
+
+-- those of a call that opens one of the log's files
+abbrev pub IsOfFiles : LogError → Type 0
+IsOfFiles Memory = Unit {0}
+IsOfFiles Failed = Unit {0}
+IsOfFiles Full = ⊥
+IsOfFiles BatchFull = ⊥
+IsOfFiles TooLong = ⊥
+IsOfFiles Broken = ⊥
+IsOfFiles NoLog = Unit {0}
+IsOfFiles Damaged = ⊥
 
 -- those of a call that publishes a segment
 abbrev pub IsOfSeals : LogError → Type 0
@@ -85,3 +102,21 @@ IsOfReads Damaged = Unit {0}
 -- a document of a store is damaged
 abbrev pub IsDamaged : StoreError → Type 0
 IsDamaged e = (id : ℕ) × (e ≡ DamagedDocument id)
+
+-- why a call of the folder failed whose error is of this kind
+abbrev pub IsOfKind : ErrorKind → LogError → Type 0
+IsOfKind kind Memory = kind ≡ OutOfMemory
+IsOfKind kind Failed = kind ≢ OutOfMemory
+IsOfKind kind _ = ⊥
+
+-- A store has no room for these records: they are too many, or the block of one is too large.
+abbrev pub HasNoRoom : List (List ℕ) → Type 0
+HasNoRoom records = (2 ^ 32 ≤ length records) ⊎ Any (λ bytes. 2 ^ 32 ≤ 16392 + length bytes) records
+
+-- A store has no room for the last of these slots, which have records.
+abbrev pub HasNoRoomForLast : List Slot → Type 0
+HasNoRoomForLast all = (before : List Slot) × (records : List (List ℕ)) × (all ≡ before ++ map doc records) × HasNoRoom records
+
+-- A segment was published.
+abbrev pub HasNewSegment : Look → Look → Type 0
+HasNewSegment old new = (first : ℕ) × (old (segment_name first) ≡ None) × IsSome (new (segment_name first))

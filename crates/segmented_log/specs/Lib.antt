@@ -4,3 +4,6 @@ pub mod Log
 pub mod Settled
 pub mod Causes
 pub mod Opening
+pub mod Runs
+pub mod Laws
+pub mod Dropping

@@ -1,8 +1,12 @@
 -- What a log finds as it is opened.
-use Rattle.std.specs.Prelude.{◌≡◌, ℕ, ◌<◌, ◌^◌, List, Some}
+use Rattle.std.specs.Prelude.{◌≡◌, ℕ, ◌≤◌, ◌<◌, ◌^◌, Bool, false, List, [], Option, Some, None, IsSome}
 use Rattle.std.specs.List.{Contains}
 use Rattle.store_folder.specs.Folder.{Look}
-use Rattle.segmented_log.specs.Names.{segment_name}
+use Rattle.store_format.specs.Block.{Slot}
+use Rattle.record_log.specs.Tail.{records_of, first_of, IsTail}
+use Rattle.segmented_log.specs.Names.{segment_name, tail_name}
+use Rattle.segmented_log.specs.Parts.{tail_end}
+use Rattle.segmented_log.specs.Log.{HasSegment, IsLog, IsBlank}
 
 -- After a restart: what a look sees is what is on the disk, under every name and in every file.
 pub record IsRestarted (seen : Look) (may_hold : List ℕ → List ℕ → Type 0) (may_leave : Look → Type 0) (entry_kept : List ℕ → Type 0) : Type 0 where
@@ -14,3 +18,32 @@ pub record IsRestarted (seen : Look) (may_hold : List ℕ → List ℕ → Type 
 pub record AreNumbersIn (names : List (List ℕ)) (numbers : List ℕ) : Type 0 where
   pub each : (k : ℕ) → k < 2 ^ 64 → Contains names (segment_name k) → Contains numbers k
   pub only : (k : ℕ) → Contains numbers k → Contains names (segment_name k)
+  pub fits : (k : ℕ) → Contains numbers k → k < 2 ^ 64
+
+-- The folder is not a log, nor could one begin in it.
+pub record IsNoLog (c : Look) : Type 0 where
+  pub not_log : (first : ℕ) (all : List Slot) → IsLog first all c → ⊥
+  pub not_blank : IsBlank c → ⊥
+
+-- The numbers of the tail's records pass the greatest u64.
+abbrev pub HasFullTail : Look → Type 0
+HasFullTail c = (tail : List ℕ) × (c tail_name ≡ Some tail) × (2 ^ 64 ≤ tail_end tail)
+
+-- The folder has a file of a segment.
+abbrev pub HasSegments : Look → Type 0
+HasSegments c = (first : ℕ) × IsSome (c (segment_name first))
+
+-- Of this number the folder has no segment that is a store.
+pub record IsNoSegment (c : Look) (first : ℕ) : Type 0 where
+  pub fits : first < 2 ^ 64
+  pub no_store : (all : List Slot) → HasSegment c (record { first = first; slots = all }) → ⊥
+
+-- This file is no tail; or there is none, where the folder is not blank.
+abbrev pub IsNoTail : Bool → Option (List ℕ) → Type 0
+IsNoTail is_blank (Some bytes) = IsTail bytes → ⊥
+IsNoTail is_blank None = is_blank ≡ false
+
+-- The tail has the records of the file that was there, or none where there was none.
+abbrev pub IsTailOf : Option (List ℕ) → List ℕ → Type 0
+IsTailOf (Some bytes) tail = IsTail bytes × (first_of tail ≡ first_of bytes) × (records_of tail ≡ records_of bytes)
+IsTailOf None tail = (first_of tail ≡ 0) × (records_of tail ≡ [])

@@ -1,10 +1,11 @@
 //! Why a call on a log failed.
 
 ghost use Rattle.std.specs.Prelude.{◌≡◌};
-ghost use Rattle.segmented_log.specs.declared.error.LogError.TheVariants.{Memory, Failed};
+ghost use Rattle.segmented_log.specs.declared.error.LogError.TheVariants.{Memory};
 
 use std::alloc::{AllocError, AllocFailed};
 use std::io;
+use std::io::ErrorKind;
 use thiserror::Error;
 
 /// Why a call on a log, or on its folder, failed.
@@ -53,9 +54,16 @@ impl<T: Drop> From<AllocFailed<T>> for LogError {
 }
 
 impl From<io::Error> for LogError {
-    ghost from_gives = { λ _ e. e ≡ Failed };
+    ghost use Rattle.std.specs.IoError.{error_kind};
+    ghost use Rattle.segmented_log.specs.Causes.{IsOfKind};
 
-    fn from(_: io::Error) -> Self {
-        LogError::Failed
+    ghost from_gives = { λ error e. IsOfKind (error_kind error) e };
+
+    fn from(error: io::Error) -> Self {
+        if error.kind() == ErrorKind::OutOfMemory {
+            LogError::Memory
+        } else {
+            LogError::Failed
+        }
     }
 }

@@ -1,7 +1,9 @@
 //! A log of records in a folder: sealed segments, which are ordinary stores, and one tail.
 #![tactic(auto)]
 
+mod dropping;
 pub mod error;
+pub mod laws;
 mod loading;
 pub mod log;
 pub mod names;
@@ -9,6 +11,7 @@ pub mod numbers;
 mod opening;
 mod reading;
 pub mod records;
+pub mod runs;
 pub mod sealing;
 mod segment;
 mod syncing;
@@ -20,3 +23,4 @@ pub use log::{MAX_RECORD, SegmentedLog};
 pub use names::{TAIL, segment_file};
 pub use numbers::segment_number;
 pub use records::Records;
+pub use runs::{Call, call_all, open_and_call};

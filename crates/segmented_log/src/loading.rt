@@ -1,7 +1,8 @@
 //! A log that is opened.
 
 ghost use Rattle.std.specs.Prelude.{◌≡◌, false, ◌≤◌, ◌<◌, ◌^◌, ◌+◌, ◌++◌, ℕ, List, [], None, length, map, All};
-ghost use Rattle.std.specs.Prelude.{IsTrue, IfOk, IfErr};
+ghost use Rattle.std.specs.Prelude.{◌⊎◌, IsTrue, IfOk, IfErr, IsErrOf};
+ghost use Rattle.store_base.specs.Counts.{HasRisen};
 ghost use Rattle.store_folder.specs.Moments.{ComesFrom, LeavesOnly};
 ghost use Rattle.store_folder.specs.Folder.{ElsewhereOfBoth};
 ghost use Rattle.store_folder.specs.Publishing.{part};
@@ -9,11 +10,11 @@ ghost use Rattle.store_format.specs.Block.{Slot};
 ghost use Rattle.record_log.specs.Place.{contents, EndsBy};
 ghost use Rattle.record_log.specs.Tail.{records_of, first_of, IsTail, IsWholeTo};
 ghost use Rattle.segmented_log.specs.Names.{tail_name};
-ghost use Rattle.segmented_log.specs.Parts.{part_of, end_from, AreParts};
+ghost use Rattle.segmented_log.specs.Parts.{part_of, tail_end, end_from, AreParts};
 ghost use Rattle.segmented_log.specs.Log.{IsLog, IsBlank, KeepsLog};
-ghost use Rattle.segmented_log.specs.Opening.{IsRestarted};
+ghost use Rattle.segmented_log.specs.Opening.{IsRestarted, IsNoLog, HasFullTail, HasSegments, IsTailOf, IsNoTail};
 ghost use Rattle.segmented_log.specs.Settled.{TailIsKept, IsSettledTail, IsSettledFolder};
-ghost use Rattle.segmented_log.specs.Causes.{IsOfOpenings};
+ghost use Rattle.segmented_log.specs.Causes.{IsOfFiles, IsOfOpenings};
 
 use crate::error::LogError;
 use crate::log::SegmentedLog;
@@ -53,8 +54,12 @@ fn load_tail<F: ReadableFolder>(
         (F.may_leave folder.old) (F.may_leave folder.new) }
     ensures any_moment { IsTrue F.honest → LeavesOnly F.moment F.left_since folder.old folder.new
         (KeepsLog (F.seen folder.old)) }
+    ensures same { IsTrue F.honest → IfOk result (λ t. IsTailOf (F.seen folder.old tail_name) t.bytes.items) }
+    ensures no_log { IsTrue F.honest → IsErrOf result LogError.NoLog → IsNoTail is_blank (F.seen folder.old tail_name) }
     ensures failures { F.failures folder.old ≤ F.failures folder.new }
-    ensures kind { IfErr result IsOfOpenings }
+    ensures failed { IsTrue F.is_readable → IsErrOf result LogError.Failed
+        → HasRisen (F.failures folder.old) (F.failures folder.new) }
+    ensures kind { IfErr result IsOfFiles }
 {
     match folder.read(alloc, TAIL)? {
         Some(bytes) => repair_tail(alloc, folder, bytes),
@@ -77,6 +82,10 @@ fn assemble<H: FileHandle>(segments: Vec<Segment<H>>, tail: Tail) -> Result<Part
         p.tail.bytes.items) }
     ensures sealed { IfOk result (λ p. p.sealed
         ≡ end_from p.first (map (λ s. part_of s.first s.reader) p.segments.items)) }
+    ensures no_log { IsErrOf result LogError.NoLog → (first : ℕ)
+        → AreParts first (map (λ s. part_of s.first s.reader) segments.items) tail.bytes.items → ⊥ }
+    ensures full { IsErrOf result LogError.Full → 2 ^ 64 ≤ tail_end tail.bytes.items }
+    ensures failed { IsErrOf result LogError.Failed → ⊥ }
     ensures kind { IfErr result IsOfOpenings }
 {
     let first = match segments.first() {
@@ -113,9 +122,14 @@ fn load<F: ReadableFolder>(alloc: Global, folder: &mut F) -> Result<Parts<F::Fil
     ensures honest { IsTrue F.honest → IfOk result (λ p. All (λ s. IsTrue s.reader.file.honest) p.segments.items) }
     ensures any_moment { IsTrue F.honest → LeavesOnly F.moment F.left_since folder.old folder.new
         (KeepsLog (F.seen folder.old)) }
+    ensures no_log { IsTrue F.honest → IsErrOf result LogError.NoLog → IsNoLog (F.seen folder.old) }
+    ensures full { IsTrue F.honest → IsErrOf result LogError.Full → HasFullTail (F.seen folder.old) }
     ensures failures { F.failures folder.old ≤ F.failures folder.new }
+    ensures failed { IsTrue F.honest → IsTrue F.is_readable → IsErrOf result LogError.Failed
+        → HasRisen (F.failures folder.old) (F.failures folder.new) ⊎ HasSegments (F.seen folder.old) }
     ensures kind { IfErr result IsOfOpenings }
 {
+    laws::stores_are_apart();
     let names = folder.names(alloc)?;
     let numbers = numbers_in(alloc, &names)?;
     let segments = open_segments(alloc, folder, &numbers)?;
@@ -130,8 +144,8 @@ impl<F: ReadableFolder> SegmentedLog<F> {
     /// of a log. A torn end of the tail is cut off. A crash during it leaves the same log. A tail that grows past the
     /// seal size, in bytes, is sealed by `sync`.
     ///
-    /// Errors hand the folder back: `NoLog` where its files are no log, `Full` where the numbers pass the greatest u64,
-    /// `Memory` and `Failed`.
+    /// Errors hand the folder back: `NoLog` where its files are no log, `Full` where the numbers of the tail's records
+    /// pass the greatest u64, `Memory` and `Failed`.
     pub fn open(
         alloc: Global,
         folder: F,
@@ -154,6 +168,13 @@ impl<F: ReadableFolder> SegmentedLog<F> {
             (KeepsLog (F.seen folder))) }
         ensures any_moment_err { IsTrue F.honest → IfErr result (λ e. LeavesOnly F.moment F.left_since folder e.1
             (KeepsLog (F.seen folder))) }
+
+        // A log is not refused, nor a folder where one can begin. Where the folder is read, a call of it failed, or the
+        // file of a segment.
+        ensures no_log { IsTrue F.honest → IfErr result (λ e. e.0 ≡ LogError.NoLog → IsNoLog (F.seen folder)) }
+        ensures full { IsTrue F.honest → IfErr result (λ e. e.0 ≡ LogError.Full → HasFullTail (F.seen folder)) }
+        ensures failed { IsTrue F.honest → IsTrue F.is_readable → IfErr result (λ e. e.0 ≡ LogError.Failed
+            → HasRisen (F.failures folder) (F.failures e.1) ⊎ HasSegments (F.seen folder)) }
         ensures kind { IfErr result (λ e. IsOfOpenings e.0) }
     {
         laws::stores_are_apart();

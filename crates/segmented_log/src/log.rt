@@ -88,6 +88,7 @@ impl<F: ReadableFolder> SegmentedLog<F> {
         ensures full { IsTrue F.honest → IsErrOf result LogError.Full
             → self.old.first + length self.old.slots + length self.old.pending + 1 ≡ 2 ^ 64 }
         ensures too_long { IsErrOf result LogError.TooLong → 2 ^ 32 ≤ 16409 + length bytes.now }
+        ensures taken { OnOk result (16409 + length bytes.now ≤ 2 ^ 32) }
         ensures batch_full { IsErrOf result LogError.BatchFull
             → 2 ^ 32 ≤ self.old.batch_bytes + 12 + length bytes.now }
         ensures kind { IfErr result IsOfAppends }

@@ -1,13 +1,13 @@
 //! Opening a log's folder.
 
 ghost use Rattle.std.specs.Prelude.{◌≡◌, ◌≤◌, ◌<◌, ◌++◌, ◌∷◌, ℕ, List, [], map, All, length, string_bytes, IsTrue};
-ghost use Rattle.std.specs.Prelude.{IfOk, IfErr, IfSome, OnOk};
-ghost use Rattle.std.specs.List.{AllByRecursion};
-ghost use Rattle.store_folder.specs.Moments.{LeavesOnly};
+ghost use Rattle.std.specs.Prelude.{◌^◌, IfOk, IfErr, IfSome, IfNone, OnOk, IsErrOf};
+ghost use Rattle.std.specs.List.{Contains};
+ghost use Rattle.std.specs.List.Sorted.{IsStrictlyIncreasing};
 ghost use Rattle.segmented_log.specs.Parts.{part_of, end_from, AreInLine, Ascend};
 ghost use Rattle.segmented_log.specs.Log.{HasSegment};
-ghost use Rattle.segmented_log.specs.Opening.{AreNumbersIn};
-ghost use Rattle.segmented_log.specs.Causes.{IsOfOpenings};
+ghost use Rattle.segmented_log.specs.Opening.{AreNumbersIn, IsNoSegment};
+ghost use Rattle.segmented_log.specs.Causes.{IsOfFiles};
 
 use crate::error::LogError;
 use crate::numbers::segment_number;
@@ -39,12 +39,14 @@ fn numbers_among(alloc: Global, names: &[String]) -> Result<Vec<u64>, AllocError
     Ok(numbers)
 }
 
-/// The numbers of the segments among these names, sorted.
+/// The numbers of the segments among these names, each once, in ascending order.
 pub(crate) fn numbers_in(alloc: Global, names: &[String]) -> Result<Vec<u64>, AllocError>
-    ensures { IfOk result (λ numbers. AreNumbersIn (map string_bytes names.now) numbers.items) }
+    ensures numbers { IfOk result (λ numbers. AreNumbersIn (map string_bytes names.now) numbers.items) }
+    ensures ascend { IfOk result (λ numbers. IsStrictlyIncreasing numbers.items) }
 {
     let mut numbers = numbers_among(alloc, names)?;
     numbers.sort()?;
+    numbers.dedup();
     Ok(numbers)
 }
 
@@ -58,7 +60,10 @@ pub(crate) fn open_segments<F: ReadableFolder>(
     ensures found { IsTrue F.honest → IfOk result (λ s. All (λ x. HasSegment (F.seen folder.now)
         (part_of x.first x.reader)) s.items) }
     ensures honest { IsTrue F.honest → IfOk result (λ s. All (λ x. IsTrue x.reader.file.honest) s.items) }
-    ensures kind { IfErr result IsOfOpenings }
+    ensures no_log { IsTrue F.honest → IsErrOf result LogError.NoLog
+        → (k : ℕ) × Contains numbers.now k × IsNoSegment (F.seen folder.now) k }
+    ensures failed { IsErrOf result LogError.Failed → 0 < length numbers.now }
+    ensures kind { IfErr result IsOfFiles }
 {
     let mut segments = Vec::new(alloc);
     for number in numbers {
@@ -72,6 +77,9 @@ pub(crate) fn end_of_segments<H: FileHandle>(segments: &[Segment<H>], first: u64
     ensures end { IfSome result (λ end. end ≡ end_from first (map (λ s. part_of s.first s.reader) segments.now)) }
     ensures line { IfSome result (λ _. AreInLine first (map (λ s. part_of s.first s.reader) segments.now)) }
     ensures ascend { IfSome result (λ _. Ascend first (map (λ s. part_of s.first s.reader) segments.now)) }
+    ensures none { IfNone result (AreInLine first (map (λ s. part_of s.first s.reader) segments.now)
+        → Ascend first (map (λ s. part_of s.first s.reader) segments.now)
+        → end_from first (map (λ s. part_of s.first s.reader) segments.now) < 2 ^ 64 → ⊥) }
 {
     let mut end = first;
     let mut least = first;

@@ -1,11 +1,13 @@
 //! The store of a segment, made of a tail's records.
 
-ghost use Rattle.std.specs.Prelude.{◌≡◌, ◌≤◌, length, map, All, IfOk, IfErr, OnOk};
+ghost use Rattle.std.specs.Prelude.{◌≡◌, ◌⊎◌, ◌≤◌, ◌+◌, ◌^◌, [], length, map, All, IfOk, IfErr, OnOk, IsErrOf};
+ghost use Rattle.std.specs.List.{Any};
+ghost use Rattle.docstore.specs.Laws.{taken};
 ghost use Rattle.store_format.specs.Block.{doc};
 ghost use Rattle.record_log.specs.Place.{contents, EndsBy};
 ghost use Rattle.store_published.specs.Filling.{AddsDocuments};
 ghost use Rattle.segmented_log.specs.Log.{IsStoreWith};
-ghost use Rattle.segmented_log.specs.Causes.{IsOfSeals};
+ghost use Rattle.segmented_log.specs.Causes.{IsOfSeals, HasNoRoom};
 
 use crate::error::LogError;
 use docstore::{Compressor, MemSink, StoreError, StoreWriter, TerminatingWrite, laws};
@@ -18,11 +20,14 @@ pub const BLOCK_SIZE: usize = 16384;
 
 // Why a log could not be sealed whose records a store does not take.
 fn store_error(error: StoreError) -> LogError
-    ensures { IsOfSeals result }
+    ensures full { result ≡ LogError.Full → (error ≡ StoreError.TooManyDocs) ⊎ (error ≡ StoreError.BlockTooLarge) }
+    ensures failed { result ≡ LogError.Failed → ⊥ }
+    ensures kind { IsOfSeals result }
 {
     match error {
-        StoreError::Memory => LogError::Memory,
-        _ => LogError::Full,
+        StoreError::TooManyDocs | StoreError::BlockTooLarge => LogError::Full,
+        // An output in memory fails for lack of memory alone.
+        _ => LogError::Memory,
     }
 }
 
@@ -33,8 +38,12 @@ fn store_records<W: TerminatingWrite>(
     places: &[Place],
 ) -> Result<(), StoreError>
     requires within { All (EndsBy (length tail.now)) places.now }
-    ensures { OnOk result (AddsDocuments (contents tail.now places.now) writer.old writer.new) }
+    ensures stored { OnOk result (AddsDocuments (contents tail.now places.now) writer.old writer.new) }
+    ensures too_many { IsErrOf result StoreError.TooManyDocs → taken writer.old ≡ [] → 2 ^ 32 ≤ length places.now }
+    ensures too_large { IsErrOf result StoreError.BlockTooLarge → Any
+        (λ bytes. 2 ^ 32 ≤ writer.old.block_size + length bytes + 8) (contents tail.now places.now) }
 {
+    laws::ids_are_given_in_order();
     for place in places {
         store_document(writer, &tail[place.start..place.end])?;
     }
@@ -49,6 +58,8 @@ pub(crate) fn segment_bytes(
 ) -> Result<Vec<u8>, LogError>
     requires within { All (EndsBy (length tail.now)) places.now }
     ensures store { IfOk result (λ bytes. IsStoreWith (map doc (contents tail.now places.now)) bytes.items) }
+    ensures failed { IsErrOf result LogError.Failed → ⊥ }
+    ensures full { IsErrOf result LogError.Full → HasNoRoom (contents tail.now places.now) }
     ensures kind { IfErr result IsOfSeals }
 {
     laws::written_documents_are_found();

@@ -1,16 +1,18 @@
 //! Segments: the stores of a log's folder.
 
-ghost use Rattle.std.specs.Prelude.{◌≡◌, ◌≤◌, ◌++◌, ℕ, List, length, All, IsTrue, IfOk, IfErr, OnOk, IsErrOf};
+ghost use Rattle.std.specs.Prelude.{◌≡◌, ◌≢◌, ◌⊎◌, ◌≤◌, ◌++◌, ℕ, List, length, All, IsTrue, IsSome, IfOk, IfErr, OnOk};
+ghost use Rattle.std.specs.Prelude.{IsErrOf};
 ghost use Rattle.store_base.specs.Counts.{HasRisen};
 ghost use Rattle.store_folder.specs.Moments.{ComesFrom, LeavesOnly};
 ghost use Rattle.store_folder.specs.Folder.{ElsewhereOfBoth, FilesElsewhereOfBoth};
 ghost use Rattle.store_folder.specs.Publishing.{part};
-ghost use Rattle.record_log.specs.Place.{EndsBy};
+ghost use Rattle.record_log.specs.Place.{contents, EndsBy};
 ghost use Rattle.segmented_log.specs.Names.{segment_name};
 ghost use Rattle.segmented_log.specs.Parts.{part_of};
 ghost use Rattle.segmented_log.specs.Log.{HasSegment};
 ghost use Rattle.segmented_log.specs.Settled.{part_at, AddsSegment};
-ghost use Rattle.segmented_log.specs.Causes.{IsOfOpenings, IsOfSeals};
+ghost use Rattle.segmented_log.specs.Opening.{IsNoSegment};
+ghost use Rattle.segmented_log.specs.Causes.{IsOfFiles, IsOfSeals, HasNoRoom};
 
 use crate::error::LogError;
 use crate::names::{name_beside, segment_file};
@@ -32,7 +34,8 @@ pub(crate) struct Segment<H: FileHandle> {
 
 // Why a segment could not be opened.
 fn open_error(error: StoreError) -> LogError
-    ensures { IsOfOpenings result }
+    ensures no_log { result ≡ LogError.NoLog → (error ≢ StoreError.Memory) × (error ≢ StoreError.Read) }
+    ensures kind { IsOfFiles result }
 {
     match error {
         StoreError::Memory => LogError::Memory,
@@ -50,7 +53,8 @@ pub(crate) fn open_segment<F: ReadableFolder>(
     ensures first { IfOk result (λ s. s.first ≡ first) }
     ensures found { IsTrue F.honest → IfOk result (λ s. HasSegment (F.seen folder.now) (part_of s.first s.reader)) }
     ensures honest { IsTrue F.honest → IfOk result (λ s. IsTrue s.reader.file.honest) }
-    ensures kind { IfErr result IsOfOpenings }
+    ensures no_log { IsTrue F.honest → IsErrOf result LogError.NoLog → IsNoSegment (F.seen folder.now) first }
+    ensures kind { IfErr result IsOfFiles }
 {
     let name = segment_file(alloc, first)?;
     let file = folder.open(alloc, name.as_str())?;
@@ -83,6 +87,8 @@ pub(crate) fn publish_segment<F: Folder>(
     ensures any_moment { IsTrue F.honest → LeavesOnly F.moment F.left_since folder.old folder.new
         (AddsSegment (F.may_leave folder.old) (part_at first tail.now places.now)) }
     ensures failures { F.failures folder.old ≤ F.failures folder.new }
+    ensures failed { IsErrOf result LogError.Failed → HasRisen (F.failures folder.old) (F.failures folder.new) }
+    ensures full { IsErrOf result LogError.Full → HasNoRoom (contents tail.now places.now) }
     ensures kind { IfErr result IsOfSeals }
 {
     let bytes = segment_bytes(alloc, tail, places)?;
@@ -94,7 +100,8 @@ pub(crate) fn publish_segment<F: Folder>(
 
 // Why a segment that was just published could not be opened.
 fn seal_error(error: LogError) -> LogError
-    ensures { IsOfSeals result }
+    ensures full { result ≡ LogError.Full → ⊥ }
+    ensures kind { IsOfSeals result }
 {
     match error {
         LogError::Memory => LogError::Memory,
@@ -124,6 +131,11 @@ pub(crate) fn add_segment<F: ReadableFolder>(
     ensures any_moment { IsTrue F.honest → LeavesOnly F.moment F.left_since folder.old folder.new
         (AddsSegment (F.may_leave folder.old) (part_at first tail.now places.now)) }
     ensures failures { F.failures folder.old ≤ F.failures folder.new }
+
+    // Where no call of the folder failed, the segment's file was published, and was not opened or read.
+    ensures failed { IsTrue F.honest → IsErrOf result LogError.Failed → HasRisen (F.failures folder.old)
+        (F.failures folder.new) ⊎ IsSome (F.seen folder.new (segment_name first)) }
+    ensures full { IsErrOf result LogError.Full → HasNoRoom (contents tail.now places.now) }
     ensures kind { IfErr result IsOfSeals }
 {
     laws::stores_are_apart();

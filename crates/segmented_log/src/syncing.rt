@@ -5,7 +5,9 @@ ghost use Rattle.store_base.specs.Counts.{HasRisen};
 ghost use Rattle.store_folder.specs.Moments.{LeavesOnly};
 ghost use Rattle.store_format.specs.Block.{doc};
 ghost use Rattle.segmented_log.specs.Log.{IsLog, KeepsOrAdds};
-ghost use Rattle.segmented_log.specs.Causes.{IsOfFolders, IsOfSeals, IsOfSyncs};
+ghost use Rattle.store_folder.specs.Folder.{Elsewhere};
+ghost use Rattle.segmented_log.specs.Names.{tail_name};
+ghost use Rattle.segmented_log.specs.Causes.{IsOfFolders, IsOfSeals, IsOfSyncs, HasNewSegment, HasNoRoomForLast};
 
 use crate::error::LogError;
 use crate::log::SegmentedLog;
@@ -25,6 +27,8 @@ impl<F: ReadableFolder> SegmentedLog<F> {
         ensures none_pending { OnOk result (self.new.pending ≡ []) }
         ensures works { OnOk result (self.new.is_broken ≡ false) }
         ensures broken { OnErr result (IsTrue self.new.is_broken) }
+        ensures elsewhere { IsTrue F.honest
+            → OnOk result (Elsewhere tail_name (F.seen self.old.folder) (F.seen self.new.folder)) }
         ensures any_moment { IsTrue F.honest → LeavesOnly F.moment F.left_since self.old.folder self.new.folder
             (KeepsOrAdds self.old.first self.old.slots self.old.pending) }
         ensures failures { F.failures self.old.folder ≤ F.failures self.new.folder }
@@ -57,6 +61,10 @@ impl<F: ReadableFolder> SegmentedLog<F> {
         ensures any_moment { IsTrue F.honest → LeavesOnly F.moment F.left_since self.old.folder self.new.folder
             (IsLog self.old.first self.old.slots) }
         ensures failures { F.failures self.old.folder ≤ F.failures self.new.folder }
+        ensures failed { IsTrue F.honest → IsErrOf result LogError.Failed
+            → HasRisen (F.failures self.old.folder) (F.failures self.new.folder)
+            ⊎ HasNewSegment (F.seen self.old.folder) (F.seen self.new.folder) }
+        ensures full { IsTrue F.honest → IsErrOf result LogError.Full → HasNoRoomForLast self.old.slots }
         ensures kind { IfErr result IsOfSeals }
     {
         let end = self.tail_first + self.places.len() as u64;
@@ -89,7 +97,9 @@ impl<F: ReadableFolder> SegmentedLog<F> {
         ensures any_moment { IsTrue F.honest → LeavesOnly F.moment F.left_since self.old.folder self.new.folder
             (IsLog self.old.first self.old.slots) }
         ensures failures { F.failures self.old.folder ≤ F.failures self.new.folder }
-        ensures kind { IfErr result IsOfSeals }
+        ensures failed { IsErrOf result LogError.Failed
+            → HasRisen (F.failures self.old.folder) (F.failures self.new.folder) }
+        ensures kind { IfErr result IsOfFolders }
     {
         let end = self.tail_first + self.places.len() as u64;
         if self.sealed != end || self.places.is_empty() {
@@ -123,6 +133,12 @@ impl<F: ReadableFolder> SegmentedLog<F> {
         ensures err { OnErr result (IsTrue self.new.is_broken) }
         ensures same { IsTrue self.old.is_broken → self.new ≡ self.old }
         ensures failures { F.failures self.old.folder ≤ F.failures self.new.folder }
+
+        // Where no call of the folder failed, a segment was published whose file was not opened or read.
+        ensures failed { IsTrue F.honest → IsErrOf result LogError.Failed
+            → HasRisen (F.failures self.old.folder) (F.failures self.new.folder)
+            ⊎ HasNewSegment (F.seen self.old.folder) (F.seen self.new.folder) }
+        ensures full { IsTrue F.honest → IsErrOf result LogError.Full → HasNoRoomForLast self.old.slots }
         ensures kind { IfErr result IsOfSyncs }
     {
         if self.is_broken {
@@ -142,6 +158,10 @@ impl<F: ReadableFolder> SegmentedLog<F> {
         ensures any_moment { IsTrue F.honest → LeavesOnly F.moment F.left_since self.old.folder self.new.folder
             (IsLog self.old.first self.old.slots) }
         ensures failures { F.failures self.old.folder ≤ F.failures self.new.folder }
+        ensures failed { IsTrue F.honest → IsErrOf result LogError.Failed
+            → HasRisen (F.failures self.old.folder) (F.failures self.new.folder)
+            ⊎ HasNewSegment (F.seen self.old.folder) (F.seen self.new.folder) }
+        ensures full { IsTrue F.honest → IsErrOf result LogError.Full → HasNoRoomForLast self.old.slots }
         ensures kind { IfErr result IsOfSeals }
     {
         if self.tail.len() <= self.seal_size {
@@ -161,6 +181,10 @@ impl<F: ReadableFolder> SegmentedLog<F> {
         ensures any_moment { IsTrue F.honest → LeavesOnly F.moment F.left_since self.old.folder self.new.folder
             (IsLog self.old.first self.old.slots) }
         ensures failures { F.failures self.old.folder ≤ F.failures self.new.folder }
+        ensures failed { IsTrue F.honest → IsErrOf result LogError.Failed
+            → HasRisen (F.failures self.old.folder) (F.failures self.new.folder)
+            ⊎ HasNewSegment (F.seen self.old.folder) (F.seen self.new.folder) }
+        ensures full { IsTrue F.honest → IsErrOf result LogError.Full → HasNoRoomForLast self.old.slots }
         ensures kind { IfErr result IsOfSeals }
     {
         self.publish_unsealed()?;
@@ -188,6 +212,13 @@ impl<F: ReadableFolder> SegmentedLog<F> {
         ensures err { OnErr result (IsTrue self.new.is_broken) }
         ensures same { IsTrue self.old.is_broken → self.new ≡ self.old }
         ensures failures { F.failures self.old.folder ≤ F.failures self.new.folder }
+
+        // As for a seal.
+        ensures failed { IsTrue F.honest → IsErrOf result LogError.Failed
+            → HasRisen (F.failures self.old.folder) (F.failures self.new.folder)
+            ⊎ HasNewSegment (F.seen self.old.folder) (F.seen self.new.folder) }
+        ensures full { IsTrue F.honest → IsErrOf result LogError.Full
+            → HasNoRoomForLast (self.old.slots ++ map doc self.old.pending) }
         ensures kind { IfErr result IsOfSyncs }
     {
         if self.is_broken {

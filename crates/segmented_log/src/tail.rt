@@ -1,6 +1,8 @@
 //! The tail of a log that is opened: its torn end is cut off, or it is made.
 
-ghost use Rattle.std.specs.Prelude.{◌≡◌, ◌≤◌, ◌++◌, ℕ, List, [], Some, None, length, All, IsTrue, IfOk, IfErr, OnOk};
+ghost use Rattle.std.specs.Prelude.{◌≡◌, ◌≤◌, ◌++◌, ℕ, List, [], Some, None, length, All, IsTrue, IfOk, IfErr};
+ghost use Rattle.std.specs.Prelude.{IsErrOf};
+ghost use Rattle.store_base.specs.Counts.{HasRisen};
 ghost use Rattle.store_folder.specs.Moments.{ComesFrom, LeavesOnly};
 ghost use Rattle.store_folder.specs.Folder.{ElsewhereOfBoth};
 ghost use Rattle.store_folder.specs.Publishing.{part};
@@ -8,9 +10,9 @@ ghost use Rattle.record_log.specs.Place.{contents, EndsBy};
 ghost use Rattle.record_log.specs.Tail.{records_of, first_of, IsTail, IsWholeTo};
 ghost use Rattle.segmented_log.specs.Names.{tail_name};
 ghost use Rattle.segmented_log.specs.Log.{KeepsLog};
-ghost use Rattle.segmented_log.specs.Opening.{IsRestarted};
+ghost use Rattle.segmented_log.specs.Opening.{IsRestarted, IsTailOf};
 ghost use Rattle.segmented_log.specs.Settled.{TailIsKept};
-ghost use Rattle.segmented_log.specs.Causes.{IsOfOpenings};
+ghost use Rattle.segmented_log.specs.Causes.{IsOfFolders, IsOfFiles};
 
 use crate::error::LogError;
 use crate::tail_file::replace_tail;
@@ -49,8 +51,11 @@ pub(crate) fn repair_tail<F: Folder>(
     // A crash at any moment leaves the same log.
     ensures any_moment { IsTrue F.honest → LeavesOnly F.moment F.left_since folder.old folder.new
         (KeepsLog (F.seen folder.old)) }
+    ensures same { IfOk result (λ t. IsTailOf (Some bytes.items) t.bytes.items) }
+    ensures no_log { IsErrOf result LogError.NoLog → IsTail bytes.items → ⊥ }
     ensures failures { F.failures folder.old ≤ F.failures folder.new }
-    ensures kind { IfErr result IsOfOpenings }
+    ensures failed { IsErrOf result LogError.Failed → HasRisen (F.failures folder.old) (F.failures folder.new) }
+    ensures kind { IfErr result IsOfFiles }
 {
     let Some(first) = first_number(&bytes) else {
         return Err(LogError::NoLog);
@@ -89,8 +94,10 @@ pub(crate) fn begin_tail<F: Folder>(alloc: Global, folder: &mut F) -> Result<Tai
     // A crash at any moment leaves no log, or the new one.
     ensures any_moment { IsTrue F.honest → LeavesOnly F.moment F.left_since folder.old folder.new
         (KeepsLog (F.seen folder.old)) }
+    ensures empty { IfOk result (λ t. IsTailOf None t.bytes.items) }
     ensures failures { F.failures folder.old ≤ F.failures folder.new }
-    ensures kind { IfErr result IsOfOpenings }
+    ensures failed { IsErrOf result LogError.Failed → HasRisen (F.failures folder.old) (F.failures folder.new) }
+    ensures kind { IfErr result IsOfFolders }
 {
     let bytes = new_tail(alloc, 0)?;
     replace_tail(folder, &bytes)?;

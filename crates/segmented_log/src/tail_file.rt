@@ -31,6 +31,7 @@ pub(crate) fn write_batch<F: Folder>(
     ensures fits { OnOk result (sum_of body.now < 2 ^ 64) }
     ensures kept { IsTrue F.honest → OnOk result (TailIsKept (F.may_hold folder.new) (F.may_leave folder.new)
         (F.entry_kept folder.new) (tail.now ++ (1 ∷ summed body.now))) }
+    ensures elsewhere { IsTrue F.honest → OnOk result (Elsewhere tail_name (F.seen folder.old) (F.seen folder.new)) }
     ensures crash { IsTrue F.honest
         → ComesFrom (Elsewhere tail_name) (F.may_leave folder.old) (F.may_leave folder.new) }
 

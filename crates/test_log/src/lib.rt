@@ -5,10 +5,16 @@
 mod bytes;
 pub mod crash;
 #[cfg(test)]
+mod folder_runs;
+#[cfg(test)]
+mod sealing;
+#[cfg(test)]
 mod segmented;
 #[cfg(test)]
 mod tests;
 pub mod torn;
+#[cfg(test)]
+mod torn_drops;
 #[cfg(test)]
 mod torn_files;
 #[cfg(test)]

@@ -9,14 +9,14 @@ use std::test::Fail;
 use store_folder::Folder;
 use torn_folder::Event;
 
-const SEAL_SIZE: usize = 120;
+pub const SEAL_SIZE: usize = 120;
 
 const STEPS: usize = 12;
 
 // How many crashes are played at each moment.
 const CRASHES: usize = 4;
 
-type Log = SegmentedLog<Watched>;
+pub type Log = SegmentedLog<Watched>;
 
 // How many crashes left a batch out, how many left it whole, and how many logs were repaired.
 #[derive(Drop)]
@@ -55,8 +55,8 @@ fn restarted(alloc: Global, files: &[LeftFile]) -> Result<Watched, Fail> {
     Ok(folder)
 }
 
-// The folder that a crash leaves after the first of these calls, this many.
-fn crashed(
+/// The folder that a crash leaves after the first of these calls, this many.
+pub fn crashed(
     alloc: Global,
     events: &[Event],
     count: usize,
@@ -67,8 +67,8 @@ fn crashed(
     restarted(alloc, &files)
 }
 
-// Whether the record of this number is the one that is expected.
-fn is_record(log: &mut Log, number: usize, expected: Option<&Vec<u8>>) -> bool {
+/// Whether the record of this number is the one that is expected.
+pub fn is_record(log: &mut Log, number: usize, expected: Option<&Vec<u8>>) -> bool {
     match (log.get(number as u64), expected) {
         (Ok(Some(found)), Some(record)) => found.as_slice() == record.as_slice(),
         (Ok(None), None) => true,
@@ -76,8 +76,8 @@ fn is_record(log: &mut Log, number: usize, expected: Option<&Vec<u8>>) -> bool {
     }
 }
 
-// Whether the log has just the first of these records, this many.
-fn has(log: &mut Log, records: &[Vec<u8>], count: usize) -> bool {
+/// Whether the log has just the first of these records, this many.
+pub fn has(log: &mut Log, records: &[Vec<u8>], count: usize) -> bool {
     if log.first() != 0 || log.len() != count as u64 {
         return false;
     }

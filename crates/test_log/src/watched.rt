@@ -113,7 +113,11 @@ impl Folder for Watched {
 }
 
 impl ReadableFolder for Watched {
+    ghost use Rattle.std.specs.Prelude.{false};
+
     type File = MemFile;
+
+    ghost is_readable = { false };
 
     fn names(&self, alloc: Global) -> io::Result<Vec<String>> {
         self.folder.names(alloc)

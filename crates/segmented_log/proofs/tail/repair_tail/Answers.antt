@@ -75,6 +75,17 @@ returns-clause-tail g c =
       c.in-Some.ensures.some.1 ∙ ap first_of c.deref.ensures.value ∙ sym (front_first bytes file end (whole_is g here) (file_is g here)),
     )
 
+pub returns-clause-same : goal.returns-clause-same
+returns-clause-same g c =
+    let here = (goal.at.returns-clause-same g c).After-deref-4 in
+    let bytes = c.args.bytes.items in
+    let file = c.in_ok-whole.whole.items in
+    let end = c.in_ok-found.found.end in (
+      was_tail g here,
+      front_first bytes file end (whole_is g here) (file_is g here),
+      front_records bytes file end (whole_is g here) (file_is g here),
+    )
+
 pub returns-clause-records : goal.returns-clause-records
 returns-clause-records g c =
     let here = (goal.at.returns-clause-records g c).After-deref-4 in

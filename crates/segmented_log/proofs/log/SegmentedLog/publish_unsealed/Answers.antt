@@ -1,5 +1,6 @@
-use Rattle.std.proofs.Common.{◌≡◌, ◌+◌, ◌-◌, ◌<◌, ◌++◌, ◌∷◌, List, [], length, take, drop, map, refl, ◌∙◌, ap, subst, sym, arith}
-use Rattle.std.specs.Prelude.{All, IsTrue}
+use Rattle.std.proofs.Common.{rules, ◌⊎◌, inl, inr, ⊎_elim, ◌≡◌, ◌+◌, ◌-◌, ◌<◌, ◌++◌, ◌∷◌, List, [], length, take, drop, map, refl, ◌∙◌, ap, subst, sym, arith}
+use Rattle.std.specs.Prelude.{All, IsTrue, IsErrOf}
+use Rattle.store_base.specs.Counts.{HasRisen}
 use Rattle.std.proofs.lemmas.Bool.{OnFalse_at}
 use Rattle.std.proofs.lemmas.List.{take_rest, map_push}
 use Rattle.std.proofs.lemmas.List.Elements.{All-drop, All-push, All-same}
@@ -7,12 +8,15 @@ use Rattle.store_folder.specs.Moments.{LeavesOnly}
 use Rattle.store_folder.proofs.Steps.{weaker}
 use Rattle.store_folder.specs.Folder.{Look}
 use Rattle.record_log.specs.declared.batches.Place.{Place}
-use Rattle.record_log.specs.Place.{EndsBy}
-use Rattle.segmented_log.specs.Parts.{part_of, log_slots}
+use Rattle.record_log.specs.Place.{contents, EndsBy}
+use Rattle.segmented_log.specs.Parts.{Part, part_of, joined, log_slots}
 use Rattle.segmented_log.specs.Log.{HasSegment, IsLog}
 use Rattle.segmented_log.specs.Settled.{part_at, AddsSegment, IsSettledTail, IsSettledFolder}
+use Rattle.segmented_log.specs.declared.error.LogError.TheVariants.{Failed, Full}
+use Rattle.segmented_log.specs.Causes.{HasNoRoom, HasNoRoomForLast, HasNewSegment}
+use Rattle.segmented_log.proofs.CauseLemmas.{none_sealed}
 use Rattle.segmented_log.proofs.SyncLemmas.{log_stays}
-use Rattle.segmented_log.proofs.SegmentLemmas.{settled_segment, segment_log, slots_segment, folder_segment}
+use Rattle.segmented_log.proofs.SegmentLemmas.{part_is, settled_segment, segment_log, slots_segment, folder_segment}
 use Rattle.segmented_log.proofs.log.SegmentedLog.publish_unsealed.Goals.{After-deref-2}
 use Rattle.segmented_log.proofs.log.SegmentedLog.publish_unsealed.Goals as goal
 
@@ -120,4 +124,32 @@ invariant_of-self-2 g c =
             All-same (λ x. IsTrue x.reader.file.honest) c.push.new.self.items (log.segments.items ++ segment ∷ []) c.in_ok-push.ensures.items
                 (All-push (λ x. IsTrue x.reader.file.honest) log.segments.items segment (known.1 h).1 (c.in_ok-segment.ensures.honest h)),
           ),
+    )
+
+pub returns-in_err-segment-clause-failed : goal.returns-in_err-segment-clause-failed
+returns-in_err-segment-clause-failed g c = λ h is.
+    let here = (goal.at.returns-in_err-segment-clause-failed g c).After-deref-2 in
+    let F = g.F.Folder in
+    let log = c.self.inside in
+    let new = c.add_segment.new.folder in
+    let settled = ((known_is g here).1 h).0 in
+    let failed : IsErrOf c.add_segment.result Failed = search rules in
+    let none = none_sealed log.first log.sealed (map (λ x. part_of x.first x.reader) log.segments.items) log.tail.items (F.seen log.folder) settled.parts settled.sealed_is
+    (settled.on_disk.outcomes (F.seen log.folder) (g.met.F.Folder.seen_may_be_left log.folder h)) in
+    subst (λ v. HasRisen (F.failures v.folder) (F.failures new) ⊎ HasNewSegment (F.seen v.folder) (F.seen new)) c.self.view_is
+    (⊎_elim (λ risen. inl risen) (λ some. inr (log.sealed, none, some)) (c.add_segment.ensures.failed h failed))
+
+pub returns-in_err-segment-clause-full : goal.returns-in_err-segment-clause-full
+returns-in_err-segment-clause-full g c = λ h is.
+    let here = (goal.at.returns-in_err-segment-clause-full g c).After-deref-2 in
+    let log = c.self.inside in
+    let parts = map (λ x. part_of x.first x.reader) log.segments.items in
+    let settled = ((known_is g here).1 h).0 in
+    let failed : IsErrOf c.add_segment.result Full = search rules in
+    let last = part_is _ _ _ _ _ _ (known_is g here).0 _ _ (end_is g here) (more_is g here) refl log.first parts settled.parts settled.sealed_is (rest g here) (rest_is g here) in
+    subst (λ v. HasNoRoomForLast v.slots) c.self.view_is (
+      joined log.first parts,
+      contents log.tail.items (rest g here),
+      ap (λ (p : Part). joined log.first parts ++ p.slots) (sym last),
+      subst (λ t. HasNoRoom (contents t (rest g here))) c.deref.ensures.value (c.add_segment.ensures.full failed),
     )

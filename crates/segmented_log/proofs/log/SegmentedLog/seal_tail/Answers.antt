@@ -1,8 +1,10 @@
-use Rattle.std.proofs.Common.{◌∙◌, subst}
+use Rattle.std.proofs.Common.{inl, ◌∙◌, subst}
 use Rattle.std.proofs.lemmas.Result.{on_ok_weaker}
 use Rattle.store_folder.specs.Moments.{LeavesOnly}
 use Rattle.store_folder.proofs.Steps.{joined}
+use Rattle.record_log.proofs.Counts.{risen_after}
 use Rattle.segmented_log.specs.Log.{IsLog}
+use Rattle.segmented_log.proofs.CauseLemmas.{if_seals, never_full}
 use Rattle.segmented_log.proofs.log.SegmentedLog.seal_tail.Goals as goal
 
 pub returns-clause-any_moment : goal.returns-clause-any_moment
@@ -18,3 +20,12 @@ returns-clause-any_moment g c = λ h.
 pub returns-clause-slots : goal.returns-clause-slots
 returns-clause-slots g c = λ h.
     on_ok_weaker c.empty_tail.result (λ same. same ∙ c.in_ok-publish_unsealed.ensures.slots h) (c.empty_tail.ensures.slots h)
+
+pub returns-clause-failed : goal.returns-clause-failed
+returns-clause-failed g c = λ h is. inl (risen_after _ _ _ c.publish_unsealed.ensures.failures (c.empty_tail.ensures.failed is))
+
+pub returns-clause-full : goal.returns-clause-full
+returns-clause-full g c = λ h is. absurd (never_full c.empty_tail.result c.empty_tail.ensures.kind is)
+
+pub returns-clause-kind : goal.returns-clause-kind
+returns-clause-kind g c = if_seals c.empty_tail.result c.empty_tail.ensures.kind

@@ -1,9 +1,16 @@
-use Rattle.std.proofs.Common.{inr, inl, ◌++◌, map, sym, ◌∙◌, ap, subst, arith}
+use Rattle.std.proofs.Common.{rules, inr, inl, ⊎_elim, ◌++◌, map, sym, ◌∙◌, ap, subst, arith}
+use Rattle.std.specs.Prelude.{IsErrOf}
 use Rattle.std.proofs.lemmas.List.{append-nil}
 use Rattle.std.proofs.lemmas.Result.{on_ok_weaker}
 use Rattle.store_folder.proofs.Steps.{joined, weaker}
 use Rattle.store_format.specs.Block.{doc}
+use Rattle.record_log.proofs.Counts.{risen_after}
+use Rattle.segmented_log.specs.declared.error.LogError.TheVariants.{Failed, Full}
+use Rattle.segmented_log.specs.Names.{segment_name}
+use Rattle.segmented_log.specs.Causes.{HasNoRoomForLast}
 use Rattle.segmented_log.specs.Log.{IsLog, KeepsOrAdds}
+use Rattle.segmented_log.proofs.NameLemmas.{segment_no_tail}
+use Rattle.segmented_log.proofs.CauseLemmas.{never_full}
 use Rattle.segmented_log.proofs.SyncLemmas.{nothing_pending, always_ok}
 use Rattle.segmented_log.proofs.log.SegmentedLog.sync.Goals as goal
 
@@ -29,3 +36,29 @@ returns-clause-any_moment g c = λ h works.
     (weaker F.moment F.left_since mid.folder new.folder _ _
     (λ l log. inr (inl (subst (λ n. IsLog n (old.slots ++ map doc old.pending) l) c.write_pending.ensures.first (subst (λ a. IsLog mid.first a l) (c.in_ok-write_pending.ensures.acknowledged h) log))))
     (c.seal_large-2.ensures.any_moment h))
+
+pub returns-then-is_empty-clause-full : goal.returns-then-is_empty-clause-full
+returns-then-is_empty-clause-full g c = λ h is.
+    let old = c.args.self.now in
+    let none = sym (ap (λ v. v.pending) c.self.view_is) ∙ nothing_pending c.self.inside.pending.items c.self.inside.pending.len c.is_empty.result c.is_empty.ensures c.if-is_empty.true (omega (arith, c.self.inside.pending.ok.0)) in
+    let same = sym (append-nil old.slots) ∙ ap (λ l. old.slots ++ map doc l) (sym none) in
+    subst (λ a. HasNoRoomForLast a) same (c.seal_large.ensures.full h is)
+
+pub returns-in_err-write_pending-clause-failed : goal.returns-in_err-write_pending-clause-failed
+returns-in_err-write_pending-clause-failed g c = λ h is.
+    let failed : IsErrOf c.write_pending.result Failed = search rules in
+    inl (c.write_pending.ensures.failed failed)
+
+pub returns-in_err-write_pending-clause-full : goal.returns-in_err-write_pending-clause-full
+returns-in_err-write_pending-clause-full g c = λ h is.
+    let full : IsErrOf c.write_pending.result Full = search rules in
+    absurd (never_full c.write_pending.result c.write_pending.ensures.kind full)
+
+pub returns-clause-failed : goal.returns-clause-failed
+returns-clause-failed g c = λ h is.
+    ⊎_elim (λ risen. inl (risen_after _ _ _ c.write_pending.ensures.failures risen))
+    (λ new. inr (new.0, sym (c.in_ok-write_pending.ensures.elsewhere h (segment_name new.0) (segment_no_tail new.0)) ∙ new.1, new.2))
+    (c.seal_large-2.ensures.failed h is)
+
+pub returns-clause-full : goal.returns-clause-full
+returns-clause-full g c = λ h is. subst (λ a. HasNoRoomForLast a) (c.in_ok-write_pending.ensures.acknowledged h) (c.seal_large-2.ensures.full h is)

@@ -1,0 +1,43 @@
+-- Errors that a call passes on.
+use Rattle.std.proofs.Common.{◌≡◌, ⊎_elim, ℕ, ◌<◌, List, [], ◌∷◌, None, subst, arith}
+use Rattle.std.specs.List.{AllByRecursion, Contains}
+use Rattle.std.specs.Prelude.{Result, Ok, Err, IfErr, IsErrOf}
+use Rattle.store_folder.specs.Folder.{Look}
+use Rattle.segmented_log.specs.declared.error.LogError.{LogError}
+use Rattle.segmented_log.specs.declared.error.LogError.TheVariants.{Memory, Failed, Full, BatchFull, TooLong, Broken, NoLog, Damaged}
+use Rattle.segmented_log.specs.Names.{segment_name}
+use Rattle.segmented_log.specs.Parts.{Part, end_from, AreParts}
+use Rattle.segmented_log.specs.Log.{Holds}
+use Rattle.segmented_log.specs.Causes.{IsOfFolders, IsOfSeals}
+use Rattle.segmented_log.proofs.HoldLemmas.{firsts}
+use Rattle.segmented_log.proofs.PartLemmas.{begin_before}
+use Rattle.segmented_log.proofs.UniqueLemmas.{among_cons}
+
+pub folders_of_seals : (e : LogError) → IsOfFolders e → IsOfSeals e
+folders_of_seals Memory of = tt
+folders_of_seals Failed of = tt
+folders_of_seals Full of = absurd of
+folders_of_seals BatchFull of = of
+folders_of_seals TooLong of = of
+folders_of_seals Broken of = of
+folders_of_seals NoLog of = of
+folders_of_seals Damaged of = of
+
+pub if_seals : {T : Type 0} (r : Result T LogError) → IfErr r IsOfFolders → IfErr r IsOfSeals
+if_seals (Ok x) of = tt
+if_seals (Err e) of = folders_of_seals e of
+
+pub never_full : {T : Type 0} (r : Result T LogError) → IfErr r IsOfFolders → IsErrOf r Full → ⊥
+never_full (Ok x) of is = let no : ⊥ = cc in absurd no
+never_full (Err e) of is = let same : e ≡ Full = cc is in subst IsOfFolders same of
+
+not_among : (k : ℕ) (parts : List Part) → AllByRecursion (λ part. part.first < k) parts → Contains (firsts parts) k → ⊥
+not_among k [] below among = absurd (omega (arith, among.1))
+not_among k (p ∷ parts) below among = ⊎_elim (λ same. omega (arith, same, below.0)) (λ later. not_among k parts below.1 later) (among_cons p parts k among)
+
+-- the number from which on no segment has records has no segment
+pub none_sealed : (first sealed : ℕ) (segments : List Part) (tail : List ℕ) (c : Look) → AreParts first segments tail → sealed ≡ end_from first segments → Holds segments tail c → c (segment_name sealed) ≡ None
+none_sealed first sealed segments tail c parts sealed_is held =
+    ⊎_elim (λ none. none)
+    (λ among. absurd (not_among (end_from first segments) segments (begin_before first segments parts.in_line) (subst (λ (n : ℕ). Contains (firsts segments) n) sealed_is among)))
+    (held.no_others sealed (omega (arith, sealed_is, parts.fits)))

@@ -1,0 +1,45 @@
+-- A log whose first segments are removed.
+use Rattle.std.specs.Prelude.{◌≡◌, ◌⊎◌, ℕ, ◌+◌, ◌-◌, ◌<◌, ◌≤◌, max, List, [], ◌∷◌, length, drop, None}
+use Rattle.store_folder.specs.Folder.{Look, LosesFile}
+use Rattle.store_format.specs.Block.{Slot}
+use Rattle.record_log.specs.Tail.{first_of}
+use Rattle.segmented_log.specs.Names.{segment_name}
+use Rattle.segmented_log.specs.Parts.{Part, end_of, first_in, AreParts}
+use Rattle.segmented_log.specs.Log.{HasSegment, Holds, IsLog}
+
+-- The first of these segments can be removed: its slots begin at the number `first` and end at `next`, which is at most
+-- `number`, and the part after it begins there. The tail begins at `n`.
+abbrev pub CanGo : ℕ → ℕ → List Part → ℕ → ℕ → Type 0
+CanGo first number [] n next = ⊥
+CanGo first number (part ∷ parts) n next = (0 < length part.slots) × (next ≡ first + length part.slots) × (next ≤ number) × (first_in parts n ≡ next)
+
+-- What is left of a log's slots when some of the first are removed, none of which has this number or a later one.
+pub record IsRest (first : ℕ) (all : List Slot) (number new_first : ℕ) (rest : List Slot) : Type 0 where
+  pub grows : first ≤ new_first
+  pub before : new_first ≤ max first number
+  pub within : new_first ≤ first + length all
+  pub slots_are : rest ≡ drop (new_first - first) all
+
+-- The folder is a log of what is left of these slots.
+pub record DropsTo (first : ℕ) (all : List Slot) (number : ℕ) (c : Look) : Type 0 where
+  pub new_first : ℕ
+  pub rest : List Slot
+  pub is_rest : IsRest first all number new_first rest
+  pub log : IsLog new_first rest c
+
+-- What a crash leaves while the segment of this first number is removed: what it could leave before, with the segment or
+-- without.
+abbrev pub LosesSegment : (Look → Type 0) → ℕ → Look → Type 0
+LosesSegment before first c = (old : Look) × before old × LosesFile (segment_name first) old c
+
+-- Each name has what it had, or it had a segment whose slots all have smaller numbers than this one, and has no file.
+abbrev pub RemovesOnly : ℕ → Look → Look → Type 0
+RemovesOnly number old new = (n : List ℕ) → (new n ≡ old n) ⊎ ((part : Part) × HasSegment old part × (segment_name part.first ≡ n) × (end_of part ≤ number) × (new n ≡ None))
+
+-- The folder is a log of this first number, whose first segment can't be removed.
+pub record IsDropped (first number : ℕ) (c : Look) : Type 0 where
+  pub segments : List Part
+  pub tail : List ℕ
+  pub parts : AreParts first segments tail
+  pub holds : Holds segments tail c
+  pub stays : (next : ℕ) → CanGo first number segments (first_of tail) next → ⊥

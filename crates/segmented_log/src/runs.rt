@@ -1,0 +1,125 @@
+//! Whole lists of calls.
+
+ghost use Rattle.std.specs.Prelude.{◌≡◌, ◌⊎◌, ◌↔◌, false, ◌≤◌, ◌++◌, ◌∷◌, [], ℕ, List};
+ghost use Rattle.std.specs.Prelude.{OnOk, OnErr, IfOk, IfErr, IsErrOf, IsTrue};
+ghost use Rattle.store_folder.specs.Moments.{LeavesOnly};
+ghost use Rattle.store_format.specs.Block.{Slot};
+ghost use Rattle.segmented_log.specs.Log.{IsLog, IsBlank};
+ghost use Rattle.segmented_log.specs.Opening.{IsRestarted};
+ghost use Rattle.segmented_log.specs.Causes.{IsOfAppends, IsOfOpenings, IsOfSyncs};
+ghost use Rattle.segmented_log.specs.Runs.{batches_by, pending_by, slots_of, HasBeginning, KeepsAndAdds, HasMadeFirst};
+
+use crate::error::LogError;
+use crate::log::SegmentedLog;
+use std::alloc::Global;
+use store_folder::ReadableFolder;
+
+/// A call on a log.
+#[derive(Debug, Drop)]
+pub enum Call {
+    Append(Vec<u8>),
+    Sync,
+    Seal,
+}
+
+// Makes one call.
+fn make_call<F: ReadableFolder>(log: &mut SegmentedLog<F>, call: &Call) -> Result<(), LogError>
+    requires { log.old.is_broken ≡ false }
+
+    ensures works { OnOk result (log.new.is_broken ≡ false) }
+    ensures first { log.new.first ≡ log.old.first }
+    ensures slots { IsTrue F.honest → OnOk result (log.new.slots ≡ log.old.slots
+        ++ slots_of (batches_by log.old.pending (call.now ∷ []))) }
+    ensures pending { OnOk result (log.new.pending ≡ pending_by log.old.pending (call.now ∷ [])) }
+    ensures any_moment { IsTrue F.honest → LeavesOnly F.moment F.left_since log.old.folder log.new.folder
+        (HasBeginning log.old.first log.old.slots (batches_by log.old.pending (call.now ∷ []))) }
+    ensures broken { IsErrOf result LogError.Broken → ⊥ }
+    ensures err { OnErr result (IsTrue log.new.is_broken ⊎ (log.new ≡ log.old)) }
+    ensures failures { F.failures log.old.folder ≤ F.failures log.new.folder }
+    ensures kind { IfErr result (λ e. IsOfAppends e ⊎ IsOfSyncs e) }
+{
+    // A log that works has on the disk what it has acknowledged.
+    if log.is_broken() {
+        return Err(LogError::Broken);
+    }
+    match call {
+        Call::Append(bytes) => {
+            log.append(bytes)?;
+            Ok(())
+        }
+        Call::Sync => log.sync(),
+        Call::Seal => log.seal(),
+    }
+}
+
+/// Makes calls, in order, up to the first that fails. What was acknowledged before stays: a crash at any moment leaves
+/// it, followed by the first batches of these calls, none skipped and none in part. Seals change nothing of it.
+///
+/// Errors: `Broken`, and those of the call that failed. The log is then broken, or has what the calls before that one
+/// made of it.
+pub fn call_all<F: ReadableFolder>(
+    log: &mut SegmentedLog<F>,
+    calls: &[Call],
+) -> Result<(), LogError>
+    ensures works { OnOk result (log.new.is_broken ≡ false) }
+    ensures first { log.new.first ≡ log.old.first }
+    ensures acknowledged { IsTrue F.honest → OnOk result (log.new.slots ≡ log.old.slots
+        ++ slots_of (batches_by log.old.pending calls.now)) }
+    ensures pending { OnOk result (log.new.pending ≡ pending_by log.old.pending calls.now) }
+
+    // A crash at any moment, also if a call fails.
+    ensures any_moment { IsTrue F.honest → log.old.is_broken ≡ false
+        → LeavesOnly F.moment F.left_since log.old.folder log.new.folder
+        (HasBeginning log.old.first log.old.slots (batches_by log.old.pending calls.now)) }
+    ensures broken { IsErrOf result LogError.Broken ↔ IsTrue log.old.is_broken }
+    ensures err { IsTrue F.honest → OnErr result (IsTrue log.new.is_broken
+        ⊎ HasMadeFirst calls.now log.old log.new) }
+    ensures same { IsTrue log.old.is_broken → log.new ≡ log.old }
+    ensures failures { F.failures log.old.folder ≤ F.failures log.new.folder }
+    ensures kind { IfErr result (λ e. IsOfAppends e ⊎ IsOfSyncs e) }
+{
+    if log.is_broken() {
+        return Err(LogError::Broken);
+    }
+    for next in calls {
+        make_call(log, next)?;
+    }
+    Ok(())
+}
+
+/// Opens the log that a crash may have left, and makes calls: what a process does between two crashes. A crash at any
+/// moment of it, while it opens too, leaves the log's records and after them the first batches of these calls.
+///
+/// So over any number of crashes no acknowledged record is lost: what one process leaves is what the next one opens.
+pub fn open_and_call<F: ReadableFolder>(
+    alloc: Global,
+    folder: F,
+    seal_size: usize,
+    calls: &[Call],
+) -> Result<SegmentedLog<F>, (LogError, F)>
+    // After a restart, what a look sees is what is on the disk.
+    requires { IsTrue F.honest → IsRestarted (F.seen folder) (F.may_hold folder) (F.may_leave folder)
+        (F.entry_kept folder) }
+
+    ensures works { IfOk result (λ log. log.is_broken ≡ false) }
+    ensures acknowledged { IsTrue F.honest → IfOk result (λ log. (first : ℕ) (kept : List Slot)
+        → IsLog first kept (F.seen folder)
+        → (log.first ≡ first) × (log.slots ≡ kept ++ slots_of (batches_by [] calls.now))) }
+    ensures begun { IsTrue F.honest → IfOk result (λ log. IsBlank (F.seen folder)
+        → (log.first ≡ 0) × (log.slots ≡ slots_of (batches_by [] calls.now))) }
+    ensures pending { IfOk result (λ log. log.pending ≡ pending_by [] calls.now) }
+    ensures any_moment { IsTrue F.honest → IfOk result (λ log. LeavesOnly F.moment F.left_since folder log.folder
+        (KeepsAndAdds (batches_by [] calls.now) (F.seen folder))) }
+    ensures any_moment_err { IsTrue F.honest → IfErr result (λ e. LeavesOnly F.moment F.left_since folder e.1
+        (KeepsAndAdds (batches_by [] calls.now) (F.seen folder))) }
+    ensures kind { IfErr result (λ e. IsOfOpenings e.0 ⊎ (IsOfAppends e.0 ⊎ IsOfSyncs e.0)) }
+{
+    let mut log = match SegmentedLog::open(alloc, folder, seal_size) {
+        Ok(log) => log,
+        Err(refusal) => return Err(refusal),
+    };
+    match call_all(&mut log, calls) {
+        Ok(()) => Ok(log),
+        Err(error) => Err((error, log.into_folder())),
+    }
+}

@@ -1,0 +1,178 @@
+//! Lists of calls on logs in folders that crash, from restart to restart, beside a plain list.
+
+use crate::crash::Dice;
+use crate::torn_logs::{Log, SEAL_SIZE, crashed, has};
+use crate::watched::Watched;
+use segmented_log::{Call, call_all, open_and_call};
+use std::alloc::{AllocError, Global};
+use std::test::Fail;
+use torn_folder::Event;
+
+const PROCESSES: usize = 5;
+
+const CALLS: usize = 8;
+
+// How many crashes are played at each moment.
+const CRASHES: usize = 2;
+
+// A run of processes: the records that were found or appended, how many of them there were at the opening and at each
+// sync since, and how many crashes left some of the batches.
+#[derive(Drop)]
+struct Run {
+    alloc: Global,
+    dice: Dice,
+    records: Vec<Vec<u8>>,
+    ends: Vec<usize>,
+    partial: usize,
+}
+
+// Opens a folder's log and makes calls.
+fn called(alloc: Global, folder: Watched, calls: &[Call]) -> Result<Log, Fail> {
+    match open_and_call(alloc, folder, SEAL_SIZE, calls) {
+        Ok(log) => Ok(log),
+        Err(_) => Err(std::io::Error::from(std::io::ErrorKind::Other))?,
+    }
+}
+
+impl Run {
+    fn record(&mut self) -> Result<Vec<u8>, AllocError> {
+        let mut record = Vec::new(self.alloc);
+        for _ in 0..self.dice.roll(20) {
+            record.push(self.dice.roll(3) as u8)?;
+        }
+        Ok(record)
+    }
+
+    // The next call, noted beside the log.
+    fn call(&mut self) -> Result<Call, AllocError> {
+        match self.dice.roll(7) {
+            0 => Ok(Call::Seal),
+            1 | 2 => {
+                self.ends.push(self.records.len())?;
+                Ok(Call::Sync)
+            }
+            _ => {
+                let record = self.record()?;
+                self.records.push(record.to_vec(self.alloc)?)?;
+                Ok(Call::Append(record))
+            }
+        }
+    }
+
+    fn calls(&mut self) -> Result<Vec<Call>, AllocError> {
+        let mut calls = Vec::new(self.alloc);
+        for _ in 0..CALLS {
+            calls.push(self.call()?)?;
+        }
+        Ok(calls)
+    }
+
+    // How many records the log has, if they are those up to a sync, this one or a later one.
+    fn found(&self, log: &mut Log, sync: usize) -> Option<usize> {
+        for end in self.ends.iter().skip(sync) {
+            if has(log, &self.records, *end) {
+                return Some(*end);
+            }
+        }
+        None
+    }
+
+    // Whether a crash after this many calls of the folder leaves the records up to a sync, this one or a later one.
+    fn survives(&mut self, events: &[Event], count: usize, sync: usize) -> Result<bool, Fail> {
+        let folder = crashed(self.alloc, events, count, &mut self.dice)?;
+        let mut log = called(self.alloc, folder, &[])?;
+        let found = self.found(&mut log, sync);
+        if found > self.ends.first().copied() && found < self.ends.last().copied() {
+            self.partial = self.partial.saturating_add(1);
+        }
+        Ok(found.is_some())
+    }
+
+    // Whether each crash between these counts does so.
+    fn survive_all(
+        &mut self,
+        events: &[Event],
+        from: usize,
+        to: usize,
+        sync: usize,
+    ) -> Result<bool, Fail> {
+        for count in from..to {
+            for _ in 0..CRASHES {
+                if !self.survives(events, count, sync)? {
+                    return Ok(false);
+                }
+            }
+        }
+        Ok(true)
+    }
+
+    // Opens what a crash leaves after some of these calls, and notes what there is of the records.
+    fn restart(
+        &mut self,
+        events: &[Event],
+        from: usize,
+        to: usize,
+    ) -> Result<Option<Watched>, Fail> {
+        let count = from.saturating_add(self.dice.roll(to.saturating_sub(from)));
+        let folder = crashed(self.alloc, events, count, &mut self.dice)?;
+        let mut log = called(self.alloc, folder, &[])?;
+        let Some(found) = self.found(&mut log, 0) else {
+            return Ok(None);
+        };
+        self.records.truncate(found);
+        self.ends.clear();
+        self.ends.push(found)?;
+        Ok(Some(log.into_folder()))
+    }
+
+    // A process, of which every crash is played. The folder that one of them left, if each left what it may.
+    fn process(&mut self, folder: Watched) -> Result<Option<Watched>, Fail> {
+        let from = folder.events().len();
+        let calls = self.calls()?;
+        let mut log = called(self.alloc, folder, &calls)?;
+        let more = self.calls()?;
+        let done = call_all(&mut log, &more).is_ok();
+        let folder = log.into_folder();
+        let to = folder.events().len();
+        let last = self.ends.len().saturating_sub(1);
+        let survives = self.survive_all(folder.events(), from, to, 0)?;
+        let kept = self.survive_all(folder.events(), to, to.saturating_add(1), last)?;
+        if done && survives && kept {
+            self.restart(folder.events(), from, to)
+        } else {
+            Ok(None)
+        }
+    }
+}
+
+// Runs processes, each on what a crash of the one before it left. How many crashes left some of the batches.
+fn play(alloc: Global, seed: u64) -> Result<Option<usize>, Fail> {
+    let mut run = Run {
+        alloc,
+        dice: Dice::new(seed),
+        records: Vec::new(alloc),
+        ends: Vec::new(alloc),
+        partial: 0,
+    };
+    run.ends.push(0)?;
+    let mut folder = Watched::new(alloc);
+    for _ in 0..PROCESSES {
+        match run.process(folder)? {
+            Some(left) => folder = left,
+            None => return Ok(None),
+        }
+    }
+    Ok(Some(run.partial))
+}
+
+#[test]
+fn processes_that_crash_leave_whole_batches(rt: HostRuntime) -> Result<(), Fail> {
+    for seed in 0..2 {
+        let partial = play(rt.alloc(), seed)?;
+        assert!(rt;
+            partial.is_some_and(|partial| partial > 0),
+            "{partial:?} {seed}"
+        );
+    }
+    Ok(())
+}
