@@ -22,12 +22,20 @@ _zevkhadun() {
                 'merge --without' | \
                 'merge --block-size' | \
                 'merge --period' | \
-                'inspect --html')
+                'inspect --html' | \
+                'log append --files-from' | \
+                'log append --sync' | \
+                'log append --framing' | \
+                'log append --seal-size' | \
+                'log get --framing' | \
+                'log cat --from' | \
+                'log cat --framing')
                 if [ "${COMP_WORDS[i + 1]}" = '=' ]; then ((i++)); fi
                 ((i++))
                 ;;
             *' -'?*) ;;
             ' '*) command=${COMP_WORDS[i]} ;;
+            'log append' | 'log get' | 'log cat' | 'log stat' | 'log verify' | 'log seal') command="$command ${COMP_WORDS[i]}" ;;
             *) ((place++)) ;;
         esac
     done
@@ -46,33 +54,56 @@ _zevkhadun() {
         'merge --block-size') : ;;
         'merge --period') : ;;
         'inspect --html') files=yes ;;
+        'log append --files-from') files=yes ;;
+        'log append --sync') words='every batch end' ;;
+        'log append --framing') words='lines text nul lengths files' ;;
+        'log append --seal-size') : ;;
+        'log get --framing') words='lines text nul lengths files' ;;
+        'log cat --from') : ;;
+        'log cat --framing') words='lines text nul lengths files' ;;
         *)
             case "$command $place $word" in
                 ' 0 -'*) words='-h --help -V --version' ;;
-                ' 0 '*) words='pack append get cat stat verify merge export inspect help' ;;
-                'help 0 '*) words='pack append get cat stat verify merge export inspect help' ;;
-                'pack '*' -'*) words='--files-from --framing --block-size --period -q --quiet -h --help' ;;
-                'pack 0 '*) files=yes ;;
-                'pack '*) files=yes ;;
-                'append '*' -'*) words='--files-from --framing --block-size -q --quiet -h --help' ;;
-                'append 0 '*) files=yes ;;
-                'append '*) files=yes ;;
-                'get '*' -'*) words='--number --json --framing --tantivy -h --help' ;;
-                'get 0 '*) files=yes ;;
-                'cat '*' -'*) words='--without --keep-going --number --json --framing --tantivy -h --help' ;;
-                'cat 0 '*) files=yes ;;
-                'stat '*' -'*) words='--json --tantivy -h --help' ;;
-                'stat '*) files=yes ;;
-                'verify '*' -'*) words='--list --json --tantivy -q --quiet -h --help' ;;
-                'verify '*) files=yes ;;
-                'merge '*' -'*) words='--without --block-size --period --tantivy -q --quiet -h --help' ;;
-                'merge 0 '*) files=yes ;;
-                'merge '*) files=yes ;;
+                ' 0 '*) words='pack append get cat stat verify merge export inspect log help' ;;
+                'help 0 '*) words='pack append get cat stat verify merge export inspect log help' ;;
+                'log seal '*' -'*) words='-h --help' ;;
+                'log seal 0 '*) files=yes ;;
+                'log verify '*' -'*) words='-q --quiet -h --help' ;;
+                'log verify '*) files=yes ;;
+                'log stat '*' -'*) words='--json -h --help' ;;
+                'log stat '*) files=yes ;;
+                'log cat '*' -'*) words='--from --number --json --framing -h --help' ;;
+                'log cat 0 '*) files=yes ;;
+                'log get '*' -'*) words='--number --json --framing -h --help' ;;
+                'log get 0 '*) files=yes ;;
+                'log append '*' -'*) words='--files-from --sync --number --framing --seal-size -q --quiet -h --help' ;;
+                'log append 0 '*) files=yes ;;
+                'log append '*) files=yes ;;
+                'log '*' -'*) words='-h --help' ;;
+                'log 0 '*) words='append get cat stat verify seal help' ;;
+                'inspect '*' -'*) words='--html --tantivy -h --help' ;;
+                'inspect 0 '*) files=yes ;;
+                'inspect 1 '*) files=yes ;;
                 'export '*' -'*) words='--tantivy -q --quiet -h --help' ;;
                 'export 0 '*) files=yes ;;
                 'export 1 '*) files=yes ;;
-                'inspect '*' -'*) words='--html --tantivy -h --help' ;;
-                'inspect 0 '*) files=yes ;;
+                'merge '*' -'*) words='--without --block-size --period --tantivy -q --quiet -h --help' ;;
+                'merge 0 '*) files=yes ;;
+                'merge '*) files=yes ;;
+                'verify '*' -'*) words='--list --json --tantivy -q --quiet -h --help' ;;
+                'verify '*) files=yes ;;
+                'stat '*' -'*) words='--json --tantivy -h --help' ;;
+                'stat '*) files=yes ;;
+                'cat '*' -'*) words='--without --keep-going --number --json --framing --tantivy -h --help' ;;
+                'cat 0 '*) files=yes ;;
+                'get '*' -'*) words='--number --json --framing --tantivy -h --help' ;;
+                'get 0 '*) files=yes ;;
+                'append '*' -'*) words='--files-from --framing --block-size -q --quiet -h --help' ;;
+                'append 0 '*) files=yes ;;
+                'append '*) files=yes ;;
+                'pack '*' -'*) words='--files-from --framing --block-size --period -q --quiet -h --help' ;;
+                'pack 0 '*) files=yes ;;
+                'pack '*) files=yes ;;
             esac
             ;;
     esac

@@ -26,8 +26,14 @@ DAMAGES = {
     ),
     "compressed blocks": Damage(
         lambda store: changed(store, -16, b"\1"),
-        "blocks are compressed (kind 1); only uncompressed stores",
+        "blocks are compressed (kind 1, LZ4); only uncompressed stores can be read",
         "footer: ",
+    ),
+    "blocks that Zstd compressed": Damage(
+        lambda store: changed(store, -16, b"\4"), "blocks are compressed (kind 4, Zstd); only", "footer: "
+    ),
+    "blocks of an unknown kind": Damage(
+        lambda store: changed(store, -16, b"\5"), "blocks are compressed (kind 5); only", "footer: "
     ),
     "another period": Damage(lambda store: changed(store, -15, b"\1"), "bad checkpoint period 1", "footer: "),
     "an offset past the file": Damage(

@@ -5,23 +5,29 @@ from pathlib import Path
 from harness import TOP, ProgramCase
 
 HELP = Path(__file__).resolve().parent / "help"
-COMMANDS = ("pack", "append", "get", "cat", "stat", "verify", "merge", "export", "inspect")
+COMMANDS = ("pack", "append", "get", "cat", "stat", "verify", "merge", "export", "inspect", "log")
+LOG_COMMANDS = ("append", "get", "cat", "stat", "verify", "seal")
+# The words of each command, and the name of the file that has its help.
+HELP_TEXTS = [
+    ((), "zevkhadun"), *(((command,), command) for command in COMMANDS),
+    *((("log", command), f"log-{command}") for command in LOG_COMMANDS),
+]
 WRONG = (
-    "", "pac x", "pack", "get x", "cat", "stat", "verify", "merge x", "inspect x", "pack --framing bytes x y",
+    "", "pac x", "pack", "get x", "cat", "stat", "verify", "merge x", "inspect", "pack --framing bytes x y",
     "cat --jsn x", "append", "verify --list --json x", "get", "cat --json --number x",
 )
 
 
 class Words(ProgramCase):
     def test_each_help_is_its_text(self):
-        for words, name in [((), "zevkhadun"), *(((command,), command) for command in COMMANDS)]:
+        for words, name in HELP_TEXTS:
             with self.subTest(name):
                 given = self.program.gives(*words, "--help").decode()
                 self.assertMultiLineEqual(given, (HELP / f"{name}.txt").read_text())
 
     def test_each_help_text_is_compared(self):
         names = {path.stem for path in HELP.iterdir()}
-        self.assertEqual(names, {"zevkhadun", *COMMANDS})
+        self.assertEqual(names, {name for _, name in HELP_TEXTS})
 
     def test_the_version_is_that_of_the_repository(self):
         version = (TOP / "VERSION").read_text().strip()

@@ -33,14 +33,20 @@ class OnDisk:
         self.synced = self.now()
         self.changes = []
 
+    def kept(self) -> bytes:
+        """What every crash leaves: the bytes that were synced, if all since then were written after them."""
+        after = all(kind == "write" and place >= len(self.synced) for kind, place, _ in self.changes)
+        return self.synced if after else b""
+
     def forms(self) -> list[bytes]:
         """What a crash may leave: nothing of what was not synced, all of it, a part, and other bytes."""
         if not self.changes:
             return [self.synced]
-        whole = self.now()
+        whole, kept = self.now(), self.kept()
         kind, place, more = self.changes[-1]
         part = self.after(self.changes[:-1] + [(kind, place, more[:len(more) // 2])])
-        return list(dict.fromkeys([self.synced, whole, part, b"", b"\xff" * len(whole), bytes(len(whole))]))
+        new = len(whole) - len(kept)
+        return list(dict.fromkeys([self.synced, whole, part, kept, kept + b"\xff" * new, kept + bytes(new)]))
 
 
 class Disk:
@@ -75,6 +81,10 @@ class Disk:
     def write(self, name: str, place: int, data: bytes) -> None:
         """Writes bytes at a place of a file."""
         self.names[name].changes.append(("write", place, data))
+
+    def append(self, name: str, data: bytes) -> None:
+        """Writes bytes at the end of a file."""
+        self.write(name, len(self.names[name].now()), data)
 
     def copy(self, name: str, place: int, source: str, start: int, size: int) -> None:
         """Writes bytes of another file, which the system copied, at a place of a file."""

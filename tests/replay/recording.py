@@ -41,9 +41,9 @@ class Recording:
 
     def __init__(self, folder: Path, trace: Iterable[str]) -> None:
         self.folder = os.path.realpath(folder)
-        # By descriptor: the name of the open file, and the place of the next write.
+        # By descriptor: the name of the open file, and the place of the next write; None for one at the file's end.
         self.paths: dict[int, str | None] = {}
-        self.places: dict[int, int] = {}
+        self.places: dict[int, int | None] = {}
         self.calls: list[tuple] = []
         for line in trace:
             found = LINE.match(line)
@@ -66,7 +66,7 @@ class Recording:
             self.wrote(call, arguments, result)
         elif call in ("rename", "renameat", "renameat2"):
             texts = [bytes.fromhex(t.replace("\\x", "")).decode() for t in TEXT.findall(arguments)]
-            self.calls.append(("rename", self.name_of(texts[0]), self.name_of(texts[1])))
+            self.renamed(self.name_of(texts[0]), self.name_of(texts[1]))
         elif call in ("unlink", "unlinkat"):
             self.calls.append(("remove", self.name_of(text_of(arguments).decode())))
         elif call == "lseek":
@@ -79,11 +79,16 @@ class Recording:
         elif call not in READING | ACCESS:
             raise ValueError(f"the replay does not know the call {call}")
 
+    def renamed(self, old: str | None, new: str | None) -> None:
+        """Adds a rename. A file that is open has its new name from then on."""
+        self.calls.append(("rename", old, new))
+        self.paths = {descriptor: new if name == old else name for descriptor, name in self.paths.items()}
+
     def opened(self, arguments: str, descriptor: int) -> None:
         """Adds what opening a file changes."""
         name = self.name_of(text_of(arguments).decode())
         self.paths[descriptor] = name
-        self.places[descriptor] = 0
+        self.places[descriptor] = None if "O_APPEND" in arguments else 0
         if name and "O_CREAT" in arguments:
             self.calls.append(("make", name))
         if name and "O_TRUNC" in arguments:
@@ -115,12 +120,18 @@ class Recording:
             self.calls.append(("cut", name, int(arguments.rsplit(",", 1)[1])))
         else:
             data = text_of(arguments)[:result]
-            self.calls.append(("write", name, self.places[descriptor], data))
-            self.places[descriptor] += result
+            place = self.places[descriptor]
+            if place is None:
+                self.calls.append(("append", name, data))
+            else:
+                self.calls.append(("write", name, place, data))
+                self.places[descriptor] = place + result
 
 
-def recorded(program: Path, folder: Path, *words: str, before: tuple[str | Path, ...] = ()) -> list[tuple]:
-    """Runs the program in the folder, and returns its calls that change the files of this folder.
+def recorded(
+    program: Path, folder: Path, *words: str | Path, before: tuple[str | Path, ...] = (), kind: type = Recording
+) -> list[tuple]:
+    """Runs the program in the folder, and returns its calls that change the files of this folder, as `kind` notes them.
 
     What stands before the command may run it where the folder has other files.
     """
@@ -129,4 +140,4 @@ def recorded(program: Path, folder: Path, *words: str, before: tuple[str | Path,
         done = subprocess.run([*before, *strace, program, *words], cwd=folder, capture_output=True, timeout=120)
         if done.returncode != 0:
             raise ValueError(done.stderr.decode())
-        return Recording(folder, trace).calls
+        return kind(folder, trace).calls

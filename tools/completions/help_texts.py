@@ -15,7 +15,7 @@ OPTION = re.compile(r"(?:-(?P<short>\w)(?:, )?)?(?:--(?P<long>[\w-]+))?(?: <(?P<
 ARGUMENT = re.compile(r"[<\[](?P<name>[^>\]]+)[>\]](?P<more>\.\.\.)?")
 VALUES = re.compile(r"\[possible values: ([^\]]*)\]")
 # Arguments and values that name files. Any other one is a number or a list of numbers.
-FILES = {"FILE", "OUT", "INPUT", "STORE", "LIST", "INPUT=IDS"}
+FILES = {"FILE", "FOLDER", "OUT", "INPUT", "STORE", "LIST", "INPUT=IDS"}
 
 
 @dataclass
@@ -82,6 +82,14 @@ class Command:
     commands: list["Command"] = field(default_factory=list)
     after: list[str] = field(default_factory=list)
 
+    def last_name(self) -> str:
+        """Its name among the commands beside it."""
+        return self.name.split()[-1]
+
+    def below(self) -> list["Command"]:
+        """All commands below it, each before those below that one."""
+        return [each for command in self.commands for each in (command, *command.below())]
+
 
 def entries(lines: list[str]) -> list[Entry]:
     """The entries of a section. A line that begins none belongs to the last one."""
@@ -139,12 +147,18 @@ def command_of(name: str, text: str) -> Command:
     )
 
 
+def with_commands(folder: Path, command: Command, text: str, before: str) -> Command:
+    """A command with those that its help text lists and a file describes: `log append` is in `log-append.txt`."""
+    for entry in entries(sections(text).get("Commands", [])):
+        name = f"{before}{entry.spelled}"
+        path = folder / f"{name.replace(' ', '-')}.txt"
+        if path.exists():
+            said = path.read_text()
+            command.commands.append(with_commands(folder, command_of(name, said), said, f"{name} "))
+    return command
+
+
 def commands_of(folder: Path = HELP) -> Command:
     """The program with its commands, by the help texts of a folder."""
     text = (folder / f"{NAME}.txt").read_text()
-    program = command_of(NAME, text)
-    for entry in entries(sections(text)["Commands"]):
-        path = folder / f"{entry.spelled}.txt"
-        if path.exists():
-            program.commands.append(command_of(entry.spelled, path.read_text()))
-    return program
+    return with_commands(folder, command_of(NAME, text), text, "")

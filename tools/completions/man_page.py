@@ -65,9 +65,9 @@ def man_page(program: Command, version: str) -> str:
         f'.\\" {WRITTEN_BY}',
         f'.TH {NAME.upper()} 1 "" "{NAME} {version}" "User Commands"',
         ".SH NAME", f"{NAME} \\- {plain(program.about[0].lower() + program.about[1:])}",
-        ".SH SYNOPSIS", ".nf", *(plain(command.usage) for command in program.commands), ".fi",
+        ".SH SYNOPSIS", ".nf", *(plain(command.usage) for command in program.below() if not command.commands), ".fi",
         ".SH DESCRIPTION", *paragraphs(program.after),
         ".SH OPTIONS", *(line for option in program.options for line in described(option)),
-        ".SH COMMANDS", *(line for command in program.commands for line in command_lines(command)),
+        ".SH COMMANDS", *(line for command in program.below() for line in command_lines(command)),
     ]
     return "\n".join(lines) + "\n"

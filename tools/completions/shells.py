@@ -12,9 +12,9 @@ def quoted(text: str) -> str:
     return "'" + text.replace("'", "'\\''") + "'"
 
 
-def names_of(program: Command) -> str:
-    """The names of the commands."""
-    return " ".join([*(command.name for command in program.commands), "help"])
+def names_of(command: Command) -> str:
+    """The names of the commands just below one."""
+    return " ".join([*(below.last_name() for below in command.commands), "help"])
 
 
 def flags_of(command: Command) -> str:
@@ -42,6 +42,7 @@ _{name}() {{
                 ;;
             *' -'?*) ;;
             ' '*) command=${{COMP_WORDS[i]}} ;;
+            {nested}) command="$command ${{COMP_WORDS[i]}}" ;;
             *) ((place++)) ;;
         esac
     done
@@ -66,7 +67,7 @@ complete -o filenames -F _{name} {name}
 def bash_values(program: Command) -> list[str]:
     """The cases of values of options."""
     lines = []
-    for command in program.commands:
+    for command in program.below():
         for option in command.options:
             if option.value:
                 words = f"words={quoted(' '.join(option.values()))}" if option.values() else ""
@@ -80,8 +81,11 @@ def bash_words(program: Command) -> list[str]:
     """The cases of other words: options, commands, and files where an argument names one."""
     cases = [("' 0 -'*", f"words={quoted(flags_of(program))}"), ("' 0 '*", f"words={quoted(names_of(program))}"),
              ("'help 0 '*", f"words={quoted(names_of(program))}")]
-    for command in program.commands:
+    # A command comes after those below it, since its patterns take their words, too.
+    for command in reversed(program.below()):
         cases.append((f"{quoted(command.name + ' ')}*' -'*", f"words={quoted(flags_of(command))}"))
+        if command.commands:
+            cases.append((f"'{command.name} 0 '*", f"words={quoted(names_of(command))}"))
         for place, argument in enumerate(command.arguments):
             if argument.takes_file():
                 at = f"{quoted(command.name + ' ')}*" if argument.is_repeated else f"'{command.name} {place} '*"
@@ -91,10 +95,12 @@ def bash_words(program: Command) -> list[str]:
 
 def bash(program: Command) -> str:
     """The completions for bash."""
-    with_value = [quoted(f"{command.name} {name}") for command in program.commands for option in command.options
+    with_value = [quoted(f"{command.name} {name}") for command in program.below() for option in command.options
                   if option.value for name in option.names()]
+    nested = [quoted(command.name) for command in program.below() if " " in command.name]
     return BASH.format(
         name=NAME, written_by=WRITTEN_BY, with_value=" | \\\n                ".join(with_value),
+        nested=" | ".join(nested),
         values="\n".join(bash_values(program)), words="\n".join(bash_words(program)),
     )
 
@@ -104,6 +110,11 @@ def bash(program: Command) -> str:
 ZSH = """\
 #compdef {name}
 # Completes the words of {name} in zsh. {written_by}
+{functions}
+_{name} "$@"
+"""
+
+ZSH_FUNCTION = """\
 _{name}() {{
     local context state state_descr line
     local -A opt_args
@@ -124,7 +135,6 @@ _{name}() {{
             ;;
     esac
 }}
-_{name} "$@"
 """
 
 
@@ -148,26 +158,39 @@ def zsh_option(option: Option) -> str:
     return f"'({' '.join(names)})'{{{','.join(names)}}}'{said}'"
 
 
+def zsh_name(command: Command) -> str:
+    """The name of the function for a command that has others below it."""
+    return NAME if command.name == NAME else f"{NAME}_{command.name.replace(' ', '_')}"
+
+
 def zsh_command(command: Command) -> str:
     """The case of a command."""
+    if command.commands:
+        return f"                {command.last_name()}) _{zsh_name(command)} ;;"
     words = [zsh_option(option) for option in command.options]
     for place, argument in enumerate(command.arguments, 1):
         kind = "_files" if argument.takes_file() else ""
         words.append(f"'{'*' if argument.is_repeated else place}:{argument.name}:{kind}'")
-    lines = [f"                {command.name})", "                    _arguments \\"]
+    lines = [f"                {command.last_name()})", "                    _arguments \\"]
     lines += [f"                        {word} \\" for word in words]
     return "\n".join([*lines, "                    ;;"]).replace(" \\\n" + " " * 20 + ";;", "\n" + " " * 20 + ";;")
 
 
+def zsh_function(command: Command) -> str:
+    """The function for a command that has others below it."""
+    said = [*((below.last_name(), below.about) for below in command.commands), ("help", "Print help")]
+    return ZSH_FUNCTION.format(
+        name=zsh_name(command),
+        commands="\n".join(f"        {quoted(name + ':' + about)}" for name, about in said),
+        options=" \\\n".join(f"        {zsh_option(option)}" for option in command.options),
+        cases="\n".join(zsh_command(below) for below in command.commands),
+    )
+
+
 def zsh(program: Command) -> str:
     """The completions for zsh."""
-    said = [*((command.name, command.about) for command in program.commands), ("help", "Print help")]
-    return ZSH.format(
-        name=NAME, written_by=WRITTEN_BY,
-        commands="\n".join(f"        {quoted(name + ':' + about)}" for name, about in said),
-        options=" \\\n".join(f"        {zsh_option(option)}" for option in program.options),
-        cases="\n".join(zsh_command(command) for command in program.commands),
-    )
+    functions = [zsh_function(command) for command in (*program.below(), program) if command.commands]
+    return ZSH.format(name=NAME, written_by=WRITTEN_BY, functions="".join(functions).rstrip("\n"))
 
 
 # ---- fish
@@ -187,17 +210,35 @@ def fish_option(option: Option) -> str:
     return " ".join([*words, "-d", fish_text(option.summary())])
 
 
+def fish_seen(program: Command, command: Command) -> str:
+    """The condition that the words are those of a command. A name may be that of a command below another one, too."""
+    above = command.name.split()[:-1]
+    others = [each for each in program.below() if each.last_name() == command.last_name() and each is not command]
+    not_seen = [name for each in others for name in each.name.split()[:-1] if name not in above]
+    seen = [f"__fish_seen_subcommand_from {name}" for name in command.name.split()]
+    return "; and ".join(seen + [f"not __fish_seen_subcommand_from {name}" for name in not_seen])
+
+
+def fish_commands(program: Command, command: Command) -> list[str]:
+    """The lines for the commands just below one."""
+    seen = "__fish_use_subcommand"
+    if command is not program:
+        seen = f"'{fish_seen(program, command)}; and not __fish_seen_subcommand_from {names_of(command)}'"
+    none = f"complete -c {NAME} -n {seen}"
+    lines = [f"{none} -a {below.last_name()} -d {fish_text(below.about)}" for below in command.commands]
+    return [*lines, f"{none} -a help -d 'Print help'"]
+
+
 def fish(program: Command) -> str:
     """The completions for fish."""
     none = f"complete -c {NAME} -n __fish_use_subcommand"
     lines = [f"# Completes the words of {NAME} in fish. {WRITTEN_BY}", f"complete -c {NAME} -f"]
     lines += [f"{none} {fish_option(option)}" for option in program.options]
-    for command in program.commands:
-        lines.append(f"{none} -a {command.name} -d {fish_text(command.about)}")
-    lines.append(f"{none} -a help -d 'Print help'")
+    lines += fish_commands(program, program)
     lines.append(f"complete -c {NAME} -n '__fish_seen_subcommand_from help' -a {fish_text(names_of(program))}")
-    for command in program.commands:
-        seen = f"complete -c {NAME} -n '__fish_seen_subcommand_from {command.name}'"
+    for command in program.below():
+        seen = f"complete -c {NAME} -n '{fish_seen(program, command)}'"
+        lines += fish_commands(program, command) if command.commands else []
         lines += [f"{seen} {fish_option(option)}" for option in command.options]
         if any(argument.takes_file() for argument in command.arguments):
             lines.append(f"{seen} -F")

@@ -1,5 +1,5 @@
 -- Which documents are damaged, block by block.
-use Rattle.std.proofs.Common.{◌≡◌, ◌≢◌, ℕ, zero, suc, ◌+◌, ◌-◌, ◌<◌, ◌≤◌, Bool, true, false, List, [], ◌∷◌, ◌++◌, length, map, Some, refl, sym, ap, ◌∙◌, subst, arith}
+use Rattle.std.proofs.Common.{◌≡◌, ◌≢◌, ℕ, zero, suc, ◌+◌, ◌-◌, ◌<◌, ◌≤◌, Bool, true, false, List, [], ◌∷◌, ◌++◌, length, map, Some, refl, sym, ap, ◌∙◌, arith}
 use Rattle.std.specs.Prelude.{IsTrue, ◌&&◌, ◌||◌, nat_eq, slice_range}
 use Rattle.std.specs.List.{AllByRecursion, list_any, enumerate_from, range_with_len}
 use Rattle.std.proofs.lemmas.Bool.Decides.{nat_tests}
@@ -7,14 +7,13 @@ use Rattle.std.proofs.lemmas.List.Folds.{list_any-append}
 use Rattle.std.proofs.lemmas.List.FromFn.{length-map-range_with_len}
 use Rattle.docstore.proofs.TakenLemmas.{length-slots}
 use Rattle.store_base.proofs.ListLemmas.{enumerate_append}
-use Rattle.layered_index.specs.Checkpoint.{Covers, docs_end, first_past}
+use Rattle.layered_index.specs.Checkpoint.{Covers, first_past}
 use Rattle.store_format.specs.Block.{Slot, slot, damaged}
 use Rattle.store_format.specs.Slots.{slots}
 use Rattle.store_format.specs.StoreFile.{StoreBlock}
 use Rattle.store_reader.specs.declared.data_part.DataPart.{DataPart}
 use Rattle.store_reader.specs.Parts.{place_of, IsBlockRead}
-use Rattle.store_reader.specs.Reading.{Reading, IsSameStore, num_docs}
-use Rattle.store_reader.proofs.RecentLemmas.{same_as_it_is}
+use Rattle.store_reader.specs.Reading.{Reading, num_docs}
 use Rattle.store_commands.specs.declared.left_out.IdSpan.{IdSpan}
 use Rattle.store_commands.specs.Checks.{is_damaged, slots_in}
 use Rattle.store_commands.specs.Damaged.{damaged_from, is_damaged_in}
@@ -22,7 +21,7 @@ use Rattle.store_commands.specs.LeftOut.{is_in, is_among, HasId}
 use Rattle.store_commands.proofs.CountLemmas.{slots_joined}
 use Rattle.store_commands.proofs.GivingLemmas.{slots_split}
 use Rattle.store_commands.proofs.SpanLemmas.{is_in_true, is_in_parts, or_assoc, or_false}
-use Rattle.store_commands.proofs.WalkLemmas.{HasCome, has_begun, IsNext, is_next, has_come_on, has_ended, same_read}
+use Rattle.store_commands.proofs.WalkLemmas.{HasWalked, walked_first, walked_next, walked_more, walked_all, IsNext}
 
 damaged_joined : (n : ℕ) (xs ys : List Slot) (id : ℕ) → damaged_from n (xs ++ ys) id ≡ (damaged_from n xs id || damaged_from (n + length xs) ys id)
 damaged_joined n xs ys id =
@@ -126,17 +125,17 @@ found_rest block first m n old spans h bad id =
 
 -- ---- the blocks of a store
 
+-- these are the damaged documents of the blocks
+abbrev AreDamagedOf : List IdSpan → List StoreBlock → Type 0
+AreDamagedOf spans blocks = (id : ℕ) → is_among spans id ≡ damaged_from 0 (slots blocks) id
+
 -- the damaged documents of some blocks were found
 pub record HasFound (r now : Reading) (next : ℕ) (spans : List IdSpan) : Type 0 where
-  pub front : List StoreBlock
-  pub come : HasCome r front next
-  pub covers : Covers r.checkpoints (length r.file.content)
-  pub same : IsSameStore r now
+  pub walked : HasWalked (AreDamagedOf spans) r now next
   pub filled : AllByRecursion HasId spans
-  pub named : IsTrue r.file.honest → (id : ℕ) → is_among spans id ≡ damaged_from 0 (slots front) id
 
 pub found_first : (r : Reading) → Covers r.checkpoints (length r.file.content) → HasFound r r 0 []
-found_first r covers = record { front = []; come = has_begun r; covers = covers; same = same_as_it_is r; filled = tt; named = λ honest id. refl }
+found_first r covers = record { walked = walked_first (AreDamagedOf []) r covers (λ id. refl); filled = tt }
 
 pub found_more : (r now new : Reading) (next : ℕ) (spans more : List IdSpan) (part : DataPart) → HasFound r now next spans
     → Some (place_of part) ≡ first_past now.checkpoints next
@@ -144,27 +143,26 @@ pub found_more : (r now new : Reading) (next : ℕ) (spans more : List IdSpan) (
     → (num_docs now ≤ next → new ≡ now) → (next < num_docs now → IsBlockRead now next new)
     → ((id : ℕ) → is_among more id ≡ (is_among spans id || damaged_from part.ids.start (slots_in part.bytes (part.ids.end - part.ids.start)) id)) → AllByRecursion HasId more
     → HasFound r new part.ids.end more
-found_more r now new next spans more part h seeks given none once added filled =
-    let same = h.same in
-    let n : IsNext r h.front next part = is_next r h.front next part h.covers h.come (seeks ∙ ap (λ cs. first_past cs next) same.checkpoints)
-    (λ honest. given (subst IsTrue (sym same.honest) honest) ∙ ap (λ (xs : List ℕ). slice_range xs part.start (part.start + length part.bytes)) same.content) in
-    record {
-      front = h.front ++ n.block ∷ [];
-      come = has_come_on r h.front next part h.come n;
-      covers = h.covers;
-      same = same_read r now new next same none once;
-      filled = filled;
-      named = λ honest id.
-          let start : part.ids.start ≡ 0 + length (slots h.front) = omega (arith, n.first, h.come.next_is, length-slots h.front) in
-          added id
-          ∙ ap (λ (b : Bool). b || damaged_from part.ids.start (slots_in part.bytes (part.ids.end - part.ids.start)) id) (h.named honest id)
-          ∙ ap (λ (k : ℕ). damaged_from 0 (slots h.front) id || damaged_from k (slots_in part.bytes (part.ids.end - part.ids.start)) id) start
-          ∙ ap (λ (k : ℕ). damaged_from 0 (slots h.front) id || damaged_from (0 + length (slots h.front)) (slots_in part.bytes k) id) n.count
-          ∙ ap (λ (xs : List ℕ). damaged_from 0 (slots h.front) id || damaged_from (0 + length (slots h.front)) (slots_in xs n.block.count) id) (n.bytes honest)
-          ∙ sym (ap (λ (xs : List Slot). damaged_from 0 xs id) (slots_joined h.front n.block) ∙ damaged_joined 0 (slots h.front) (slots_in n.block.bytes n.block.count) id);
-    }
+found_more r now new next spans more part h seeks given none once added filled = record {
+  walked = walked_more (AreDamagedOf spans) (AreDamagedOf more) r now new next part h.walked n none once named;
+  filled = filled;
+}
+  where
+    front : List StoreBlock
+    front = h.walked.front
+
+    n : IsNext r h.walked.front next part
+    n = walked_next (AreDamagedOf spans) r now next part h.walked seeks given
+
+    named : IsTrue r.file.honest → AreDamagedOf spans front → AreDamagedOf more (front ++ n.block ∷ [])
+    named honest old id =
+        let start : part.ids.start ≡ 0 + length (slots front) = omega (arith, n.first, h.walked.come.next_is, length-slots front) in
+        added id
+        ∙ ap (λ (b : Bool). b || damaged_from part.ids.start (slots_in part.bytes (part.ids.end - part.ids.start)) id) (old id)
+        ∙ ap (λ (k : ℕ). damaged_from 0 (slots front) id || damaged_from k (slots_in part.bytes (part.ids.end - part.ids.start)) id) start
+        ∙ ap (λ (k : ℕ). damaged_from 0 (slots front) id || damaged_from (0 + length (slots front)) (slots_in part.bytes k) id) n.count
+        ∙ ap (λ (xs : List ℕ). damaged_from 0 (slots front) id || damaged_from (0 + length (slots front)) (slots_in xs n.block.count) id) (n.bytes honest)
+        ∙ sym (ap (λ (xs : List Slot). damaged_from 0 xs id) (slots_joined front n.block) ∙ damaged_joined 0 (slots front) (slots_in n.block.bytes n.block.count) id)
 
 pub found_all : (r now : Reading) (next : ℕ) (spans : List IdSpan) → HasFound r now next spans → num_docs now ≤ next → IsTrue r.file.honest → (id : ℕ) → is_among spans id ≡ is_damaged_in r id
-found_all r now next spans h le honest id =
-    let docs : num_docs now ≡ num_docs r = ap (λ cs. docs_end 0 cs) h.same.checkpoints in
-    h.named honest id ∙ ap (λ (bs : List StoreBlock). damaged_from 0 (slots bs) id) (sym (has_ended r h.front next h.covers h.come (omega arith)))
+found_all r now next spans h le honest = walked_all (AreDamagedOf spans) r now next h.walked le honest

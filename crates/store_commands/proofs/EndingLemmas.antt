@@ -77,7 +77,7 @@ ends_at_block takes set r now next old new h lt = (
     below = lt;
     given = λ honest.
         let all : take next (slots (store_of r)) ≡ slots h.front = ap (λ (bs : List StoreBlock). take next (slots bs)) h.come.parts ∙ below_block h.front h.come.rest next h.come.next_is in
-        subst (λ (xs : List Slot). TakesSlots takes (alive xs set) old new) (sym all) (h.taken honest);
+        subst (λ (xs : List Slot). TakesSlots takes (alive xs set) old new) (sym all) (h.known honest);
   },
 )
 
@@ -122,7 +122,7 @@ given_to takes set r now next position old middle new part h n lt taken = record
       let joined : alive front set ≡ alive (slots h.front) set ++ alive_from part.ids.start (slots_in part.bytes position) set =
       alive_joined 0 (slots h.front) (slots_in n.block.bytes position) set ∙ ap (λ (ys : List Slot). alive (slots h.front) set ++ ys) (sym some) in
       subst (λ (xs : List Slot). TakesSlots takes xs old new) (sym (ap (λ (xs : List Slot). alive xs set) all ∙ joined))
-      (takes_more takes old middle new (alive (slots h.front) set) (alive_from part.ids.start (slots_in part.bytes position) set) (h.taken honest) taken);
+      (takes_more takes old middle new (alive (slots h.front) set) (alive_from part.ids.start (slots_in part.bytes position) set) (h.known honest) taken);
 }
 
 pub ends_in_block : {T E : Type 0} (takes refuses : T → List ℕ → T → Type 0) (set : Option (ℕ → Bool)) (r now read : Reading) (next : ℕ) (old middle new : T) (part : DataPart) (e : GivingError E)

@@ -1,25 +1,24 @@
 -- How far the documents of a store were given.
 use Rattle.std.proofs.Common.{◌≡◌, ℕ, ◌+◌, ◌-◌, ◌<◌, ◌≤◌, Bool, true, false, List, [], ◌∷◌, ◌++◌, length, map, Option, Some, sym, ap, ◌∙◌, subst, arith}
 use Rattle.std.specs.Prelude.{IsTrue, slice_range}
-use Rattle.layered_index.specs.Checkpoint.{Covers, docs_end, first_past}
+use Rattle.layered_index.specs.Checkpoint.{Covers, first_past}
 use Rattle.std.specs.List.{range_with_len}
 use Rattle.std.proofs.lemmas.List.{append-nil, map-append}
 use Rattle.std.proofs.lemmas.List.FromFn.{length-map-range_with_len}
 use Rattle.docstore.proofs.TakenLemmas.{length-slots}
-use Rattle.store_reader.proofs.RecentLemmas.{same_as_it_is}
 use Rattle.store_format.specs.Block.{Slot, slot}
 use Rattle.store_format.specs.Slots.{slots}
 use Rattle.store_format.specs.StoreFile.{StoreBlock}
 use Rattle.store_reader.specs.declared.data_part.DataPart.{DataPart}
 use Rattle.store_reader.specs.Iteration.{is_in, alive}
 use Rattle.store_reader.specs.Parts.{place_of, IsBlockRead}
-use Rattle.store_reader.specs.Reading.{Reading, IsSameStore, num_docs, store_of}
+use Rattle.store_reader.specs.Reading.{Reading, num_docs, store_of}
 use Rattle.store_commands.specs.Checks.{slots_in}
 use Rattle.store_commands.specs.Documents.{alive_from, TakesSlots}
 use Rattle.store_commands.proofs.AliveLemmas.{alive_joined, none_alive, one_alive}
 use Rattle.store_commands.proofs.CountLemmas.{range_joined, slots_joined}
 use Rattle.store_commands.proofs.TakingLemmas.{takes_none, takes_more}
-use Rattle.store_commands.proofs.WalkLemmas.{HasCome, has_begun, IsNext, is_next, has_come_on, has_ended, same_read}
+use Rattle.store_commands.proofs.WalkLemmas.{HasWalked, walked_first, walked_next, walked_more, walked_all, IsNext}
 
 -- ---- the documents of a block
 
@@ -49,25 +48,22 @@ alive_one first block m set h =
 
 -- ---- the documents of a store
 
+-- the documents of these blocks were given
+abbrev AreGiven : {T : Type 0} → (T → List ℕ → T → Type 0) → Option (ℕ → Bool) → T → T → List StoreBlock → Type 0
+AreGiven takes set old new blocks = TakesSlots takes (alive_from 0 (slots blocks) set) old new
+
 -- the documents of some blocks were given
-pub record HasGiven {T : Type 0} (takes : T → List ℕ → T → Type 0) (set : Option (ℕ → Bool)) (r now : Reading) (next : ℕ) (old new : T) : Type 0 where
-  pub front : List StoreBlock
-  pub come : HasCome r front next
-  pub covers : Covers r.checkpoints (length r.file.content)
-  pub same : IsSameStore r now
-  pub taken : IsTrue r.file.honest → TakesSlots takes (alive_from 0 (slots front) set) old new
+abbrev pub HasGiven : {T : Type 0} → (T → List ℕ → T → Type 0) → Option (ℕ → Bool) → Reading → Reading → ℕ → T → T → Type 0
+HasGiven takes set r now next old new = HasWalked (AreGiven takes set old new) r now next
 
 pub given_first : {T : Type 0} (takes : T → List ℕ → T → Type 0) (set : Option (ℕ → Bool)) (r : Reading) (old : T) → Covers r.checkpoints (length r.file.content) → HasGiven takes set r r 0 old old
-given_first takes set r old covers = record { front = []; come = has_begun r; covers = covers; same = same_as_it_is r; taken = λ _. takes_none takes old }
+given_first takes set r old covers = walked_first (AreGiven takes set old old) r covers (takes_none takes old)
 
 -- a block that comes is the next one
 pub next_in : {T : Type 0} (takes : T → List ℕ → T → Type 0) (set : Option (ℕ → Bool)) (r now : Reading) (next : ℕ) (old new : T) (part : DataPart) (h : HasGiven takes set r now next old new)
     → Some (place_of part) ≡ first_past now.checkpoints next
     → (IsTrue now.file.honest → part.bytes ≡ slice_range now.file.content part.start (part.start + length part.bytes)) → IsNext r h.front next part
-next_in takes set r now next old new part h seeks given =
-    let same = h.same in
-    is_next r h.front next part h.covers h.come (seeks ∙ ap (λ cs. first_past cs next) same.checkpoints)
-    (λ honest. given (subst IsTrue (sym same.honest) honest) ∙ ap (λ (xs : List ℕ). slice_range xs part.start (part.start + length part.bytes)) same.content)
+next_in takes set r now next old new part h seeks given = walked_next (AreGiven takes set old new) r now next part h seeks given
 
 pub given_more : {T : Type 0} (takes : T → List ℕ → T → Type 0) (set : Option (ℕ → Bool)) (r now read : Reading) (next : ℕ) (old middle new : T) (part : DataPart)
     → HasGiven takes set r now next old middle
@@ -76,29 +72,25 @@ pub given_more : {T : Type 0} (takes : T → List ℕ → T → Type 0) (set : O
     → (num_docs now ≤ next → read ≡ now) → (next < num_docs now → IsBlockRead now next read)
     → TakesSlots takes (alive_from part.ids.start (slots_in part.bytes (part.ids.end - part.ids.start)) set) middle new
     → HasGiven takes set r read part.ids.end old new
-given_more takes set r now read next old middle new part h seeks given none once block =
-    let same = h.same in
-    let n : IsNext r h.front next part = next_in takes set r now next old middle part h seeks given in
-    record {
-      front = h.front ++ n.block ∷ [];
-      come = has_come_on r h.front next part h.come n;
-      covers = h.covers;
-      same = same_read r now read next same none once;
-      taken = λ honest.
-          let id : part.ids.start ≡ 0 + length (slots h.front) = omega (arith, n.first, h.come.next_is, length-slots h.front) in
-          let some : alive_from part.ids.start (slots_in part.bytes (part.ids.end - part.ids.start)) set ≡ alive_from (0 + length (slots h.front)) (slots_in n.block.bytes n.block.count) set =
-          ap (λ (k : ℕ). alive_from k (slots_in part.bytes (part.ids.end - part.ids.start)) set) id
-          ∙ ap (λ (xs : List ℕ). alive_from (0 + length (slots h.front)) (slots_in xs (part.ids.end - part.ids.start)) set) (n.bytes honest)
-          ∙ ap (λ (k : ℕ). alive_from (0 + length (slots h.front)) (slots_in n.block.bytes k) set) n.count in
-          let all : alive_from 0 (slots (h.front ++ n.block ∷ [])) set ≡ alive_from 0 (slots h.front) set ++ alive_from part.ids.start (slots_in part.bytes (part.ids.end - part.ids.start)) set =
-          ap (λ (xs : List Slot). alive_from 0 xs set) (slots_joined h.front n.block) ∙ alive_joined 0 (slots h.front) (slots_in n.block.bytes n.block.count) set
-          ∙ ap (λ (ys : List Slot). alive_from 0 (slots h.front) set ++ ys) (sym some) in
-          subst (λ (xs : List Slot). TakesSlots takes xs old new) (sym all)
-          (takes_more takes old middle new (alive_from 0 (slots h.front) set) (alive_from part.ids.start (slots_in part.bytes (part.ids.end - part.ids.start)) set) (h.taken honest) block);
-    }
+given_more {T} takes set r now read next old middle new part h seeks given none once block =
+    walked_more (AreGiven takes set old middle) (AreGiven takes set old new) r now read next part h n none once more
+  where
+    n : IsNext r h.front next part
+    n = next_in takes set r now next old middle part h seeks given
+
+    more : IsTrue r.file.honest → AreGiven takes set old middle h.front → AreGiven takes set old new (h.front ++ n.block ∷ [])
+    more honest before =
+        let id : part.ids.start ≡ 0 + length (slots h.front) = omega (arith, n.first, h.come.next_is, length-slots h.front) in
+        let some : alive_from part.ids.start (slots_in part.bytes (part.ids.end - part.ids.start)) set ≡ alive_from (0 + length (slots h.front)) (slots_in n.block.bytes n.block.count) set =
+        ap (λ (k : ℕ). alive_from k (slots_in part.bytes (part.ids.end - part.ids.start)) set) id
+        ∙ ap (λ (xs : List ℕ). alive_from (0 + length (slots h.front)) (slots_in xs (part.ids.end - part.ids.start)) set) (n.bytes honest)
+        ∙ ap (λ (k : ℕ). alive_from (0 + length (slots h.front)) (slots_in n.block.bytes k) set) n.count in
+        let all : alive_from 0 (slots (h.front ++ n.block ∷ [])) set ≡ alive_from 0 (slots h.front) set ++ alive_from part.ids.start (slots_in part.bytes (part.ids.end - part.ids.start)) set =
+        ap (λ (xs : List Slot). alive_from 0 xs set) (slots_joined h.front n.block) ∙ alive_joined 0 (slots h.front) (slots_in n.block.bytes n.block.count) set
+        ∙ ap (λ (ys : List Slot). alive_from 0 (slots h.front) set ++ ys) (sym some) in
+        subst (λ (xs : List Slot). TakesSlots takes xs old new) (sym all)
+        (takes_more takes old middle new (alive_from 0 (slots h.front) set) (alive_from part.ids.start (slots_in part.bytes (part.ids.end - part.ids.start)) set) before block)
 
 pub given_all : {T : Type 0} (takes : T → List ℕ → T → Type 0) (set : Option (ℕ → Bool)) (r now : Reading) (next : ℕ) (old new : T) → HasGiven takes set r now next old new → num_docs now ≤ next
     → IsTrue r.file.honest → TakesSlots takes (alive (slots (store_of r)) set) old new
-given_all takes set r now next old new h le honest =
-    let docs : num_docs now ≡ num_docs r = ap (λ cs. docs_end 0 cs) h.same.checkpoints in
-    subst (λ (bs : List StoreBlock). TakesSlots takes (alive (slots bs) set) old new) (sym (has_ended r h.front next h.covers h.come (omega arith))) (h.taken honest)
+given_all takes set r now next old new h le honest = walked_all (AreGiven takes set old new) r now next h le honest

@@ -16,6 +16,7 @@ use Rattle.store_reader.specs.declared.data_part.DataPart.{DataPart}
 use Rattle.store_reader.specs.Parts.{place_of, IsBlockRead}
 use Rattle.store_reader.specs.Reading.{Reading, IsReadOnce, IsSameStore, num_docs, store_of}
 use Rattle.store_reader.proofs.ReaderStoreLemmas.{store_seen}
+use Rattle.store_reader.proofs.RecentLemmas.{same_as_it_is}
 
 -- ---- blocks by their first document
 
@@ -167,3 +168,43 @@ same_read first old new id same none once = (elim (nat_lt id (num_docs old)) as 
   | true ↦ λ t. let read = once (ltb-true id (num_docs old) t) in same_once (byte_len read.block) first old new same read.once
   | false ↦ λ t. subst (IsSameStore first) (sym (none (ltb-false id (num_docs old) t))) same
 ]) refl
+
+-- ---- what is known of the blocks that were read
+
+-- Some blocks were read, of a store that is the same still, and P is known of them where its file is honest.
+pub record HasWalked (P : List StoreBlock → Type 0) (r now : Reading) (next : ℕ) : Type 0 where
+  pub front : List StoreBlock
+  pub come : HasCome r front next
+  pub covers : Covers r.checkpoints (length r.file.content)
+  pub same : IsSameStore r now
+  pub known : IsTrue r.file.honest → P front
+
+pub walked_first : (P : List StoreBlock → Type 0) (r : Reading) → Covers r.checkpoints (length r.file.content) → P [] → HasWalked P r r 0
+walked_first P r covers none = record { front = []; come = has_begun r; covers = covers; same = same_as_it_is r; known = λ _. none }
+
+-- a block that comes is the next one
+pub walked_next : (P : List StoreBlock → Type 0) (r now : Reading) (next : ℕ) (part : DataPart) (h : HasWalked P r now next)
+    → Some (place_of part) ≡ first_past now.checkpoints next
+    → (IsTrue now.file.honest → part.bytes ≡ slice_range now.file.content part.start (part.start + length part.bytes)) → IsNext r h.front next part
+walked_next P r now next part h seeks given =
+    let same = h.same in
+    is_next r h.front next part h.covers h.come (seeks ∙ ap (λ cs. first_past cs next) same.checkpoints)
+    (λ honest. given (subst IsTrue (sym same.honest) honest) ∙ ap (λ (xs : List ℕ). slice_range xs part.start (part.start + length part.bytes)) same.content)
+
+-- one block more
+pub walked_more : (P Q : List StoreBlock → Type 0) (r now new : Reading) (next : ℕ) (part : DataPart) (h : HasWalked P r now next) (n : IsNext r h.front next part)
+    → (num_docs now ≤ next → new ≡ now) → (next < num_docs now → IsBlockRead now next new)
+    → (IsTrue r.file.honest → P h.front → Q (h.front ++ n.block ∷ [])) → HasWalked Q r new part.ids.end
+walked_more P Q r now new next part h n none once more = record {
+  front = h.front ++ n.block ∷ [];
+  come = has_come_on r h.front next part h.come n;
+  covers = h.covers;
+  same = same_read r now new next h.same none once;
+  known = λ honest. more honest (h.known honest);
+}
+
+-- all blocks
+pub walked_all : (P : List StoreBlock → Type 0) (r now : Reading) (next : ℕ) → HasWalked P r now next → num_docs now ≤ next → IsTrue r.file.honest → P (store_of r)
+walked_all P r now next h le honest =
+    let docs : num_docs now ≡ num_docs r = ap (λ cs. docs_end 0 cs) h.same.checkpoints in
+    subst P (sym (has_ended r h.front next h.covers h.come (omega (arith, docs, le)))) (h.known honest)

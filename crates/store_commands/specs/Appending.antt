@@ -1,5 +1,6 @@
 -- What a store has to which documents were appended.
 use Rattle.std.specs.Prelude.{◌≡◌, ℕ, IsTrue, List, ◌++◌, map, Option, Some}
+use Rattle.docstore.specs.Laws.{taken}
 use Rattle.docstore.specs.Writer.{Writing}
 use Rattle.store_format.specs.Block.{Slot, doc}
 use Rattle.store_format.specs.Slots.{slots}
@@ -9,6 +10,10 @@ use Rattle.store_reader.specs.Reading.{Reading, store_of}
 -- Documents of which this holds were put after those of a writer, in the same file.
 abbrev pub AddsThese : (List (List ℕ) → Type 0) → Writing → Writing → Type 0
 AddsThese these old new = (documents : List (List ℕ)) × these documents × AddsDocuments documents old new
+
+-- The slots of a writer have grown by those of a store, if its file is honest.
+abbrev pub CopiesStore : Writing → Writing → Reading → Type 0
+CopiesStore old new reader = IsTrue reader.file.honest → taken new ≡ taken old ++ slots (store_of reader)
 
 -- A store was copied, and documents of which this holds follow it: all slots are those of the store, if its file is
 -- honest, and then those of the documents.

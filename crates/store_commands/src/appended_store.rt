@@ -1,10 +1,8 @@
 //! Fills a store with the documents of one that is there, and then with others.
 
-ghost use Rattle.std.specs.Prelude.{◌≡◌, ◌++◌, IsTrue, IfOk, OnOk};
-ghost use Rattle.docstore.specs.Laws.{taken};
-ghost use Rattle.store_format.specs.Slots.{slots};
-ghost use Rattle.store_reader.specs.Reading.{store_of};
+ghost use Rattle.std.specs.Prelude.{IfOk, OnOk};
 ghost use Rattle.store_published.specs.Filling.{IsSameFile};
+ghost use Rattle.store_commands.specs.Appending.{CopiesStore};
 
 use crate::merging::{MergeFailure, merge_store};
 use docstore::{FileHandle, StoreError, StoreReader, StoreWriter, TerminatingWrite};
@@ -62,19 +60,36 @@ pub struct AppendedStore<S: StoreSource, D: DocumentSource> {
     pub copied: Option<StoreReader<S::File>>,
 }
 
-// Opens the store, and puts its documents after those of a writer.
-fn copy_store<S: StoreSource, W: TerminatingWrite>(
+/// Puts all documents of a store after those of a writer: block by block in parts of `part_bytes` bytes, or document by
+/// document if it has few blocks. Where the file is honest, an Ok says that the writer's slots have grown by exactly the
+/// store's. It returns the reader.
+pub fn copy_store<W: TerminatingWrite, H: FileHandle>(
+    alloc: Global,
+    writer: &mut StoreWriter<W>,
+    reader: StoreReader<H>,
+    part_bytes: usize,
+) -> Result<StoreReader<H>, MergeFailure<H>>
+    ensures copied { IfOk result (CopiesStore writer.old writer.new) }
+    ensures file { OnOk result (IsSameFile writer.old writer.new) }
+{
+    match merge_store(alloc, writer, reader, &[], part_bytes) {
+        Ok(reader) => Ok(reader),
+        Err(failure) => Err(failure),
+    }
+}
+
+// Opens a store, and puts its documents after those of a writer.
+fn copy_opened<S: StoreSource, W: TerminatingWrite>(
     alloc: Global,
     store: &mut S,
     writer: &mut StoreWriter<W>,
     part_bytes: usize,
 ) -> Result<StoreReader<S::File>, S::Error>
-    ensures copied { IfOk result (λ reader. IsTrue reader.file.honest
-        → taken writer.new ≡ taken writer.old ++ slots (store_of reader)) }
+    ensures copied { IfOk result (CopiesStore writer.old writer.new) }
     ensures file { OnOk result (IsSameFile writer.old writer.new) }
 {
     let reader = store.open()?;
-    match merge_store(alloc, writer, reader, &[], part_bytes) {
+    match copy_store(alloc, writer, reader, part_bytes) {
         Ok(reader) => Ok(reader),
         Err(failure) => Err(store.refused(failure)),
     }
@@ -92,7 +107,7 @@ impl<S: StoreSource, D: DocumentSource> Filling for AppendedStore<S, D> {
         &mut self,
         writer: &mut StoreWriter<W>,
     ) -> Result<(), AppendError<S::Error, D::Error>> {
-        match copy_store(self.alloc, &mut self.store, writer, self.part_bytes) {
+        match copy_opened(self.alloc, &mut self.store, writer, self.part_bytes) {
             Ok(reader) => self.copied = Some(reader),
             Err(error) => return Err(AppendError::Store(error)),
         }

@@ -1,7 +1,8 @@
 //! `append`: adds documents to those of a store.
 
-ghost use Rattle.std.specs.Prelude.{OnOk};
+ghost use Rattle.std.specs.Prelude.{IfOk, OnOk};
 ghost use Rattle.store_published.specs.Filling.{IsSameFile};
+ghost use Rattle.store_commands.specs.Appending.{CopiesStore};
 
 use crate::arguments::{self, block_size_of, framing_of, word};
 use crate::failure::{Failure, FailureCause, with_file};
@@ -9,17 +10,18 @@ use crate::input_files::{files_from, inputs, names_of, split_names};
 use crate::merge::PART_BYTES;
 use crate::pack::Packing;
 use crate::store_file::{DiskReader, StorePath};
-use crate::store_output::{OutputPlace, output_place, summarize, written_of};
+use crate::store_output::{end_output, output_place};
 use clap::{Arg, ArgAction, ArgMatches, Command};
 use docstore::{DocStoreVersion, StoreError, StoreWriter, TerminatingWrite};
 use std::alloc::{AllocError, Global};
 use store_commands::StoreShape;
-use store_commands::merging::merge_store;
-use store_published::{Filling, publish_store};
+use store_commands::appended_store::copy_store;
+use store_published::Filling;
 
 const EXAMPLE: &str = "\
 The store is copied to a file beside it, the documents are added, and this file replaces the store at the end. If
-'append' fails or is interrupted, the store is left as it was. It keeps its period.
+'append' fails or is interrupted, the store is left as it was, unless only the sync of the folder failed, the last step:
+then the new store is in place. It keeps its period.
 
 Example:
   zevkhadun append words.store more.txt     a document for each line, after those of the store";
@@ -75,36 +77,49 @@ impl<'a, 'w> OldStore<'a, 'w> {
     }
 }
 
-// The documents that are appended to a store, as what fills the new one.
+// A store and the documents that are appended to it, as what fills the new one.
 #[derive(Drop)]
 struct Appending<'a, 'o, 'p, 'w> {
     store: OldStore<'a, 'o>,
     documents: Packing<'a, 'o, 'p, 'w>,
+    // The store, once it is copied.
+    copied: Option<DiskReader>,
 }
 
-impl<'a, 'o, 'p, 'w> Appending<'a, 'o, 'p, 'w> {
-    // Copies the store. It is opened here, where its name is locked, so that no other writer's store is lost.
-    fn copy_store<W: TerminatingWrite>(
-        &mut self,
+impl<'a, 'o> OldStore<'a, 'o> {
+    // Opens the store and copies it. Its name is locked by then, so no other writer's store is lost.
+    fn copy_to<W: TerminatingWrite>(
+        &self,
         writer: &mut StoreWriter<W>,
-    ) -> Result<(), FailureCause>
-        ensures { OnOk result (IsSameFile writer.old writer.new) }
+    ) -> Result<DiskReader, FailureCause>
+        ensures copied { IfOk result (CopiesStore writer.old writer.new) }
+        ensures file { OnOk result (IsSameFile writer.old writer.new) }
     {
-        let reader = self.store.reader()?;
-        merge_store(self.store.rt.alloc(), writer, reader, &[], PART_BYTES)?;
-        Ok(())
+        let reader = self.reader()?;
+        match copy_store(self.rt.alloc(), writer, reader, PART_BYTES) {
+            Ok(reader) => Ok(reader),
+            Err(failure) => Err(FailureCause::from(failure)),
+        }
     }
 }
 
-/// Nothing is promised of what files on disk hold, and so of what they bring.
+/// It brings the slots of the store that was opened, if its file is honest, and then one for each document that came.
 impl<'a, 'o, 'p, 'w> Filling for Appending<'a, 'o, 'p, 'w> {
+    ghost use Rattle.store_commands.specs.Appending.{IsAppended};
+
     type Error = Failure;
 
-    ghost brings = { λ _ _ _. Unit {0} };
+    ghost brings = { λ old new all. IsAppended new.copied (λ _. Unit {0}) all };
 
     fn fill<W: TerminatingWrite>(&mut self, writer: &mut StoreWriter<W>) -> Result<(), Failure> {
-        let copied = self.copy_store(writer);
-        with_file(self.store.rt.alloc(), self.store.path, copied)?;
+        match self.store.copy_to(writer) {
+            Ok(reader) => self.copied = Some(reader),
+            Err(cause) => return Err(Failure::at_file(
+                self.store.rt.alloc(),
+                self.store.path,
+                cause,
+            )),
+        }
         self.documents.store_inputs(writer)
     }
 }
@@ -116,20 +131,10 @@ fn append(
     block_size: usize,
     appending: &mut Appending<'_, '_, '_, '_>,
 ) -> Result<(), Failure> {
-    let alloc = rt.alloc();
-    let OutputPlace { folder, name } = output_place(rt, path)?;
-    let shape = with_file(alloc, path, appending.store.shape(block_size))?;
-    let published = publish_store(
-        alloc,
-        folder,
-        name.as_str(),
-        shape.block_size,
-        shape.period,
-        appending,
-    );
-    appending.documents.progress.end();
-    let written = written_of(alloc, path, published)?;
-    summarize(rt, path, written, &appending.documents.progress)
+    let place = output_place(rt, path)?;
+    let shape = with_file(rt.alloc(), path, appending.store.shape(block_size))?;
+    let outcome = place.publish(rt.alloc(), shape, appending);
+    end_output(rt, path, outcome, &appending.documents.progress)
 }
 
 /// Writes the store.
@@ -138,17 +143,13 @@ pub fn run(rt: &HostRuntime, matches: &ArgMatches<'_>) -> Result<(), Failure> {
     let path = word(alloc, matches, "STORE")?;
     let block_size = block_size_of(alloc, matches)?;
     let framing = framing_of(alloc, matches)?;
+    let text = names_of(rt, matches)?;
+    let names = with_file(alloc, path, split_names(alloc, text.as_deref()))?;
     let is_quiet = matches.get_flag("quiet");
-    let store = OldStore { rt, path };
-    match names_of(rt, matches)? {
-        Some(text) => {
-            let names = with_file(alloc, path, split_names(alloc, text.as_str()))?;
-            let documents = Packing::of_files(rt, path, Some(&names), framing, is_quiet);
-            append(rt, path, block_size, &mut Appending { store, documents })
-        }
-        None => {
-            let documents = Packing::of_files(rt, path, None, framing, is_quiet);
-            append(rt, path, block_size, &mut Appending { store, documents })
-        }
-    }
+    let mut appending = Appending {
+        store: OldStore { rt, path },
+        documents: Packing::of_files(rt, path, names.as_deref(), framing, is_quiet),
+        copied: None,
+    };
+    append(rt, path, block_size, &mut appending)
 }

@@ -91,7 +91,7 @@ pub fn block_size<'a>(alloc: Global) -> Arg<'a> {
         alloc,
         "block-size",
         "BYTES",
-        "Write a block once its documents plus 8 bytes each exceed BYTES; suffixes K, M, G",
+        "Write a block once its documents plus 8 bytes each exceed BYTES; suffixes K, M, G (powers of 1024)",
     )
     .default_value("16K")
 }

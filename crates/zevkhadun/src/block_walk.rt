@@ -54,7 +54,8 @@ impl<'a, 's, W: Write> DocumentTarget for PrintedDocuments<'a, 's, W> {
 
     fn take(&mut self, document: &[u8]) -> Result<(), FailureCause> {
         let doc_id = self.take_id();
-        let written = self.form.write(self.alloc, self.output, doc_id, document);
+        let number = u64::from(doc_id);
+        let written = self.form.write(self.alloc, self.output, number, document);
         if written.is_err() {
             self.failures = self.failures.saturating_add(1);
         }

@@ -4,7 +4,6 @@ use crate::arguments::{framing_of, wrong_words};
 use crate::failure::{Failure, FailureCause, to_output};
 use base64::engine::general_purpose::STANDARD;
 use clap::{Arg, ArgMatches};
-use docstore::DocId;
 use document_framing::Framing;
 use serde_json::json;
 use std::alloc::{AllocError, Global};
@@ -69,12 +68,12 @@ pub fn form_of(alloc: Global, matches: &ArgMatches<'_>) -> Result<DocumentForm, 
 }
 
 // A document as an object of JSON.
-fn object_of(alloc: Global, doc_id: DocId, document: &[u8]) -> Result<String, AllocError> {
+fn object_of(alloc: Global, number: u64, document: &[u8]) -> Result<String, AllocError> {
     let object = match str::from_utf8(document) {
-        Ok(text) => json!(in alloc; { "id": doc_id, "text": text })?,
+        Ok(text) => json!(in alloc; { "id": number, "text": text })?,
         Err(_) => {
             let encoded = STANDARD.encode(alloc, document)?;
-            json!(in alloc; { "id": doc_id, "base64": encoded.as_str() })?
+            json!(in alloc; { "id": number, "base64": encoded.as_str() })?
         }
     };
     object.to_string(alloc)
@@ -87,17 +86,17 @@ impl DocumentForm {
         self,
         alloc: Global,
         output: &mut W,
-        doc_id: DocId,
+        number: u64,
         document: &[u8],
     ) -> Result<(), FailureCause> {
         match self {
             DocumentForm::Framed(framing) => to_output(framing.write(output, document)),
             DocumentForm::Numbered(framing) => {
-                to_output(write!(output, "{doc_id}\t"))?;
+                to_output(write!(output, "{number}\t"))?;
                 to_output(framing.write(output, document))
             }
             DocumentForm::Json => {
-                let object = object_of(alloc, doc_id, document)?;
+                let object = object_of(alloc, number, document)?;
                 to_output(writeln!(output, "{object}"))
             }
         }

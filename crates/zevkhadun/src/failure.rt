@@ -5,6 +5,7 @@ ghost use Rattle.std.specs.Prelude.{◌≡◌, Ok, IfOk};
 use crate::status::Status;
 use docstore::{NoMemory, StoreError};
 use document_framing::FramingFault;
+use segmented_log::LogError;
 use std::alloc::{AllocError, AllocFailed, Global};
 use std::{fmt, io};
 use store_commands::RequestError;
@@ -31,6 +32,16 @@ pub enum FailureCause {
     Request(RequestError),
     /// The input of lengths and documents ends within one.
     CutInput,
+    /// There is no log in the folder, and no place for a new one.
+    NotLog,
+    /// Another process writes the log.
+    BusyLog,
+    /// A call on a log was refused.
+    Log(LogError),
+    /// The log has no record of this number: its records have the numbers from `first` to before `end`.
+    NoRecord { number: u64, first: u64, end: u64 },
+    /// The record of this number is damaged.
+    DamagedRecord(u64),
     /// It was reported already, and has this status.
     Reported(Status),
 }
@@ -40,7 +51,14 @@ impl FailureCause {
     fn advice(&self) -> &'static str {
         match self {
             FailureCause::Words(_) => "; try '--help'",
-            FailureCause::Create(CreateError::Busy(_)) => "; wait until it ends, or stop it",
+            FailureCause::Create(CreateError::Busy(_)) | FailureCause::BusyLog => {
+                "; wait until it ends, or stop it"
+            }
+            FailureCause::NotLog => "; 'zevkhadun log append' begins one in a new or empty folder",
+            FailureCause::Log(LogError::NoLog) | FailureCause::DamagedRecord(_) => {
+                "; 'zevkhadun log verify' says where"
+            }
+            FailureCause::Log(LogError::BatchFull) => "; use '--sync batch'",
             FailureCause::OtherFile(_) => "; choose another name, or remove it",
             FailureCause::CutInput => "; does it have another framing?",
             FailureCause::Request(error) => advice_for_request(error),
@@ -53,14 +71,19 @@ impl FailureCause {
     fn status(&self) -> Status {
         match self {
             FailureCause::Words(_) | FailureCause::NoText => Status::Usage,
-            FailureCause::System(_) | FailureCause::Output(_) | FailureCause::Create(_) => {
-                Status::System
-            }
+            FailureCause::System(_)
+            | FailureCause::Output(_)
+            | FailureCause::Create(_)
+            | FailureCause::BusyLog => Status::System,
+            FailureCause::Log(error) => status_of_log(*error),
             FailureCause::Store(error) => status_of(error),
             FailureCause::Request(RequestError::Store(error)) => status_of(error),
-            FailureCause::OtherFile(_) | FailureCause::Request(_) | FailureCause::CutInput => {
-                Status::Broken
-            }
+            FailureCause::OtherFile(_)
+            | FailureCause::Request(_)
+            | FailureCause::CutInput
+            | FailureCause::NotLog
+            | FailureCause::NoRecord { .. }
+            | FailureCause::DamagedRecord(_) => Status::Broken,
             FailureCause::Reported(status) => *status,
         }
     }
@@ -70,6 +93,14 @@ impl FailureCause {
 fn status_of(error: &StoreError) -> Status {
     match error {
         StoreError::Read | StoreError::Memory | StoreError::Failed(_) => Status::System,
+        _ => Status::Broken,
+    }
+}
+
+// The status where a log refuses a call.
+fn status_of_log(error: LogError) -> Status {
+    match error {
+        LogError::Memory | LogError::Failed | LogError::Broken => Status::System,
         _ => Status::Broken,
     }
 }
@@ -98,6 +129,23 @@ fn advice_for(error: &StoreError) -> &'static str {
     }
 }
 
+// How tantivy compresses blocks of a kind.
+fn compression_of(kind: u8) -> Option<&'static str> {
+    match kind {
+        1 => Some("LZ4"),
+        4 => Some("Zstd"),
+        _ => None,
+    }
+}
+
+// That blocks are of a kind that is not read.
+fn write_kind<W: fmt::Write>(f: &mut fmt::Formatter<W>, kind: u8) -> fmt::Result {
+    match compression_of(kind) {
+        Some(compression) => write!(f, "blocks are compressed (kind {kind}, {compression})"),
+        None => write!(f, "blocks are compressed (kind {kind})"),
+    }
+}
+
 impl fmt::Display for FailureCause {
     fn fmt<W: fmt::Write>(&self, f: &mut fmt::Formatter<W>) -> fmt::Result {
         match self {
@@ -107,13 +155,26 @@ impl fmt::Display for FailureCause {
             FailureCause::Output(error) => write!(f, "standard output: {error}"),
             FailureCause::Create(error) => write!(f, "{error}"),
             FailureCause::OtherFile(kind) => write!(f, "the file exists and is not a {kind}"),
-            FailureCause::Store(StoreError::BadBlockKind(kind)) => {
-                write!(f, "blocks are compressed (kind {kind})")
-            }
+            FailureCause::Store(StoreError::BadBlockKind(kind)) => write_kind(f, *kind),
             FailureCause::Store(StoreError::BadIndex) => f.write_str("the index is damaged"),
             FailureCause::Store(error) => write!(f, "{error}"),
             FailureCause::Request(error) => write!(f, "{error}"),
             FailureCause::CutInput => f.write_str("the input ends inside a document"),
+            FailureCause::NotLog => f.write_str("not a log"),
+            FailureCause::BusyLog => f.write_str("the log is being written by another"),
+            FailureCause::Log(LogError::NoLog) => f.write_str("the log's files are broken"),
+            FailureCause::Log(error) => write!(f, "{error}"),
+            FailureCause::NoRecord { number, first, end } if first == end => {
+                write!(f, "no record {number}; the log has none")
+            }
+            FailureCause::NoRecord { number, first, end } => {
+                let last = end.saturating_sub(1);
+                write!(
+                    f,
+                    "no record {number}; the log has the records {first} to {last}"
+                )
+            }
+            FailureCause::DamagedRecord(number) => write!(f, "record {number} is damaged"),
             FailureCause::Reported(_) => Ok(()),
         }
     }

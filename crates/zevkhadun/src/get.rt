@@ -64,8 +64,9 @@ impl<'a> Printer<'a> {
     fn print(&mut self, range: IdRange) -> Result<(), FailureCause> {
         for doc_id in range.among(self.reader.num_docs())? {
             let document = self.reader.get_document_bytes(self.alloc, doc_id)?;
+            let number = u64::from(doc_id);
             self.form
-                .write(self.alloc, &mut self.output, doc_id, document.as_slice())?;
+                .write(self.alloc, &mut self.output, number, document.as_slice())?;
         }
         Ok(())
     }

@@ -65,15 +65,18 @@ pub fn names_of(rt: &HostRuntime, matches: &ArgMatches<'_>) -> Result<Option<Str
     }
 }
 
-/// The names in a text that has a byte 0 after each.
-pub fn split_names(alloc: Global, text: &str) -> Result<Vec<&str>, AllocError> {
+/// The names in a text that has a byte 0 after each; `None` where there is no text.
+pub fn split_names(alloc: Global, text: Option<&str>) -> Result<Option<Vec<&str>>, AllocError> {
+    let Some(text) = text else {
+        return Ok(None);
+    };
     let mut names = Vec::new(alloc);
     if let Some(all) = text.strip_suffix('\0') {
         for name in all.split('\0') {
             names.push(name)?;
         }
     }
-    Ok(names)
+    Ok(Some(names))
 }
 
 /// How many bytes these files have together, if all are plain files.

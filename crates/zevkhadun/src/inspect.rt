@@ -1,7 +1,8 @@
-//! `inspect`: draws what a store has on a page of HTML.
+//! `inspect`: prints what a store has, or draws it on a page of HTML.
 
-use crate::arguments::{self, option, word};
+use crate::arguments::{self, option};
 use crate::failure::{Failure, FailureCause, with_file};
+use crate::inspect_words::print_store;
 use crate::replacing::check_page;
 use crate::store_file::{DiskReader, StorePath, store_path};
 use clap::{Arg, ArgAction, ArgMatches, Command};
@@ -14,28 +15,35 @@ use store_files::DiskSink;
 use store_page::{Beginning, BlockStarts, Excerpt, Histogram, MOST_EXCERPTS, Page, excerpt_bytes};
 
 const EXAMPLE: &str = "\
-Example:
-  zevkhadun inspect words.store --html words.html     one self-contained file, for any browser";
+Prints the numbers of the store, and the beginning of the first document of each block, up to 1000 of them: at most 60
+bytes, as text in quotation marks or as hexadecimal digits. With OUT it draws them on a page of HTML.
+
+Examples:
+  zevkhadun inspect words.store | less
+  zevkhadun inspect words.store words.html     one self-contained file, for any browser";
 
 // The page to write.
-fn html<'a>(alloc: Global) -> Arg<'a> {
-    option(
-        alloc,
-        "html",
-        "OUT",
-        "Output file. It replaces an existing page of HTML or empty file, never any other file",
+fn page<'a>(alloc: Global) -> Arg<'a> {
+    Arg::new(alloc, "OUT").action(ArgAction::Set).help(
+        "Page of HTML to write. It replaces an existing page of HTML or empty file, never any other file",
     )
-    .required(true)
-    .action(ArgAction::Set)
+}
+
+// The page to write, as an option.
+fn html<'a>(alloc: Global) -> Result<Arg<'a>, AllocError> {
+    option(alloc, "html", "OUT", "The same as OUT")
+        .action(ArgAction::Set)
+        .conflicts_with("OUT")
 }
 
 /// The words of `inspect`.
 pub fn command<'a>(alloc: Global) -> Result<Command<'a>, AllocError> {
     Command::new(alloc, "inspect")
-        .about("Draw a store on a page of HTML")
+        .about("Print what a store has, or draw it on a page of HTML")
         .after_help(EXAMPLE)
         .arg(arguments::input(alloc))?
-        .arg(html(alloc))?
+        .arg(page(alloc))?
+        .arg(html(alloc)?)?
         .arg(arguments::tantivy(alloc))
 }
 
@@ -203,10 +211,13 @@ fn write_page(rt: &HostRuntime, path: &str, page: &str) -> Result<(), FailureCau
     Ok(())
 }
 
-/// Writes the page.
+/// Writes the page, or prints what the store has.
 pub fn run(rt: &HostRuntime, matches: &ArgMatches<'_>) -> Result<(), Failure> {
+    let alloc = rt.alloc();
     let store = store_path(rt, matches)?;
-    let out = word(rt.alloc(), matches, "html")?;
-    let page = with_file(rt.alloc(), store.path, page_of(rt, store))?;
-    with_file(rt.alloc(), out, write_page(rt, out, page.as_str()))
+    let Some(out) = matches.get_str("html").or(matches.get_str("OUT")) else {
+        return with_file(alloc, store.path, print_store(rt, store));
+    };
+    let page = with_file(alloc, store.path, page_of(rt, store))?;
+    with_file(alloc, out, write_page(rt, out, page.as_str()))
 }

@@ -16,6 +16,8 @@ mod findings;
 mod get;
 mod input_files;
 mod inspect;
+mod inspect_words;
+mod log;
 mod merge;
 mod pack;
 mod progress;
@@ -51,6 +53,7 @@ fn run(rt: &HostRuntime, matches: &ArgMatches<'_>) -> Result<(), Failure> {
         "merge" => merge::run(rt, matches),
         "export" => export::run(rt, matches),
         "inspect" => inspect::run(rt, matches),
+        "log" => log::run(rt, matches),
         _ => Err(wrong_words(rt.alloc(), "unknown command", name)),
     }
 }

@@ -7,7 +7,7 @@ use crate::arguments::{self, option, output_path, shape_of};
 use crate::failure::{Failure, FailureCause, with_file};
 use crate::progress::Progress;
 use crate::store_file::{DiskReader, StorePath};
-use crate::store_output::{OutputPlace, output_place, summarize, written_of};
+use crate::store_output::{end_output, output_place};
 use crate::word_files::IdWord;
 use clap::{Arg, ArgAction, ArgMatches, Command};
 use docstore::{DocStoreVersion, FileHandle, StoreError, StoreWriter, TerminatingWrite};
@@ -15,7 +15,7 @@ use std::alloc::{AllocError, Global};
 use store_commands::StoreShape;
 use store_commands::kept_documents::input_without;
 use store_commands::merging::{MergeFailure, merge_store};
-use store_published::{Filling, publish_store};
+use store_published::Filling;
 
 /// How many bytes of a store that is stacked are in memory at a time.
 pub const PART_BYTES: usize = 1 << 22;
@@ -245,26 +245,14 @@ fn merge_stores<'a, 'm, 'w>(
     merging: Merging<'m, 'w>,
     progress: Progress<'a>,
 ) -> Result<(), Failure> {
-    let alloc = rt.alloc();
     merging.check_inputs(rt)?;
-    let place = output_place(rt, out)?;
     let mut stores = StoreFiles {
         rt,
         merging,
         progress,
     };
-    let OutputPlace { folder, name } = place;
-    let published = publish_store(
-        alloc,
-        folder,
-        name.as_str(),
-        shape.block_size,
-        shape.period,
-        &mut stores,
-    );
-    stores.progress.end();
-    let written = written_of(alloc, out, published)?;
-    summarize(rt, out, written, &stores.progress)
+    let outcome = output_place(rt, out)?.publish(rt.alloc(), shape, &mut stores);
+    end_output(rt, out, outcome, &stores.progress)
 }
 
 /// Writes the store.

@@ -7,15 +7,14 @@ use crate::arguments::{self, framing_of, output_path, shape_of};
 use crate::failure::{Failure, with_file};
 use crate::input_files::{files_from, inputs, names_of, split_names, total_bytes};
 use crate::progress::Progress;
-use crate::store_output::{OutputPlace, output_place, summarize, written_of};
+use crate::store_output::{end_output, output_place};
 use clap::{ArgMatches, Command};
 use docstore::{StoreWriter, TerminatingWrite};
 use document_framing::{Framing, split_after};
 use std::alloc::{AllocError, Global};
 use std::fs::File;
 use std::io::{BufRead, BufReader, IsTerminal};
-use store_commands::StoreShape;
-use store_published::{Filling, publish_store, store_document};
+use store_published::{Filling, store_document};
 
 // How many bytes of an input are read at once.
 const BUFFER_SIZE: usize = 1 << 16;
@@ -57,8 +56,8 @@ pub struct Packing<'a, 'o, 'p, 'w> {
     pub progress: Progress<'a>,
 }
 
-// How many bytes of an input delimit a document.
-fn framing_bytes(framing: Framing) -> u64 {
+/// How many bytes of an input delimit a document.
+pub fn framing_bytes(framing: Framing) -> u64 {
     match framing {
         Framing::Lines | Framing::Nul => 1,
         Framing::Lengths => 4,
@@ -251,44 +250,16 @@ impl<'a, 'o, 'p, 'w> Filling for Packing<'a, 'o, 'p, 'w> {
     }
 }
 
-// Packs as the words say.
-fn pack(
-    rt: &HostRuntime,
-    out: &str,
-    shape: StoreShape,
-    packing: &mut Packing<'_, '_, '_, '_>,
-) -> Result<(), Failure> {
-    let alloc = rt.alloc();
-    let OutputPlace { folder, name } = output_place(rt, out)?;
-    let published = publish_store(
-        alloc,
-        folder,
-        name.as_str(),
-        shape.block_size,
-        shape.period,
-        packing,
-    );
-    packing.progress.end();
-    let written = written_of(alloc, out, published)?;
-    summarize(rt, out, written, &packing.progress)
-}
-
 /// Writes the store.
 pub fn run(rt: &HostRuntime, matches: &ArgMatches<'_>) -> Result<(), Failure> {
     let alloc = rt.alloc();
     let out = output_path(alloc, matches)?;
     let framing = framing_of(alloc, matches)?;
     let shape = shape_of(alloc, matches)?;
+    let text = names_of(rt, matches)?;
+    let names = with_file(alloc, out, split_names(alloc, text.as_deref()))?;
     let is_quiet = matches.get_flag("quiet");
-    match names_of(rt, matches)? {
-        Some(text) => {
-            let names = with_file(alloc, out, split_names(alloc, text.as_str()))?;
-            let mut packing = Packing::of_files(rt, out, Some(&names), framing, is_quiet);
-            pack(rt, out, shape, &mut packing)
-        }
-        None => {
-            let mut packing = Packing::of_files(rt, out, None, framing, is_quiet);
-            pack(rt, out, shape, &mut packing)
-        }
-    }
+    let mut packing = Packing::of_files(rt, out, names.as_deref(), framing, is_quiet);
+    let outcome = output_place(rt, out)?.publish(alloc, shape, &mut packing);
+    end_output(rt, out, outcome, &packing.progress)
 }

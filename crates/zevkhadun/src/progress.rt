@@ -18,6 +18,7 @@ const BYTES_A_LINE: u64 = 1 << 26;
 pub struct Progress<'a> {
     rt: &'a HostRuntime,
     is_shown: bool,
+    things: &'static str,
     begun: Option<Instant>,
     total: Option<u64>,
     documents: u64,
@@ -48,6 +49,7 @@ impl<'a> Progress<'a> {
         Progress {
             rt,
             is_shown: !is_quiet && rt.stderr().is_terminal(),
+            things: "documents",
             begun: Instant::now(rt).ok(),
             total,
             documents: 0,
@@ -55,6 +57,12 @@ impl<'a> Progress<'a> {
             next_documents: DOCUMENTS_A_LINE,
             next_bytes: BYTES_A_LINE,
         }
+    }
+
+    /// The same, of records.
+    pub fn of_records(mut self) -> Progress<'a> {
+        self.things = "records";
+        self
     }
 
     /// Whether there is anyone to see it.
@@ -100,9 +108,9 @@ impl<'a> Progress<'a> {
 
     // Writes how much is done.
     fn show_amount(&self, milliseconds: u128) {
-        let (documents, size) = (self.documents, ShortSize(self.bytes));
+        let (documents, things, size) = (self.documents, self.things, ShortSize(self.bytes));
         let rate = self.rate(milliseconds);
-        let _ = eprint!(self.rt; "\r{documents} documents {size} {rate}/s\x1b[K");
+        let _ = eprint!(self.rt; "\r{documents} {things} {size} {rate}/s\x1b[K");
     }
 
     // Writes which part is done, and how long the rest takes at that rate.

@@ -5,13 +5,41 @@ use crate::failure::{Failure, FailureCause, with_file};
 use crate::progress::Progress;
 use crate::replacing::check_store;
 use std::alloc::Global;
+use store_commands::StoreShape;
 use store_files::OsFolder;
-use store_published::{FillError, NotPublished, PublishedStore, Written};
+use store_published::{FillError, Filling, NotPublished, PublishedStore, Written, publish_store};
+
+/// The folder in which a file on disk is written.
+type DiskFolder = OsFolder<HostRuntime>;
 
 /// The folder of a file that is to be written, and the name of the file in it.
+#[derive(Drop)]
 pub struct OutputPlace {
-    pub folder: OsFolder<HostRuntime>,
+    pub folder: DiskFolder,
     pub name: String,
+}
+
+/// A store that was published on disk, or why it was not.
+pub type Outcome<E> = Result<PublishedStore<DiskFolder>, NotPublished<DiskFolder, E>>;
+
+impl OutputPlace {
+    /// Fills a store and publishes it here.
+    pub fn publish<S: Filling>(
+        self,
+        alloc: Global,
+        shape: StoreShape,
+        filling: &mut S,
+    ) -> Outcome<S::Error> {
+        let OutputPlace { folder, name } = self;
+        publish_store(
+            alloc,
+            folder,
+            name.as_str(),
+            shape.block_size,
+            shape.period,
+            filling,
+        )
+    }
 }
 
 /// The place of a store of this name. A store that has it is replaced at the end; any other file is kept.
@@ -25,26 +53,14 @@ pub fn output_place(rt: &HostRuntime, path: &str) -> Result<OutputPlace, Failure
     Ok(OutputPlace { folder, name })
 }
 
-// The failure of a store that was not published.
-fn failure_of(alloc: Global, path: &str, error: FillError<Failure>) -> Failure {
+// The failure of a store of this name that was not published.
+fn failure_of<E: Into<Failure> + Drop>(alloc: Global, path: &str, error: FillError<E>) -> Failure {
     let cause = match error {
-        FillError::Filling(failure) => return failure,
+        FillError::Filling(error) => return error.into(),
         FillError::Folder(error) => FailureCause::System(error),
         FillError::Store(error) => FailureCause::Store(error),
     };
     Failure::at_file(alloc, path, cause)
-}
-
-/// What a store has that was published, or the failure at the file of this name.
-pub fn written_of<F: Drop>(
-    alloc: Global,
-    path: &str,
-    published: Result<PublishedStore<F>, NotPublished<F, Failure>>,
-) -> Result<Written, Failure> {
-    match published {
-        Ok(published) => Ok(published.written),
-        Err(refusal) => Err(failure_of(alloc, path, refusal.error)),
-    }
 }
 
 // Prints what a store has.
@@ -73,4 +89,18 @@ pub fn summarize(
         path,
         print_summary(rt, written, progress.elapsed().as_secs_f64()),
     )
+}
+
+/// Ends the progress of a store of this name that was filled. Prints a line on what it has, where progress is shown.
+pub fn end_output<E: Into<Failure> + Drop>(
+    rt: &HostRuntime,
+    path: &str,
+    outcome: Outcome<E>,
+    progress: &Progress<'_>,
+) -> Result<(), Failure> {
+    progress.end();
+    match outcome {
+        Ok(published) => summarize(rt, path, published.written, progress),
+        Err(NotPublished { error, .. }) => Err(failure_of(rt.alloc(), path, error)),
+    }
 }

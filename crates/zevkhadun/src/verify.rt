@@ -13,8 +13,8 @@ use store_commands::broken_part::{BrokenPart, broken_part};
 use store_commands::checking::check_blocks;
 use store_commands::damaged_documents::damaged_documents;
 
-// What a sound file may still hide.
-const BLIND_SPOT: &str =
+/// What a sound file may still hide.
+pub const BLIND_SPOT: &str =
     "note: changes inside a document's bytes are not detected (the format has no checksums)";
 
 const EXAMPLE: &str = "\
@@ -56,12 +56,12 @@ pub fn command<'a>(alloc: Global) -> Result<Command<'a>, AllocError> {
         .short('q'))
 }
 
-// How stores are verified, by the words.
+/// How stores are verified, by the words.
 #[derive(Clone, Copy)]
-struct Verifying {
-    form: ReportForm,
-    is_tantivy: bool,
-    is_quiet: bool,
+pub struct Verifying {
+    pub form: ReportForm,
+    pub is_tantivy: bool,
+    pub is_quiet: bool,
 }
 
 impl Verifying {
@@ -79,8 +79,8 @@ impl Verifying {
         Ok(Found::Blocks { verdict, damaged })
     }
 
-    // What is found in a store.
-    fn look_at(&self, rt: &HostRuntime, store: StorePath<'_>) -> Result<Found, FailureCause> {
+    /// What is found in a store.
+    pub fn look_at(&self, rt: &HostRuntime, store: StorePath<'_>) -> Result<Found, FailureCause> {
         match reader_of(rt, store.file(rt)?) {
             Ok(mut reader) => self.look_over(rt, &mut reader),
             Err(refusal) => match broken_part(rt.alloc(), refusal.file, refusal.error)? {

@@ -1,14 +1,15 @@
 //! The words that the program takes.
 
 use crate::failure::{Failure, FailureCause};
-use crate::{append, cat, export, get, inspect, merge, pack, stat, verify};
+use crate::{append, cat, export, get, inspect, log, merge, pack, stat, verify};
 use clap::{ArgMatches, Command, Error};
 use std::alloc::{AllocError, Global};
 use std::{env, io};
 
 const AFTER_HELP: &str = "\
-Documents are any bytes; file names and other arguments are UTF-8. If 'pack', 'append' or 'merge' fails or is
-interrupted, the existing file is left untouched.
+Documents are any bytes; file names and other arguments are UTF-8. If a command that writes fails or is interrupted,
+the existing file is left untouched, unless only the sync of the folder failed, the last step: then the new file is in
+place.
 
 The exit status is 0 for success; 1 if a store is broken, lacks a document that is named, or a file is not what the
 command takes; 2 for a usage error; 3 if the system refused a call: no such file, no rights, a full disk, no memory.
@@ -29,8 +30,8 @@ fn bare_command<'a>(alloc: Global) -> Result<Command<'a>, AllocError> {
     )
 }
 
-// A command with one more subcommand.
-fn with<'a>(
+/// A command with one more subcommand.
+pub fn with<'a>(
     command: Result<Command<'a>, AllocError>,
     subcommand: Result<Command<'a>, AllocError>,
 ) -> Result<Command<'a>, AllocError> {
@@ -46,10 +47,11 @@ fn command<'a>(alloc: Global) -> Result<Command<'a>, AllocError> {
     let reading = with(with(writing, get::command(alloc)), cat::command(alloc));
     let telling = with(with(reading, stat::command(alloc)), verify::command(alloc));
     let joining = with(telling, merge::command(alloc));
-    with(
+    let showing = with(
         with(joining, export::command(alloc)),
         inspect::command(alloc),
-    )
+    );
+    with(showing, log::command(alloc))
 }
 
 // What keeps the words from being read.

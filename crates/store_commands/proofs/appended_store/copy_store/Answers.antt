@@ -6,7 +6,7 @@ use Rattle.store_commands.proofs.appended_store.copy_store.Goals as goal
 
 pub returns-in-Ok-clause-copied : goal.returns-in-Ok-clause-copied
 returns-in-Ok-clause-copied g c honest =
-    let opened = c.in_ok-reader.reader in let left = c.in-Ok.reader in
+    let opened = c.args.reader in let left = c.in-Ok.reader in
     let same = c.in-Ok.ensures.reader.store in
     c.in-Ok.ensures.grown (same_honest opened left same honest)
     ∙ ap (λ (xs : List Slot). taken c.args.writer.now ++ xs) (all_kept _ opened refl ∙ sym (same_slots opened left same))

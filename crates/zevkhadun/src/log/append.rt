@@ -1,0 +1,164 @@
+//! `log append`: puts records after those of a log.
+
+use crate::arguments::{self, flag, framing_of, option, word, wrong_words};
+use crate::byte_size::parse_size;
+use crate::document_output::standard_output;
+use crate::failure::{Failure, with_file};
+use crate::input_files::{files_from, inputs, names_of, split_names, total_bytes};
+use crate::log::log_folder::SystemCause;
+use crate::log::places::open_or_begin;
+use crate::log::records::Appending;
+use crate::log::sync_policy::{SyncPolicy, policy_of, sync};
+use crate::progress::Progress;
+use clap::{Arg, ArgMatches, Command};
+use document_framing::Framing;
+use std::alloc::{AllocError, Global};
+
+const EXAMPLE: &str = "\
+The log is begun if FOLDER is missing or empty. Once 'append' ends with status 0, all records are on the disk. A crash or
+a failure leaves the log as it was, and then the first records, as far as they came to the disk: of a batch all or none.
+If an input can't be read, the records before it are appended; with '--sync end' none are.
+
+Examples:
+  zevkhadun log append events new.txt     a record for each line
+  tail -f app.log | zevkhadun log append events     the records that come, as they come
+  zevkhadun log append --number --sync every events     the number of each record, once it is on the disk";
+
+// The size past which a tail is sealed.
+fn seal_size<'a>(alloc: Global) -> Arg<'a> {
+    option(
+        alloc,
+        "seal-size",
+        "BYTES",
+        "Put the tail's records into a segment once the tail exceeds BYTES; suffixes K, M, G",
+    )
+    .default_value("64M")
+}
+
+/// The words of `log append`.
+pub fn command<'a>(alloc: Global) -> Result<Command<'a>, AllocError> {
+    Command::new(alloc, "append")
+        .about("Add the records in files or standard input to a log")
+        .after_help(EXAMPLE)
+        .arg(crate::log::folder(
+            alloc,
+            "The log's folder; a missing or empty one becomes a log",
+        ))?
+        .arg(inputs(alloc))?
+        .arg(files_from(alloc))?
+        .arg(sync(alloc))?
+        .arg(flag(
+            alloc,
+            "number",
+            "Print the number of each record, one per line, once it is on the disk",
+        ))?
+        .arg(arguments::framing(alloc))?
+        .arg(seal_size(alloc))?
+        .arg(arguments::quiet(alloc))
+}
+
+// The size past which a tail is sealed, in bytes.
+fn seal_size_of(alloc: Global, matches: &ArgMatches<'_>) -> Result<usize, Failure> {
+    let size = word(alloc, matches, "seal-size")?;
+    parse_size(size).ok_or_else(|| wrong_words(alloc, "invalid seal size", size))
+}
+
+// How records are appended, by the words.
+#[derive(Clone, Copy)]
+struct AppendOptions {
+    policy: SyncPolicy,
+    framing: Framing,
+    seal_size: usize,
+    prints_numbers: bool,
+    is_quiet: bool,
+}
+
+// How the words say that records are appended.
+fn options_of(alloc: Global, matches: &ArgMatches<'_>) -> Result<AppendOptions, Failure> {
+    Ok(AppendOptions {
+        policy: policy_of(alloc, matches)?,
+        framing: framing_of(alloc, matches)?,
+        seal_size: seal_size_of(alloc, matches)?,
+        prints_numbers: matches.get_flag("number"),
+        is_quiet: matches.get_flag("quiet"),
+    })
+}
+
+// The log at a path, and how records are appended to it.
+fn appending_of<'a>(
+    rt: &'a HostRuntime,
+    path: &'a str,
+    options: AppendOptions,
+    cause: &'a SystemCause,
+    total: Option<u64>,
+) -> Result<Appending<'a>, Failure> {
+    let alloc = rt.alloc();
+    let numbers = match options.prints_numbers {
+        true => Some(with_file(alloc, path, standard_output(rt))?),
+        false => None,
+    };
+    let opened = open_or_begin(rt, path, cause, options.seal_size);
+    Ok(Appending {
+        rt,
+        path,
+        log: with_file(alloc, path, opened)?,
+        policy: options.policy,
+        framing: options.framing,
+        progress: Progress::begin(rt, options.is_quiet, total).of_records(),
+        numbers,
+        output_failure: None,
+        waiting: 0,
+    })
+}
+
+// Prints a line on what was appended, where progress is shown.
+fn summarize(appending: &Appending<'_>, from: u64) {
+    if !appending.progress.is_shown() {
+        return;
+    }
+    let to = appending.log.end();
+    let seconds = appending.progress.elapsed().as_secs_f64();
+    let count = to.saturating_sub(from);
+    let last = to.saturating_sub(1);
+    let _ = match count {
+        0 => eprintln!(appending.rt; "0 records"),
+        1 => eprintln!(appending.rt; "1 record, number {from}, {seconds:.3} seconds"),
+        _ => {
+            eprintln!(appending.rt;
+                "{count} records, numbers {from} to {last}, {seconds:.3} seconds"
+            )
+        }
+    };
+}
+
+// Appends the records of these files, or of the standard input where none are named, to the log at a path.
+fn append<'a>(
+    rt: &'a HostRuntime,
+    path: &'a str,
+    options: AppendOptions,
+    cause: &'a SystemCause,
+    paths: Option<&[&str]>,
+) -> Result<(), Failure> {
+    let total = paths.and_then(|paths| total_bytes(rt, paths));
+    let mut appending = appending_of(rt, path, options, cause, total)?;
+    let from = appending.log.end();
+    let appended = appending.append_inputs(paths);
+    appending.progress.end();
+    appended?;
+    summarize(&appending, from);
+    match appending.output_failure.take() {
+        Some(failure) => Err(failure),
+        None => Ok(()),
+    }
+}
+
+/// Appends the records.
+pub fn run(rt: &HostRuntime, matches: &ArgMatches<'_>) -> Result<(), Failure> {
+    let alloc = rt.alloc();
+    let path = word(alloc, matches, crate::log::FOLDER)?;
+    let options = options_of(alloc, matches)?;
+    let cause = SystemCause::new();
+    let text = names_of(rt, matches)?;
+    let names = with_file(alloc, path, split_names(alloc, text.as_deref()))?;
+    append(rt, path, options, &cause, names.as_deref())
+}

@@ -1,0 +1,69 @@
+//! `log cat`: prints all records in order.
+
+use crate::arguments::{self, option};
+use crate::document_output::{self, DocumentForm, form_of, standard_output};
+use crate::failure::{Failure, FailureCause, to_output, with_file};
+use crate::log::log_folder::SystemCause;
+use crate::log::places::open_to_read;
+use clap::{Arg, ArgMatches, Command, value_parser};
+use segmented_log::LogError;
+use std::alloc::{AllocError, Global};
+use std::io::Write;
+
+const EXAMPLE: &str = "\
+It takes no lock, so a writer may go on. It shows the log as it was when it was opened.
+
+Example:
+  zevkhadun log cat events --from 1000     the records from number 1000 on";
+
+// The record at which it begins.
+fn from<'a>(alloc: Global) -> Arg<'a> {
+    option(
+        alloc,
+        "from",
+        "NUMBER",
+        "Begin at the record of this number, or at the first one if that is later",
+    )
+    .value_parser(value_parser!(u64))
+    .default_value("0")
+}
+
+/// The words of `log cat`.
+pub fn command<'a>(alloc: Global) -> Result<Command<'a>, AllocError> {
+    Command::new(alloc, "cat")
+        .about("Print all records in order")
+        .after_help(EXAMPLE)
+        .arg(crate::log::log(alloc))?
+        .arg(from(alloc))?
+        .arg(document_output::number(alloc))?
+        .arg(document_output::json(alloc)?)?
+        .arg(arguments::framing(alloc))
+}
+
+// Prints the records from a number on.
+fn print(rt: &HostRuntime, path: &str, form: DocumentForm, from: u64) -> Result<(), FailureCause> {
+    let alloc = rt.alloc();
+    let cause = SystemCause::new();
+    let mut log = open_to_read(rt, path, &cause)?;
+    let mut output = standard_output(rt)?;
+    let mut number = from.max(log.first());
+    for record in log.iter_from(from)? {
+        let record = match record {
+            Ok(record) => record,
+            Err(LogError::Damaged) => return Err(FailureCause::DamagedRecord(number)),
+            Err(error) => return Err(FailureCause::Log(error)),
+        };
+        form.write(alloc, &mut output, number, &record)?;
+        number = number.saturating_add(1);
+    }
+    to_output(output.flush())
+}
+
+/// Prints the records.
+pub fn run(rt: &HostRuntime, matches: &ArgMatches<'_>) -> Result<(), Failure> {
+    let alloc = rt.alloc();
+    let path = arguments::word(alloc, matches, crate::log::FOLDER)?;
+    let form = form_of(alloc, matches)?;
+    let from = matches.get_one::<u64>("from").unwrap_or(0);
+    with_file(alloc, path, print(rt, path, form, from))
+}

@@ -1,0 +1,139 @@
+//! `log get`: prints records by their numbers.
+
+use crate::arguments;
+use crate::document_output::{self, DocumentForm, DocumentOutput, form_of, standard_output};
+use crate::failure::{Failure, FailureCause, to_output, with_file};
+use crate::log::log_folder::SystemCause;
+use crate::log::number_range::NumberRange;
+use crate::log::opened_log::OpenedLog;
+use crate::log::places::open_to_read;
+use clap::{ArgMatches, Command};
+use std::alloc::{AllocError, Global};
+use std::io::{BufRead, BufReader, Read, Write};
+
+// How many bytes of numbers are read at once.
+const BUFFER_SIZE: usize = 1 << 16;
+
+const EXAMPLE: &str = "\
+It takes no lock, so a writer may go on. It shows the log as it was when it was opened.
+
+Examples:
+  zevkhadun log get events 7 3..9 100..     records 7, 3 to 8, and 100 to the last
+  sort -n numbers.txt | zevkhadun log get events -     the records whose numbers are on the lines of numbers.txt";
+
+/// The words of `log get`.
+pub fn command<'a>(alloc: Global) -> Result<Command<'a>, AllocError> {
+    Command::new(alloc, "get")
+        .about("Print records by their numbers")
+        .after_help(EXAMPLE)
+        .arg(crate::log::log(alloc))?
+        .arg(arguments::several(
+            alloc,
+            "NUMBER",
+            "Records to print: numbers, or ranges that exclude their end: 3..9, 5.. or ..9; \
+             '-' alone reads them from standard input, one on each line",
+        ))?
+        .arg(document_output::number(alloc))?
+        .arg(document_output::json(alloc)?)?
+        .arg(arguments::framing(alloc))
+}
+
+// An opened log, and the output for its records.
+#[derive(Drop)]
+struct Printer<'a> {
+    alloc: Global,
+    log: OpenedLog<'a>,
+    output: DocumentOutput<'a>,
+    form: DocumentForm,
+}
+
+impl<'a> Printer<'a> {
+    // Prints the records of a range.
+    fn print(&mut self, range: NumberRange) -> Result<(), FailureCause> {
+        for number in range.among(self.log.first(), self.log.end())? {
+            let record = self.log.get(number)?;
+            self.form
+                .write(self.alloc, &mut self.output, number, &record)?;
+        }
+        Ok(())
+    }
+
+    // Prints the records of the range that each word names, which all are ranges.
+    fn print_all(&mut self, words: &[&str]) -> Result<(), FailureCause> {
+        for word in words {
+            let range = NumberRange::parse(self.alloc, word)?;
+            self.print(range)?;
+        }
+        to_output(self.output.flush())
+    }
+
+    // Prints the records of the range on a line.
+    fn print_line(&mut self, line: &str) -> Result<(), FailureCause> {
+        let word = line.trim();
+        if word.is_empty() {
+            return Ok(());
+        }
+        let range = NumberRange::parse(self.alloc, word)?;
+        self.print(range)
+    }
+
+    // Prints the records of the range on each line of an input. What was asked for is printed before more is waited
+    // for.
+    fn print_lines<R: Read>(&mut self, input: &mut BufReader<R>) -> Result<(), FailureCause> {
+        let mut line = String::new(self.alloc);
+        for _ in 0..u64::MAX {
+            line.clear();
+            if input.read_line(&mut line)? == 0 {
+                break;
+            }
+            self.print_line(line.as_str())?;
+            if input.buffer().is_empty() {
+                to_output(self.output.flush())?;
+            }
+        }
+        to_output(self.output.flush())
+    }
+}
+
+// Fails if a word is not a range.
+fn check_words(alloc: Global, words: &[&str]) -> Result<(), FailureCause> {
+    for word in words {
+        let _range = NumberRange::parse(alloc, word)?;
+    }
+    Ok(())
+}
+
+// Prints the records that words name, or those whose numbers are in the standard input.
+fn print(
+    rt: &HostRuntime,
+    path: &str,
+    form: DocumentForm,
+    words: &[&str],
+) -> Result<(), FailureCause> {
+    let alloc = rt.alloc();
+    let is_listed = matches!(words, ["-"]);
+    if !is_listed {
+        check_words(alloc, words)?;
+    }
+    let cause = SystemCause::new();
+    let mut printer = Printer {
+        alloc,
+        log: open_to_read(rt, path, &cause)?,
+        output: standard_output(rt)?,
+        form,
+    };
+    if !is_listed {
+        return printer.print_all(words);
+    }
+    let mut input = BufReader::with_capacity(alloc, BUFFER_SIZE, rt.reader())?;
+    printer.print_lines(&mut input)
+}
+
+/// Prints the records.
+pub fn run(rt: &HostRuntime, matches: &ArgMatches<'_>) -> Result<(), Failure> {
+    let alloc = rt.alloc();
+    let path = arguments::word(alloc, matches, crate::log::FOLDER)?;
+    let form = form_of(alloc, matches)?;
+    let words = matches.get_strs("NUMBER").unwrap_or(&[]);
+    with_file(alloc, path, print(rt, path, form, words))
+}

@@ -1,0 +1,80 @@
+//! `log`: a log of records in a folder. It grows by `append`, and its records are read by their numbers.
+
+mod append;
+mod cat;
+mod get;
+mod inputs;
+mod log_folder;
+mod number_range;
+mod opened_log;
+mod places;
+mod records;
+mod seal;
+mod segments;
+mod stat;
+mod sync_policy;
+mod verify;
+
+use crate::arguments::wrong_words;
+use crate::failure::Failure;
+use crate::words::with;
+use clap::{Arg, ArgAction, ArgMatches, Command};
+use std::alloc::{AllocError, Global};
+
+/// The name of the argument for the folder.
+const FOLDER: &str = "FOLDER";
+
+const AFTER_HELP: &str = "\
+A log is a folder: sealed segments, which are ordinary stores, and a tail. A record is any bytes, and its number stays.
+'append' and 'seal' lock the log, so it has one writer; the other commands take no lock and change nothing.
+
+Example:
+  zevkhadun log append events new.txt && zevkhadun log get events 0";
+
+// The command `log`, without its subcommands.
+fn bare_command<'a>(alloc: Global) -> Result<Command<'a>, AllocError> {
+    Ok(
+        Command::new(alloc, "log")
+            .about("Keep a log: records that are on the disk once they are acknowledged")
+            .after_help(AFTER_HELP)
+            .subcommand_required(true)
+            .arg_required_else_help(true),
+    )
+}
+
+/// The words of `log`.
+pub fn command<'a>(alloc: Global) -> Result<Command<'a>, AllocError> {
+    let writing = with(bare_command(alloc), append::command(alloc));
+    let reading = with(with(writing, get::command(alloc)), cat::command(alloc));
+    let telling = with(with(reading, stat::command(alloc)), verify::command(alloc));
+    with(telling, seal::command(alloc))
+}
+
+/// The folder of a log.
+fn folder<'a>(alloc: Global, help: &'a str) -> Arg<'a> {
+    Arg::new(alloc, FOLDER)
+        .required(true)
+        .action(ArgAction::Set)
+        .help(help)
+}
+
+/// The folder of a log that is there.
+fn log<'a>(alloc: Global) -> Arg<'a> {
+    folder(alloc, "The log's folder")
+}
+
+/// Does what the words ask.
+pub fn run(rt: &HostRuntime, matches: &ArgMatches<'_>) -> Result<(), Failure> {
+    let Some((name, matches)) = matches.subcommand() else {
+        return Ok(());
+    };
+    match name {
+        "append" => append::run(rt, matches),
+        "get" => get::run(rt, matches),
+        "cat" => cat::run(rt, matches),
+        "stat" => stat::run(rt, matches),
+        "verify" => verify::run(rt, matches),
+        "seal" => seal::run(rt, matches),
+        _ => Err(wrong_words(rt.alloc(), "unknown command", name)),
+    }
+}

@@ -1,0 +1,102 @@
+//! A log that is open, with errors that say why.
+
+ghost use Rattle.std.specs.Prelude.{◌≡◌, ◌≤◌, false, IfOk};
+
+use crate::failure::FailureCause;
+use crate::log::log_folder::{LogFolder, SystemCause};
+use segmented_log::{LogError, Records, SegmentedLog};
+use std::alloc::Global;
+
+/// A log that is open.
+#[derive(Drop)]
+pub struct OpenedLog<'a> {
+    log: SegmentedLog<LogFolder<'a, HostRuntime>>,
+    cause: &'a SystemCause,
+}
+
+// Why a call on a log failed: what the system said, if it refused a call on the folder.
+fn explained(cause: &SystemCause, error: LogError) -> FailureCause {
+    match (error, cause.take()) {
+        (LogError::Failed, Some(error)) => FailureCause::System(error),
+        _ => FailureCause::Log(error),
+    }
+}
+
+impl<'a> OpenedLog<'a> {
+    /// Opens the log in a folder.
+    pub fn open(
+        alloc: Global,
+        folder: LogFolder<'a, HostRuntime>,
+        cause: &'a SystemCause,
+        seal_size: usize,
+    ) -> Result<OpenedLog<'a>, FailureCause> {
+        match SegmentedLog::open(alloc, folder, seal_size) {
+            Ok(log) => Ok(OpenedLog { log, cause }),
+            Err((error, folder)) => {
+                drop(folder);
+                Err(explained(cause, error))
+            }
+        }
+    }
+
+    // The result of a call, with the reason where it failed.
+    fn result_of<T: Drop>(&self, given: Result<T, LogError>) -> Result<T, FailureCause> {
+        match given {
+            Ok(value) => Ok(value),
+            Err(error) => Err(explained(self.cause, error)),
+        }
+    }
+
+    /// The number of the first record.
+    pub fn first(&self) -> u64 {
+        self.log.first()
+    }
+
+    /// The number after the last record that is on the disk.
+    pub fn end(&self) -> u64 {
+        self.log.end()
+    }
+
+    /// Puts a record after the others. It is on the disk once `sync` returns Ok.
+    pub fn append(&mut self, record: &[u8]) -> Result<u64, FailureCause> {
+        let number = self.log.append(record);
+        self.result_of(number)
+    }
+
+    /// Puts all records that wait on the disk.
+    pub fn sync(&mut self) -> Result<(), FailureCause> {
+        let synced = self.log.sync();
+        self.result_of(synced)
+    }
+
+    /// Puts the tail's records into a segment.
+    pub fn seal(&mut self) -> Result<(), FailureCause> {
+        let sealed = self.log.seal();
+        self.result_of(sealed)
+    }
+
+    /// The record of a number that the log has.
+    pub fn get(&mut self, number: u64) -> Result<Vec<u8>, FailureCause> {
+        let (first, end) = (self.first(), self.end());
+        match self.log.get(number) {
+            Ok(Some(record)) => Ok(record),
+            Ok(None) => Err(FailureCause::NoRecord { number, first, end }),
+            Err(LogError::Damaged) => Err(FailureCause::DamagedRecord(number)),
+            Err(error) => Err(explained(self.cause, error)),
+        }
+    }
+
+    /// The records from a number on, or from the first one where that is later.
+    pub fn iter_from<'s>(
+        &'s mut self,
+        number: u64,
+    ) -> Result<Records<'s, LogFolder<'a, HostRuntime>>, FailureCause>
+        ensures works { IfOk result (λ records. records.log.now.is_broken ≡ false) }
+        ensures next { IfOk result (λ records. records.log.now.first ≤ records.next) }
+    {
+        match self.log.iter_from(number) {
+            Ok(records) => Ok(records),
+            Err(error) => Err(FailureCause::Log(error)),
+        }
+    }
+}

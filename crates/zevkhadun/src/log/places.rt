@@ -1,0 +1,144 @@
+//! What is at the path of a log, and how it is opened.
+
+use crate::failure::FailureCause;
+use crate::log::log_folder::{LogFolder, SystemCause};
+use crate::log::opened_log::OpenedLog;
+use segmented_log::TAIL;
+use std::alloc::Global;
+use std::io::ErrorKind;
+use std::{fs, io};
+use store_files::{CreateError, LockedFolder};
+
+// A log that only reads seals nothing.
+const NEVER: usize = usize::MAX;
+
+// How often an opening is tried: a writer may seal the log meanwhile.
+const TRIES: usize = 1000;
+
+/// The path of a file of a log.
+pub fn file_in(alloc: Global, folder: &str, name: &str) -> Result<String, FailureCause> {
+    let folder = folder.trim_end_matches('/');
+    Ok(format!(in alloc; "{folder}/{name}")?)
+}
+
+/// How many bytes the tail of a log has; none where there is no tail.
+pub fn tail_bytes(rt: &HostRuntime, folder: &str) -> Result<Option<u64>, FailureCause> {
+    let path = file_in(rt.alloc(), folder, TAIL)?;
+    match fs::metadata(rt, path.as_str()) {
+        Ok(found) if found.is_file() => Ok(Some(found.len())),
+        Ok(_) => Ok(None),
+        Err(error) if error.kind() == ErrorKind::NotFound => Ok(None),
+        Err(error) => Err(FailureCause::System(error)),
+    }
+}
+
+/// Fails if there is no log at the path.
+pub fn check_log(rt: &HostRuntime, path: &str) -> Result<(), FailureCause> {
+    if fs::metadata(rt, path)?.is_dir() && tail_bytes(rt, path)?.is_some() {
+        return Ok(());
+    }
+    Err(FailureCause::NotLog)
+}
+
+// Whether a crash during the beginning of a log may have left a file of this name.
+fn is_left_beside(name: &str) -> bool {
+    name == "lock" || name.ends_with(".part")
+}
+
+// Whether a folder has no files, but for those that a crash may have left.
+fn is_blank(rt: &HostRuntime, path: &str) -> io::Result<bool> {
+    for entry in fs::read_dir(rt, path)? {
+        let entry = entry?;
+        if !is_left_beside(entry.file_name()) {
+            return Ok(false);
+        }
+    }
+    Ok(true)
+}
+
+// Fails if there is neither a log at the path nor a place for a new one: nothing, or an empty folder.
+fn check_place(rt: &HostRuntime, path: &str) -> Result<(), FailureCause> {
+    let found = match fs::metadata(rt, path) {
+        Ok(found) => found,
+        Err(error) if error.kind() == ErrorKind::NotFound => return Ok(()),
+        Err(error) => return Err(FailureCause::System(error)),
+    };
+    if found.is_dir() && (tail_bytes(rt, path)?.is_some() || is_blank(rt, path)?) {
+        return Ok(());
+    }
+    Err(FailureCause::NotLog)
+}
+
+// The folder that a writer locked, or why it is not to be had.
+fn locked(
+    folder: Result<LockedFolder<HostRuntime>, CreateError>,
+) -> Result<LockedFolder<HostRuntime>, FailureCause> {
+    match folder {
+        Ok(folder) => Ok(folder),
+        Err(CreateError::Busy(_)) => Err(FailureCause::BusyLog),
+        Err(error) => Err(FailureCause::Create(error)),
+    }
+}
+
+// Opens a log through its lock. A torn end of its tail, which is cut off, is reported.
+fn open_locked<'a>(
+    rt: &'a HostRuntime,
+    path: &'a str,
+    writer: LockedFolder<HostRuntime>,
+    cause: &'a SystemCause,
+    seal_size: usize,
+) -> Result<OpenedLog<'a>, FailureCause> {
+    let before = tail_bytes(rt, path)?.unwrap_or(0);
+    let folder = LogFolder::of_writer(rt, path, writer, cause);
+    let log = OpenedLog::open(rt.alloc(), folder, cause, seal_size)?;
+    let cut = before.saturating_sub(tail_bytes(rt, path)?.unwrap_or(0));
+    if cut > 0 {
+        let _ = eprintln!(rt;
+            "zevkhadun: {path}: {cut} bytes at the end of the tail were no whole batch, as after a crash; they are cut off"
+        );
+    }
+    Ok(log)
+}
+
+/// Opens the log at a path to write it, or begins one there.
+pub fn open_or_begin<'a>(
+    rt: &'a HostRuntime,
+    path: &'a str,
+    cause: &'a SystemCause,
+    seal_size: usize,
+) -> Result<OpenedLog<'a>, FailureCause> {
+    check_place(rt, path)?;
+    let writer = locked(LockedFolder::create(rt.alloc(), *rt, path))?;
+    open_locked(rt, path, writer, cause, seal_size)
+}
+
+/// Opens a log that is there, to write it.
+pub fn open_to_write<'a>(
+    rt: &'a HostRuntime,
+    path: &'a str,
+    cause: &'a SystemCause,
+) -> Result<OpenedLog<'a>, FailureCause> {
+    check_log(rt, path)?;
+    let writer = locked(LockedFolder::open(rt.alloc(), *rt, path))?;
+    open_locked(rt, path, writer, cause, NEVER)
+}
+
+/// Opens a log that is there, to read it. Nothing is changed, and a writer may go on.
+pub fn open_to_read<'a>(
+    rt: &'a HostRuntime,
+    path: &'a str,
+    cause: &'a SystemCause,
+) -> Result<OpenedLog<'a>, FailureCause> {
+    check_log(rt, path)?;
+    for _ in 0..TRIES {
+        let Some(folder) = LogFolder::of_reader(rt, path, cause)? else {
+            continue;
+        };
+        match OpenedLog::open(rt.alloc(), folder, cause, NEVER) {
+            // A segment may be gone since it was listed.
+            Err(FailureCause::System(error)) if error.kind() == ErrorKind::NotFound => {}
+            opened => return opened,
+        }
+    }
+    Err(FailureCause::BusyLog)
+}

@@ -1,0 +1,125 @@
+//! `log stat`: prints counts and sizes of logs.
+
+use crate::arguments;
+use crate::failure::{Failure, FailureCause, to_output};
+use crate::findings::Findings;
+use crate::log::log_folder::SystemCause;
+use crate::log::places::{file_in, open_to_read, tail_bytes};
+use crate::log::segments::segment_numbers;
+use clap::{ArgMatches, Command};
+use segmented_log::segment_file;
+use serde_json::json;
+use std::alloc::{AllocError, Global};
+use std::fs;
+
+const EXAMPLE: &str = "\
+Example:
+  zevkhadun log stat --json events     records, their numbers, segments and bytes";
+
+/// The words of `log stat`.
+pub fn command<'a>(alloc: Global) -> Result<Command<'a>, AllocError> {
+    Command::new(alloc, "stat")
+        .about("Print counts and sizes of logs")
+        .after_help(EXAMPLE)
+        .arg(arguments::several(alloc, crate::log::FOLDER, "The logs' folders"))?
+        .arg(arguments::flag(
+            alloc,
+            "json",
+            "Print a JSON object for each log, one per line",
+        ))
+}
+
+// Counts and sizes of a log.
+#[derive(Clone, Copy)]
+struct LogNumbers {
+    first: u64,
+    next: u64,
+    segments: usize,
+    segment_bytes: u64,
+    tail_bytes: u64,
+}
+
+// How many bytes the segments of these numbers have together.
+fn bytes_of_segments(rt: &HostRuntime, path: &str, segments: &[u64]) -> Result<u64, FailureCause> {
+    let alloc = rt.alloc();
+    let mut bytes = 0u64;
+    for first in segments {
+        let name = segment_file(alloc, *first)?;
+        let file = file_in(alloc, path, name.as_str())?;
+        bytes = bytes.saturating_add(fs::metadata(rt, file.as_str())?.len());
+    }
+    Ok(bytes)
+}
+
+impl LogNumbers {
+    // Of the log at a path.
+    fn of(rt: &HostRuntime, path: &str) -> Result<LogNumbers, FailureCause> {
+        let cause = SystemCause::new();
+        let log = open_to_read(rt, path, &cause)?;
+        let segments = segment_numbers(rt, path)?;
+        Ok(LogNumbers {
+            first: log.first(),
+            next: log.end(),
+            segments: segments.len(),
+            segment_bytes: bytes_of_segments(rt, path, &segments)?,
+            tail_bytes: tail_bytes(rt, path)?.unwrap_or(0),
+        })
+    }
+
+    // How many records there are.
+    fn records(self) -> u64 {
+        self.next.saturating_sub(self.first)
+    }
+
+    // Prints them in lines.
+    fn print_lines(self, rt: &HostRuntime, path: &str) -> Result<(), FailureCause> {
+        let LogNumbers {
+            first,
+            next,
+            segments,
+            segment_bytes,
+            tail_bytes,
+        } = self;
+        let records = self.records();
+        to_output(println!(rt; "{path}\n  records         {records}"))?;
+        to_output(println!(rt; "  first number    {first}\n  next number     {next}"))?;
+        to_output(println!(rt; "  segments        {segments}\n  segment bytes   {segment_bytes}"))?;
+        to_output(println!(rt; "  tail bytes      {tail_bytes}"))
+    }
+
+    // Prints them as an object of JSON.
+    fn print_object(self, rt: &HostRuntime, path: &str) -> Result<(), FailureCause> {
+        let object = json!(in rt.alloc(); {
+            "folder": path,
+            "records": self.records(),
+            "first": self.first,
+            "next": self.next,
+            "segments": self.segments,
+            "segment_bytes": self.segment_bytes,
+            "tail_bytes": self.tail_bytes
+        })?;
+        to_output(println!(rt; "{object}"))
+    }
+}
+
+// Prints the numbers of a log, in lines or as JSON.
+fn print(rt: &HostRuntime, path: &str, is_json: bool) -> Result<(), FailureCause> {
+    let numbers = LogNumbers::of(rt, path)?;
+    if is_json {
+        numbers.print_object(rt, path)
+    } else {
+        numbers.print_lines(rt, path)
+    }
+}
+
+/// Prints the numbers of each log. It goes on after one that can't be read, and fails at the end.
+pub fn run(rt: &HostRuntime, matches: &ArgMatches<'_>) -> Result<(), Failure> {
+    let is_json = matches.get_flag("json");
+    let mut findings = Findings::new();
+    for path in matches.get_strs(crate::log::FOLDER).unwrap_or(&[]) {
+        if let Err(cause) = print(rt, path, is_json) {
+            findings.add_failed(rt, path, cause)?;
+        }
+    }
+    findings.result()
+}

@@ -1,0 +1,102 @@
+"""A log's process that is killed at any moment loses no record whose number it had printed."""
+
+import shutil
+import subprocess
+import tempfile
+import time
+from pathlib import Path
+
+from files.old_store import lines
+from harness import ProgramCase
+
+# How many records there are to append, after those that the log has.
+MORE = 1000
+MOMENTS = 200
+# After this many moments a new log is begun, since each segment of a log is an open file.
+MOMENTS_A_LOG = 20
+# A file system in memory, where there is one: the system keeps what a killed process wrote, and syncs cost nothing.
+MEMORY = Path("/dev/shm")
+
+
+class Killed(ProgramCase):
+    """Appends with a sync for each record, and with a segment for each few of them."""
+
+    WORDS = ("log", "append", "events", "--number", "--sync", "every", "--seal-size", "2K")
+
+    def new_folder(self):
+        """Makes a folder in memory that is removed after the test."""
+        folder = Path(tempfile.mkdtemp(prefix="zevkhadun-", dir=MEMORY if MEMORY.is_dir() else None))
+        self.addCleanup(shutil.rmtree, folder, ignore_errors=True)
+        return folder
+
+    def setUp(self):
+        super().setUp()
+        self.text = lines(MORE * (MOMENTS_A_LOG + 2))
+        self.ends = [i + 1 for i, byte in enumerate(self.text) if byte == ord("\n")]
+
+    def records(self):
+        """The records of the log."""
+        return self.program.gives("log", "cat", "events")
+
+    def input_from(self, count):
+        """The text of the records after this many."""
+        start = self.ends[count - 1] if count else 0
+        self.write("input", self.text[start:self.ends[count + MORE - 1]])
+
+    def append_until(self, count, seen):
+        """Appends records after this many, ends that once this many numbers were seen, and returns how many records had
+        theirs printed."""
+        self.input_from(count)
+        with subprocess.Popen([self.program.path, *self.WORDS, "input"], cwd=self.folder,
+                              stdout=subprocess.PIPE) as writing:
+            printed = b"".join(writing.stdout.readline() for _ in range(seen))
+            writing.kill()
+            printed += writing.stdout.read()
+        numbers = printed.split(b"\n")[:-1]
+        self.assertEqual(numbers, [b"%d" % (count + i) for i in range(len(numbers))])
+        return count + len(numbers)
+
+    def test_no_acknowledged_record_is_lost(self):
+        count = killed_in_the_midst = segments = 0
+        for moment in range(MOMENTS):
+            if moment % MOMENTS_A_LOG == 0:
+                segments += len(list((self.folder / "events").glob("*.store")))
+                shutil.rmtree(self.folder / "events", ignore_errors=True)
+                count = 0
+            acknowledged = self.append_until(count, moment * MORE // MOMENTS)
+            # A kill before the beginning leaves no log.
+            text = self.records() if (self.folder / "events" / "tail.log").exists() else b""
+            found = text.count(b"\n")
+            self.assertEqual(text, self.text[:len(text)], f"other records, at moment {moment}")
+            self.assertGreaterEqual(found, acknowledged, f"lost, at moment {moment}")
+            # The record that was being written when the process ended may be there, too.
+            self.assertLessEqual(found, acknowledged + 1, f"records from nowhere, at moment {moment}")
+            killed_in_the_midst += count < found < count + MORE
+            count = found
+        self.assertGreater(killed_in_the_midst, MOMENTS // 4, "most kills came before or after the records")
+        self.assertGreater(segments, MOMENTS, "few segments")
+        self.program.gives("log", "append", "events")
+        self.program.gives("log", "verify", "-q", "events")
+
+    def begin_log(self):
+        """Begins a log with a tail of 5000 records."""
+        shutil.rmtree(self.folder / "events", ignore_errors=True)
+        self.program.gives("log", "append", "events", "input")
+
+    def test_a_killed_seal_leaves_the_records(self):
+        text = self.text[:self.ends[5 * MORE - 1]]
+        self.write("input", text)
+        self.begin_log()
+        start = time.monotonic()
+        self.program.gives("log", "seal", "events")
+        whole = time.monotonic() - start
+        left = set()
+        for moment in range(40):
+            self.begin_log()
+            writing = subprocess.Popen([self.program.path, "log", "seal", "events"], cwd=self.folder)
+            time.sleep(whole * 3 * moment / 40)
+            writing.kill()
+            writing.wait()
+            self.assertEqual(self.records(), text, f"at moment {moment}")
+            left.add(len(list((self.folder / "events").glob("*.store"))))
+        self.assertEqual(left, {0, 1}, "every kill came before or after the seal")

@@ -1,0 +1,57 @@
+"""Where a device is full, or a file may not grow, a log keeps what it has acknowledged, and says why it failed."""
+
+import os
+import resource
+import subprocess
+
+from files.old_store import lines
+from harness import ProgramCase, limited
+
+TEXT = lines(100_000)
+WORDS = ("log", "append", "events", "--number", "--sync", "batch")
+
+# Appends to a log on a device of 1 MiB, and prints its records once there is room.
+ON_DEVICE = """
+mount -t tmpfs -o size=1m none "$1" || exit 77
+cd "$1"
+echo old | "$2" log append events
+head -c 400000 /dev/zero >full
+"$2" log append events --number --sync every >/dev/null
+echo $?
+rm full
+"$2" log append events </dev/null 2>/dev/null
+"$2" log cat events
+"""
+
+
+class NoRoom(ProgramCase):
+    def test_a_limit_on_the_size_of_files_leaves_what_was_acknowledged(self):
+        self.program.gives("log", "append", "events", input=b"old\n")
+        limit = limited(resource.RLIMIT_FSIZE, 500_000)
+        done = self.program.fails(3, "events: File too large", *WORDS, input=TEXT, preexec_fn=limit)
+        acknowledged = done.stdout.count(b"\n")
+        text = self.program.gives("log", "cat", "events")
+        self.assertTrue((b"old\n" + TEXT).startswith(text))
+        self.assertGreaterEqual(text.count(b"\n"), 1 + acknowledged)
+
+    def test_a_seal_that_has_no_room_leaves_the_records(self):
+        self.program.gives("log", "append", "events", input=TEXT)
+        limit = limited(resource.RLIMIT_FSIZE, 100_000)
+        self.program.fails(3, "events: File too large", "log", "seal", "events", preexec_fn=limit)
+        self.assertEqual(self.program.gives("log", "cat", "events"), TEXT)
+        self.program.gives("log", "seal", "events")
+        self.assertEqual(self.program.gives("log", "cat", "events"), TEXT)
+
+    def test_a_full_device_leaves_what_was_acknowledged(self):
+        self.require("unshare")
+        device = self.folder / "device"
+        device.mkdir()
+        space = ["unshare", "-m" if os.geteuid() == 0 else "-rm", "sh", "-c", ON_DEVICE, ""]
+        done = subprocess.run([*space, device, self.program.path], input=TEXT, capture_output=True, timeout=120)
+        if done.returncode == 77 or b"unshare:" in done.stderr:
+            self.skipTest("no device can be mounted here")
+        self.assertEqual(done.stderr, b"zevkhadun: events: No space left on device (os error 28)\n")
+        status, _, text = done.stdout.partition(b"\n")
+        self.assertEqual(status, b"3")
+        self.assertTrue((b"old\n" + TEXT).startswith(text))
+        self.assertGreater(len(text), 100_000)

@@ -1,0 +1,347 @@
+"""`log`: records in a folder, which are appended and read by their numbers."""
+
+import json
+import os
+import shutil
+import subprocess
+
+from harness import ProgramCase, changed, numbers
+from program.texts import LINES
+
+FIRST = "00000000000000000000.store"
+
+
+class LogCase(ProgramCase):
+    """A test with a log in the folder `events`."""
+
+    def append(self, text: bytes, *words: str) -> bytes:
+        """Appends records from the standard input, and returns what is printed."""
+        return self.program.gives("log", "append", "events", *words, input=text)
+
+    def records(self, *words: str, name: str = "events") -> bytes:
+        """What `log cat` prints."""
+        return self.program.gives("log", "cat", name, *words)
+
+    def files(self) -> dict[str, bytes]:
+        """The files of the log, but for its lock."""
+        folder = self.folder / "events"
+        return {name: (folder / name).read_bytes() for name in sorted(os.listdir(folder)) if name != "lock"}
+
+    def change(self, name: str, content: bytes) -> None:
+        """Gives a file of the log other bytes."""
+        (self.folder / "events" / name).write_bytes(content)
+
+    def begin(self, *words: str) -> subprocess.Popen:
+        """Begins an append that waits for its input."""
+        pipes = {"stdin": subprocess.PIPE, "stdout": subprocess.PIPE, "stderr": subprocess.PIPE}
+        command = [self.program.path, "log", "append", "events", *words]
+        writing = subprocess.Popen(command, cwd=self.folder, **pipes)
+        self.addCleanup(self.end, writing)
+        return writing
+
+    def end(self, writing: subprocess.Popen) -> None:
+        """Ends an append, and closes its pipes."""
+        writing.kill()
+        writing.wait()
+        for pipe in (writing.stdin, writing.stdout, writing.stderr):
+            pipe.close()
+
+    def say(self, writing: subprocess.Popen, text: bytes) -> bytes:
+        """Gives an append some input, and returns the line that it prints then."""
+        writing.stdin.write(text)
+        writing.stdin.flush()
+        return writing.stdout.readline()
+
+
+class Append(LogCase):
+    def test_a_missing_or_empty_folder_becomes_a_log(self):
+        self.append(LINES)
+        self.assertEqual(self.records(), LINES)
+        (self.folder / "empty").mkdir()
+        self.program.gives("log", "append", "empty", input=b"")
+        self.assertEqual(self.records(name="empty"), b"")
+
+    def test_records_come_after_those_of_the_log(self):
+        self.write("more.txt", b"four\nfive")
+        self.append(LINES)
+        self.program.gives("log", "append", "events/", "more.txt", "-", input=b"six\n")
+        self.assertEqual(self.records(), LINES + b"four\nfive\nsix\n")
+
+    def test_each_policy_keeps_all_records_and_prints_their_numbers(self):
+        for policy in ("every", "batch", "end"):
+            with self.subTest(policy):
+                shutil.rmtree(self.folder / "events", ignore_errors=True)
+                self.assertEqual(self.append(numbers(300), "--sync", policy, "--number"), numbers(299, 0))
+                self.assertEqual(self.append(LINES, "--sync", policy, "--number"), b"300\n301\n302\n")
+                self.assertEqual(self.records(), numbers(300) + LINES)
+
+    def test_records_have_their_framing(self):
+        texts = {"text": b"a\nb", "nul": b"a\nb\0\0", "lengths": b"\1\0\0\0a\0\0\0\0", "files": b"a\0\n"}
+        for framing, text in texts.items():
+            with self.subTest(framing):
+                shutil.rmtree(self.folder / "events", ignore_errors=True)
+                self.append(text, "--framing", framing)
+                self.assertEqual(self.records("--framing", framing), text)
+
+    def test_large_records_are_taken(self):
+        large = b"x" * (3 << 20)
+        for policy in ("every", "batch", "end"):
+            self.append(b"a\n" + large + b"\nb\n", "--sync", policy)
+        self.assertEqual(self.records(), (b"a\n" + large + b"\nb\n") * 3)
+
+    def test_a_number_is_printed_before_more_input_is_waited_for(self):
+        for policy in ("every", "batch"):
+            with self.subTest(policy):
+                writing = self.begin("--sync", policy, "--number")
+                count = len(self.records().splitlines()) if "events" in self.names() else 0
+                # The second line has not ended.
+                self.assertEqual(self.say(writing, b"one\ntw"), b"%d\n" % count)
+                self.assertEqual(self.say(writing, b"o\n"), b"%d\n" % (count + 1))
+                self.assertEqual(writing.communicate(b"three", timeout=60), (b"%d\n" % (count + 2), b""))
+        self.assertEqual(self.records(), b"one\ntwo\nthree\n" * 2)
+
+    def test_nobody_has_to_read_the_numbers(self):
+        writing = self.begin("--sync", "every", "--number")
+        self.assertEqual(self.say(writing, b"one\n"), b"0\n")
+        writing.stdout.close()
+        writing.stdin.write(b"two\nthree\n")
+        writing.stdin.close()
+        self.assertEqual(writing.wait(timeout=60), 0)
+        self.assertEqual(self.records(), b"one\ntwo\nthree\n")
+
+    def test_numbers_that_can_not_be_printed_are_an_error_and_all_records_are_kept(self):
+        with open("/dev/full", "wb") as full:
+            reason = "standard output: No space left"
+            self.program.fails(3, reason, "log", "append", "events", "--number", input=LINES, stdout=full)
+        self.assertEqual(self.records(), LINES)
+
+    def test_a_failed_input_leaves_the_records_before_it(self):
+        self.write("one.txt", LINES)
+        words = ["log", "append", "events", "one.txt", "gone", "one.txt"]
+        self.program.fails(3, "gone: No such file", *words)
+        self.assertEqual(self.records(), LINES)
+        self.program.fails(3, "gone: No such file", *words, "--sync", "end")
+        self.assertEqual(self.records(), LINES)
+
+    def test_progress_is_shown_on_a_terminal(self):
+        self.write("one.txt", b"one\n")
+        self.write("more.txt", numbers(200_000))
+        self.assertIn("1 record, number 0, ", self.program.shows("log", "append", "events", "one.txt"))
+        shown = self.program.shows("log", "append", "events", "more.txt")
+        self.assertIn("200000 records, numbers 1 to 200000, ", shown)
+        self.assertIn(" left ", shown)
+        self.assertEqual(self.program.shows("log", "append", "-q", "events", "one.txt"), "")
+
+
+class Segments(LogCase):
+    def test_a_large_tail_becomes_a_store(self):
+        self.append(numbers(200), "--seal-size", "500", "--sync", "every")
+        names = [name for name in self.files() if name.endswith(".store")]
+        self.assertGreater(len(names), 3)
+        text = b"".join(self.cat(f"events/{name}") for name in names)
+        self.assertEqual(self.records(), numbers(200))
+        self.assertTrue(numbers(200).startswith(text))
+        self.assertEqual(names[1], "%020d.store" % len(self.cat(f"events/{names[0]}").splitlines()))
+
+    def test_a_segment_is_what_pack_writes(self):
+        self.append(numbers(5000))
+        self.program.gives("log", "seal", "events")
+        self.assertEqual(self.files()[FIRST], self.pack("a.store", numbers(5000)))
+        self.assertEqual(self.records(), numbers(5000))
+
+    def test_sealing_nothing_changes_nothing(self):
+        self.append(LINES)
+        self.program.gives("log", "seal", "events")
+        sealed = self.files()
+        self.program.gives("log", "seal", "events")
+        self.assertEqual(self.files(), sealed)
+        self.append(b"four\n")
+        self.assertEqual(self.records(), LINES + b"four\n")
+
+    def test_stat_counts_records_segments_and_bytes(self):
+        self.append(LINES)
+        self.program.gives("log", "seal", "events")
+        self.append(b"four\n")
+        files = self.files()
+        numbers_wanted = {
+            "folder": "events", "records": 4, "first": 0, "next": 4, "segments": 1,
+            "segment_bytes": len(files[FIRST]), "tail_bytes": len(files["tail.log"]),
+        }
+        self.assertEqual(json.loads(self.program.gives("log", "stat", "--json", "events")), numbers_wanted)
+        self.program.prints("^  records +4$", "log", "stat", "events")
+        done = self.program.run("log", "stat", "gone", "events")
+        self.assertEqual((done.returncode, done.stdout[:7]), (3, b"events\n"))
+
+
+class Reading(LogCase):
+    def setUp(self):
+        super().setUp()
+        self.append(numbers(9, 0))
+        self.program.gives("log", "seal", "events")
+        self.append(numbers(19, 10))
+
+    def get(self, *words, **how):
+        return self.program.gives("log", "get", "events", *words, **how)
+
+    def test_get_prints_records_by_number_and_by_range(self):
+        self.assertEqual(self.get("12", "3..5", "19..", "..1"), b"12\n3\n4\n19\n0\n")
+        self.assertEqual(self.get("-", input=b"9..11\n\n 0\n"), b"9\n10\n0\n")
+        self.assertEqual(self.get("20..", "7..3"), b"")
+
+    def test_get_and_cat_print_numbers_and_json(self):
+        self.assertEqual(self.get("--number", "11"), b"11\t11\n")
+        self.assertEqual(self.get("--json", "11"), b'{"id":11,"text":"11"}\n')
+        self.append(b"\xff\n")
+        self.assertEqual(self.records("--json", "--from", "20"), b'{"base64":"/w==","id":20}\n')
+        self.assertEqual(self.records("--number", "--from", "19"), b"19\t19\n20\t\xff\n")
+
+    def test_cat_begins_where_it_is_asked_to(self):
+        for start in (0, 1, 9, 10, 19, 20, 100):
+            self.assertEqual(self.records("--from", str(start)), numbers(19, start))
+
+    def test_a_number_that_the_log_has_not_is_an_error(self):
+        said = "events: no record 20; the log has the records 0 to 19\n"
+        for words in ("20", "19..21", "..25"):
+            self.program.fails(1, said, "log", "get", "events", words)
+        self.program.gives("log", "append", "none", input=b"")
+        self.program.fails(1, "none: no record 0; the log has none", "log", "get", "none", "0")
+        for word in ("x", "1..x", "-1..", "99999999999999999999", "18446744073709551615"):
+            done = self.program.run("log", "get", "events", "0", "--", word)
+            self.assertEqual((done.returncode, done.stdout), (2, b""), word)
+
+    def test_readers_go_on_beside_a_writer(self):
+        writing = self.begin("--number")
+        self.assertEqual(self.say(writing, b"new\n"), b"20\n")
+        self.assertEqual(self.get("19..21"), b"19\nnew\n")
+        self.program.prints('"records":21', "log", "stat", "--json", "events")
+        said = "^events: sound: 21 records in 1 segment and the tail$"
+        self.program.prints(said, "log", "verify", "events", stderr=subprocess.DEVNULL)
+        self.assertEqual(self.records("--from", "20"), b"new\n")
+
+    def test_readers_need_no_rights_to_write_and_leave_no_file(self):
+        before = self.files()
+        (self.folder / "events" / "lock").unlink()
+        os.chmod(self.folder / "events", 0o555)
+        self.addCleanup(os.chmod, self.folder / "events", 0o755)
+        for words in (("cat",), ("stat",), ("verify", "-q")):
+            self.program.gives("log", words[0], *words[1:], "events")
+        self.get("0")
+        self.assertEqual(self.files(), before)
+        self.assertNotIn("lock", os.listdir(self.folder / "events"))
+
+
+class Refused(LogCase):
+    def test_a_second_writer_is_refused_and_the_first_one_ends(self):
+        writing = self.begin("--number")
+        self.say(writing, b"one\n")
+        said = "zevkhadun: events: the log is being written by another; wait until it ends, or stop it\n"
+        for words in (["append", "events"], ["seal", "events"]):
+            self.assertEqual(self.program.fails(3, said, "log", *words, input=LINES).stderr.decode(), said)
+        writing.communicate(b"two\n", timeout=60)
+        self.assertEqual(self.records(), b"one\ntwo\n")
+
+    def test_what_is_no_log_is_refused_and_kept(self):
+        (self.folder / "full").mkdir()
+        self.write("full/notes.txt", LINES)
+        self.pack("a.store", LINES)
+        advice = "not a log; 'zevkhadun log append' begins one in a new or empty folder"
+        for name in ("full", "a.store"):
+            for words in ("append {}", "cat {}", "get {} 0", "stat {}", "verify -q {}", "seal {}"):
+                self.program.fails(1, f"{name}: {advice}", "log", *words.format(name).split(), input=LINES)
+        self.assertEqual(os.listdir(self.folder / "full"), ["notes.txt"])
+
+    def test_a_log_that_is_not_there_is_not_made(self):
+        for words in ("cat gone", "get gone 0", "stat gone", "verify -q gone", "seal gone"):
+            self.program.fails(3, "gone: No such file", "log", *words.split())
+        self.program.fails(3, "gone/events: No such file", "log", "append", "gone/events", input=LINES)
+        self.assertEqual(self.names(), [])
+
+    def test_wrong_words_end_with_2(self):
+        for words in ("", "append", "get events", "cat", "stat", "append --sync never x", "append --seal-size x x",
+                      "none", "cat --from x events", "append --sync every"):
+            done = self.program.run("log", *words.split())
+            self.assertEqual((done.returncode, done.stdout), (2, b""), words)
+        self.assertEqual(self.names(), [])
+
+
+class Broken(LogCase):
+    """Bytes of a log that a crash or a device changed."""
+
+    def setUp(self):
+        super().setUp()
+        self.append(LINES)
+        self.program.gives("log", "seal", "events")
+        self.append(b"four\n")
+        self.append(b"five\n")
+        self.tail = self.files()["tail.log"]
+
+    def test_a_torn_end_is_not_read_and_is_cut_off_by_the_next_append(self):
+        for cut in (1, 7, len(self.tail) - 17):
+            torn = self.tail[:-cut]
+            self.change("tail.log", torn)
+            whole = LINES + (b"four\n" if cut < 20 else b"")
+            self.assertEqual(self.records(), whole)
+            self.assertEqual(self.files()["tail.log"], torn)
+            done = self.program.run("log", "verify", "events")
+            self.assertEqual(done.returncode, 1)
+            self.assertRegex(done.stdout.decode(), r"^events/tail.log: torn: [01] records are whole; the \d+ bytes")
+            done = self.program.run("log", "append", "events", input=b"new\n")
+            said = r"^zevkhadun: events: \d+ bytes at the end of the tail were no whole batch, as after a crash; they"
+            self.assertEqual(done.returncode, 0)
+            self.assertRegex(done.stderr.decode(), said)
+            self.assertEqual(self.records(), whole + b"new\n")
+            self.program.gives("log", "verify", "-q", "events")
+
+    def test_a_changed_byte_of_the_tail_is_found(self):
+        for place in range(17, len(self.tail)):
+            self.change("tail.log", changed(self.tail, place, bytes([self.tail[place] ^ 1])))
+            self.assertEqual(self.program.run("log", "verify", "-q", "events").returncode, 1, f"byte {place}")
+
+    def test_a_damaged_record_is_named(self):
+        store = self.files()[FIRST]
+        self.change(FIRST, changed(store, 8, b"\xff"))
+        advice = "record 0 is damaged; 'zevkhadun log verify' says where"
+        self.program.fails(1, f"events: {advice}", "log", "get", "events", "0")
+        self.program.fails(1, f"events: {advice}", "log", "cat", "events")
+        self.assertEqual(self.program.gives("log", "get", "events", "2.."), b"three\nfour\nfive\n")
+        done = self.program.run("log", "verify", "events")
+        self.assertEqual(done.returncode, 1)
+        self.assertIn(f"events/{FIRST}: broken: block 0 at byte 0", done.stdout.decode())
+
+    def test_a_segment_or_a_tail_that_is_none_is_found(self):
+        self.program.gives("log", "seal", "events")
+        sound = self.files()
+        second = sorted(sound)[1]
+        for name, content in ((FIRST, sound[FIRST][:20]), ("tail.log", b"x" + sound["tail.log"][1:]), (second, None)):
+            with self.subTest(name):
+                for each in sound:
+                    self.change(each, sound[each])
+                if content is None:
+                    (self.folder / "events" / name).unlink()
+                else:
+                    self.change(name, content)
+                said = "events: the log's files are broken; 'zevkhadun log verify' says where"
+                self.program.fails(1, said, "log", "cat", "events")
+                self.program.fails(1, said, "log", "append", "events", input=LINES)
+                done = self.program.run("log", "verify", "events")
+                self.assertEqual(done.returncode, 1)
+                self.assertIn("broken", (done.stdout + done.stderr).decode())
+
+
+class Races(LogCase):
+    """Readers beside a writer that seals all the time see records without a gap."""
+
+    def test_each_reader_sees_the_first_records(self):
+        text = numbers(1000)
+        self.append(b"")
+        writing = self.begin("--sync", "every", "--seal-size", "200")
+        writing.stdin.write(text)
+        writing.stdin.close()
+        looks = 0
+        while writing.poll() is None:
+            seen = self.records()
+            self.assertTrue(text.startswith(seen), f"after {looks} looks")
+            looks += 1
+        self.assertEqual(writing.returncode, 0)
+        self.assertEqual(self.records(), text)
+        self.assertGreater(looks, 2)
