@@ -4,7 +4,7 @@ from dataclasses import dataclass, field
 from typing import Dict, List, NamedTuple
 
 from figures import Figures, Spread, label_of
-from plan import DISK, MEMORY, ORDERS, PEERS
+from plan import DISK, FULL, MEMORY, ORDERS, PEERS
 from texts import factor_text, in_sentence, listed
 
 LENGTH = 100
@@ -47,6 +47,12 @@ class Work:
         return sorted(slow, key=lambda one: -one.spread.middle)
 
 
+LOGS = [
+    Work(f"appending to a log {where} in batches of {batch}", "log", dict(group="log", place=place, questions=batch),
+         ["log_append"])
+    for place, where in ((MEMORY, "in memory"), (DISK, "on a disk"))
+    for batch in FULL.logged[place]
+]
 PAGES = dict(group="read", place=DISK)
 WORKS = [
     Work("gets from an opened store (`zevk_locate`)", "zevk", PAGES, ORDERS),
@@ -62,6 +68,7 @@ WORKS = [
     Work("writing to a disk with the sync", "zevk", dict(group="write", place=DISK), ["write"]),
     Work("appending in memory (`zevk_file_append`)", "path", dict(group="append", place=MEMORY), ["append"]),
     Work("appending on a disk with the sync", "path", dict(group="append", place=DISK), ["append"]),
+    *LOGS,
 ]
 
 

@@ -12,6 +12,7 @@ LABELS = {
     "view": "view",
     "reader": "reader",
     "disk": "disk",
+    "log": "log",
     "lmdb": "LMDB",
     "sqlite": "SQLite",
     "leveldb": "LevelDB",

@@ -4,7 +4,7 @@ from dataclasses import dataclass
 from typing import Callable, Dict, List, Optional
 
 from figures import Figures, Spread
-from plan import DISK, MEMORY, PROCESS
+from plan import DISK, FULL, LOG_PEERS, MEMORY, PROCESS
 from texts import factor_text, in_table, number_text
 
 GETS = {"uniform": "uniform", "hot": "hot", "zipf": "zipf", "sequence": "in sequence"}
@@ -16,6 +16,7 @@ BYTES = "both only read each document's bytes"
 LAYERS = "each get decodes eight layers of the index"
 OBJECT = "each document becomes an object in new memory"
 CHECKS = "it looks at more than the floor does before the get"
+UNKNOWN = "the cause was not looked for yet"
 
 Row = Dict[str, object]
 
@@ -77,6 +78,25 @@ def _large() -> Goal:
                 _ratio(dict(side="unopened", **common), dict(side="lmdb", **common)), LAYERS)
 
 
+def _beside_best(place: str, batch: int) -> Callable[[Figures], Optional[Spread]]:
+    """A log of ours beside the library that is ahead of the others."""
+    def figure(figures: Figures) -> Optional[Spread]:
+        common = dict(group="log", place=place, questions=batch)
+        found = [figures.ratios(dict(side="log", **common), dict(side=side, **common)) for side in LOG_PEERS]
+        return max(filter(None, found), key=lambda spread: spread.middle, default=None)
+    return figure
+
+
+def _log() -> List[Goal]:
+    places = {MEMORY: "in memory", DISK: "on a disk"}
+    return [
+        Goal(f"a log / the best other, {batch} a sync, {places[place]}", 1.1 if (place, batch) == (DISK, 1) else 1.0,
+             _beside_best(place, batch), UNKNOWN)
+        for place, batches in FULL.logged.items()
+        for batch in batches
+    ]
+
+
 def _python(name: str, most: float, figure: Callable[[Figures], Optional[Spread]]) -> Goal:
     return Goal(name, most, figure, OBJECT, number_text, " ns")
 
@@ -95,6 +115,7 @@ GOALS = [
     *_reads("unopened", "cdb", "`zevk_get_run` / tinycdb", 0.9, ITERATE, BYTES),
     _opening(),
     _large(),
+    *_log(),
     _python("Python, a uniform get, beyond the call in C", 100,
             lambda figures: figures.differences(_of_python("uniform"), IN_C)),
     _python("Python, a get in sequence", 250, lambda figures: figures.spread(**_of_python("sequence"))),

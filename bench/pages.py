@@ -101,6 +101,7 @@ PARTS: Dict[str, Made] = {
     "python moment": paragraph(lambda figures: plot.rough_sentence(figures, "python")),
     "program": table(tables.program),
     "packing": paragraph(_program),
+    "log": table(tables.log),
     "beside lmdb": paragraph(lambda figures: comparisons.beside(figures, ["lmdb"])),
     "beside cdb": paragraph(lambda figures: comparisons.beside(figures, ["cdb"])),
     "beside logs": paragraph(lambda figures: comparisons.beside(figures, ["rocksdb", "leveldb"])),

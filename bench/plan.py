@@ -18,6 +18,9 @@ C_SIDES = USUAL_SIDES + PATH_SIDES + RANGED_SIDES
 #: sides in C that write in a way of their own
 WRITERS = [side for side in USUAL_SIDES if side != "unopened"]
 
+#: sides in C that keep a log, each batch of records before the next
+LOG_PEERS = ["lmdb", "sqlite", "rocksdb"]
+
 #: sides in C that add documents to a store; tinycdb can't
 APPENDERS = ["path", "lmdb", "sqlite", "leveldb", "rocksdb"]
 
@@ -25,8 +28,8 @@ APPENDERS = ["path", "lmdb", "sqlite", "leveldb", "rocksdb"]
 WRITER_OF = {"unopened": "zevk", "path": "zevk", "unchecked": "zevk", "ranged": "zevk", "plain_ranged": "plain",
              "rust": "zevk", "python": "zevk"}
 
-#: sides in Rattle, all ours: bytes in memory, a reader with a cache over them, the same over a file on disk
-RATTLE_SIDES = ["view", "reader", "disk"]
+#: sides in Rattle, all ours: bytes in memory, a reader with a cache over them, the same over a file on disk, and a log
+RATTLE_SIDES = ["view", "reader", "disk", "log"]
 
 #: sides in Python: the package, what Python's users would pick instead, and a dict of offsets over a mapped file
 PYTHON_SIDES = ["python", "py_sqlite", "py_gnu", "py_lmdb", "py_offsets"]
@@ -56,13 +59,10 @@ KEPT = {"uniform": "keep_uniform", "sequence": "keep_sequence"}
 SAME_WORK = {"keep_uniform": "uniform", "keep_sequence": "sequence", "ranges": "uniform", "ranges_many": "uniform"}
 
 GROUPS = ["size", "read", "memory", "write", "append", "open", "cold", "threads", "ranges", "stack", "python",
-          "program", "growth"]
+          "program", "log", "growth"]
 
 #: what does not change from round to round
 ONCE = ["size"]
-
-#: crates/record_log has no library for C yet. Its sides and its group, `log`, belong here once it has one: appends of a
-#: record with its sync, and the opening of a log that was cut.
 
 #: bytes of a block, where nothing else is said; at 0 each document has a block of its own
 BLOCK_SIZE = 16384
@@ -121,6 +121,7 @@ class Sizes:
     python: int                # documents of a store that Python reads
     python_asked: int
     lines: Dict[int, int]      # how many lines the program packs, by their length
+    logged: Dict[str, Dict[int, int]]  # how many records a log gets, by their place and by how many come in a batch
 
 
 FULL = Sizes(
@@ -135,6 +136,7 @@ FULL = Sizes(
     python=200_000,
     python_asked=50_000,
     lines={20: 2_000_000, 1000: 200_000},
+    logged={MEMORY: {1: 10_000, 100: 50_000, 10_000: 500_000}, DISK: {1: 500, 100: 20_000, 10_000: 200_000}},
 )
 
 QUICK = Sizes(
@@ -149,6 +151,7 @@ QUICK = Sizes(
     python=5000,
     python_asked=2000,
     lines={20: 20_000, 1000: 2000},
+    logged={MEMORY: {1: 100, 100: 1000, 10_000: 20_000}, DISK: {1: 20, 100: 500, 10_000: 15_000}},
 )
 
 
@@ -271,6 +274,16 @@ def program_rows(sizes: Sizes) -> List[Row]:
     ]
 
 
+def log_rows(sizes: Sizes) -> List[Row]:
+    """Records to a new log, each batch kept before the next: the questions are how many records a batch has."""
+    return [
+        Row("log", "log_append", place, side, count, 100, questions=batch)
+        for place, batches in sizes.logged.items()
+        for batch, count in batches.items()
+        for side in ["log"] + LOG_PEERS
+    ]
+
+
 def thread_rows(sizes: Sizes) -> List[Row]:
     return [
         Row("threads", "threads", DISK, side, sizes.documents[100], 100, questions=sizes.questions, threads=threads)
@@ -306,6 +319,7 @@ def rows_of(groups: List[str], sizes: Sizes, outside: List[str]) -> List[Row]:
         "stack": lambda: stack_rows(sizes, outside),
         "python": lambda: python_rows(sizes),
         "program": lambda: program_rows(sizes),
+        "log": lambda: log_rows(sizes),
         "growth": lambda: growth_rows(sizes),
     }
     return [row for group in GROUPS if group in groups for row in made[group]()]

@@ -17,12 +17,16 @@ STORE_WORKLOADS = {
              "iterate": "view_iter", "open": "view_open"},
     "reader": {"uniform": "get_uniform", "hot": "get_hot", "zipf": "get_zipf", "sequence": "get_seq",
                "iterate": "iter_raw", "open": "open", "write": "write", "stack": "stack"},
+    "log": {"log_append": "log_append"},
     "disk": {"uniform": "disk_uniform", "hot": "disk_hot", "zipf": "disk_zipf", "sequence": "disk_seq",
              "iterate": "disk_iter", "write": "disk_write"},
 }
 
 #: workloads whose check crates/bench_store takes over the same documents as the sides in C
-SAME_CHECK = {"uniform", "hot", "zipf", "sequence", "iterate", "stack"}
+SAME_CHECK = {"uniform", "hot", "zipf", "sequence", "iterate", "stack", "log_append"}
+
+#: workloads that make their store by themselves
+MAKES = {"write", "log_append"}
 
 FROM_PYTHON = Path(__file__).resolve().parent / "from_python.py"
 
@@ -78,7 +82,7 @@ def make(programs: Programs, row: Row) -> str:
     """Makes the store that a row reads, if it isn't there. Answers the check of a walk over it, or nothing."""
     path = store_path(programs, row)
     is_file_side = row.side in C_SIDES + PYTHON_SIDES + RUST_SIDES
-    if not is_file_side or row.workload == "write" or path.exists():
+    if not is_file_side or row.workload in MAKES or path.exists():
         return ""
     return str(_told(programs, row, WRITER_OF.get(row.side, row.side), "write", path)["check"])
 
@@ -86,7 +90,7 @@ def make(programs: Programs, row: Row) -> str:
 def _run_file_side(programs: Programs, row: Row) -> Dict[str, object]:
     """A side that reads a store of a file, or writes one; what it wrote or changed is removed."""
     path = store_path(programs, row)
-    if row.workload not in ("write", "append"):
+    if row.workload not in MAKES | {"append"}:
         return _told(programs, row, row.side, row.workload, path)
     written = programs.folder(row.place) / f"{row.side}-written"
     if row.workload == "append":

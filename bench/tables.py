@@ -5,14 +5,14 @@ from typing import Dict, List, Optional
 
 import volume
 from figures import Figures, Spread, label_of, spread_of
-from plan import DISK, MEMORY, PROCESS, PYTHON_SIDES, READ_NAMES
+from plan import DISK, LOG_PEERS, MEMORY, PROCESS, PYTHON_SIDES, READ_NAMES
 from texts import Text, factor_text, in_table, number_text, time_text
 
 LENGTHS = [8, 100, 1000, 20000]
 PEER_COLUMNS = ["lmdb", "sqlite", "leveldb", "rocksdb", "cdb", "plain"]
 C_COLUMNS = ["unopened", "zevk"] + PEER_COLUMNS
 HEADS = {"unopened": "`zevk_get`", "zevk": "`zevk_locate`", "path": "`zevk_file_get`", "view": "`StoreView`",
-         "disk": "`DiskFile`"}
+         "disk": "`DiskFile`", "log": "`SegmentedLog`"}
 
 Lines = List[str]
 Wanted = Dict[str, object]
@@ -126,6 +126,20 @@ def appending(figures: Figures) -> Lines:
     lines = head(first, sides, {"path": "`zevk_file_append`"})
     for place, name in ((MEMORY, "in memory"), (DISK, "on a disk, and synced")):
         lines.append(row_of(name, cells(figures, sides, time_text, dict(group="append", place=place))))
+    return lines
+
+
+def log(figures: Figures) -> Lines:
+    """A row for each batch, in memory and on a disk."""
+    rows = figures.find(group="log", side="log")
+    if not rows:
+        return []
+    sides = ["log"] + LOG_PEERS
+    lines = head(f"append to a log, each record of {rows[0]['length']} bytes", sides)
+    for row in rows:
+        place, batch = row["place"], row["questions"]
+        name = f"{batch} a sync, {'in memory' if place == MEMORY else 'on a disk'}"
+        lines.append(row_of(name, cells(figures, sides, time_text, dict(group="log", place=place, questions=batch))))
     return lines
 
 

@@ -10,6 +10,11 @@ struct lmdb_store {
     MDB_env *environment;
 };
 
+struct lmdb_log {
+    MDB_env *environment;
+    MDB_dbi table;
+};
+
 struct lmdb_reader {
     MDB_txn *transaction;
     MDB_dbi table;
@@ -28,13 +33,9 @@ static MDB_env *environment_of(const char *path, unsigned flags) {
 }
 
 /* Puts the documents from one number up to another, after all that are there. */
-static void put_all(const char *path, const struct documents *documents, uint32_t first, uint32_t end) {
-    MDB_env *environment = environment_of(path, MDB_NOSYNC | MDB_NOMEMINIT | MDB_WRITEMAP);
-    MDB_txn *transaction;
-    MDB_dbi table;
+static void put_in(MDB_txn *transaction, MDB_dbi table, const struct documents *documents, uint32_t first,
+                   uint32_t end) {
     MDB_cursor *cursor;
-    expect(mdb_txn_begin(environment, NULL, 0, &transaction));
-    expect(mdb_dbi_open(transaction, NULL, MDB_INTEGERKEY, &table));
     expect(mdb_cursor_open(transaction, table, &cursor));
     for (uint32_t number = first; number < end; number++) {
         struct bytes document = document_at(documents, number);
@@ -42,6 +43,16 @@ static void put_all(const char *path, const struct documents *documents, uint32_
         expect(mdb_cursor_put(cursor, &key, &value, MDB_APPEND));
     }
     mdb_cursor_close(cursor);
+}
+
+/* The same in a transaction of its own. */
+static void put_all(const char *path, const struct documents *documents, uint32_t first, uint32_t end) {
+    MDB_env *environment = environment_of(path, MDB_NOSYNC | MDB_NOMEMINIT | MDB_WRITEMAP);
+    MDB_txn *transaction;
+    MDB_dbi table;
+    expect(mdb_txn_begin(environment, NULL, 0, &transaction));
+    expect(mdb_dbi_open(transaction, NULL, MDB_INTEGERKEY, &table));
+    put_in(transaction, table, documents, first, end);
     expect(mdb_txn_commit(transaction));
     mdb_env_close(environment);
 }
@@ -53,6 +64,33 @@ static void lmdb_write(const char *path, const struct documents *documents, cons
 static void lmdb_append(const char *path, const struct documents *documents, const struct settings *settings,
                         uint32_t more) {
     put_all(path, documents, settings->count, settings->count + more);
+}
+
+/* No flag that puts a sync off: a commit is back once it is kept. */
+static void *lmdb_log_begin(const char *path, const struct settings *settings) {
+    (void)settings;
+    struct lmdb_log *log = malloc(sizeof *log);
+    require(log != NULL, "lmdb", "no memory");
+    log->environment = environment_of(path, MDB_NOMEMINIT);
+    MDB_txn *transaction;
+    expect(mdb_txn_begin(log->environment, NULL, 0, &transaction));
+    expect(mdb_dbi_open(transaction, NULL, MDB_INTEGERKEY, &log->table));
+    expect(mdb_txn_commit(transaction));
+    return log;
+}
+
+static void lmdb_log_append(void *begun, const struct documents *documents, uint32_t first, uint32_t end) {
+    struct lmdb_log *log = begun;
+    MDB_txn *transaction;
+    expect(mdb_txn_begin(log->environment, NULL, 0, &transaction));
+    put_in(transaction, log->table, documents, first, end);
+    expect(mdb_txn_commit(transaction));
+}
+
+static void lmdb_log_end(void *begun) {
+    struct lmdb_log *log = begun;
+    mdb_env_close(log->environment);
+    free(log);
 }
 
 static void *lmdb_open(const char *path, const struct settings *settings) {
@@ -108,6 +146,9 @@ const struct side lmdb_side = {
     .name = "lmdb",
     .write = lmdb_write,
     .append = lmdb_append,
+    .log_begin = lmdb_log_begin,
+    .log_append = lmdb_log_append,
+    .log_end = lmdb_log_end,
     .open = lmdb_open,
     .begin = lmdb_begin,
     .end = lmdb_end,

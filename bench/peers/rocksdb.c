@@ -17,6 +17,12 @@ struct rocksdb_store {
     rocksdb_t *database;
 };
 
+struct rocksdb_log {
+    struct rocksdb_store *store;
+    rocksdb_writeoptions_t *how;
+    rocksdb_writebatch_t *batch;
+};
+
 struct rocksdb_reader {
     struct rocksdb_store *store;
     rocksdb_pinnableslice_t *pinned;
@@ -123,6 +129,41 @@ static void rocksdb_append(const char *path, const struct documents *documents, 
     ingest(path, documents, settings, settings->count, settings->count + more);
 }
 
+/* Its log is synced at each write. Its first write reserves space on the disk, so one of nothing comes here. */
+static void *rocksdb_log_begin(const char *path, const struct settings *settings) {
+    struct rocksdb_log *log = malloc(sizeof *log);
+    char *why = NULL;
+    require(log != NULL, "rocksdb", "no memory");
+    *log = (struct rocksdb_log){store_of(settings), rocksdb_writeoptions_create(), rocksdb_writebatch_create()};
+    rocksdb_writeoptions_set_sync(log->how, 1);
+    log->store->database = rocksdb_open(log->store->options, path, &why);
+    expect(why);
+    rocksdb_write(log->store->database, log->how, log->batch, &why);
+    expect(why);
+    return log;
+}
+
+static void rocksdb_log_append(void *begun, const struct documents *documents, uint32_t first, uint32_t end) {
+    struct rocksdb_log *log = begun;
+    char *why = NULL;
+    rocksdb_writebatch_clear(log->batch);
+    for (uint32_t number = first; number < end; number++) {
+        struct bytes document = document_at(documents, number);
+        struct key key = key_of(number);
+        rocksdb_writebatch_put(log->batch, key.bytes, KEY_LENGTH, (const char *)document.start, document.length);
+    }
+    rocksdb_write(log->store->database, log->how, log->batch, &why);
+    expect(why);
+}
+
+static void rocksdb_log_end(void *begun) {
+    struct rocksdb_log *log = begun;
+    rocksdb_writebatch_destroy(log->batch);
+    rocksdb_writeoptions_destroy(log->how);
+    rocksdb_close_store(log->store);
+    free(log);
+}
+
 static void *rocksdb_open_store(const char *path, const struct settings *settings) {
     struct rocksdb_store *store = store_of(settings);
     char *why = NULL;
@@ -183,6 +224,9 @@ const struct side rocksdb_side = {
     .name = "rocksdb",
     .write = rocksdb_write_all,
     .append = rocksdb_append,
+    .log_begin = rocksdb_log_begin,
+    .log_append = rocksdb_log_append,
+    .log_end = rocksdb_log_end,
     .open = rocksdb_open_store,
     .begin = rocksdb_begin,
     .end = rocksdb_end,

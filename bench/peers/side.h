@@ -33,6 +33,12 @@ struct side {
      * library can't. */
     void (*append)(const char *path, const struct documents *documents, const struct settings *settings, uint32_t more);
 
+    /* A new log, an append of the documents from one number up to another, which is back once the system keeps them all,
+     * and the log's end. NULL where a side is no log. */
+    void *(*log_begin)(const char *path, const struct settings *settings);
+    void (*log_append)(void *log, const struct documents *documents, uint32_t first, uint32_t end);
+    void (*log_end)(void *log);
+
     /* Opens what was written. All threads share it. */
     void *(*open)(const char *path, const struct settings *settings);
 

@@ -8,11 +8,17 @@
 #include "side.h"
 
 static const int64_t MOST_MAPPED = 2000000000;
+static const char INSERT[] = "INSERT INTO store(number, document) VALUES(?, ?)";
 
 struct sqlite_store {
     char *path;
     size_t cache_bytes;
     bool mapped;
+};
+
+struct sqlite_log {
+    sqlite3 *connection;
+    sqlite3_stmt *begin, *insert, *commit;
 };
 
 struct sqlite_reader {
@@ -56,18 +62,24 @@ static void insert_all(sqlite3_stmt *insert, const struct documents *documents, 
     }
 }
 
-/* Writes the documents from one number up to another in one transaction, to a new table where there is none. */
-static void write_range(const char *path, const struct documents *documents, const struct settings *settings,
-                        uint32_t first, uint32_t end) {
+/* A connection that writes to a table, which is made where there is none, with this journal and these syncs. */
+static sqlite3 *writing(const char *path, const struct settings *settings, const char *journal, const char *syncs) {
     sqlite3 *connection;
     expect(sqlite3_open_v2(path, &connection, SQLITE_OPEN_READWRITE | SQLITE_OPEN_CREATE, NULL));
     run(connection, "PRAGMA page_size = 4096");
-    run(connection, "PRAGMA journal_mode = OFF");
-    run(connection, "PRAGMA synchronous = OFF");
     run(connection, "PRAGMA locking_mode = EXCLUSIVE");
+    run(connection, journal);
+    run(connection, syncs);
     run_with(connection, "PRAGMA cache_size = -", (int64_t)(settings->cache_bytes / 1024));
     run(connection, "CREATE TABLE IF NOT EXISTS store(number INTEGER PRIMARY KEY, document BLOB)");
-    sqlite3_stmt *insert = prepared(connection, "INSERT INTO store(number, document) VALUES(?, ?)");
+    return connection;
+}
+
+/* Writes the documents from one number up to another in one transaction. */
+static void write_range(const char *path, const struct documents *documents, const struct settings *settings,
+                        uint32_t first, uint32_t end) {
+    sqlite3 *connection = writing(path, settings, "PRAGMA journal_mode = OFF", "PRAGMA synchronous = OFF");
+    sqlite3_stmt *insert = prepared(connection, INSERT);
     run(connection, "BEGIN");
     insert_all(insert, documents, first, end);
     run(connection, "COMMIT");
@@ -82,6 +94,40 @@ static void sqlite_write(const char *path, const struct documents *documents, co
 static void sqlite_append(const char *path, const struct documents *documents, const struct settings *settings,
                           uint32_t more) {
     write_range(path, documents, settings, settings->count, settings->count + more);
+}
+
+/* A journal that is written ahead, and synced at each commit. */
+static void *sqlite_log_begin(const char *path, const struct settings *settings) {
+    struct sqlite_log *log = malloc(sizeof *log);
+    require(log != NULL, "sqlite", "no memory");
+    log->connection = writing(path, settings, "PRAGMA journal_mode = WAL", "PRAGMA synchronous = FULL");
+    log->begin = prepared(log->connection, "BEGIN");
+    log->insert = prepared(log->connection, INSERT);
+    log->commit = prepared(log->connection, "COMMIT");
+    return log;
+}
+
+static void do_once(sqlite3_stmt *statement) {
+    require(sqlite3_step(statement) == SQLITE_DONE, "sqlite", "a transaction failed");
+    expect(sqlite3_reset(statement));
+}
+
+static void sqlite_log_append(void *begun, const struct documents *documents, uint32_t first, uint32_t end) {
+    struct sqlite_log *log = begun;
+    do_once(log->begin);
+    insert_all(log->insert, documents, first, end);
+    do_once(log->commit);
+}
+
+/* The journal is gone at the end, so that the file alone has all documents. */
+static void sqlite_log_end(void *begun) {
+    struct sqlite_log *log = begun;
+    expect(sqlite3_finalize(log->begin));
+    expect(sqlite3_finalize(log->insert));
+    expect(sqlite3_finalize(log->commit));
+    run(log->connection, "PRAGMA journal_mode = DELETE");
+    expect(sqlite3_close(log->connection));
+    free(log);
 }
 
 static void *sqlite_open(const char *path, const struct settings *settings) {
@@ -145,6 +191,9 @@ const struct side sqlite_side = {
     .prepare = sqlite_prepare,
     .write = sqlite_write,
     .append = sqlite_append,
+    .log_begin = sqlite_log_begin,
+    .log_append = sqlite_log_append,
+    .log_end = sqlite_log_end,
     .open = sqlite_open,
     .begin = sqlite_begin,
     .end = sqlite_end,

@@ -17,6 +17,16 @@ static struct check walked(const struct work *work, void *reader) {
     return check;
 }
 
+/* A walk over a store that was just written. */
+static struct check read_through(const struct work *work) {
+    void *store = work->side->open(work->path, &work->settings);
+    void *reader = work->side->begin(store);
+    struct check check = walked(work, reader);
+    work->side->end(reader);
+    work->side->close(store);
+    return check;
+}
+
 static void warm(const struct work *work, void *reader) {
     struct check check = walked(work, reader);
     for (uint32_t number = 0; number < work->settings.count; number += WARM_EVERY) {
@@ -45,12 +55,7 @@ struct told work_write(const struct work *work) {
     path_sync(work->path);
     uint64_t synced = clock_now();
     documents_free(&documents);
-
-    void *store = work->side->open(work->path, &work->settings);
-    void *reader = work->side->begin(store);
-    struct check check = walked(work, reader);
-    work->side->end(reader);
-    work->side->close(store);
+    struct check check = read_through(work);
     return (struct told){
         .count = work->settings.count,
         .nanoseconds = closed - start,
@@ -182,15 +187,38 @@ struct told work_append(const struct work *work) {
     path_sync(work->path);
     uint64_t synced = clock_now();
     documents_free(&documents);
-    void *store = work->side->open(work->path, &longer.settings);
-    void *reader = work->side->begin(store);
-    struct check check = walked(&longer, reader);
-    work->side->end(reader);
-    work->side->close(store);
+    struct check check = read_through(&longer);
     return (struct told){
         .count = 1,
         .nanoseconds = closed - start,
         .sync_nanoseconds = synced - closed,
+        .file_bytes = path_size(work->path),
+        .peak_bytes = peak_memory(),
+        .check = check.value,
+    };
+}
+
+struct told work_log(const struct work *work) {
+    const struct side *side = work->side;
+    const uint32_t count = work->settings.count;
+    require(side->log_begin != NULL, side->name, "it is no log");
+    struct documents documents = documents_of(work->settings.length);
+    path_remove(work->path);
+    syncs_reach_the_system = true;
+    void *log = side->log_begin(work->path, &work->settings);
+    uint64_t start = clock_now();
+    for (uint32_t first = 0, end; first < count; first = end) {
+        end = count - first < work->questions ? count : first + (uint32_t)work->questions;
+        side->log_append(log, &documents, first, end);
+    }
+    uint64_t appended = clock_now();
+    side->log_end(log);
+    syncs_reach_the_system = false;
+    documents_free(&documents);
+    struct check check = read_through(work);
+    return (struct told){
+        .count = check.count,
+        .nanoseconds = appended - start,
         .file_bytes = path_size(work->path),
         .peak_bytes = peak_memory(),
         .check = check.value,

@@ -138,6 +138,20 @@ class Plan(unittest.TestCase):
 
         self.assertEqual(works(plan.QUICK), works(plan.FULL))
 
+    def test_each_batch_of_a_log_is_done_by_ours_and_by_each_library(self):
+        sides_of: dict[tuple, set[str]] = {}
+        for row in self.rows():
+            if row.group == "log":
+                sides_of.setdefault((row.place, row.questions), set()).add(row.side)
+        batches = {(place, batch) for place in (plan.MEMORY, plan.DISK) for batch in (1, 100, 10_000)}
+        self.assertEqual(set(sides_of), batches)
+        self.assertEqual(set(map(frozenset, sides_of.values())), {frozenset({"log", "lmdb", "sqlite", "rocksdb"})})
+
+    def test_no_two_batches_of_a_log_are_compared_with_each_other(self):
+        for sizes in (plan.QUICK, plan.FULL):
+            batches = {(row.place, row.questions, row.compared()) for row in plan.log_rows(sizes)}
+            self.assertEqual(len({compared for *_, compared in batches}), 6)
+
     def test_growth_goes_to_ten_million_blocks(self):
         self.assertEqual(max(row.documents for row in self.rows() if row.group == "growth"), 10**7)
 

@@ -14,7 +14,10 @@ from harness import SECONDS, TOP, FolderCase
 TOOL = TOP / "tools" / "completions" / "write.py"
 SHELL = TOP / "bindings" / "shell"
 HELP = TOP / "tests" / "program" / "help"
-COMMANDS = [*(path.stem for path in HELP.iterdir() if path.stem != "zevkhadun"), "help"]
+NAMES = [path.stem for path in HELP.iterdir() if path.stem != "zevkhadun"]
+# The commands, and those below `log`, whose help is in `log-append.txt` and its neighbours.
+COMMANDS = [*(name for name in NAMES if "-" not in name), "help"]
+LOG_COMMANDS = [*(name.partition("-")[2] for name in NAMES if name.startswith("log-")), "help"]
 # Completes the words that it is given as bash does when they stand before the cursor.
 BASH = """
 source "$1"
@@ -40,7 +43,7 @@ class Written(FolderCase):
         options = {word for word in words if word.startswith("--") and word[2:].replace("-", "").isalpha()}
         for path in SHELL.iterdir():
             text = path.read_text().replace("\\-", "-").replace(" -l ", " --")
-            missing = [word for word in sorted(options) + COMMANDS[:-1] if word not in text]
+            missing = [word for word in sorted(options) + COMMANDS[:-1] + LOG_COMMANDS if word not in text]
             self.assertEqual(missing, [], path.name)
 
 
@@ -61,6 +64,8 @@ class Taken(FolderCase):
         self.assertEqual(self.completed(""), sorted(COMMANDS))
         self.assertEqual(self.completed("pa"), ["pack"])
         self.assertEqual(self.completed("help", "me"), ["merge"])
+        self.assertEqual(self.completed("log", ""), sorted(LOG_COMMANDS))
+        self.assertEqual(self.completed("log", "se"), ["seal"])
         self.assertEqual(self.completed("--v"), ["--version"])
 
     def test_bash_completes_options_and_their_values(self):
@@ -68,6 +73,8 @@ class Taken(FolderCase):
         self.assertEqual(self.completed("pack", "a.store", "--framing", "l"), ["lengths", "lines"])
         self.assertEqual(self.completed("cat", "--framing", "=", "nu"), ["nul"])
         self.assertEqual(self.completed("pack", "--block-size", ""), [])
+        self.assertEqual(self.completed("log", "append", "events", "--sy"), ["--sync"])
+        self.assertEqual(self.completed("log", "append", "--sync", "e"), ["end", "every"])
 
     def test_bash_completes_files_where_an_argument_names_one(self):
         for name in ("one.store", "one.txt", "two words.store"):
@@ -77,6 +84,9 @@ class Taken(FolderCase):
         self.assertEqual(self.completed("get", "--framing", "text", "tw"), ["two words.store"])
         self.assertEqual(self.completed("merge", "all.store", "one.store", "one.s"), ["one.store"])
         self.assertEqual(self.completed("inspect", "one.store", "--html", "one.t"), ["one.txt"])
+        self.assertEqual(self.completed("log", "get", "one"), ["one.store", "one.txt"])
+        self.assertEqual(self.completed("log", "get", "one.store", "one"), [])
+        self.assertEqual(self.completed("log", "append", "events", "one.t"), ["one.txt"])
 
     def test_shellcheck_finds_nothing(self):
         self.require("shellcheck")
@@ -88,7 +98,11 @@ class Taken(FolderCase):
 
     def test_fish_completes_commands_and_values(self):
         self.require("fish")
-        for words, wanted in (("pa", "pack"), ("pack --framing nu", "nul"), ("verify --qu", "--quiet")):
+        cases = {
+            "pa": "pack", "pack --framing nu": "nul", "verify --qu": "--quiet", "log se": "seal",
+            "log append --sync ev": "every",
+        }
+        for words, wanted in cases.items():
             text = f"source {SHELL / 'zevkhadun.fish'}; complete -C 'zevkhadun {words}'"
             given = self.output("fish", "--no-config", "-c", text).splitlines()
             self.assertEqual([line.split("\t")[0] for line in given], [wanted], words)

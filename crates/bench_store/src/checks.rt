@@ -17,20 +17,20 @@ const VERSION_LEN: usize = 4;
 const RESERVED_LEN: usize = 15;
 
 /// A check with one more number.
-pub fn chained(check: u64, number: u64) -> u64 {
+pub fn with_number(check: u64, number: u64) -> u64 {
     check.wrapping_mul(1000003).wrapping_add(number)
 }
 
 /// A check with one more slot: its length, its first byte and its last.
-pub fn mixed(check: u64, slot: &[u8]) -> u64 {
+pub fn with_slot(check: u64, slot: &[u8]) -> u64 {
     let first = slot.first().copied().map_or(0, u64::from);
     let last = slot.last().copied().map_or(0, u64::from);
-    chained(check, slot.len() as u64)
+    with_number(check, slot.len() as u64)
         .wrapping_add(256 * first)
         .wrapping_add(65536 * last)
 }
 
-fn hash_on(start: u64, bytes: &[u8]) -> u64 {
+fn hash_from(start: u64, bytes: &[u8]) -> u64 {
     let mut hash = start;
     for byte in bytes {
         hash = (hash ^ u64::from(*byte)).wrapping_mul(HASH_FACTOR);
@@ -40,7 +40,7 @@ fn hash_on(start: u64, bytes: &[u8]) -> u64 {
 
 /// The hash of bytes, FNV-1a of 64 bits.
 pub fn hash(bytes: &[u8]) -> u64 {
-    hash_on(HASH_START, bytes)
+    hash_from(HASH_START, bytes)
 }
 
 /// The hash of a file, with the footer that version 2 has in place of version 3's.
@@ -51,8 +51,8 @@ pub fn hash_as_version_2(file: &[u8]) -> u64 {
     }
     let (front, footer) = file.split_at(file.len() - footer_len);
     let kept = &footer[VERSION_LEN..footer_len - RESERVED_LEN];
-    let hash = hash_on(hash_on(hash(front), &VERSION_2), kept);
-    hash_on(hash, &[0; RESERVED_LEN])
+    let hash = hash_from(hash_from(hash(front), &VERSION_2), kept);
+    hash_from(hash, &[0; RESERVED_LEN])
 }
 
 /// A check over slots, how many there were, and how many bytes they had.
@@ -75,7 +75,7 @@ impl Slots {
 
     /// One more.
     pub fn add(&mut self, slot: &[u8]) {
-        self.check = mixed(self.check, slot);
+        self.check = with_slot(self.check, slot);
         self.count = self.count.wrapping_add(1);
         self.bytes = self.bytes.wrapping_add(slot.len() as u64);
     }

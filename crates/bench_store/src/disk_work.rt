@@ -75,12 +75,7 @@ impl<'a> Workload for WriteDisk<'a> {
         let start = Instant::now(clock)?;
         write_disk(self.rt, &self.documents, self.count, self.block_size)?;
         let time = start.elapsed(clock)?;
-        let count = self.count as u64;
-        Ok(Run {
-            time,
-            count,
-            bytes: count.wrapping_mul(self.documents.len() as u64),
-            check: hash_as_version_2(&load(self.rt, PATH)?),
-        })
+        let check = hash_as_version_2(&load(self.rt, PATH)?);
+        Ok(Run::of_documents(time, self.count, self.documents.len(), check))
     }
 }

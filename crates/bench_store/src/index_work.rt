@@ -1,6 +1,6 @@
 //! Workloads over indexes without a store.
 use crate::checkpoint_list::{CheckpointList, index_part, targets};
-use crate::checks::{chained, hash};
+use crate::checks::{hash, with_number};
 use crate::measure::{Run, Workload};
 use anyhow::Result;
 use docstore::{DocId, OwnedBytes, SkipIndex, StoreError};
@@ -23,7 +23,7 @@ fn seek_all(index: &SkipIndex, targets: &[DocId]) -> u64 {
             Some(checkpoint) => checkpoint.byte_range.start as u64,
             None => 0,
         };
-        check = chained(check, start);
+        check = with_number(check, start);
     }
     check
 }
@@ -43,12 +43,7 @@ impl Workload for Seek {
         let start = Instant::now(clock)?;
         let check = seek_all(&self.index, &self.targets);
         let time = start.elapsed(clock)?;
-        Ok(Run {
-            time,
-            count: self.targets.len() as u64,
-            bytes: 0,
-            check,
-        })
+        Ok(Run::of_times(time, self.targets.len() as u64, check))
     }
 }
 
@@ -94,12 +89,7 @@ impl Workload for OpenIndex {
         let start = Instant::now(clock)?;
         open_again(self.alloc, &self.part, self.times)?;
         let time = start.elapsed(clock)?;
-        Ok(Run {
-            time,
-            count: self.times,
-            bytes: 0,
-            check: self.part.len() as u64,
-        })
+        Ok(Run::of_times(time, self.times, self.part.len() as u64))
     }
 }
 
@@ -115,7 +105,7 @@ fn walk_all(index: &SkipIndex) -> (u64, u64) {
     let mut check = 0;
     let mut count: u64 = 0;
     for checkpoint in index.checkpoints() {
-        check = chained(check, checkpoint.byte_range.end as u64);
+        check = with_number(check, checkpoint.byte_range.end as u64);
         count = count.wrapping_add(1);
     }
     (check, count)

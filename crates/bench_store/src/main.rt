@@ -12,6 +12,7 @@ mod documents;
 mod generator;
 mod ids;
 mod index_work;
+mod log_work;
 mod measure;
 mod plans;
 mod store_work;
@@ -27,11 +28,11 @@ use std::env;
 use workloads::Bench;
 
 // Does each workload of a list.
-fn run_plan(rt: &HostRuntime, plan: &str, telling: Report, numbers: Numbers) -> Result<()> {
+fn run_plan(rt: &HostRuntime, plan: &str, report: Report, numbers: Numbers) -> Result<()> {
     let bench = Bench {
         rt,
         alloc: rt.alloc(),
-        telling,
+        report,
     };
     for line in plan.lines() {
         let mut numbers = numbers;

@@ -12,6 +12,29 @@ pub struct Run {
     pub check: u64,
 }
 
+impl Run {
+    /// One that did something this often, and moved no bytes.
+    pub fn of_times(time: Duration, times: u64, check: u64) -> Run {
+        Run {
+            time,
+            count: times,
+            bytes: 0,
+            check,
+        }
+    }
+
+    /// One that wrote this many documents, each of this length.
+    pub fn of_documents(time: Duration, documents: usize, len: usize, check: u64) -> Run {
+        let count = documents as u64;
+        Run {
+            time,
+            count,
+            bytes: count.wrapping_mul(len as u64),
+            check,
+        }
+    }
+}
+
 /// Work that can be done again and again. What it needs is made before.
 pub trait Workload {
     /// Does it once. Only the work itself is timed.
@@ -31,7 +54,7 @@ pub enum Report {
 #[derive(Clone, Copy)]
 pub struct Measure {
     pub repetitions: u64,
-    pub telling: Report,
+    pub report: Report,
 }
 
 // The fastest of the repetitions. All have to do the same.
@@ -90,7 +113,7 @@ pub fn perform<R: Print + Eprint + Clock, W: Workload>(
     how: Measure,
 ) -> Result<()> {
     let best = fastest(rt, workload, how.repetitions)?;
-    match how.telling {
+    match how.report {
         Report::Checks => println!(rt; "{name} {}", best.check)?,
         Report::Times => print_times(rt, name, best)?,
     }

@@ -33,13 +33,8 @@ impl Workload for Write {
             self.block_size,
         )?;
         let time = start.elapsed(clock)?;
-        let count = self.count as u64;
-        Ok(Run {
-            time,
-            count,
-            bytes: count.wrapping_mul(self.documents.len() as u64),
-            check: hash_as_version_2(output.as_slice()),
-        })
+        let check = hash_as_version_2(output.as_slice());
+        Ok(Run::of_documents(time, self.count, self.documents.len(), check))
     }
 }
 
@@ -80,12 +75,7 @@ impl Workload for Open {
         let start = Instant::now(clock)?;
         let check = open_again(&self.source, self.times)?;
         let time = start.elapsed(clock)?;
-        Ok(Run {
-            time,
-            count: self.times,
-            bytes: 0,
-            check,
-        })
+        Ok(Run::of_times(time, self.times, check))
     }
 }
 

@@ -30,12 +30,7 @@ impl Workload for OpenView {
         let start = Instant::now(clock)?;
         let check = open_again(self.alloc, self.file.as_slice(), self.times)?;
         let time = start.elapsed(clock)?;
-        Ok(Run {
-            time,
-            count: self.times,
-            bytes: 0,
-            check,
-        })
+        Ok(Run::of_times(time, self.times, check))
     }
 }
 

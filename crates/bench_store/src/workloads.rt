@@ -7,6 +7,7 @@ use crate::disk_work::{GetDisk, IterateDisk, PATH, WriteDisk, write_disk};
 use crate::documents::Documents;
 use crate::ids::{Order, deleted, ids};
 use crate::index_work::{Build, OpenIndex, Seek, Walk};
+use crate::log_work::AppendLog;
 use crate::measure::{Measure, Report, Workload, perform};
 use crate::store_work::{Get, Iterate, Open, Source, Stack, Write};
 use crate::stores::write_store;
@@ -21,7 +22,7 @@ use std::fs;
 pub struct Bench<'a> {
     pub rt: &'a HostRuntime,
     pub alloc: Global,
-    pub telling: Report,
+    pub report: Report,
 }
 
 // Documents of this length.
@@ -72,6 +73,7 @@ impl<'a> Bench<'a> {
             "disk_zipf" => self.get_disk(name, Order::Zipf, numbers),
             "disk_seq" => self.get_disk(name, Order::Sequential, numbers),
             "disk_iter" => self.iterate_disk(numbers),
+            "log_append" => self.append_log(numbers),
             "iter_raw" => self.iterate(name, false, numbers),
             "iter_raw_deleted" => self.iterate(name, true, numbers),
             "stack" => self.stack(numbers),
@@ -86,7 +88,7 @@ impl<'a> Bench<'a> {
     fn measure<W: Workload>(&self, name: &str, numbers: &Numbers, workload: &mut W) -> Result<()> {
         let how = Measure {
             repetitions: numbers.repetitions(),
-            telling: self.telling,
+            report: self.report,
         };
         perform(self.rt, name, workload, how)
     }
@@ -140,7 +142,7 @@ impl<'a> Bench<'a> {
     }
 
     // The name of a workload that gets documents of a store of this shape, and the ids that it asks for.
-    fn gets(
+    fn name_and_ids(
         &self,
         kind: &str,
         shape: &str,
@@ -160,7 +162,7 @@ impl<'a> Bench<'a> {
     fn get(&self, kind: &str, order: Order, numbers: &Numbers) -> Result<()> {
         let count = numbers.documents(1_000_000);
         let shape = self.shape_of_reader(count, numbers)?;
-        let (name, ids) = self.gets(kind, shape.as_str(), order, count, numbers)?;
+        let (name, ids) = self.name_and_ids(kind, shape.as_str(), order, count, numbers)?;
         let mut work = Get {
             source: self.source(count, numbers.capacity(), numbers)?,
             ids,
@@ -189,7 +191,7 @@ impl<'a> Bench<'a> {
         let alloc = self.alloc;
         let count = numbers.documents(1_000_000);
         let (file, shape) = self.file(count, numbers)?;
-        let (name, ids) = self.gets(kind, shape.as_str(), order, count, numbers)?;
+        let (name, ids) = self.name_and_ids(kind, shape.as_str(), order, count, numbers)?;
         let mut work = GetView { alloc, file, ids };
         self.measure(name.as_str(), numbers, &mut work)
     }
@@ -233,7 +235,7 @@ impl<'a> Bench<'a> {
     fn get_disk(&self, kind: &str, order: Order, numbers: &Numbers) -> Result<()> {
         let count = numbers.documents(1_000_000);
         let shape = self.shape_of_reader(count, numbers)?;
-        let (name, ids) = self.gets(kind, shape.as_str(), order, count, numbers)?;
+        let (name, ids) = self.name_and_ids(kind, shape.as_str(), order, count, numbers)?;
         self.make_file(count, numbers)?;
         let mut work = GetDisk {
             rt: self.rt,
@@ -253,6 +255,21 @@ impl<'a> Bench<'a> {
             capacity: numbers.capacity() as usize,
         };
         self.measure_disk(name.as_str(), numbers, &mut work)
+    }
+
+    // The questions are how many records are on the disk at once.
+    fn append_log(&self, numbers: &Numbers) -> Result<()> {
+        let count = numbers.documents(20_000);
+        let length = numbers.length();
+        let batch = numbers.questions(100);
+        let name = format!(in self.alloc; "log_append/n={count}/l={length}/q={batch}")?;
+        let mut work = AppendLog {
+            rt: self.rt,
+            documents: documents_of(self.alloc, length)?,
+            count: count as usize,
+            batch,
+        };
+        self.measure(name.as_str(), numbers, &mut work)
     }
 
     fn iterate(&self, kind: &str, with_deleted: bool, numbers: &Numbers) -> Result<()> {
