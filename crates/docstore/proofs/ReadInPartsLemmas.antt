@@ -224,21 +224,18 @@ part_stacked size n reader read times bytes part old mid new covers kept p befor
       after = after ∙ (λ i. with_risen new.failures (with_blocks (before.after i) (cut_is i))) ∙ joined old before.blocks more new.failures mid.failures;
     }
 
--- a part that was read, and can be put after those before it
-pub record IsPartTaken (size n : ℕ) (reader read new : Reading) (part : StorePart) (mid : BlockOutput) : Type 0 where
+-- a part that was read
+pub record IsPartTaken (size n : ℕ) (reader read new : Reading) (part : StorePart) : Type 0 where
   pub covers : Covers reader.checkpoints (length reader.file.content)
   pub came : IsPartFrom size read n part
   pub up : IsReadUpTo size part.blocks.end reader new
   pub within : part.blocks.end ≤ length reader.checkpoints
   pub more : n < part.blocks.end
   pub checkpoints : new.checkpoints ≡ read.checkpoints
-  pub few : docs_in mid.finished + sum_by doc_count (slice_range new.checkpoints part.blocks.start part.blocks.end) < 2 ^ 32
-  pub cut : CutAll (slice_range new.checkpoints part.blocks.start part.blocks.end) (length part.bytes)
 
-pub part_taken : (size n : ℕ) (reader read new : Reading) (found : Option StorePart) (part : StorePart) (old mid : BlockOutput) → Covers read.checkpoints (length read.file.content)
-    → IsReadUpTo size n reader read → StacksFirst reader n old mid → docs_in old.finished + docs_end 0 reader.checkpoints < 2 ^ 32 → found ≡ Some part → IfSome found (IsPartFrom size read n)
-    → (n < length read.checkpoints → IsPartRead size read n (Ok found) new) → IsPartTaken size n reader read new part mid
-part_taken size n reader read new found part old mid covers_read up put few is came once =
+pub part_taken : (size n : ℕ) (reader read new : Reading) (found : Option StorePart) (part : StorePart) → Covers read.checkpoints (length read.file.content) → IsReadUpTo size n reader read
+    → found ≡ Some part → IfSome found (IsPartFrom size read n) → (n < length read.checkpoints → IsPartRead size read n (Ok found) new) → IsPartTaken size n reader read new part
+part_taken size n reader read new found part covers_read up is came once =
     let cs = reader.checkpoints in
     let covers = covers_still up.times (byte_at n cs) reader read up.read covers_read in
     let same = same_checkpoints up.times (byte_at n cs) reader read up.read in
@@ -246,18 +243,33 @@ part_taken size n reader read new found part old mid covers_read up put few is c
     let ends : EndsPart size cs n part.blocks.end = subst (λ (xs : List Checkpoint). EndsPart size xs n part.blocks.end) same p.ends in
     let r = once (omega (arith, p.ends.some, p.ends.last)) in
     let end : part.blocks.end ≡ r.end = subst (λ (o : Option StorePart). IfSome o (λ q. q.blocks.end ≡ r.end)) is r.came in
-    let kept : new.checkpoints ≡ read.checkpoints = ap (λ (x : Reading). x.checkpoints) r.once.others in
-    let s = is_slice cs (length reader.file.content) n part.blocks.end covers (omega (arith, p.ends.some)) in
-    let range : slice_range new.checkpoints part.blocks.start part.blocks.end ≡ slice_range cs n part.blocks.end = λ i. slice_range ((kept ∙ same) i) (p.first i) part.blocks.end in
-    let finished : docs_in mid.finished ≡ docs_in old.finished + docs_in put.blocks = ap (λ (out : BlockOutput). docs_in out.finished) put.after ∙ docs_in-append old.finished put.blocks in
-    let len : byte_at n cs + length part.bytes ≡ byte_at part.blocks.end cs = subst (λ (xs : List Checkpoint). byte_at n xs + length part.bytes ≡ byte_at part.blocks.end xs) same p.len in
     record {
       covers = covers;
       came = p;
       up = subst (λ (k : ℕ). IsReadUpTo size k reader new) (sym end) (part_read size n r.end reader read new covers up r.ends r.once);
       within = ends.last;
       more = ends.some;
-      checkpoints = kept;
+      checkpoints = ap (λ (x : Reading). x.checkpoints) r.once.others;
+    }
+
+-- a part that was read, and can be put after those before it
+pub record CanBePut (size n : ℕ) (reader read new : Reading) (part : StorePart) (mid : BlockOutput) : Type 0 where
+  pub taken : IsPartTaken size n reader read new part
+  pub few : docs_in mid.finished + sum_by doc_count (slice_range new.checkpoints part.blocks.start part.blocks.end) < 2 ^ 32
+  pub cut : CutAll (slice_range new.checkpoints part.blocks.start part.blocks.end) (length part.bytes)
+
+pub can_be_put : (size n : ℕ) (reader read new : Reading) (part : StorePart) (old mid : BlockOutput) → IsPartTaken size n reader read new part → IsReadUpTo size n reader read
+    → StacksFirst reader n old mid → docs_in old.finished + docs_end 0 reader.checkpoints < 2 ^ 32 → CanBePut size n reader read new part mid
+can_be_put size n reader read new part old mid taken up put few =
+    let cs = reader.checkpoints in
+    let same = same_checkpoints up.times (byte_at n cs) reader read up.read in
+    let p = taken.came in
+    let s = is_slice cs (length reader.file.content) n part.blocks.end taken.covers (omega (arith, p.ends.some)) in
+    let range : slice_range new.checkpoints part.blocks.start part.blocks.end ≡ slice_range cs n part.blocks.end = λ i. slice_range ((taken.checkpoints ∙ same) i) (p.first i) part.blocks.end in
+    let finished : docs_in mid.finished ≡ docs_in old.finished + docs_in put.blocks = ap (λ (out : BlockOutput). docs_in out.finished) put.after ∙ docs_in-append old.finished put.blocks in
+    let len : byte_at n cs + length part.bytes ≡ byte_at part.blocks.end cs = subst (λ (xs : List Checkpoint). byte_at n xs + length part.bytes ≡ byte_at part.blocks.end xs) same p.len in
+    record {
+      taken = taken;
       few = omega (arith, few, finished, docs_stacked reader n part.blocks.end old mid s put, s.few_docs, ap (λ (xs : List Checkpoint). sum_by doc_count xs) range);
       cut = subst (λ (xs : List Checkpoint). CutAll xs (length part.bytes)) (sym range)
           (record { doc = docs_end 0 (take n cs); byte = byte_at n cs; in_line = s.line; filled = s.filled; end = s.end ∙ sym len });
@@ -265,7 +277,7 @@ part_taken size n reader read new found part old mid covers_read up put few is c
 
 -- and once it was written they are all after the finished ones
 taken_stacked : (size n : ℕ) (reader read left : Reading) (part : StorePart) (old mid new : BlockOutput) (range : List Checkpoint) (text : List ℕ) → IsReadUpTo size n reader read
-    → StacksFirst reader n old mid → IsPartTaken size n reader read left part mid → range ≡ slice_range left.checkpoints part.blocks.start part.blocks.end → text ≡ part.bytes
+    → StacksFirst reader n old mid → IsPartTaken size n reader read left part → range ≡ slice_range left.checkpoints part.blocks.start part.blocks.end → text ≡ part.bytes
     → new ≡ with_risen new.failures (with_blocks mid (blocks_at range text)) → StacksFirst reader part.blocks.end old new
 taken_stacked size n reader read left part old mid new range text up put taken range_is text_is after =
     let same : range ≡ slice_range read.checkpoints part.blocks.start part.blocks.end =
@@ -287,7 +299,7 @@ pub record HasStacked (size n : ℕ) (store now : Reading) (old mid : BlockOutpu
 
 -- one part more
 pub stacked_more : (size n : ℕ) (store now left : Reading) (part : StorePart) (old mid new : BlockOutput) (range : List Checkpoint) (text : List ℕ) → HasStacked size n store now old mid
-    → IsPartTaken size n store now left part mid → range ≡ slice_range left.checkpoints part.blocks.start part.blocks.end → text ≡ part.bytes
+    → IsPartTaken size n store now left part → range ≡ slice_range left.checkpoints part.blocks.start part.blocks.end → text ≡ part.bytes
     → new ≡ with_risen new.failures (with_blocks mid (blocks_at range text)) → left.file.failures ≡ now.file.failures → new.termination ≡ mid.termination → new.failures ≡ mid.failures → IsSound new
     → HasStacked size part.blocks.end store left old new
 stacked_more size n store now left part old mid new range text has taken range_is text_is after still termination steady sound = record {

@@ -10,8 +10,8 @@ use Rattle.store_format.specs.StoreFile.{IsStore, data_of, checkpoints_of, file,
 use Rattle.store_format.proofs.ApartLemmas.{files_are_stores}
 use Rattle.store_format.proofs.StoreLemmas.{checkpoints_cover}
 use Rattle.docstore.specs.Writer.{Writing}
-use Rattle.store_c.specs.declared.block.Block.{Block}
-use Rattle.store_c.specs.declared.block.BlockEnd.{BlockEnd}
+use Rattle.store_c.specs.declared.table_row.Block.{Block}
+use Rattle.store_c.specs.declared.table_row.BlockEnd.{BlockEnd}
 use Rattle.store_c.specs.declared.writer.Writer.{Writer}
 use Rattle.store_c.specs.declared.writer_refusal.WriterRefusal.{WriterRefusal}
 use Rattle.store_c.specs.declared.writer_refusal.WriterRefusal.TheVariants.{NoMemory, OldVersion, BlockTooLarge, TooManyDocs, BadPeriod, NoRoom, OpenBlock, OtherWriter}

@@ -5,8 +5,8 @@ use Rattle.layered_index.specs.declared.checkpoint.Checkpoint.{Checkpoint}
 use Rattle.layered_index.specs.Checkpoint.{bytes_end, docs_end, IsInLineFrom, IsWithinLimits, EndsAt}
 use Rattle.layered_index.proofs.LineLemmas.{ends_put}
 use Rattle.layered_index.proofs.CheckpointLemmas.{same_checkpoint}
-use Rattle.store_c.specs.declared.block.Block.{Block}
-use Rattle.store_c.specs.declared.block.BlockEnd.{BlockEnd}
+use Rattle.store_c.specs.declared.table_row.Block.{Block}
+use Rattle.store_c.specs.declared.table_row.BlockEnd.{BlockEnd}
 use Rattle.store_c.specs.Calls.{end_of, ends_in, ends_of, start_in}
 use Rattle.store_c.specs.Writing.{between}
 use Rattle.store_c.proofs.TableLemmas.{zero_block}

@@ -1,7 +1,7 @@
 -- With which number a document is refused by the table of its file.
 use Rattle.std.proofs.Common.{◌≡◌, ◌↔◌, ℕ, List, Option, Some, None, arith}
 use Rattle.store_format.specs.Block.{Slot, doc, damaged}
-use Rattle.store_c.specs.declared.block.Block.{Block}
+use Rattle.store_c.specs.declared.table_row.Block.{Block}
 use Rattle.store_c.specs.declared.place.Place.{Place}
 use Rattle.store_c.specs.declared.refusal.Refusal.{Refusal}
 use Rattle.store_c.specs.declared.refusal.Refusal.TheVariants.{NoDocument, Damaged, NoRoom, OtherTable, TailTooShort, OtherBlock}

@@ -15,7 +15,7 @@ use Rattle.store_format.proofs.StoreLemmas.{docs_in-cons, length-data_of-cons, d
 use Rattle.docstore.specs.Trace.{weight}
 use Rattle.docstore.specs.BlockOutput.{with_blocks, HoldsBlocks, IsSound}
 use Rattle.docstore.specs.Writer.{Writing, blocks_of, flushed, with_document}
-use Rattle.store_c.specs.declared.block.BlockEnd.{BlockEnd}
+use Rattle.store_c.specs.declared.table_row.BlockEnd.{BlockEnd}
 use Rattle.store_c.specs.declared.writer.Writer.{Writer}
 use Rattle.store_c.specs.Calls.{end_of, row_of, ends_in, ends_of, start_in}
 use Rattle.store_c.proofs.TableLemmas.{zero_block}

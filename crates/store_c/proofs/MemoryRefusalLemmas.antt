@@ -8,7 +8,7 @@ use Rattle.store_format.specs.StoreFile.{block_of, data_of, docs_in}
 use Rattle.store_format.proofs.BlockLemmas.{concat-append, length-block}
 use Rattle.store_format.proofs.StoreLemmas.{length-data_of-cons, data_of-append, data_fits}
 use Rattle.docstore.specs.Writer.{Writing}
-use Rattle.store_c.specs.declared.block.BlockEnd.{BlockEnd}
+use Rattle.store_c.specs.declared.table_row.BlockEnd.{BlockEnd}
 use Rattle.store_c.specs.declared.writer_refusal.WriterRefusal.{WriterRefusal}
 use Rattle.store_c.specs.declared.writer_refusal.WriterRefusal.TheVariants.{NoMemory, OldVersion, BlockTooLarge, TooManyDocs, BadPeriod, NoRoom, OpenBlock, OtherWriter}
 use Rattle.store_c.specs.Writing.{Memory, memory, Holds, EndsBlockAt, RefusesEnd, LacksRoom, HasRoom, HasNoEnd, open_start, RefusesLength, TakesLength, IsOther}

@@ -4,7 +4,7 @@ use Rattle.std.proofs.Common.{drop-drop}
 use Rattle.std.specs.Prelude.{slice_get}
 use Rattle.std.proofs.lemmas.Bool.{ltb-true, ltb-false}
 use Rattle.std.proofs.lemmas.List.{drop-set-lt}
-use Rattle.store_c.specs.declared.block.Block.{Block}
+use Rattle.store_c.specs.declared.table_row.Block.{Block}
 use Rattle.store_c.specs.declared.place.Place.{Place}
 use Rattle.store_c.specs.Calls.{IsPlace, ArePlaces}
 use Rattle.store_c.specs.Getting.{IsPlaceIn, ArePlacesIn}

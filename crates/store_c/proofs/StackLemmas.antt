@@ -18,8 +18,8 @@ use Rattle.docstore.specs.Stacking.{shifted, with_store}
 use Rattle.docstore.specs.Writer.{Writing, blocks_of}
 use Rattle.docstore.proofs.ShiftedCheckpointLemmas.{shifted_after}
 use Rattle.docstore.proofs.TakenLemmas.{length-slots}
-use Rattle.store_c.specs.declared.block.Block.{Block}
-use Rattle.store_c.specs.declared.block.BlockEnd.{BlockEnd}
+use Rattle.store_c.specs.declared.table_row.Block.{Block}
+use Rattle.store_c.specs.declared.table_row.BlockEnd.{BlockEnd}
 use Rattle.store_c.specs.declared.writer.Writer.{Writer}
 use Rattle.store_c.specs.Calls.{end_of, ends_in, ends_of, ends_after, start_in, with_front}
 use Rattle.store_c.specs.Writing.{memory, Holds, PutsBlocks, IsOther, HasNumbersWith}

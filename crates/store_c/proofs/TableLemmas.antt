@@ -10,8 +10,8 @@ use Rattle.layered_index.specs.Checkpoint.{checkpoint, IsInLineFrom, IsWithinLim
 use Rattle.layered_index.proofs.LineLemmas.{in_line-split}
 use Rattle.docstore.specs.Stacking.{shifted}
 use Rattle.layered_index.proofs.CheckpointLemmas.{same_checkpoint}
-use Rattle.store_c.specs.declared.block.Block.{Block}
-use Rattle.store_c.specs.declared.block.BlockEnd.{BlockEnd}
+use Rattle.store_c.specs.declared.table_row.Block.{Block}
+use Rattle.store_c.specs.declared.table_row.BlockEnd.{BlockEnd}
 use Rattle.store_c.specs.Calls.{end_of, ends_in, ends_of, ends_after, start_in, with_front}
 
 -- where the first block begins

@@ -8,8 +8,8 @@ use Rattle.layered_index.specs.Checkpoint.{IsInLineFrom, first_past}
 use Rattle.layered_index.proofs.LineLemmas.{in_line_from}
 use Rattle.layered_index.specs.Seeking.{EndsPast, LiesBetween}
 use Rattle.layered_index.proofs.HalvingLemmas.{first_at, none_up_to, past_end}
-use Rattle.store_c.specs.declared.block.Block.{Block}
-use Rattle.store_c.specs.declared.block.BlockEnd.{BlockEnd}
+use Rattle.store_c.specs.declared.table_row.Block.{Block}
+use Rattle.store_c.specs.declared.table_row.BlockEnd.{BlockEnd}
 use Rattle.store_c.specs.Calls.{end_of, ends_in, ends_of}
 use Rattle.store_c.proofs.TableLemmas.{row_is}
 

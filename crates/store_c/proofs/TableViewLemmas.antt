@@ -16,7 +16,7 @@ use Rattle.store_format.proofs.StoreLemmas.{blocks_from, checkpoints_cover}
 use Rattle.store_reader.specs.Viewing.{Viewing, IsView, IsViewOf, count_in, data_in}
 use Rattle.store_reader.proofs.SeekLemmas.{IsWithin, within}
 use Rattle.store_reader.proofs.ViewLemmas.{count_is, seek_stays, slot_none, slot_placed}
-use Rattle.store_c.specs.declared.block.Block.{Block}
+use Rattle.store_c.specs.declared.table_row.Block.{Block}
 use Rattle.store_c.specs.declared.place.Place.{Place}
 use Rattle.store_c.specs.Calls.{ends_of, ends_in, IsTableOf, HasSlot, IsPlace, IsTableBlock}
 use Rattle.store_c.proofs.TableLemmas.{few_blocks}

@@ -10,7 +10,7 @@ use Rattle.store_reader.specs.Opening.{IsSomeStore}
 use Rattle.store_format.specs.declared.version.DocStoreVersion.TheVariants.{V1}
 use Rattle.store_reader.specs.Viewing.{Viewing, IsViewOf, Finds, count_in}
 use Rattle.docstore.specs.Writer.{Writing, IsTooLarge, num_docs}
-use Rattle.store_c.specs.declared.block.Block.{Block}
+use Rattle.store_c.specs.declared.table_row.Block.{Block}
 use Rattle.store_c.specs.declared.writer.Writer.{Writer}
 use Rattle.store_c.specs.declared.writer_refusal.WriterRefusal.{WriterRefusal}
 use Rattle.store_c.specs.declared.writer_refusal.WriterRefusal.TheVariants.{NoMemory, OldVersion, BlockTooLarge, TooManyDocs, BadPeriod, NoRoom, OpenBlock, OtherWriter}

@@ -11,8 +11,8 @@ use Rattle.store_format.specs.StoreFile.{checkpoints_of}
 use Rattle.store_reader.specs.Opening.{IsSomeStore}
 use Rattle.store_reader.specs.Viewing.{Viewing, IsViewOf, Finds, slot_of, count_in}
 use Rattle.std.specs.declared.result.Result.TheVariants.{Err}
-use Rattle.store_c.specs.declared.block.Block.{Block}
-use Rattle.store_c.specs.declared.block.BlockEnd.{BlockEnd}
+use Rattle.store_c.specs.declared.table_row.Block.{Block}
+use Rattle.store_c.specs.declared.table_row.BlockEnd.{BlockEnd}
 use Rattle.store_c.specs.declared.place.Place.{Place}
 use Rattle.store_c.specs.declared.refusal.Refusal.{Refusal}
 use Rattle.store_c.specs.declared.refusal.Refusal.TheVariants.{NoDocument, Damaged, NoRoom, OtherTable}

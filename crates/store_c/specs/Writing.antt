@@ -17,8 +17,8 @@ use Rattle.docstore.specs.BlockOutput.{new_output}
 use Rattle.docstore.specs.Writer.{Writing, IsStoreWriter, IsTooLarge, new_writing, num_docs, flushed}
 use Rattle.docstore.specs.Writer.{with_document}
 use Rattle.docstore.specs.Stacking.{with_store}
-use Rattle.store_c.specs.declared.block.Block.{Block}
-use Rattle.store_c.specs.declared.block.BlockEnd.{BlockEnd}
+use Rattle.store_c.specs.declared.table_row.Block.{Block}
+use Rattle.store_c.specs.declared.table_row.BlockEnd.{BlockEnd}
 use Rattle.store_c.specs.declared.writer.Writer.{Writer}
 use Rattle.store_c.specs.declared.writer_refusal.WriterRefusal.{WriterRefusal}
 use Rattle.store_c.specs.declared.writer_refusal.WriterRefusal.TheVariants.{NoMemory, OldVersion, BlockTooLarge}

@@ -4,8 +4,8 @@ ghost use Rattle.layered_index.specs.Checkpoint.{IsWithinLimits};
 ghost use Rattle.store_c.specs.Calls.{ends_in};
 ghost use Rattle.store_c.specs.Writing.{between, IndexesEnds, IsEndOf, RefusesIndex};
 
-use crate::block::{Block, BlockEnd};
 use crate::table::start_of;
+use crate::table_row::{Block, BlockEnd};
 use crate::writer_refusal::WriterRefusal;
 use docstore::{
     BLOCK_LIMIT, BinarySerializable, Checkpoint, DOC_STORE_VERSION, Decompressor, DocStoreFooter,

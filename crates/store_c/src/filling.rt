@@ -4,8 +4,8 @@ ghost use Rattle.layered_index.specs.Checkpoint.{IsInLineFrom};
 ghost use Rattle.docstore.specs.Stacking.{shifted};
 ghost use Rattle.store_c.specs.Calls.{ends_in, ends_of, ends_after, with_front};
 
-use crate::block::{Block, BlockEnd};
 use crate::guiding::write_guides;
+use crate::table_row::{Block, BlockEnd};
 use docstore::LayerCursor;
 
 /// Writes where the blocks after this place end to the front of a table, as many as it has room for. It returns how

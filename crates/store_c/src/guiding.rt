@@ -2,8 +2,8 @@
 ghost use Rattle.std.specs.Prelude.{◌≡◌, ◌<◌};
 ghost use Rattle.store_c.specs.Calls.{ends_in};
 
-use crate::block::Block;
 use crate::table::num_docs;
+use crate::table_row::Block;
 use docstore::DocId;
 
 // How many rows a guess looks at. A stretch has fewer blocks on the average, or as many.

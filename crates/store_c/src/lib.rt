@@ -4,7 +4,6 @@
 //! A call returns 0, or the number of a refusal: that of `StoreError` up to 16, and from 32 on that of `Refusal`.
 #![tactic(auto)]
 
-pub mod block;
 pub mod block_place;
 pub mod checking;
 mod ending;
@@ -22,6 +21,7 @@ pub mod refusal_text;
 mod seeking;
 mod stacking;
 mod table;
+pub mod table_row;
 pub mod writer;
 pub mod writer_refusal;
 pub mod writing;

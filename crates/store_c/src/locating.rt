@@ -3,13 +3,13 @@ ghost use Rattle.std.specs.Prelude.{◌≡◌, ◌+◌, ◌≤◌, ◌<◌, List
 ghost use Rattle.layered_index.specs.declared.checkpoint.Checkpoint.{Checkpoint as CheckpointOf};
 ghost use Rattle.layered_index.specs.Checkpoint.{docs_end};
 ghost use Rattle.store_c.specs.Calls.{ends_of, ends_in, IsPlace, ArePlaces, IsTableBlock, RefusesDocument};
-ghost use Rattle.store_c.specs.declared.block.Block.{Block as BlockOf};
+ghost use Rattle.store_c.specs.declared.table_row.Block.{Block as BlockOf};
 
-use crate::block::Block;
 use crate::place::Place;
 use crate::refusal::Refusal;
 use crate::seeking::seek;
 use crate::table::num_docs;
+use crate::table_row::Block;
 use docstore::{Checkpoint, DocId, likely_read_index};
 use store_format::part;
 

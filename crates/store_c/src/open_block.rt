@@ -4,8 +4,8 @@ ghost use Rattle.store_c.specs.Calls.{row_of};
 ghost use Rattle.store_c.specs.Writing.{memory, EndsBlockAt, RefusesEnd, PutsDocument, EndsBlock};
 ghost use Rattle.store_c.specs.Writing.{RefusesLength, TakesLength, RefusesBlock, TakesBlock};
 
-use crate::block::{Block, BlockEnd};
 use crate::table::start_of;
+use crate::table_row::{Block, BlockEnd};
 use crate::writer::Writer;
 use crate::writer_refusal::WriterRefusal;
 use docstore::{block_len, table_len, weight_of};

@@ -4,10 +4,10 @@ ghost use Rattle.std.specs.Prelude.{◌≡◌, ◌≢◌, ◌+◌, ◌<◌, ◌�
 ghost use Rattle.store_format.specs.Block.{damaged};
 ghost use Rattle.store_c.specs.Calls.{IsTableOf, Fills, HasCounts, IsByRoom, IsPlace, ArePlaces, HasSlot, RefusesFile};
 
-use crate::block::Block;
 use crate::filling::fill_table;
 use crate::place::Place;
 use crate::refusal::Refusal;
+use crate::table_row::Block;
 use crate::{DONE, locating};
 use docstore::StoreView;
 use std::alloc::Global;

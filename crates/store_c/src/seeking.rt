@@ -6,9 +6,9 @@ ghost use Rattle.layered_index.specs.Layers.{digit_count};
 ghost use Rattle.layered_index.specs.Seeking.{LiesBetween, looks_to_spare};
 ghost use Rattle.store_c.specs.Calls.{ends_of, ends_in};
 
-use crate::block::Block;
 use crate::guiding::guess;
 use crate::table::start_of;
+use crate::table_row::Block;
 use docstore::{Checkpoint, DocId};
 use layered_index::looks::{SPARE_BASE, SPARE_SHARE};
 

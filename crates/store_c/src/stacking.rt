@@ -4,9 +4,9 @@ ghost use Rattle.store_format.specs.StoreFile.{checkpoints_of};
 ghost use Rattle.store_format.specs.declared.version.DocStoreVersion.TheVariants.{V1};
 ghost use Rattle.store_c.specs.Writing.{PutsBlocks, RefusesBlocks, TakesBlocks};
 
-use crate::block::Block;
 use crate::filling::fill;
 use crate::table::start_of;
+use crate::table_row::Block;
 use crate::writer::Writer;
 use crate::writer_refusal::WriterRefusal;
 use docstore::{DocStoreVersion, StoreView};

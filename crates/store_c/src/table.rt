@@ -4,7 +4,7 @@ ghost use Rattle.layered_index.specs.declared.checkpoint.Checkpoint.{Checkpoint 
 ghost use Rattle.layered_index.specs.Checkpoint.{docs_end};
 ghost use Rattle.store_c.specs.Calls.{ends_of, ends_in, start_in};
 
-use crate::block::{Block, BlockEnd};
+use crate::table_row::{Block, BlockEnd};
 use docstore::DocId;
 
 /// Where the block at a position of a table begins.

@@ -10,8 +10,8 @@ ghost use Rattle.store_c.specs.Calls.{RefusesFile, IsByRoom};
 ghost use Rattle.store_c.specs.Writing.{memory, Holds, Begins, PutsDocument, EndsBlock, PutsStore, EndsFile, HasEnd};
 ghost use Rattle.store_c.specs.Writing.{LacksRoom, HasRoom, HasNoEnd, IsOther, MayFollow, RefusesStore, ComesFor};
 
-use crate::block::Block;
 use crate::ending::end_of_file;
+use crate::table_row::Block;
 use crate::writer::Writer;
 use crate::writer_refusal::WriterRefusal;
 use crate::{DONE, open_block, stacking};

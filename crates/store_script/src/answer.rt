@@ -1,5 +1,5 @@
 //! What is printed of documents and refusals.
-use crate::fault::ToolFault;
+use crate::fault::{NoAnswer, ToolFault};
 use docstore::{FileHandle, OwnedBytes, RecordDocument, StoreError, StoreReader};
 use std::alloc::Global;
 use std::io::Write;
@@ -26,6 +26,14 @@ pub fn write_bytes<W: Write>(alloc: Global, output: &mut W, bytes: &[u8]) -> Res
 pub fn write_error<W: Write>(output: &mut W, error: StoreError) -> Result<(), ToolFault> {
     writeln!(output, "error {}", error.number())?;
     Ok(())
+}
+
+/// Why there is no answer. A fault of the tool is returned.
+pub fn write_no_answer<W: Write>(output: &mut W, why: NoAnswer) -> Result<(), ToolFault> {
+    match why {
+        NoAnswer::Store(error) => write_error(output, error),
+        NoAnswer::Tool(fault) => Err(fault),
+    }
 }
 
 /// A document, or why there is none.

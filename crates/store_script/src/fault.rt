@@ -1,5 +1,5 @@
 //! Why a run ended early.
-use docstore::NoMemory;
+use docstore::{NoMemory, StoreError};
 use std::alloc::AllocError;
 use std::io;
 use thiserror::Error;
@@ -34,5 +34,30 @@ impl From<AllocError> for ToolFault {
 impl From<NoMemory> for ToolFault {
     fn from(_: NoMemory) -> ToolFault {
         ToolFault::Memory
+    }
+}
+
+/// Why a store gives no answer. Its own error is an answer, and a fault of the tool ends the run.
+#[derive(Clone, Copy)]
+pub enum NoAnswer {
+    Store(StoreError),
+    Tool(ToolFault),
+}
+
+impl From<StoreError> for NoAnswer {
+    fn from(error: StoreError) -> NoAnswer {
+        NoAnswer::Store(error)
+    }
+}
+
+impl From<AllocError> for NoAnswer {
+    fn from(_: AllocError) -> NoAnswer {
+        NoAnswer::Tool(ToolFault::Memory)
+    }
+}
+
+impl From<NoMemory> for NoAnswer {
+    fn from(_: NoMemory) -> NoAnswer {
+        NoAnswer::Tool(ToolFault::Memory)
     }
 }

@@ -7,9 +7,9 @@ mod command;
 mod fault;
 mod input;
 mod merging;
+mod scripts;
 mod store;
 mod tool;
-mod whole;
 
 pub use fault::ToolFault;
-pub use whole::{dump, run};
+pub use scripts::{dump, run};

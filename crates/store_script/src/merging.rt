@@ -3,7 +3,7 @@ ghost use Rattle.std.specs.Prelude.{IfOk};
 ghost use Rattle.std.specs.List.{AllByRecursion};
 ghost use Rattle.store_merge.specs.Inputs.{HasWholeSet};
 
-use crate::fault::ToolFault;
+use crate::fault::{NoAnswer, ToolFault};
 use crate::store::Store;
 use docstore::{Compressor, MemFile, MemSink, StoreError, StoreWriter};
 use std::alloc::Global;
@@ -14,27 +14,23 @@ fn inputs_of(
     alloc: Global,
     stores: &[Store],
     named: &[u32],
-) -> Result<Result<Vec<MergeInput<MemFile>>, StoreError>, ToolFault>
-    ensures { IfOk result (λ r. IfOk r (λ inputs. AllByRecursion HasWholeSet inputs.items)) }
+) -> Result<Vec<MergeInput<MemFile>>, NoAnswer>
+    ensures { IfOk result (λ inputs. AllByRecursion HasWholeSet inputs.items) }
 {
     let mut inputs = Vec::new(alloc);
     for store in named {
         let Some(store) = stores.get(*store as usize) else {
             continue;
         };
-        let reader = match store.reopened(alloc, 0)? {
-            Ok(reader) => reader,
-            Err(error) => return Ok(Err(error)),
-        };
         let input = MergeInput {
-            reader,
+            reader: store.reopen(alloc, 0)?,
             alive: None,
         };
         if inputs.push(input).is_err() {
-            return Err(ToolFault::Memory);
+            return Err(NoAnswer::Tool(ToolFault::Memory));
         }
     }
-    Ok(Ok(inputs))
+    Ok(inputs)
 }
 
 // The file of the inputs' documents, in order, in blocks of this size.
@@ -53,16 +49,13 @@ fn merged_file(
     Ok(writer.close()?.into_bytes())
 }
 
-/// The file of the documents of the named stores, in order, in blocks of this size. What the merge is refused for is
-/// inside.
-pub fn merged(
+/// The file of the documents of the named stores, in order, in blocks of this size.
+pub fn merge_named(
     alloc: Global,
     block_size: usize,
     stores: &[Store],
     named: &[u32],
-) -> Result<Result<Vec<u8>, StoreError>, ToolFault> {
-    match inputs_of(alloc, stores, named)? {
-        Ok(mut inputs) => Ok(merged_file(alloc, block_size, &mut inputs)),
-        Err(error) => Ok(Err(error)),
-    }
+) -> Result<Vec<u8>, NoAnswer> {
+    let mut inputs = inputs_of(alloc, stores, named)?;
+    Ok(merged_file(alloc, block_size, &mut inputs)?)
 }

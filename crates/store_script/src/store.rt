@@ -1,10 +1,12 @@
 //! A store in memory, and its answers.
 ghost use Rattle.std.specs.Prelude.{◌≤◌};
 
-use crate::answer::{write_bytes, write_document, write_documents, write_error, write_record};
+use crate::answer::{
+    write_bytes, write_document, write_documents, write_error, write_no_answer, write_record,
+};
 use crate::command::Question;
-use crate::fault::ToolFault;
-use docstore::{AliveBitSet, DocId, FileSlice, MemFile, RecordDocument, StoreError, StoreReader};
+use crate::fault::{NoAnswer, ToolFault};
+use docstore::{AliveBitSet, DocId, FileSlice, MemFile, RecordDocument, StoreReader};
 use std::alloc::Global;
 use std::io::Write;
 
@@ -15,26 +17,24 @@ pub struct Store {
     reader: StoreReader<MemFile>,
 }
 
-/// Opens a file of these bytes, with a cache of this many blocks. An error of the file is inside.
+/// Opens a file of these bytes, with a cache of this many blocks.
 pub fn open_bytes(
     alloc: Global,
     bytes: Vec<u8>,
     capacity: usize,
-) -> Result<Result<StoreReader<MemFile>, StoreError>, ToolFault> {
+) -> Result<StoreReader<MemFile>, NoAnswer> {
     let file = FileSlice::new(MemFile::new(alloc, bytes)?);
     match StoreReader::open(alloc, file, capacity) {
-        Ok(reader) => Ok(Ok(reader)),
-        Err(refusal) => Ok(Err(refusal.error)),
+        Ok(reader) => Ok(reader),
+        Err(refusal) => Err(NoAnswer::Store(refusal.error)),
     }
 }
 
 impl Store {
     /// Opens a file, of which a copy is kept, with no cache.
-    pub fn open(alloc: Global, file: Vec<u8>) -> Result<Result<Store, StoreError>, ToolFault> {
-        match open_bytes(alloc, Vec::from_slice(alloc, &file)?, 0)? {
-            Ok(reader) => Ok(Ok(Store { file, reader })),
-            Err(error) => Ok(Err(error)),
-        }
+    pub fn open(alloc: Global, file: Vec<u8>) -> Result<Store, NoAnswer> {
+        let reader = open_bytes(alloc, Vec::from_slice(alloc, &file)?, 0)?;
+        Ok(Store { file, reader })
     }
 
     /// The reader that is kept.
@@ -43,11 +43,7 @@ impl Store {
     }
 
     /// The same store, opened again.
-    pub fn reopened(
-        &self,
-        alloc: Global,
-        capacity: usize,
-    ) -> Result<Result<StoreReader<MemFile>, StoreError>, ToolFault> {
+    pub fn reopen(&self, alloc: Global, capacity: usize) -> Result<StoreReader<MemFile>, NoAnswer> {
         open_bytes(alloc, Vec::from_slice(alloc, &self.file)?, capacity)
     }
 
@@ -106,9 +102,9 @@ impl Store {
     }
 
     fn dump<W: Write>(&mut self, alloc: Global, output: &mut W) -> Result<(), ToolFault> {
-        match self.reopened(alloc, 0)? {
+        match self.reopen(alloc, 0) {
             Ok(mut reader) => write_documents(alloc, output, &mut reader),
-            Err(error) => write_error(output, error),
+            Err(why) => write_no_answer(output, why),
         }
     }
 
@@ -118,9 +114,9 @@ impl Store {
         capacity: usize,
         output: &mut W,
     ) -> Result<(), ToolFault> {
-        match self.reopened(alloc, capacity)? {
+        match self.reopen(alloc, capacity) {
             Ok(reader) => self.reader = reader,
-            Err(error) => return write_error(output, error),
+            Err(why) => return write_no_answer(output, why),
         }
         writeln!(output, "ok")?;
         Ok(())

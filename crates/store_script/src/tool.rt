@@ -1,8 +1,8 @@
 //! The writer and the stores that a script works on.
-use crate::answer::write_error;
+use crate::answer::{write_error, write_no_answer};
 use crate::command::{Command, LineFault, Period, parse};
 use crate::fault::ToolFault;
-use crate::merging::merged;
+use crate::merging::merge_named;
 use crate::store::Store;
 use docstore::{Compressor, MemSink, RecordDocument, Schema, StoreError, StoreWriter};
 use std::alloc::Global;
@@ -149,17 +149,17 @@ impl Tool {
         if stores.iter().any(|store| *store as usize >= count) {
             return write_word(output, "no store");
         }
-        match merged(self.alloc, block_size, &self.stores, stores)? {
+        match merge_named(self.alloc, block_size, &self.stores, stores) {
             Ok(file) => self.add(file, output),
-            Err(error) => write_error(output, error),
+            Err(why) => write_no_answer(output, why),
         }
     }
 
     // Opens a file as the next store.
     fn add<W: Write>(&mut self, file: Vec<u8>, output: &mut W) -> Result<(), ToolFault> {
-        let store = match Store::open(self.alloc, file)? {
+        let store = match Store::open(self.alloc, file) {
             Ok(store) => store,
-            Err(error) => return write_error(output, error),
+            Err(why) => return write_no_answer(output, why),
         };
         let number = self.stores.len();
         let len = store.file.len();

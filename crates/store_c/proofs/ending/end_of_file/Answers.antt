@@ -2,7 +2,7 @@ use Rattle.std.proofs.Common.{◌≡◌, refl, sym, ap, ◌∙◌}
 use Rattle.layered_index.specs.Checkpoint.{bytes_end}
 use Rattle.std.proofs.lemmas.List.{length-map}
 use Rattle.docstore.proofs.PendingLemmas.{from_ok}
-use Rattle.store_c.specs.declared.block.BlockEnd.{BlockEnd}
+use Rattle.store_c.specs.declared.table_row.BlockEnd.{BlockEnd}
 use Rattle.store_c.specs.Calls.{end_of, ends_in, start_in}
 use Rattle.store_c.proofs.EndLemmas.{last_byte}
 use Rattle.store_c.proofs.ending.end_of_file.Goals as goal

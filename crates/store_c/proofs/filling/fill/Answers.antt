@@ -1,7 +1,7 @@
 use Rattle.std.proofs.Common.{◌≡◌, ◌+◌, List, [], ◌∷◌, ◌++◌, length, drop, map, set, sym, ap, ◌∙◌, arith, append_assoc, length-append}
 use Rattle.std.proofs.lemmas.List.{map-append, map-set, length-map}
 use Rattle.layered_index.specs.declared.checkpoint.Checkpoint.{Checkpoint}
-use Rattle.store_c.specs.declared.block.BlockEnd.{BlockEnd}
+use Rattle.store_c.specs.declared.table_row.BlockEnd.{BlockEnd}
 use Rattle.store_c.specs.Calls.{end_of, ends_in, ends_after, with_front}
 use Rattle.store_c.proofs.TableLemmas.{front_more, front_full, length-front, limits_of}
 use Rattle.store_c.proofs.PlacesLemmas.{fewer_stay, after_stay}

@@ -1,6 +1,6 @@
 use Rattle.std.proofs.Common.{List, sym, ap, ◌∙◌, subst, arith}
 use Rattle.layered_index.specs.Checkpoint.{IsInLineFrom}
-use Rattle.store_c.specs.declared.block.BlockEnd.{BlockEnd}
+use Rattle.store_c.specs.declared.table_row.BlockEnd.{BlockEnd}
 use Rattle.store_c.specs.Calls.{ends_in, with_front}
 use Rattle.store_c.proofs.TableLemmas.{first_shifted, first_ends, same_ends, same_rest}
 use Rattle.store_c.proofs.filling.fill_table.Goals as goal

@@ -1,5 +1,5 @@
 use Rattle.std.proofs.Common.{subst, arith, inr}
-use Rattle.store_c.specs.declared.block.BlockEnd.{BlockEnd}
+use Rattle.store_c.specs.declared.table_row.BlockEnd.{BlockEnd}
 use Rattle.store_c.specs.Writing.{Memory, memory, EndsBlockAt, RefusesEnd}
 use Rattle.store_c.proofs.MemoryLemmas.{ended}
 use Rattle.store_c.proofs.MemoryRefusalLemmas.{no_end}

@@ -1,6 +1,6 @@
 use Rattle.std.proofs.Common.{◌≡◌, ◌+◌, subst, arith}
 use Rattle.std.proofs.lemmas.Result.{err_from_is_err_and}
-use Rattle.store_c.specs.declared.block.BlockEnd.{BlockEnd}
+use Rattle.store_c.specs.declared.table_row.BlockEnd.{BlockEnd}
 use Rattle.store_c.specs.Calls.{ends_in, start_in}
 use Rattle.store_c.specs.Writing.{memory, RefusesEnd, EndsBlockAt, HasRoom, TakesLength}
 use Rattle.store_c.proofs.TableLemmas.{zero_block}

@@ -3,7 +3,7 @@ use Rattle.std.proofs.lemmas.List.{length-map, take-map}
 use Rattle.layered_index.specs.Checkpoint.{IsInLineFrom}
 use Rattle.layered_index.specs.declared.checkpoint.Checkpoint.{Checkpoint}
 use Rattle.store_base.specs.Outcome.{number_of}
-use Rattle.store_c.specs.declared.block.Block.{Block}
+use Rattle.store_c.specs.declared.table_row.Block.{Block}
 use Rattle.store_c.specs.Calls.{end_of, ends_in, ends_of, with_front}
 use Rattle.store_c.proofs.FirstRefusalLemmas.{refused_first, same_counts, some_store}
 use Rattle.store_c.proofs.TableLemmas.{front_is, length-front}

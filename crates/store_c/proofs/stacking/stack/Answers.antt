@@ -3,7 +3,7 @@ use Rattle.docstore.proofs.TakenLemmas.{length-slots}
 use Rattle.store_format.specs.Footer.{version_number}
 use Rattle.store_format.specs.StoreFile.{IsStore}
 use Rattle.store_reader.specs.Viewing.{Viewing, IsViewOf}
-use Rattle.store_c.specs.declared.block.BlockEnd.{BlockEnd}
+use Rattle.store_c.specs.declared.table_row.BlockEnd.{BlockEnd}
 use Rattle.store_c.specs.Writing.{memory}
 use Rattle.store_c.proofs.TableViewLemmas.{no_more}
 use Rattle.store_c.proofs.MemoryLemmas.{has_finished, open_at}

@@ -1,7 +1,7 @@
 use Rattle.std.proofs.Common.{◌≡◌, ◌≤◌, ℕ, ◌-◌, ◌++◌, List, take, drop, length, sym, ap, refl, ◌∙◌, subst, arith, inl, inr}
 use Rattle.std.proofs.Math.Seq.{take-append_seam, drop-append_seam}
-use Rattle.store_c.specs.declared.block.Block.{Block}
-use Rattle.store_c.specs.declared.block.BlockEnd.{BlockEnd}
+use Rattle.store_c.specs.declared.table_row.Block.{Block}
+use Rattle.store_c.specs.declared.table_row.BlockEnd.{BlockEnd}
 use Rattle.store_c.specs.declared.writer.Writer.{Writer}
 use Rattle.store_c.specs.Calls.{ends_in}
 use Rattle.store_c.specs.Writing.{EndsFile, IsEndOf, HasEnd}

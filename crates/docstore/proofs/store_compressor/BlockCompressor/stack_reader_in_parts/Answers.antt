@@ -2,16 +2,17 @@ use Rattle.std.proofs.Common.{◌≤◌, length, ap, arith}
 use Rattle.std.proofs.lemmas.Result.{err_from_is_err_and}
 use Rattle.store_base.proofs.Steady.{still}
 use Rattle.docstore.proofs.OutputLemmas.{length-blocks_at}
-use Rattle.docstore.proofs.ReadInPartsLemmas.{IsPartTaken, part_taken, stacked_more, refused_taken, read_at_most, fails_after, all_stacked, none_came, some_left, same_checkpoints}
+use Rattle.docstore.proofs.ReadInPartsLemmas.{CanBePut, part_taken, can_be_put, stacked_more, refused_taken, read_at_most, fails_after, all_stacked, none_came, some_left, same_checkpoints}
 use Rattle.docstore.proofs.store_compressor.BlockCompressor.stack_reader_in_parts.Goals.{In-Some}
 use Rattle.docstore.proofs.store_compressor.BlockCompressor.stack_reader_in_parts.Goals as goal
 
 -- the part that was read, and the blocks before it
-part_is : (g : _) (c : In-Some g) → IsPartTaken c.args.part_bytes c.loop-part.next_block c.args.reader.now c.loop-part.reader c.read_part.new.self c.in-Some.part c.loop-part.self
+part_is : (g : _) (c : In-Some g) → CanBePut c.args.part_bytes c.loop-part.next_block c.args.reader.now c.loop-part.reader c.read_part.new.self c.in-Some.part c.loop-part.self
 part_is g c =
     let e = c.in_ok-part.ensures in
     let inv = c.loop-part.invariant in
-    part_taken _ _ _ _ c.read_part.new.self _ c.in-Some.part _ c.loop-part.self e.covers inv.read inv.put c.requires.few_docs c.in-Some.is e.part e.once
+    can_be_put _ _ _ _ c.read_part.new.self c.in-Some.part _ c.loop-part.self
+    (part_taken _ _ _ _ c.read_part.new.self _ c.in-Some.part e.covers inv.read c.in-Some.is e.part e.once) inv.read inv.put c.requires.few_docs
 
 pub returns-in_err-part-clause-kept : goal.returns-in_err-part-clause-kept
 returns-in_err-part-clause-kept g c =
@@ -38,19 +39,19 @@ returns-in_err-write_blocks-clause-err g c =
 pub returns-in_err-write_blocks-clause-kept : goal.returns-in_err-write_blocks-clause-kept
 returns-in_err-write_blocks-clause-kept g c =
     let taken = part_is g (goal.at.returns-in_err-write_blocks-clause-kept g c).In-Some in
-    read_at_most _ _ _ _ taken.covers taken.up
+    read_at_most _ _ _ _ taken.taken.covers taken.taken.up
 
 pub loop-part-preserved-in_ok-write_blocks : goal.loop-part-preserved-in_ok-write_blocks
 loop-part-preserved-in_ok-write_blocks g c =
     let taken = part_is g (goal.at.loop-part-preserved-in_ok-write_blocks g c).In-Some in
     let w = c.in_ok-write_blocks.ensures in
-    stacked_more _ _ _ _ _ _ _ _ _ _ _ c.loop-part.invariant taken c.checkpoints_in.ensures c.as_slice.ensures w.written (still c.in_ok-part.ensures.steady) w.termination (still w.steady) w.sound
+    stacked_more _ _ _ _ _ _ _ _ _ _ _ c.loop-part.invariant taken.taken c.checkpoints_in.ensures c.as_slice.ensures w.written (still c.in_ok-part.ensures.steady) w.termination (still w.steady) w.sound
 
 pub loop-part-preserved : goal.loop-part-preserved
 loop-part-preserved g c =
     let taken = part_is g (goal.at.loop-part-preserved g c).In-Some in
     let w = c.in_ok-write_blocks.ensures in
-    stacked_more _ _ _ _ _ _ _ _ _ _ _ c.loop-part.invariant taken c.checkpoints_in.ensures c.as_slice.ensures w.written (still c.in_ok-part.ensures.steady) w.termination (still w.steady) w.sound
+    stacked_more _ _ _ _ _ _ _ _ _ _ _ c.loop-part.invariant taken.taken c.checkpoints_in.ensures c.as_slice.ensures w.written (still c.in_ok-part.ensures.steady) w.termination (still w.steady) w.sound
 
 pub returns-clause-stacked : goal.returns-clause-stacked
 returns-clause-stacked g c =

@@ -1,5 +1,5 @@
-//! Whole runs.
-use crate::answer::{write_documents, write_error};
+//! A script that is answered, and a file that is dumped, each from the input to the output.
+use crate::answer::{write_documents, write_no_answer};
 use crate::fault::ToolFault;
 use crate::input::read_whole;
 use crate::store::open_bytes;
@@ -42,9 +42,9 @@ pub fn run<R: Read, W: Write + Drop>(
 }
 
 fn dump_bytes<W: Write>(alloc: Global, bytes: Vec<u8>, output: &mut W) -> Result<(), ToolFault> {
-    match open_bytes(alloc, bytes, 0)? {
+    match open_bytes(alloc, bytes, 0) {
         Ok(mut reader) => write_documents(alloc, output, &mut reader),
-        Err(error) => write_error(output, error),
+        Err(why) => write_no_answer(output, why),
     }
 }
 
