@@ -11,9 +11,13 @@ from harness import TOP
 PAGE = TOP / "docs/TROUBLESHOOTING.md"
 ERRORS = TOP / "crates/store_base/src/error.rt"
 # The files whose attributes have the texts of errors, and those that write texts of errors and faults.
-DECLARED = ("store_commands/src/request_error.rt", "store_files/src/create_error.rt", "document_framing/src/fault.rt")
+DECLARED = (
+    "store_commands/src/request_error.rt", "store_files/src/create_error.rt", "document_framing/src/fault.rt",
+    "segmented_log/src/error.rt",
+)
 WRITTEN = {
-    "zevkhadun/src/failure.rt": r'(?:write!\(f, |f\.write_str\()"([^"]+)"',
+    "zevkhadun/src/failure.rt": r'(?:write!\(\s*f,\s+|f\.write_str\()"([^"]+)"',
+    "zevkhadun/src/log/number_range.rt": r'"(\'\{word\}\'[^"]+)"',
     "zevkhadun/src/merge.rt": r'format!\(in alloc; "(--[^"]+)"',
     "store_commands/src/id_range.rt": r'"(\'\{word\}\'[^"]+)"',
     "store_commands/src/broken_part.rt": r'(?:f,\s+|f\.write_str\()"([^"]+)"',
@@ -39,10 +43,11 @@ def source_texts() -> set[str]:
         texts.update(re.findall(r'#\[error\("([^"]+)"\)\]', crate_text(path)))
     for path, form in WRITTEN.items():
         texts.update(re.findall(form, crate_text(path)))
-    for path in (TOP / "crates/zevkhadun/src").glob("*.rt"):
+    for path in (TOP / "crates/zevkhadun/src").rglob("*.rt"):
         texts.update(f"{why}: '{{word}}'" for why in re.findall(WRONG_WORDS, text_of(path)))
-    # The program has texts of its own for compressed blocks and for a damaged index.
+    # The program has texts of its own for compressed blocks, a damaged index, a broken log and a damaged record.
     texts -= {"block kind {0} is not raw", "index is not the encoding of a list of checkpoints"}
+    texts -= {"the folder is no log", "the record is damaged"}
     return {text for text in texts if re.search("[a-z]", re.sub(r"\{[^}]*\}", "", text))}
 
 

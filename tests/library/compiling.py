@@ -127,3 +127,13 @@ class LibraryCase(FolderCase):
         """Skips the test unless the machine has both compilers and their sanitizers."""
         self.require_library(compiler.c, *compiler.sanitizers)
         self.require(compiler.cpp)
+
+
+class CompilerCase(LibraryCase):
+    """Tests of programs by one compiler, which the machine has to have."""
+
+    compiler = COMPILERS[0]
+
+    def setUp(self) -> None:
+        super().setUp()
+        self.require_compiler(self.compiler)

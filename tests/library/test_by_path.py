@@ -1,6 +1,6 @@
 """Stores by path: programs by two compilers, in C11 and C++17, under sanitizers and valgrind, and in threads."""
 
-from library.compiling import ARRAYS, COMPILERS, GCC, PATHS, SOURCES, Compiler, LibraryCase
+from library.compiling import ARRAYS, COMPILERS, GCC, PATHS, SOURCES, Compiler, CompilerCase, LibraryCase
 from library.test_checkers import DEBUG, VALGRIND
 
 PROGRAMS = ("by_path.c", "path_errors.c")
@@ -16,13 +16,7 @@ class ByPathCase(LibraryCase):
         self.assertEqual([name for name in left if name.endswith(".part")], [])
 
 
-class ByGcc(ByPathCase):
-    compiler = COMPILERS[0]
-
-    def setUp(self):
-        super().setUp()
-        self.require_compiler(self.compiler)
-
+class ByGcc(ByPathCase, CompilerCase):
     def run_programs(self, in_cpp):
         for name in PROGRAMS:
             with self.subTest(name):

@@ -2,18 +2,12 @@
 
 import subprocess
 
-from library.compiling import ARRAYS, COMPILERS, HEX, SOURCES, WARNINGS, LibraryCase, names_in, prefix, wrapped
+from library.compiling import ARRAYS, COMPILERS, HEX, SOURCES, WARNINGS, CompilerCase, names_in, prefix, wrapped
 
 PROGRAMS = ("stress.c", "writing.c", "nulls.c", "getting.c", "ranges.c", "checking.c")
 
 
-class ByGcc(LibraryCase):
-    compiler = COMPILERS[0]
-
-    def setUp(self):
-        super().setUp()
-        self.require_compiler(self.compiler)
-
+class ByGcc(CompilerCase):
     def run_programs(self, in_cpp):
         for name in PROGRAMS:
             with self.subTest(name):

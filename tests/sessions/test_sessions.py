@@ -18,7 +18,7 @@ from documents import pages
 from harness import PROGRAM, FolderCase
 
 # The pages of docs/ that have sessions.
-WITH_SESSIONS = ("CLI", "OPERATIONS", "RATTLE", "RECIPES", "SCRIPTS")
+WITH_SESSIONS = ("CLI", "LOG", "OPERATIONS", "RATTLE", "RECIPES", "SCRIPTS")
 MARKER = re.compile(r"<!-- run by: tests/sessions/test_sessions\.py(?:; prints: (.*?))? -->")
 
 

@@ -7,7 +7,7 @@ import unittest
 
 from sparse import end_of
 from test_sequence import DAMAGED, damaged
-from test_zevkhadun import DOCUMENTS, EMPTY, FILE
+from words import DOCUMENTS, EMPTY, FILE
 from zevkhadun import RangedStore, Store, Writer, refusals
 
 

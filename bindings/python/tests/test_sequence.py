@@ -6,12 +6,11 @@ import mmap
 import multiprocessing
 import os
 import pickle
-import tempfile
 import unittest
 from collections.abc import Sequence
 
 from sparse import end_of
-from test_zevkhadun import DOCUMENTS, FILE
+from words import DOCUMENTS, FILE, InFile
 from zevkhadun import Store, Writer, ZevkhadunError, refusals
 
 
@@ -39,19 +38,7 @@ def document_of(store, number):
     return store[number]
 
 
-class InFolder(unittest.TestCase):
-    def setUp(self):
-        folder = tempfile.TemporaryDirectory()
-        self.addCleanup(folder.cleanup)
-        self.path = os.path.join(folder.name, "a.store")
-
-    def written(self, content=FILE):
-        with open(self.path, "wb") as file:
-            file.write(content)
-        return self.path
-
-
-class OneByOne(InFolder):
+class OneByOne(InFile):
     """Documents that are asked for one after the other: their places are found ahead of time."""
 
     def test_any_order_of_numbers_gives_their_documents(self):
@@ -94,7 +81,7 @@ class OneByOne(InFolder):
             store[0]
 
 
-class ManyDocuments(InFolder):
+class ManyDocuments(InFile):
     def test_a_store_is_a_sequence(self):
         with Store(FILE) as store:
             self.assertIsInstance(store, Sequence)
@@ -171,7 +158,7 @@ class ManyDocuments(InFolder):
             store.verify()
 
 
-class Views(InFolder):
+class Views(InFile):
     def test_a_view_has_the_bytes_of_the_file(self):
         with Store(self.written()) as store:
             for number in [0, 1, 5, 63, -1]:
@@ -215,7 +202,7 @@ class Views(InFolder):
         self.assertEqual(maps(), 0)
 
 
-class Kinds(InFolder):
+class Kinds(InFile):
     def test_any_bytes_are_a_store(self):
         with open(self.written(), "rb") as file, mmap.mmap(file.fileno(), 0, access=mmap.ACCESS_READ) as mapped:
             for content in [FILE, bytearray(FILE), memoryview(FILE), mapped]:
@@ -269,7 +256,7 @@ class Kinds(InFolder):
             self.assertEqual((store.version, store.period, repr(store)), (2, 8, "Store(buffer, 64 documents)"))
 
 
-class Processes(InFolder):
+class Processes(InFile):
     def test_a_store_is_pickled_by_its_path(self):
         before = os.getcwd()
         self.addCleanup(os.chdir, before)
@@ -294,7 +281,7 @@ class Processes(InFolder):
         self.assertEqual(documents, DOCUMENTS[::9])
 
 
-class Errors(InFolder):
+class Errors(InFile):
     def test_errors_name_the_file(self):
         self.written(b"x" * 100)
         with self.assertRaises(refusals.BadVersion) as caught:

@@ -2,43 +2,19 @@
 
 import os
 import re
-import tempfile
 import threading
 import unittest
 
 import zevkhadun
+from words import DOCUMENTS, EMPTY, FILE, InFile
 from zevkhadun import REFUSALS, Refused, Store
 from zevkhadun import refusals
 
 TOP = os.path.join(os.path.dirname(__file__), "..", "..", "..")
 HEADER = os.path.join(TOP, "bindings", "c", "include", "zevkhadun.h")
-HEX = os.path.join(os.path.dirname(__file__), "..", "..", "c", "tests", "words.hex")
-# A store of no documents: an index of no layers, and the footer.
-EMPTY = bytes.fromhex("8003000000000000000000000000080000000000000000000000000000")
 
 
-def document(number):
-    text = b"%d is a document's number" % number
-    return b"" if number % 5 == 0 else text[: len(text) - number % 3]
-
-
-DOCUMENTS = [document(number) for number in range(64)]
-
-with open(HEX, encoding="ascii") as text:
-    FILE = bytes.fromhex(text.read())
-
-
-class InFolder(unittest.TestCase):
-    def setUp(self):
-        folder = tempfile.TemporaryDirectory()
-        self.addCleanup(folder.cleanup)
-        self.path = os.path.join(folder.name, "a.store")
-
-    def written(self, content=FILE):
-        with open(self.path, "wb") as file:
-            file.write(content)
-        return self.path
-
+class InFolder(InFile):
     def test_documents_come_back_by_number_from_both_ends(self):
         with Store(self.written()) as store:
             self.assertEqual(len(store), len(DOCUMENTS))
