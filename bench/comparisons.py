@@ -52,6 +52,13 @@ LOGS = [
          ["log_append"])
     for place, where in ((MEMORY, "in memory"), (DISK, "on a disk"))
     for batch in FULL.logged[place]
+] + [
+    Work(f"appending to a log {where} with one sync at the end", "log", dict(group="log", place=place),
+         ["log_synced_once"])
+    for place, where in ((MEMORY, "in memory"), (DISK, "on a disk"))
+] + [
+    Work("opening a long log", "log", dict(group="log"), ["log_open"]),
+    Work("gets from a long log", "log", dict(group="log"), ["log_uniform"]),
 ]
 PAGES = dict(group="read", place=DISK)
 WORKS = [

@@ -81,7 +81,7 @@ def _large() -> Goal:
 def _beside_best(place: str, batch: int) -> Callable[[Figures], Optional[Spread]]:
     """A log of ours beside the library that is ahead of the others."""
     def figure(figures: Figures) -> Optional[Spread]:
-        common = dict(group="log", place=place, questions=batch)
+        common = dict(group="log", workload="log_append", place=place, questions=batch)
         found = [figures.ratios(dict(side="log", **common), dict(side=side, **common)) for side in LOG_PEERS]
         return max(filter(None, found), key=lambda spread: spread.middle, default=None)
     return figure

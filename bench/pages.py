@@ -102,6 +102,8 @@ PARTS: Dict[str, Made] = {
     "program": table(tables.program),
     "packing": paragraph(_program),
     "log": table(tables.log),
+    "log reading": table(tables.log_reading),
+    "long log": paragraph(tables.long_log),
     "beside lmdb": paragraph(lambda figures: comparisons.beside(figures, ["lmdb"])),
     "beside cdb": paragraph(lambda figures: comparisons.beside(figures, ["cdb"])),
     "beside logs": paragraph(lambda figures: comparisons.beside(figures, ["rocksdb", "leveldb"])),

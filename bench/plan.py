@@ -56,13 +56,18 @@ READ_NAMES = {
 KEPT = {"uniform": "keep_uniform", "sequence": "keep_sequence"}
 
 #: workloads that get the same documents as another one
-SAME_WORK = {"keep_uniform": "uniform", "keep_sequence": "sequence", "ranges": "uniform", "ranges_many": "uniform"}
+SAME_WORK = {"keep_uniform": "uniform", "keep_sequence": "sequence", "ranges": "uniform", "ranges_many": "uniform",
+             "log_uniform": "uniform"}
+
+#: workloads that make a log, and those that read one
+LOG_MAKES = {"log_append", "log_synced_once"}
+LOG_READS = {"log_open", "log_uniform"}
 
 GROUPS = ["size", "read", "memory", "write", "append", "open", "cold", "threads", "ranges", "stack", "python",
-          "program", "log", "growth"]
+          "program", "log", "long_log", "growth"]
 
-#: what does not change from round to round
-ONCE = ["size"]
+#: what does not change from round to round, or takes minutes
+ONCE = ["size", "long_log"]
 
 #: bytes of a block, where nothing else is said; at 0 each document has a block of its own
 BLOCK_SIZE = 16384
@@ -122,6 +127,13 @@ class Sizes:
     python_asked: int
     lines: Dict[int, int]      # how many lines the program packs, by their length
     logged: Dict[str, Dict[int, int]]  # how many records a log gets, by their place and by how many come in a batch
+    synced_once: Dict[str, int]        # how many a log gets that is synced once, by their place
+    long: int                          # records of a log that is opened and read
+    longest: int                       # records of a log whose memory is measured
+
+
+#: how many records come in a batch of a log that is synced once, and of a long one
+SMALL_BATCH, LARGE_BATCH = 100, 10_000
 
 
 FULL = Sizes(
@@ -137,6 +149,9 @@ FULL = Sizes(
     python_asked=50_000,
     lines={20: 2_000_000, 1000: 200_000},
     logged={MEMORY: {1: 10_000, 100: 50_000, 10_000: 500_000}, DISK: {1: 500, 100: 20_000, 10_000: 200_000}},
+    synced_once={MEMORY: 500_000, DISK: 200_000},
+    long=1_000_000,
+    longest=10**8,
 )
 
 QUICK = Sizes(
@@ -152,6 +167,9 @@ QUICK = Sizes(
     python_asked=2000,
     lines={20: 20_000, 1000: 2000},
     logged={MEMORY: {1: 100, 100: 1000, 10_000: 20_000}, DISK: {1: 20, 100: 500, 10_000: 15_000}},
+    synced_once={MEMORY: 25_000, DISK: 18_000},
+    long=30_000,
+    longest=100_000,
 )
 
 
@@ -275,13 +293,22 @@ def program_rows(sizes: Sizes) -> List[Row]:
 
 
 def log_rows(sizes: Sizes) -> List[Row]:
-    """Records to a new log, each batch kept before the next: the questions are how many records a batch has."""
+    """Records to a new log, each batch kept before the next, or one sync after all of them: the questions are how many
+    records a batch has. And the reading of a log."""
+    works = [("log_append", place, count, batch)
+             for place, batches in sizes.logged.items() for batch, count in batches.items()]
+    works += [("log_synced_once", place, count, SMALL_BATCH) for place, count in sizes.synced_once.items()]
+    works += [("log_open", DISK, sizes.long, sizes.opens), ("log_uniform", DISK, sizes.long, sizes.questions)]
     return [
-        Row("log", "log_append", place, side, count, 100, questions=batch)
-        for place, batches in sizes.logged.items()
-        for batch, count in batches.items()
+        Row("log", workload, place, side, count, 100, questions=questions)
+        for workload, place, count, questions in works
         for side in ["log"] + LOG_PEERS
     ]
+
+
+def long_log_rows(sizes: Sizes) -> List[Row]:
+    """As many records as a log of years has, of ours alone: what counts is how much memory the process takes."""
+    return [Row("long_log", "log_append", DISK, "log", sizes.longest, 100, questions=LARGE_BATCH)]
 
 
 def thread_rows(sizes: Sizes) -> List[Row]:
@@ -320,6 +347,7 @@ def rows_of(groups: List[str], sizes: Sizes, outside: List[str]) -> List[Row]:
         "python": lambda: python_rows(sizes),
         "program": lambda: program_rows(sizes),
         "log": lambda: log_rows(sizes),
+        "long_log": lambda: long_log_rows(sizes),
         "growth": lambda: growth_rows(sizes),
     }
     return [row for group in GROUPS if group in groups for row in made[group]()]

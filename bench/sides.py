@@ -1,15 +1,17 @@
 """Starting the program of a side for one workload, and reading what it prints."""
 
 import json
+import os
 import re
 import shutil
 import subprocess
+import tempfile
 from dataclasses import dataclass, field
 from pathlib import Path
-from typing import Dict, List, Optional
+from typing import Dict, List, NamedTuple, Optional
 
 import shell_sides
-from plan import C_SIDES, MEMORY, PYTHON_SIDES, RUST_SIDES, WRITER_OF, Row
+from plan import C_SIDES, LARGE_BATCH, LOG_MAKES, LOG_READS, MEMORY, PYTHON_SIDES, RUST_SIDES, WRITER_OF, Row
 
 #: what crates/bench_store calls a workload of a side
 STORE_WORKLOADS = {
@@ -17,16 +19,17 @@ STORE_WORKLOADS = {
              "iterate": "view_iter", "open": "view_open"},
     "reader": {"uniform": "get_uniform", "hot": "get_hot", "zipf": "get_zipf", "sequence": "get_seq",
                "iterate": "iter_raw", "open": "open", "write": "write", "stack": "stack"},
-    "log": {"log_append": "log_append"},
+    "log": {"log_append": "log_append", "log_synced_once": "log_append", "log_open": "log_open",
+            "log_uniform": "log_uniform"},
     "disk": {"uniform": "disk_uniform", "hot": "disk_hot", "zipf": "disk_zipf", "sequence": "disk_seq",
              "iterate": "disk_iter", "write": "disk_write"},
 }
 
 #: workloads whose check crates/bench_store takes over the same documents as the sides in C
-SAME_CHECK = {"uniform", "hot", "zipf", "sequence", "iterate", "stack", "log_append"}
+SAME_CHECK = {"uniform", "hot", "zipf", "sequence", "iterate", "stack"} | LOG_MAKES | LOG_READS
 
 #: workloads that make their store by themselves
-MAKES = {"write", "log_append"}
+MAKES = {"write"} | LOG_MAKES
 
 FROM_PYTHON = Path(__file__).resolve().parent / "from_python.py"
 
@@ -52,23 +55,39 @@ class Programs:
         return self.memory if place == MEMORY else self.disk
 
 
-def _run(command: List[str], folder: Path) -> subprocess.CompletedProcess:
-    answer = subprocess.run(command, cwd=folder, capture_output=True, text=True)
-    if answer.returncode != 0:
-        raise Failed(f"{' '.join(command)}: {answer.stderr.strip() or answer.returncode}")
+class Answer(NamedTuple):
+    """What a program printed, and the most memory that it had, in bytes."""
+
+    stdout: str
+    stderr: str
+    peak_bytes: int
+
+
+def _run(command: List[str], folder: Path) -> Answer:
+    with tempfile.TemporaryFile("w+") as output, tempfile.TemporaryFile("w+") as errors:
+        process = subprocess.Popen(command, cwd=folder, stdout=output, stderr=errors)
+        _, status, usage = os.wait4(process.pid, 0)
+        process.returncode = os.waitstatus_to_exitcode(status)
+        output.seek(0)
+        errors.seek(0)
+        answer = Answer(output.read(), errors.read(), usage.ru_maxrss * 1024)
+    if process.returncode != 0:
+        raise Failed(f"{' '.join(command)}: {answer.stderr.strip() or process.returncode}")
     return answer
 
 
 def store_path(programs: Programs, row: Row) -> Path:
     """The store that a row reads."""
     writer = WRITER_OF.get(row.side, row.side)
-    name = f"{writer}-{row.documents}-{row.length}-{row.block_size}"
+    kind = "log-" if row.workload in LOG_READS else ""
+    name = f"{writer}-{kind}{row.documents}-{row.length}-{row.block_size}"
     return programs.folder(row.place) / name
 
 
 def _told(programs: Programs, row: Row, side: str, workload: str, path: Path) -> Dict[str, object]:
     """What a side in C or in Python printed of a workload."""
-    words = [side, workload, str(path), f"n={row.documents}", f"l={row.length}", f"q={row.questions}",
+    questions = row.questions if workload == row.workload else LARGE_BATCH
+    words = [side, workload, str(path), f"n={row.documents}", f"l={row.length}", f"q={questions}",
              f"threads={row.threads}"]
     if side in PYTHON_SIDES:
         command = [str(programs.python), str(FROM_PYTHON)]
@@ -84,7 +103,8 @@ def make(programs: Programs, row: Row) -> str:
     is_file_side = row.side in C_SIDES + PYTHON_SIDES + RUST_SIDES
     if not is_file_side or row.workload in MAKES or path.exists():
         return ""
-    return str(_told(programs, row, WRITER_OF.get(row.side, row.side), "write", path)["check"])
+    making = "log_append" if row.workload in LOG_READS else "write"
+    return str(_told(programs, row, WRITER_OF.get(row.side, row.side), making, path)["check"])
 
 
 def _run_file_side(programs: Programs, row: Row) -> Dict[str, object]:
@@ -109,6 +129,8 @@ def _store_words(row: Row) -> List[str]:
     words = [f"n={row.documents}", f"l={row.length}", f"bs={row.block_size}", "reps=1"]
     if row.workload == "stack":
         words.append(f"k={row.questions}")
+    elif row.workload == "log_synced_once":
+        words.append(f"q={row.documents}")
     elif row.workload not in ("iterate", "write"):
         words.append(f"q={row.questions}")
     if row.workload == "hot":
@@ -122,7 +144,7 @@ def _run_store_side(programs: Programs, row: Row) -> Dict[str, object]:
     workload = STORE_WORKLOADS.get(row.side, STORE_WORKLOADS["reader"])[row.workload]
     answer = _run([str(program), workload] + _store_words(row), programs.folder(row.place))
     _, count, nanoseconds = answer.stdout.split()[:3]
-    told: Dict[str, object] = {"count": int(count), "ns": int(nanoseconds)}
+    told: Dict[str, object] = {"count": int(count), "ns": int(nanoseconds), "peak_bytes": answer.peak_bytes}
     check = re.search(r"check=(\d+)", answer.stderr)
     if row.workload in SAME_CHECK and check:
         told["check"] = check.group(1)

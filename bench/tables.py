@@ -5,7 +5,7 @@ from typing import Dict, List, Optional
 
 import volume
 from figures import Figures, Spread, label_of, spread_of
-from plan import DISK, LOG_PEERS, MEMORY, PROCESS, PYTHON_SIDES, READ_NAMES
+from plan import DISK, LOG_MAKES, LOG_PEERS, LOG_READS, MEMORY, PROCESS, PYTHON_SIDES, READ_NAMES
 from texts import Text, factor_text, in_table, number_text, time_text
 
 LENGTHS = [8, 100, 1000, 20000]
@@ -129,18 +129,44 @@ def appending(figures: Figures) -> Lines:
     return lines
 
 
+LOG_SIDES = ["log"] + LOG_PEERS
+
+
 def log(figures: Figures) -> Lines:
-    """A row for each batch, in memory and on a disk."""
-    rows = figures.find(group="log", side="log")
+    """A row for each batch, and for one sync after all, in memory and on a disk."""
+    rows = [row for row in figures.find(group="log", side="log") if row["workload"] in LOG_MAKES]
     if not rows:
         return []
-    sides = ["log"] + LOG_PEERS
-    lines = head(f"append to a log, each record of {rows[0]['length']} bytes", sides)
+    lines = head(f"append to a log, each record of {rows[0]['length']} bytes", LOG_SIDES)
     for row in rows:
-        place, batch = row["place"], row["questions"]
-        name = f"{batch} a sync, {'in memory' if place == MEMORY else 'on a disk'}"
-        lines.append(row_of(name, cells(figures, sides, time_text, dict(group="log", place=place, questions=batch))))
+        wanted = {key: row[key] for key in ("group", "workload", "place", "questions")}
+        syncs = f"{row['questions']} a sync" if row["workload"] == "log_append" else "one sync at the end"
+        name = f"{syncs}, {'in memory' if row['place'] == MEMORY else 'on a disk'}"
+        lines.append(row_of(name, cells(figures, LOG_SIDES, time_text, wanted)))
     return lines
+
+
+def log_reading(figures: Figures) -> Lines:
+    """Opening a long log and its gets."""
+    rows = [row for row in figures.find(group="log", side="log") if row["workload"] in LOG_READS]
+    if not rows:
+        return []
+    lines = head(f"a log of {rows[0]['documents']} records of {rows[0]['length']} bytes", LOG_SIDES)
+    for row in rows:
+        name = "open, and get record 0" if row["workload"] == "log_open" else "get, uniform"
+        lines.append(row_of(name, cells(figures, LOG_SIDES, time_text, dict(group="log", workload=row["workload"]))))
+    return lines
+
+
+def long_log(figures: Figures) -> str:
+    """How much memory a process takes that writes and reads a long log."""
+    rows = figures.find(group="long_log")
+    if not rows:
+        return "The memory of a long log is not measured yet."
+    row, taken = rows[0], rows[0]["rounds"][0]
+    return (f"A process that appends {row['documents']} records of {row['length']} bytes on a disk, {row['questions']} a "
+            f"sync, and then opens the log and reads all of them has at most {taken['peak_bytes'] / 1e6:.0f} MB of "
+            f"memory; an append takes {time_text(taken['ns'] / taken['count'])}. That was measured once.")
 
 
 RANGED = {("ranged", "ranges"): "`zevk_get_in`, a block each", ("plain_ranged", "ranges"): "floor",

@@ -66,12 +66,11 @@ static void lmdb_append(const char *path, const struct documents *documents, con
     put_all(path, documents, settings->count, settings->count + more);
 }
 
-/* No flag that puts a sync off: a commit is back once it is kept. */
+/* A commit is back once it is kept, if its sync is not put off. */
 static void *lmdb_log_begin(const char *path, const struct settings *settings) {
-    (void)settings;
     struct lmdb_log *log = malloc(sizeof *log);
     require(log != NULL, "lmdb", "no memory");
-    log->environment = environment_of(path, MDB_NOMEMINIT);
+    log->environment = environment_of(path, MDB_NOMEMINIT | (settings->synced_once ? MDB_NOSYNC : 0));
     MDB_txn *transaction;
     expect(mdb_txn_begin(log->environment, NULL, 0, &transaction));
     expect(mdb_dbi_open(transaction, NULL, MDB_INTEGERKEY, &log->table));
@@ -85,6 +84,11 @@ static void lmdb_log_append(void *begun, const struct documents *documents, uint
     expect(mdb_txn_begin(log->environment, NULL, 0, &transaction));
     put_in(transaction, log->table, documents, first, end);
     expect(mdb_txn_commit(transaction));
+}
+
+static void lmdb_log_sync(void *begun) {
+    struct lmdb_log *log = begun;
+    expect(mdb_env_sync(log->environment, 1));
 }
 
 static void lmdb_log_end(void *begun) {
@@ -148,6 +152,7 @@ const struct side lmdb_side = {
     .append = lmdb_append,
     .log_begin = lmdb_log_begin,
     .log_append = lmdb_log_append,
+    .log_sync = lmdb_log_sync,
     .log_end = lmdb_log_end,
     .open = lmdb_open,
     .begin = lmdb_begin,

@@ -3,11 +3,11 @@
  * usage: peers SIDE WORKLOAD PATH [key=number ...]
  *
  * SIDE: plain, lmdb, sqlite, leveldb, rocksdb, cdb, zevk, unopened, path, unchecked, ranged or plain_ranged. PATH: the
- * store, which `write` and `log_append` make, `append` changes and the others read.
- * WORKLOAD: write, append, log_append, uniform, hot, zipf, sequence, keep_uniform, keep_sequence, iterate, open, cold,
- * threads, ranges or size.
+ * store, which `write`, `log_append` and `log_synced_once` make, `append` changes and the others read.
+ * WORKLOAD: write, append, log_append, log_synced_once, uniform, hot, zipf, sequence, keep_uniform, keep_sequence,
+ * iterate, open, cold, threads, ranges or size; log_uniform and log_open are uniform and open.
  * Keys: n documents, l bytes of each, bs bytes of a block, cache bytes that a reader may keep, q questions (of each
- * thread; of log_append the documents of a batch), hot documents that are asked for most, threads.
+ * thread; of log_append and log_synced_once the documents of a batch), hot documents that are asked for most, threads.
  */
 #include <inttypes.h>
 #include <stdio.h>
@@ -29,7 +29,8 @@ static const struct {
     {"zipf", work_get, ZIPF},           {"sequence", work_get, SEQUENCE}, {"iterate", work_iterate, UNIFORM},
     {"open", work_open, UNIFORM},       {"cold", work_cold, UNIFORM},     {"threads", work_threads, UNIFORM},
     {"size", work_size, UNIFORM},         {"append", work_append, UNIFORM},
-    {"log_append", work_log, UNIFORM},
+    {"log_append", work_log, UNIFORM},    {"log_synced_once", work_log_synced_once, UNIFORM},
+    {"log_uniform", work_get, UNIFORM},   {"log_open", work_open, UNIFORM},
     {"keep_uniform", work_keep, UNIFORM}, {"keep_sequence", work_keep, SEQUENCE},
     {"ranges", work_ranges, UNIFORM},
 };

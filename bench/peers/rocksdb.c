@@ -129,13 +129,14 @@ static void rocksdb_append(const char *path, const struct documents *documents, 
     ingest(path, documents, settings, settings->count, settings->count + more);
 }
 
-/* Its log is synced at each write. Its first write reserves space on the disk, so one of nothing comes here. */
+/* Its log is synced at each write, if that is not put off. Its first write reserves space on the disk, so one of nothing
+ * comes here. */
 static void *rocksdb_log_begin(const char *path, const struct settings *settings) {
     struct rocksdb_log *log = malloc(sizeof *log);
     char *why = NULL;
     require(log != NULL, "rocksdb", "no memory");
     *log = (struct rocksdb_log){store_of(settings), rocksdb_writeoptions_create(), rocksdb_writebatch_create()};
-    rocksdb_writeoptions_set_sync(log->how, 1);
+    rocksdb_writeoptions_set_sync(log->how, !settings->synced_once);
     log->store->database = rocksdb_open(log->store->options, path, &why);
     expect(why);
     rocksdb_write(log->store->database, log->how, log->batch, &why);
@@ -153,6 +154,13 @@ static void rocksdb_log_append(void *begun, const struct documents *documents, u
         rocksdb_writebatch_put(log->batch, key.bytes, KEY_LENGTH, (const char *)document.start, document.length);
     }
     rocksdb_write(log->store->database, log->how, log->batch, &why);
+    expect(why);
+}
+
+static void rocksdb_log_sync(void *begun) {
+    struct rocksdb_log *log = begun;
+    char *why = NULL;
+    rocksdb_flush_wal(log->store->database, 1, &why);
     expect(why);
 }
 
@@ -226,6 +234,7 @@ const struct side rocksdb_side = {
     .append = rocksdb_append,
     .log_begin = rocksdb_log_begin,
     .log_append = rocksdb_log_append,
+    .log_sync = rocksdb_log_sync,
     .log_end = rocksdb_log_end,
     .open = rocksdb_open_store,
     .begin = rocksdb_begin,

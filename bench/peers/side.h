@@ -18,6 +18,7 @@ struct settings {
     size_t cache_bytes;  /* what a reader may keep of the file in memory of its own */
     unsigned threads;    /* how many read at once */
     bool scattered;      /* reads will be far apart, in a file that is not in memory */
+    bool synced_once;    /* a log puts its syncs off until `log_sync` */
 };
 
 struct side {
@@ -34,9 +35,10 @@ struct side {
     void (*append)(const char *path, const struct documents *documents, const struct settings *settings, uint32_t more);
 
     /* A new log, an append of the documents from one number up to another, which is back once the system keeps them all,
-     * and the log's end. NULL where a side is no log. */
+     * a sync for a log that puts it off, and the log's end. NULL where a side is no log. */
     void *(*log_begin)(const char *path, const struct settings *settings);
     void (*log_append)(void *log, const struct documents *documents, uint32_t first, uint32_t end);
+    void (*log_sync)(void *log);
     void (*log_end)(void *log);
 
     /* Opens what was written. All threads share it. */

@@ -96,11 +96,12 @@ static void sqlite_append(const char *path, const struct documents *documents, c
     write_range(path, documents, settings, settings->count, settings->count + more);
 }
 
-/* A journal that is written ahead, and synced at each commit. */
+/* A journal that is written ahead, and synced at each commit; or where it is copied, if syncs are put off. */
 static void *sqlite_log_begin(const char *path, const struct settings *settings) {
     struct sqlite_log *log = malloc(sizeof *log);
     require(log != NULL, "sqlite", "no memory");
-    log->connection = writing(path, settings, "PRAGMA journal_mode = WAL", "PRAGMA synchronous = FULL");
+    log->connection = writing(path, settings, "PRAGMA journal_mode = WAL",
+                              settings->synced_once ? "PRAGMA synchronous = NORMAL" : "PRAGMA synchronous = FULL");
     log->begin = prepared(log->connection, "BEGIN");
     log->insert = prepared(log->connection, INSERT);
     log->commit = prepared(log->connection, "COMMIT");
@@ -117,6 +118,11 @@ static void sqlite_log_append(void *begun, const struct documents *documents, ui
     do_once(log->begin);
     insert_all(log->insert, documents, first, end);
     do_once(log->commit);
+}
+
+static void sqlite_log_sync(void *begun) {
+    struct sqlite_log *log = begun;
+    run(log->connection, "PRAGMA wal_checkpoint(TRUNCATE)");
 }
 
 /* The journal is gone at the end, so that the file alone has all documents. */
@@ -193,6 +199,7 @@ const struct side sqlite_side = {
     .append = sqlite_append,
     .log_begin = sqlite_log_begin,
     .log_append = sqlite_log_append,
+    .log_sync = sqlite_log_sync,
     .log_end = sqlite_log_end,
     .open = sqlite_open,
     .begin = sqlite_begin,

@@ -198,7 +198,8 @@ struct told work_append(const struct work *work) {
     };
 }
 
-struct told work_log(const struct work *work) {
+/* `log_sync` is NULL where each append is kept. */
+static struct told timed_log(const struct work *work, void (*log_sync)(void *log)) {
     const struct side *side = work->side;
     const uint32_t count = work->settings.count;
     require(side->log_begin != NULL, side->name, "it is no log");
@@ -210,6 +211,9 @@ struct told work_log(const struct work *work) {
     for (uint32_t first = 0, end; first < count; first = end) {
         end = count - first < work->questions ? count : first + (uint32_t)work->questions;
         side->log_append(log, &documents, first, end);
+    }
+    if (log_sync != NULL) {
+        log_sync(log);
     }
     uint64_t appended = clock_now();
     side->log_end(log);
@@ -223,6 +227,16 @@ struct told work_log(const struct work *work) {
         .peak_bytes = peak_memory(),
         .check = check.value,
     };
+}
+
+struct told work_log(const struct work *work) {
+    return timed_log(work, NULL);
+}
+
+struct told work_log_synced_once(const struct work *work) {
+    struct work later = *work;
+    later.settings.synced_once = true;
+    return timed_log(&later, work->side->log_sync);
 }
 
 struct told work_ranges(const struct work *work) {

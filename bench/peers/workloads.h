@@ -53,6 +53,9 @@ struct told work_append(const struct work *work);
 /* Appends all documents to a new log, as many as there are questions at once. Each batch is kept before the next. */
 struct told work_log(const struct work *work);
 
+/* The same with one sync, after the last batch. */
+struct told work_log_synced_once(const struct work *work);
+
 /* Gets by one thread from a side that reads its file by ranges. */
 struct told work_ranges(const struct work *work);
 

@@ -97,7 +97,8 @@ class Documents(FolderCase):
 
     def setUp(self) -> None:
         super().setUp()
-        taken = dict.fromkeys(("file_bytes", "own_bytes", "reads", "read_bytes", "open_reads", "open_read_bytes"), 5000)
+        taken = dict.fromkeys(("file_bytes", "own_bytes", "peak_bytes", "reads", "read_bytes", "open_reads",
+                               "open_read_bytes"), 5000)
         rows = plan.rows_of(plan.GROUPS, plan.FULL, ["tantivy"])
         whole = json.loads(text_of(BENCH / "measurements.json"))
         rounds = [[{"count": 1, "ns": 100 + at + turn, **taken} for turn in range(9)] for at in range(7)]
@@ -141,7 +142,7 @@ class Plan(unittest.TestCase):
     def test_each_batch_of_a_log_is_done_by_ours_and_by_each_library(self):
         sides_of: dict[tuple, set[str]] = {}
         for row in self.rows():
-            if row.group == "log":
+            if row.workload == "log_append" and row.group == "log":
                 sides_of.setdefault((row.place, row.questions), set()).add(row.side)
         batches = {(place, batch) for place in (plan.MEMORY, plan.DISK) for batch in (1, 100, 10_000)}
         self.assertEqual(set(sides_of), batches)
@@ -150,7 +151,12 @@ class Plan(unittest.TestCase):
     def test_no_two_batches_of_a_log_are_compared_with_each_other(self):
         for sizes in (plan.QUICK, plan.FULL):
             batches = {(row.place, row.questions, row.compared()) for row in plan.log_rows(sizes)}
-            self.assertEqual(len({compared for *_, compared in batches}), 6)
+            self.assertEqual(len({compared for *_, compared in batches}), len(batches))
+
+    def test_a_long_log_is_opened_and_read_by_ours_and_by_each_library(self):
+        for workload in plan.LOG_READS:
+            rows = [row for row in self.rows() if row.workload == workload]
+            self.assertEqual([row.side for row in rows], ["log", "lmdb", "sqlite", "rocksdb"])
 
     def test_growth_goes_to_ten_million_blocks(self):
         self.assertEqual(max(row.documents for row in self.rows() if row.group == "growth"), 10**7)

@@ -1,8 +1,9 @@
-//! The workload over a log in a folder of the current one.
+//! Workloads over a log in a folder of the current one.
 use crate::checks::Slots;
 use crate::documents::Documents;
 use crate::measure::{Run, Workload};
-use anyhow::Result;
+use anyhow::{Result, bail};
+use docstore::DocId;
 use segmented_log::SegmentedLog;
 use std::fs;
 use std::rt::Clock;
@@ -15,6 +16,9 @@ const PATH: &str = "bench.log";
 // The length past which a tail is sealed, as the program has it.
 const SEAL_SIZE: usize = 64 << 20;
 
+// How many records of a log that is only read were on the disk at once.
+const MADE_BATCH: u64 = 10_000;
+
 type Log = SegmentedLog<LockedFolder<HostRuntime>>;
 
 // Opens the log of the folder, or begins one.
@@ -24,6 +28,18 @@ fn open(rt: &HostRuntime) -> Result<Log> {
         Ok(log) => Ok(log),
         Err((error, _)) => Err(error.into()),
     }
+}
+
+// Appends documents, each batch synced before the next.
+fn append_all(log: &mut Log, documents: &Documents, count: usize, batch: u64) -> Result<()> {
+    for i in 0..count {
+        log.append(documents.get(i))?;
+        if log.pending() >= batch {
+            log.sync()?;
+        }
+    }
+    log.sync()?;
+    Ok(())
 }
 
 // Reads all records by another opening of the log.
@@ -36,6 +52,27 @@ fn read_all(rt: &HostRuntime) -> Result<Slots> {
     Ok(slots)
 }
 
+// Adds the record of this number.
+fn add_record(log: &mut Log, number: u64, slots: &mut Slots) -> Result<()> {
+    match log.get(number)? {
+        Some(record) => slots.add(&record),
+        None => bail!("there is no record {number}"),
+    }
+    Ok(())
+}
+
+/// Makes the log that is read.
+pub fn make_log(rt: &HostRuntime, documents: &Documents, count: usize) -> Result<()> {
+    let mut log = open(rt)?;
+    append_all(&mut log, documents, count, MADE_BATCH)
+}
+
+/// Removes the log.
+pub fn remove_log(rt: &HostRuntime) -> Result<()> {
+    fs::remove_dir_all(rt, PATH)?;
+    Ok(())
+}
+
 /// Appends records to a new log. A batch of them is on the disk before the next one begins.
 #[derive(Drop)]
 pub struct AppendLog<'a> {
@@ -45,28 +82,67 @@ pub struct AppendLog<'a> {
     pub batch: u64,
 }
 
-impl<'a> AppendLog<'a> {
-    fn append_all(&self, log: &mut Log) -> Result<()> {
-        for i in 0..self.count {
-            log.append(self.documents.get(i))?;
-            if log.pending() >= self.batch {
-                log.sync()?;
-            }
-        }
-        log.sync()?;
-        Ok(())
-    }
-}
-
 impl<'a> Workload for AppendLog<'a> {
     fn run<C: Clock>(&mut self, clock: &C) -> Result<Run> {
         let mut log = open(self.rt)?;
         let start = Instant::now(clock)?;
-        self.append_all(&mut log)?;
+        append_all(&mut log, &self.documents, self.count, self.batch)?;
         let time = start.elapsed(clock)?;
         drop(log);
         let slots = read_all(self.rt)?;
-        fs::remove_dir_all(self.rt, PATH)?;
+        remove_log(self.rt)?;
+        Ok(slots.run(time))
+    }
+}
+
+/// Opens the log and gets its first record, this many times.
+#[derive(Drop)]
+pub struct OpenLog<'a> {
+    pub rt: &'a HostRuntime,
+    pub times: u64,
+}
+
+fn open_again(rt: &HostRuntime, times: u64) -> Result<Slots> {
+    let mut slots = Slots::new();
+    for _ in 0..times {
+        let mut log = open(rt)?;
+        add_record(&mut log, 0, &mut slots)?;
+    }
+    Ok(slots)
+}
+
+impl<'a> Workload for OpenLog<'a> {
+    fn run<C: Clock>(&mut self, clock: &C) -> Result<Run> {
+        // The first one brings the files into memory, and is not counted.
+        open_again(self.rt, 1)?;
+        let start = Instant::now(clock)?;
+        let slots = open_again(self.rt, self.times)?;
+        let time = start.elapsed(clock)?;
+        Ok(slots.run(time))
+    }
+}
+
+/// Gets records of the log by their numbers.
+#[derive(Drop)]
+pub struct GetLog<'a> {
+    pub rt: &'a HostRuntime,
+    pub numbers: Vec<DocId>,
+}
+
+fn get_all(log: &mut Log, numbers: &[DocId]) -> Result<Slots> {
+    let mut slots = Slots::new();
+    for number in numbers {
+        add_record(log, u64::from(*number), &mut slots)?;
+    }
+    Ok(slots)
+}
+
+impl<'a> Workload for GetLog<'a> {
+    fn run<C: Clock>(&mut self, clock: &C) -> Result<Run> {
+        let mut log = open(self.rt)?;
+        let start = Instant::now(clock)?;
+        let slots = get_all(&mut log, &self.numbers)?;
+        let time = start.elapsed(clock)?;
         Ok(slots.run(time))
     }
 }

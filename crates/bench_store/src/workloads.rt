@@ -7,7 +7,7 @@ use crate::disk_work::{GetDisk, IterateDisk, PATH, WriteDisk, write_disk};
 use crate::documents::Documents;
 use crate::ids::{Order, deleted, ids};
 use crate::index_work::{Build, OpenIndex, Seek, Walk};
-use crate::log_work::AppendLog;
+use crate::log_work::{AppendLog, GetLog, OpenLog, make_log, remove_log};
 use crate::measure::{Measure, Report, Workload, perform};
 use crate::store_work::{Get, Iterate, Open, Source, Stack, Write};
 use crate::stores::write_store;
@@ -74,6 +74,8 @@ impl<'a> Bench<'a> {
             "disk_seq" => self.get_disk(name, Order::Sequential, numbers),
             "disk_iter" => self.iterate_disk(numbers),
             "log_append" => self.append_log(numbers),
+            "log_open" => self.open_log(numbers),
+            "log_uniform" => self.get_log(name, Order::Uniform, numbers),
             "iter_raw" => self.iterate(name, false, numbers),
             "iter_raw_deleted" => self.iterate(name, true, numbers),
             "stack" => self.stack(numbers),
@@ -270,6 +272,33 @@ impl<'a> Bench<'a> {
             batch,
         };
         self.measure(name.as_str(), numbers, &mut work)
+    }
+
+    // What names say of a log of this many records, which is made.
+    fn made_log(&self, count: u64, numbers: &Numbers) -> Result<String> {
+        let length = numbers.length();
+        make_log(self.rt, &documents_of(self.alloc, length)?, count as usize)?;
+        Ok(format!(in self.alloc; "n={count}/l={length}")?)
+    }
+
+    fn open_log(&self, numbers: &Numbers) -> Result<()> {
+        let times = numbers.questions(3);
+        let shape = self.made_log(numbers.documents(20_000), numbers)?;
+        let name = format!(in self.alloc; "log_open/{shape}/q={times}")?;
+        let rt = self.rt;
+        let mut work = OpenLog { rt, times };
+        self.measure(name.as_str(), numbers, &mut work)?;
+        remove_log(rt)
+    }
+
+    fn get_log(&self, kind: &str, order: Order, numbers: &Numbers) -> Result<()> {
+        let count = numbers.documents(20_000);
+        let shape = self.made_log(count, numbers)?;
+        let (name, ids) = self.name_and_ids(kind, shape.as_str(), order, count, numbers)?;
+        let rt = self.rt;
+        let mut work = GetLog { rt, numbers: ids };
+        self.measure(name.as_str(), numbers, &mut work)?;
+        remove_log(rt)
     }
 
     fn iterate(&self, kind: &str, with_deleted: bool, numbers: &Numbers) -> Result<()> {
