@@ -9,6 +9,9 @@ from texts import factor_text, in_sentence, listed
 
 LENGTH = 100
 
+#: what a row has, its side aside
+Wanted = Dict[str, object]
+
 
 class Beside(NamedTuple):
     """Our time by another library's."""
@@ -23,14 +26,12 @@ class Work:
 
     name: str
     ours: str
-    common: Dict[str, object]
-    workloads: List[str] = field(default_factory=list)
+    rows: List[Wanted] = field(default_factory=list)
 
     def beside(self, figures: Figures, side: str) -> List[Beside]:
-        """The ratios to one library, for each of the workloads that it does."""
+        """The ratios to one library, for each of the rows that it has."""
         found = []
-        for workload in self.workloads:
-            row = dict(workload=workload, length=LENGTH, **self.common)
+        for row in self.rows:
             spread = figures.ratios(dict(side=self.ours, **row), dict(side=side, **row))
             if spread is not None:
                 found.append(Beside(side, spread))
@@ -47,35 +48,37 @@ class Work:
         return sorted(slow, key=lambda one: -one.spread.middle)
 
 
-LOGS = [
-    Work(f"appending to a log {where} in batches of {batch}", "log", dict(group="log", place=place, questions=batch),
-         ["log_append"])
-    for place, where in ((MEMORY, "in memory"), (DISK, "on a disk"))
-    for batch in FULL.logged[place]
-] + [
-    Work(f"appending to a log {where} with one sync at the end", "log", dict(group="log", place=place),
-         ["log_synced_once"])
-    for place, where in ((MEMORY, "in memory"), (DISK, "on a disk"))
-] + [
-    Work("opening a long log", "log", dict(group="log"), ["log_open"]),
-    Work("gets from a long log", "log", dict(group="log"), ["log_uniform"]),
-]
+def rows(workloads: List[str], **common: object) -> List[Wanted]:
+    """A row for each of these workloads."""
+    return [dict(workload=workload, length=LENGTH, **common) for workload in workloads]
+
+
+def log_rows(place: str) -> List[Wanted]:
+    """Appends to a log: a row for each batch, and one where only the end is synced."""
+    batches = [row for batch in FULL.logged[place]
+               for row in rows(["log_append"], group="log", place=place, questions=batch)]
+    return batches + rows(["log_synced_once"], group="log", place=place)
+
+
 PAGES = dict(group="read", place=DISK)
 WORKS = [
-    Work("gets from an opened store (`zevk_locate`)", "zevk", PAGES, ORDERS),
-    Work("iterating over an opened store", "zevk", PAGES, ["iterate"]),
-    Work("gets that open nothing (`zevk_get`)", "unopened", PAGES, ORDERS),
-    Work("iterating without opening (`zevk_get_run`)", "unopened", PAGES, ["iterate"]),
-    Work("an open with all checks (`zevk_open`)", "zevk", dict(group="open"), ["open"]),
-    Work("an open by path (`zevk_file_open`)", "path", dict(group="open"), ["open"]),
-    Work("the first get of a file by `zevk_get`", "unopened", dict(group="open"), ["open"]),
-    Work("gets from a file that is not in memory", "zevk", dict(group="cold"), ["cold"]),
-    Work("gets of eight threads at once", "zevk", dict(group="threads", threads=8), ["threads"]),
-    Work("writing to memory", "zevk", dict(group="write", place=MEMORY), ["write"]),
-    Work("writing to a disk with the sync", "zevk", dict(group="write", place=DISK), ["write"]),
-    Work("appending in memory (`zevk_file_append`)", "path", dict(group="append", place=MEMORY), ["append"]),
-    Work("appending on a disk with the sync", "path", dict(group="append", place=DISK), ["append"]),
-    *LOGS,
+    Work("gets from an opened store (`zevk_locate`)", "zevk", rows(ORDERS, **PAGES)),
+    Work("iterating over an opened store", "zevk", rows(["iterate"], **PAGES)),
+    Work("gets that open nothing (`zevk_get`)", "unopened", rows(ORDERS, **PAGES)),
+    Work("iterating without opening (`zevk_get_run`)", "unopened", rows(["iterate"], **PAGES)),
+    Work("an open with all checks (`zevk_open`)", "zevk", rows(["open"], group="open")),
+    Work("an open by path (`zevk_file_open`)", "path", rows(["open"], group="open")),
+    Work("the first get of a file by `zevk_get`", "unopened", rows(["open"], group="open")),
+    Work("gets from a file that is not in memory", "zevk", rows(["cold"], group="cold")),
+    Work("gets of eight threads at once", "zevk", rows(["threads"], group="threads", threads=8)),
+    Work("writing to memory", "zevk", rows(["write"], group="write", place=MEMORY)),
+    Work("writing to a disk with the sync", "zevk", rows(["write"], group="write", place=DISK)),
+    Work("appending to a store in memory (`zevk_file_append`)", "path", rows(["append"], group="append", place=MEMORY)),
+    Work("appending to a store on a disk with the sync", "path", rows(["append"], group="append", place=DISK)),
+    Work("appending to a log in memory", "log", log_rows(MEMORY)),
+    Work("appending to a log on a disk", "log", log_rows(DISK)),
+    Work("opening a log of 10^6 records", "log", rows(["log_open"], group="log")),
+    Work("gets from a log of 10^6 records", "log", rows(["log_uniform"], group="log")),
 ]
 
 

@@ -7,7 +7,7 @@ from typing import Dict, List, Optional, Tuple
 
 import sides
 from figures import each_of, spread_of, EVEN
-from plan import ONCE, Row
+from plan import GROUPS, ONCE, Row
 
 #: rounds below which no figure is given
 LEAST_ROUNDS = 3
@@ -135,3 +135,15 @@ def measure(programs: sides.Programs, rows: List[Row], pace: Pace) -> Tuple[Meas
     except KeyboardInterrupt:
         say("interrupted: the works that were not measured again keep the rounds that they had")
     return measured, rounds
+
+
+def added_to(old: Dict[str, object], new: Dict[str, object]) -> Dict[str, object]:
+    """The old file, with the groups that the new one has in place of its own, and when these were measured."""
+    groups = list(dict.fromkeys(row["group"] for row in new["rows"]))
+    moment = {"groups": groups, "before": new["before"], "after": new["after"],
+              "revision": new["versions"]["revision"]}
+    others = [{**told, "groups": [group for group in told["groups"] if group not in groups]}
+              for told in old.get("earlier", [])]
+    kept = [row for row in old["rows"] if row["group"] not in groups]
+    rows = sorted(kept + new["rows"], key=lambda row: GROUPS.index(row["group"]))
+    return {**old, "earlier": [told for told in others if told["groups"]] + [moment], "rows": rows}

@@ -16,7 +16,7 @@ import building
 import machine
 import sides
 from inputs import SEEDS
-from measuring import Measurements, Pace, measure
+from measuring import Measurements, Pace, added_to, measure
 from plan import FULL, GROUPS, QUICK, Row, rows_of
 
 HERE = Path(__file__).resolve().parent
@@ -37,6 +37,8 @@ def arguments() -> argparse.Namespace:
     parser.add_argument("--directory", type=Path, default=building.OUT, help="a folder on a disk, for files")
     parser.add_argument("--memory", type=Path, default=Path("/dev/shm"), help="a folder in memory, for files")
     parser.add_argument("--output", type=Path, default=HERE / "measurements.json")
+    parser.add_argument("--add", action="store_true",
+                        help="keep the rows that the output file has of other groups, and say when each was measured")
     parser.add_argument("--outside", action="append", default=[], metavar="NAME=PROGRAM",
                         help="a side that is built elsewhere and takes the words of crates/bench_store")
     parser.add_argument("--no-build", action="store_true", help="take what was built before")
@@ -48,6 +50,8 @@ def arguments() -> argparse.Namespace:
         parser.error("at least one round")
     if given.quick and given.documents:
         parser.error("--quick has no figures for the documents")
+    if given.add and not given.output.is_file():
+        parser.error(f"--add: there is no {given.output}")
     return given
 
 
@@ -136,6 +140,8 @@ def main() -> int:
         "after": machine.load(),
         "rows": measured.rows(),
     }
+    if given.add:
+        whole = added_to(json.loads(given.output.read_text()), whole)
     given.output.write_text(text_of(whole))
     print(f"{given.output}: {len(whole['rows'])} rows", file=sys.stderr)
     if given.documents:

@@ -164,9 +164,10 @@ def long_log(figures: Figures) -> str:
     if not rows:
         return "The memory of a long log is not measured yet."
     row, taken = rows[0], rows[0]["rounds"][0]
-    return (f"A process that appends {row['documents']} records of {row['length']} bytes on a disk, {row['questions']} a "
-            f"sync, and then opens the log and reads all of them has at most {taken['peak_bytes'] / 1e6:.0f} MB of "
-            f"memory; an append takes {time_text(taken['ns'] / taken['count'])}. That was measured once.")
+    append = time_text(taken["ns"] / taken["count"])
+    return (f"A process that appends {row['documents']} records of {row['length']} bytes on a disk, {row['questions']} "
+            f"a sync, and then opens the log and reads all of them has at most {taken['peak_bytes'] / 1e6:.0f} MB of "
+            f"memory; an append takes {append}. That was measured once.")
 
 
 RANGED = {("ranged", "ranges"): "`zevk_get_in`, a block each", ("plain_ranged", "ranges"): "floor",

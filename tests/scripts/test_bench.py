@@ -51,6 +51,23 @@ class Command(unittest.TestCase):
         self.assertEqual(subprocess.run(words, capture_output=True).returncode, 2)
 
 
+class Adding(unittest.TestCase):
+    """Groups that are measured into a file that has others."""
+
+    def file(self, revision: str, *groups: str) -> dict[str, object]:
+        return {"before": f"{revision} before", "after": f"{revision} after", "versions": {"revision": revision},
+                "rounds": 9, "rows": [{"group": group, "of": revision} for group in groups]}
+
+    def test_the_other_groups_stay_and_each_says_when_it_was_measured(self):
+        first = measuring.added_to(self.file("one", "read", "program", "log"), self.file("two", "program", "log"))
+        both = measuring.added_to(first, self.file("three", "log"))
+        self.assertEqual([(row["group"], row["of"]) for row in both["rows"]],
+                         [("read", "one"), ("program", "two"), ("log", "three")])
+        self.assertEqual(both["versions"], {"revision": "one"})
+        self.assertEqual([(told["groups"], told["revision"]) for told in both["earlier"]],
+                         [(["program"], "two"), (["log"], "three")])
+
+
 class SameWork(FolderCase):
     """Sides that are no part of `crates/bench_store` get its documents, by the checks that it has to print."""
 
