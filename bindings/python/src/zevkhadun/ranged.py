@@ -6,10 +6,10 @@ import operator
 from collections import OrderedDict
 from collections.abc import Sequence
 from threading import Lock
-from types import TracebackType
-from typing import Callable, Dict, Iterable, Iterator, List, Optional, Tuple, Type, Union, overload
+from typing import Callable, Dict, Iterable, Iterator, List, Optional, Tuple, Union, overload
 
 from ._core import block_of, get_in
+from .closing import Closing
 from .refusals import Closed, DamagedDocument, NoDocument, Refused, error_of
 from .store import Damaged
 from .types import Buffer
@@ -62,7 +62,7 @@ class _Cache:
             self._size = 0
 
 
-class RangedStore(Sequence[bytes]):
+class RangedStore(Closing, Sequence[bytes]):
     """A store that is read by ranges of its file: in object storage, on a web server, in an archive.
 
     `read(start, length)` returns that many bytes of the file from that offset on, and may raise anything. Opening takes
@@ -176,14 +176,6 @@ class RangedStore(Sequence[bytes]):
         """Drops the cache. Later gets raise Closed."""
         self._read = None
         self._cache.clear()
-
-    def __enter__(self) -> "RangedStore":
-        return self
-
-    def __exit__(
-        self, kind: Optional[Type[BaseException]], error: Optional[BaseException], trace: Optional[TracebackType]
-    ) -> None:
-        self.close()
 
     def __repr__(self) -> str:
         what = "" if self._path is None else f"{self._path!r}, "

@@ -5,10 +5,10 @@ from __future__ import annotations
 import os
 import struct
 from collections.abc import Sequence
-from types import TracebackType
-from typing import Any, Iterator, Literal, Optional, Tuple, Type, Union
+from typing import Any, Iterator, Literal, Optional, Tuple, Union
 
 from ._core import Documents, Reader
+from .closing import Closing
 from .types import Buffer, Path
 
 #: what comes in place of a damaged document: an exception, nothing, or None
@@ -20,7 +20,7 @@ _FOOTER = struct.Struct("<IQBB14x")
 _OLD_PERIOD = 8
 
 
-class Store(Reader, Sequence[bytes]):
+class Store(Reader, Closing, Sequence[bytes]):
     """A store: a sequence of bytes, in a file that is mapped into memory and may be larger than memory.
 
     A get copies the document out of the file; `view` doesn't. Any number of threads may use a store at once. It is
@@ -90,14 +90,6 @@ class Store(Reader, Sequence[bytes]):
         """
         self._close()
         self._source = None
-
-    def __enter__(self) -> "Store":
-        return self
-
-    def __exit__(
-        self, kind: Optional[Type[BaseException]], error: Optional[BaseException], trace: Optional[TracebackType]
-    ) -> None:
-        self.close()
 
     def __reduce__(self) -> Tuple[Any, ...]:
         if not self.is_open:

@@ -7,9 +7,9 @@ import os
 from bisect import bisect_right
 from collections.abc import Sequence
 from itertools import accumulate
-from types import TracebackType
-from typing import Any, Dict, Iterable, Iterator, List, Optional, Tuple, Type, Union, overload
+from typing import Any, Dict, Iterable, Iterator, List, Tuple, Union, overload
 
+from .closing import Closing
 from .ranged import RangedStore
 from .refusals import NoDocument
 from .store import Damaged, Store
@@ -19,7 +19,7 @@ from .types import Path
 Part = Union[Store, RangedStore, Path]
 
 
-class Stores(Sequence[bytes]):
+class Stores(Closing, Sequence[bytes]):
     """The documents of many stores, one after the other, as one sequence.
 
     There may be more than 2^32 of them. It is pickled by the paths. Any number of threads may use it at once.
@@ -112,14 +112,6 @@ class Stores(Sequence[bytes]):
         """Closes all stores. Raises BufferError as long as one of them has views; it stays open then."""
         for store in self._stores:
             store.close()
-
-    def __enter__(self) -> "Stores":
-        return self
-
-    def __exit__(
-        self, kind: Optional[Type[BaseException]], error: Optional[BaseException], trace: Optional[TracebackType]
-    ) -> None:
-        self.close()
 
     def __reduce__(self) -> Tuple[Any, ...]:
         return type(self), (self._stores,)

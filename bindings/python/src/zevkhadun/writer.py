@@ -9,6 +9,7 @@ from types import TracebackType
 from typing import Optional, Type
 
 from ._core import Packer
+from .closing import Closing
 from .output import Output
 from .refusals import BadPeriod
 from .types import Path
@@ -17,7 +18,7 @@ from .types import Path
 MOST = 2**64 - 1
 
 
-class Writer(Packer):
+class Writer(Packer, Closing):
     """A store that is written to a file, document by document.
 
     The bytes go to a second file, whose name ends in `.part`. `close`, or the end of a `with` without an exception,
@@ -59,9 +60,6 @@ class Writer(Packer):
         """
         if self._stage != "closed":
             self._finish(self._period)
-
-    def __enter__(self) -> "Writer":
-        return self
 
     def __exit__(
         self, kind: Optional[Type[BaseException]], error: Optional[BaseException], trace: Optional[TracebackType]
