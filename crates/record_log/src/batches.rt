@@ -1,7 +1,7 @@
 //! Batches of records: how they are written, and how they are read after a crash.
 
 ghost use Rattle.std.specs.Prelude.{◌≡◌, ◌≤◌, ◌<◌, ◌+◌, ◌^◌, ◌++◌, ◌∷◌, [], List, ℕ, true, false, length, drop, take};
-ghost use Rattle.std.specs.Prelude.{IfOk, OnOk, IfSome, IfNone, All, slice_range};
+ghost use Rattle.std.specs.Prelude.{IfOk, OnOk, OnErr, IfSome, IfNone, All, slice_range};
 ghost use Rattle.record_log.specs.Tail.{four_in, framed, sum_of, summed, has_whole, has_sum, has_batch};
 ghost use Rattle.record_log.specs.Tail.{records_in, records_of, bodies_after, IsWholeTo};
 ghost use Rattle.record_log.specs.Place.{contents, EndsBy, AddsRecords};
@@ -177,9 +177,9 @@ pub(crate) fn staged_batch(alloc: Global, body: &[u8]) -> Result<Vec<u8>, AllocE
     Ok(batch)
 }
 
-/// Puts a record after others of a body.
+// Writes a record after others of a body. An error may leave bytes after them.
 #[tactic(auto, unfolding(crate::specs::Tail::four))]
-pub fn add_record(body: &mut Vec<u8>, bytes: &[u8]) -> Result<(), AllocError>
+fn write_record(body: &mut Vec<u8>, bytes: &[u8]) -> Result<(), AllocError>
     requires { length bytes.now < 2 ^ 32 }
     ensures added { OnOk result (body.new.items ≡ body.old.items ++ framed bytes.now) }
     ensures kept { take (length body.old.items) body.new.items ≡ body.old.items }
@@ -187,4 +187,19 @@ pub fn add_record(body: &mut Vec<u8>, bytes: &[u8]) -> Result<(), AllocError>
     body.extend_from_slice(&(bytes.len() as u32).to_le_bytes())?;
     body.extend_from_slice(bytes)?;
     Ok(())
+}
+
+/// Puts a record after others of a body. An error leaves the body as it was.
+#[inline]
+pub fn add_record(body: &mut Vec<u8>, bytes: &[u8]) -> Result<(), AllocError>
+    requires { length bytes.now < 2 ^ 32 }
+    ensures added { OnOk result (body.new.items ≡ body.old.items ++ framed bytes.now) }
+    ensures kept { OnErr result (body.new.items ≡ body.old.items) }
+{
+    let len = body.len();
+    let written = write_record(body, bytes);
+    if written.is_err() {
+        body.truncate(len);
+    }
+    written
 }

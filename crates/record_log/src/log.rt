@@ -184,20 +184,12 @@ impl<D: Device> RecordLog<D> {
         if bytes.len() > MAX_BODY - 4 {
             return Err(LogError::TooLong);
         }
-        let len = self.pending.len();
-        if bytes.len() + 4 > MAX_BODY - len {
+        if bytes.len() + 4 > MAX_BODY - self.pending.len() {
             return Err(LogError::BatchFull);
         }
-        match add_record(&mut self.pending, bytes) {
-            Ok(()) => {
-                self.next = number + 1;
-                Ok(number)
-            }
-            Err(_) => {
-                self.pending.truncate(len);
-                Err(LogError::Memory)
-            }
-        }
+        add_record(&mut self.pending, bytes)?;
+        self.next = number + 1;
+        Ok(number)
     }
 
     /// Puts the pending records on the disk, as one batch. After an Ok they are acknowledged: each crash leaves them.

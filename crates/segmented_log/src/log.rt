@@ -104,20 +104,12 @@ impl<F: ReadableFolder> SegmentedLog<F> {
         if bytes.len() > MAX_RECORD {
             return Err(LogError::TooLong);
         }
-        let len = self.pending.len();
-        if bytes.len() + 4 > MAX_BODY - len {
+        if bytes.len() + 4 > MAX_BODY - self.pending.len() {
             return Err(LogError::BatchFull);
         }
-        match add_record(&mut self.pending, bytes) {
-            Ok(()) => {
-                self.next = number + 1;
-                Ok(number)
-            }
-            Err(_) => {
-                self.pending.truncate(len);
-                Err(LogError::Memory)
-            }
-        }
+        add_record(&mut self.pending, bytes)?;
+        self.next = number + 1;
+        Ok(number)
     }
 
     /// Whether a call on the folder failed: then the log must be opened again.

@@ -8,13 +8,16 @@ use Rattle.segmented_log.proofs.SyncLemmas.{next_number, both_on_false}
 use Rattle.segmented_log.proofs.log.SegmentedLog.append.Goals as goal
 
 pub invariant_of-self : goal.invariant_of-self
-invariant_of-self g c =
+invariant_of-self g c = rw c.in_err-add_record.ensures.kept c.self.invariant
+
+pub invariant_of-self-2 : goal.invariant_of-self-2
+invariant_of-self-2 g c =
     let known = OnFalse_at c.if-self.false c.self.invariant in
     let s = known.0 in
     let log = c.self.inside in
     let bytes = c.args.bytes.now in
     let body = c.add_record.new.body.items in
-    let more = one_more log.pending.items bytes body (omega arith) c.in-Ok.ensures.added s.pending_whole in
+    let more = one_more log.pending.items bytes body (omega arith) c.in_ok-add_record.ensures.added s.pending_whole in
     let now : IsSettledTail log.sealed log.tail_first (log.next + 1) log.tail.items log.places.items body = record {
       is_tail = s.is_tail;
       whole = s.whole;
@@ -26,18 +29,18 @@ invariant_of-self g c =
       next_is = omega (arith, s.next_is, ap length more.1, length-append (records_in log.pending.items) (bytes ∷ []));
       fits = omega arith;
       pending_whole = more.0;
-      small = omega (arith, ap length c.in-Ok.ensures.added, length-append log.pending.items (framed bytes), length-append (four (length bytes)) bytes, length-four (length bytes));
+      small = omega (arith, ap length c.in_ok-add_record.ensures.added, length-append log.pending.items (framed bytes), length-append (four (length bytes)) bytes, length-four (length bytes));
     } in
     both_on_false _ _ _ now known.1
 
-pub returns-in-Ok-clause-pending : goal.returns-in-Ok-clause-pending
-returns-in-Ok-clause-pending g c =
+pub returns-clause-pending : goal.returns-clause-pending
+returns-clause-pending g c =
     let s = (OnFalse_at c.if-self.false c.self.invariant).0 in
-    let more = one_more c.self.inside.pending.items c.args.bytes.now c.add_record.new.body.items (omega arith) c.in-Ok.ensures.added s.pending_whole in
+    let more = one_more c.self.inside.pending.items c.args.bytes.now c.add_record.new.body.items (omega arith) c.in_ok-add_record.ensures.added s.pending_whole in
     more.1 ∙ ap (λ v. v.pending ++ c.args.bytes.now ∷ []) c.self.view_is
 
-pub returns-in-Ok-clause-number : goal.returns-in-Ok-clause-number
-returns-in-Ok-clause-number g c = λ h.
+pub returns-clause-number : goal.returns-clause-number
+returns-clause-number g c = λ h.
     let known = OnFalse_at c.if-self.false c.self.invariant in
     next_number _ _ _ _ _ _ known.0 _ _ (known.1 h).0.parts
     ∙ ap (λ v. v.first + length v.slots + length v.pending) c.self.view_is
