@@ -1,4 +1,7 @@
 //! What a store keeps: documents, by the bytes that they write and are read from.
+//!
+//! A type that is stored implements `Document`. One that is also read implements `DocumentDeserialize`, and
+//! `StoredDocument` if what is read is known by what was stored. Documents that are bytes already need none of these.
 
 ghost use Rattle.std.specs.Prelude.{◌≡◌, ◌≤◌, ℕ, List, Option, Some, None, IfOk, OnOk, IsErrOf, vec_capacity};
 ghost use Rattle.store_base.specs.Documents.{Appends, BeginsWith};
