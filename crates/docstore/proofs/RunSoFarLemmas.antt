@@ -27,7 +27,7 @@ pub record IsRunSoFar (size period : ℕ) (held : List ℕ) (trace : List Step) 
   pub full : AllByRecursion (IsFull size) groups
   pub finished : w.output.finished ≡ front ++ map block_of groups
   pub light : weight w.pending ≤ size
-  pub goes_on : (rest : List Step) (bs : List StoreBlock) → BlocksFrom size (flat_map (λ (g : List (List ℕ)). g) groups ++ w.pending) rest bs → BlocksFrom size [] (trace ++ rest) (front ++ bs)
+  pub goes_on : (rest : List Step) (bs : List StoreBlock) → BlocksFrom size (joined groups ++ w.pending) rest bs → BlocksFrom size [] (trace ++ rest) (front ++ bs)
 
 pub run_begins : (size period : ℕ) (held : List ℕ) (w : Writing) → w.block_size ≡ size → w.output.period ≡ period → w.output.before ≡ held → w.pending ≡ [] → w.output.finished ≡ []
     → IsRunSoFar size period held [] w

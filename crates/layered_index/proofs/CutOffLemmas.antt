@@ -4,6 +4,7 @@ use Rattle.std.proofs.Common.{Option, Some, None, refl, sym, ◌∙◌, ap, arit
 use Rattle.std.proofs.lemmas.Bool.{lt-ltb, le-ltb, ltb-true, cond-true, cases_lt, eqb-false, ne_eqb}
 use Rattle.std.proofs.lemmas.List.{take_all, take-append-drop, length-take}
 use Rattle.std.proofs.Math.Nat.{pow-suc, pow-zero}
+use Rattle.std.proofs.lemmas.Option.{none-some}
 use Rattle.store_base.specs.VInt.{◌>>=◌, number_at, number_below}
 use Rattle.store_base.specs.ReadingLemmas.{last, longer, goes_on, guard_some, bind_some, some_is, pass_some}
 use Rattle.layered_index.specs.declared.checkpoint.Checkpoint.{Checkpoint}
@@ -110,10 +111,7 @@ alike limit k front back some few = by_whole (number_below limit (front ++ back)
   where
     not_grown : (o : Option (ℕ × List ℕ)) → number_below limit front ≡ o → number_below limit (front ++ back) ≡ None → number_below limit front ≡ None
     not_grown None e none = e
-    not_grown (Some x) e none = absurd (some_none (below_grown limit front back x.0 x.1 e) none)
-      where
-        some_none : {A : Type 0} {o : Option A} {x : A} → o ≡ Some x → o ≡ None → ⊥
-        some_none e f = cc
+    not_grown (Some x) e none = absurd (none-some _ (sym none ∙ below_grown limit front back x.0 x.1 e))
 
     by_whole : (o : Option (ℕ × List ℕ)) → number_below limit (front ++ back) ≡ o → IsAlike limit (suc k) front back
     by_whole (Some x) e = inr (below_kept limit k front back x.0 x.1 some few e)

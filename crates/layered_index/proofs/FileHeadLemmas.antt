@@ -14,7 +14,7 @@ use Rattle.layered_index.specs.IndexReading.{numbers_at, HasIndex}
 use Rattle.layered_index.specs.IndexHeads.{longest_head, HeadBytes, index_in, IsHeadOf, IsHead, HasNoHead}
 use Rattle.layered_index.specs.Sought.{after_numbers, IsHeaded}
 use Rattle.layered_index.proofs.CutOffLemmas.{below_grown, below_kept}
-use Rattle.layered_index.proofs.IndexHeadLemmas.{no_count, no_ends, head_few, put_front, rest_of}
+use Rattle.layered_index.proofs.IndexHeadLemmas.{none_is_some, no_count, no_ends, head_few, put_front, rest_of}
 
 -- ---- what follows numbers is after them
 
@@ -130,18 +130,12 @@ no_head period bytes two small fits none has = by_count (number_below 65 bytes) 
 
 -- bytes that lack the count, or a number after it
 pub not_counted : (bytes : List ℕ) → number_below 65 bytes ≡ None → HasNoHead bytes
-not_counted bytes none count ends rest e f = some_none e none
-  where
-    some_none : {A : Type 0} {o : Option A} {x : A} → o ≡ Some x → o ≡ None → ⊥
-    some_none e f = cc
+not_counted bytes none count ends rest e f = none_is_some (number_below 65 bytes) none e
 
 pub not_ended : (bytes : List ℕ) (count : ℕ) (ends : List ℕ) → number_below 65 bytes ≡ Some (count, ends) → after_numbers count ends ≡ None → HasNoHead bytes
 not_ended bytes count ends counted none count' ends' rest e f =
     let same = some_is (count', ends') (count, ends) (sym e ∙ counted) in
-    some_none f (ap (λ (x : ℕ × List ℕ). after_numbers x.0 x.1) same ∙ none)
-  where
-    some_none : {A : Type 0} {o : Option A} {x : A} → o ≡ Some x → o ≡ None → ⊥
-    some_none e f = cc
+    none_is_some (after_numbers count' ends') (ap (λ (x : ℕ × List ℕ). after_numbers x.0 x.1) same ∙ none) f
 
 -- ---- the head of a file
 

@@ -1,8 +1,10 @@
 -- Lists in line are cut and joined; and for callers: one that is known to end somewhere takes what begins there.
-use Rattle.std.proofs.Common.{◌≡◌, ℕ, ◌+◌, ◌^◌, ◌<◌, List, [], ◌∷◌, ◌++◌, take, drop, refl, sym, ◌∙◌, subst, arith}
+use Rattle.std.proofs.Common.{◌≡◌, ℕ, ◌+◌, ◌^◌, ◌<◌, ◌≤◌, List, [], ◌∷◌, ◌++◌, length, take, drop, refl, sym, ◌∙◌, ap, subst, arith}
+use Rattle.std.proofs.Common.{append_assoc}
 use Rattle.std.proofs.lemmas.List.{take-append-drop}
+use Rattle.std.specs.List.{AllByRecursion}
 use Rattle.layered_index.specs.declared.checkpoint.Checkpoint.{Checkpoint}
-use Rattle.layered_index.specs.Checkpoint.{checkpoint, docs_end, bytes_end, IsWithinLimits, IsInLineFrom, IsInLine}
+use Rattle.layered_index.specs.Checkpoint.{checkpoint, docs_end, bytes_end, IsFilled, IsWithinLimits, IsInLineFrom, IsInLine}
 use Rattle.layered_index.specs.Checkpoint.{EndsAt}
 
 -- a list that goes on is a front and a rest that goes on from there
@@ -28,11 +30,29 @@ in_line_somewhere [] h = (0, 0, tt)
 in_line_somewhere (c ∷ cs) h = (c.doc_range.start, c.byte_range.start, h)
 
 -- a front of a list in line is in line
+pub in_line_front : (xs ys all : List Checkpoint) → xs ++ ys ≡ all → IsInLine all → IsInLine xs
+in_line_front xs ys all is h =
+    let from = in_line_somewhere all h in
+    in_line_from from.0 from.1 xs
+    (in_line-split from.0 from.1 xs ys (subst (IsInLineFrom from.0 from.1) (sym is) from.2)).0
+
 pub in_line_take : (n : ℕ) (cs : List Checkpoint) → IsInLine cs → IsInLine (take n cs)
-in_line_take n cs h =
-    let from = in_line_somewhere cs h in
-    in_line_from from.0 from.1 (take n cs) (in_line-split from.0 from.1 (take n cs) (drop n cs)
-    (subst (IsInLineFrom from.0 from.1) (sym (take-append-drop n cs)) from.2)).0
+in_line_take n cs h = in_line_front (take n cs) (drop n cs) cs (take-append-drop n cs) h
+
+-- the next of those that are left can be put after the others
+pub next_in_line : (before left more all : List Checkpoint) (c : Checkpoint) → before ++ left ≡ all → left ≡ c ∷ more
+    → IsInLine all → IsInLine (before ++ c ∷ [])
+next_in_line before left more all c is next h =
+    in_line_front (before ++ c ∷ []) more all
+    (append_assoc before (c ∷ []) more ∙ ap (λ (xs : List Checkpoint). before ++ xs) (sym next) ∙ is) h
+
+-- each of them that is filled has a document
+pub few_filled : (doc byte : ℕ) (cs : List Checkpoint) → IsInLineFrom doc byte cs → AllByRecursion IsFilled cs
+    → doc + length cs ≤ docs_end doc cs
+few_filled doc byte [] line filled = omega arith
+few_filled doc byte (c ∷ cs) line filled =
+    let on = few_filled c.doc_range.end c.byte_range.end cs line.3 filled.1 in
+    omega (arith, on, line.0, filled.0.0)
 
 -- the end of what one more was put after
 pub docs_end-put : (doc : ℕ) (cs : List Checkpoint) (c : Checkpoint) → docs_end doc (cs ++ c ∷ []) ≡ c.doc_range.end

@@ -1,11 +1,13 @@
 -- Batches at the front of bytes.
-use Rattle.std.proofs.Common.{◌≡◌, ◌≢◌, ◌⊎◌, ◌<◌, ◌≤◌, ◌^◌, ◌==◌, ◌&&◌, ℕ, zero, suc, ◌+◌, ◌-◌, List, [], ◌∷◌, ◌++◌}
+use Rattle.std.proofs.Common.{◌≡◌, ◌≢◌, ◌<◌, ◌≤◌, ◌^◌, ◌==◌, ◌&&◌, ℕ, zero, suc, ◌+◌, ◌-◌, List, [], ◌∷◌, ◌++◌}
 use Rattle.std.proofs.Common.{length, take, drop, Bool, true, false, refl, sym, ◌∙◌, ap, arith, length-append, length-take, length-drop, append_assoc, inl, inr}
 use Rattle.std.proofs.lemmas.List.{drop_all, drop_at, take-append-le, take-take, drop-take}
+use Rattle.std.proofs.Math.Bool.{and-false}
 use Rattle.std.proofs.lemmas.Bool.{cases_eq, cond-true, cond-false}
 use Rattle.std.proofs.lemmas.Bool.Decides.{nat_tests}
 use Rattle.std.proofs.lemmas.Nat.{from_le_bytes-to_le_bytes_8}
 use Rattle.std.specs.Prelude.{nat_le}
+use Rattle.store_base.proofs.ListLemmas.{both}
 use Rattle.std.specs.Int.{w64, from_le_bytes}
 use Rattle.record_log.specs.Tail.{four, four_in, eight, eight_in, sum_of, summed, has_whole, has_sum, has_batch, front_item, front_body, bodies_after}
 use Rattle.record_log.proofs.Frames.{IsFramed, length-four, four_in_front, le_fits, fits_le, cases_bool, whole_fits}
@@ -23,18 +25,6 @@ eight_in_front a b same = ap (λ (l : List ℕ). from_le_bytes w64 l) same
 eight_in-eight : (n : ℕ) → n < 2 ^ 64 → eight_in (eight n) ≡ n
 unfolding eight eight_in
 eight_in-eight n small = from_le_bytes-to_le_bytes_8 n small
-
-and_left : (a b : Bool) → (a && b) ≡ true → a ≡ true
-and_left true b is = refl
-and_left false b is = is
-
-and_right : (a b : Bool) → (a && b) ≡ true → b ≡ true
-and_right true b is = is
-and_right false b is = absurd (cc is)
-
-and_false : (b : Bool) → (b && false) ≡ false
-and_false true = refl
-and_false false = refl
 
 eq_true : (a b : ℕ) → a ≡ b → (a == b) ≡ true
 eq_true a b is = grind (arith, nat_tests)
@@ -56,7 +46,7 @@ batch_open bytes batch =
 pub batch_none : (gate : ℕ) (bytes : List ℕ) → has_batch bytes ≡ false → bodies_after 0 (gate ∷ bytes) ≡ []
 batch_none gate bytes none =
     cond-false ((gate == 1) && has_batch bytes) (front_body bytes ∷ bodies_after (4 + four_in bytes) bytes) []
-    (ap (λ (w : Bool). (gate == 1) && w) none ∙ and_false (gate == 1))
+    (ap (λ (w : Bool). (gate == 1) && w) none ∙ and-false (gate == 1))
 
 pub gate_shut : (gate : ℕ) (bytes : List ℕ) → gate ≢ 1 → bodies_after 0 (gate ∷ bytes) ≡ []
 gate_shut gate bytes shut =
@@ -67,10 +57,10 @@ pub closed_alone : bodies_after 0 (0 ∷ []) ≡ []
 closed_alone = gate_shut 0 [] (λ e. omega arith)
 
 batch_whole : (bytes : List ℕ) → has_batch bytes ≡ true → has_whole bytes ≡ true
-batch_whole bytes batch = and_left (has_whole bytes) (has_sum (front_item bytes)) batch
+batch_whole bytes batch = (both (has_whole bytes) (has_sum (front_item bytes)) batch).0
 
 batch_sum : (bytes : List ℕ) → has_batch bytes ≡ true → has_sum (front_item bytes) ≡ true
-batch_sum bytes batch = and_right (has_whole bytes) (has_sum (front_item bytes)) batch
+batch_sum bytes batch = (both (has_whole bytes) (has_sum (front_item bytes)) batch).1
 
 pub batch_fits : (bytes : List ℕ) → has_batch bytes ≡ true → 4 + four_in bytes ≤ length bytes
 batch_fits bytes batch = whole_fits bytes (batch_whole bytes batch)
@@ -81,7 +71,7 @@ item_long bytes whole = omega (arith, whole_fits bytes whole, length-take (four_
 pub batch_long : (bytes : List ℕ) → has_batch bytes ≡ true → 8 ≤ four_in bytes
 batch_long bytes batch =
     let item = front_item bytes in
-    let fits = le_fits 8 (length item) (and_left (nat_le 8 (length item)) (eight_in item == sum_of (drop 8 item)) (batch_sum bytes batch)) in
+    let fits = le_fits 8 (length item) (both (nat_le 8 (length item)) (eight_in item == sum_of (drop 8 item)) (batch_sum bytes batch)).0 in
     omega (arith, fits, item_long bytes (batch_whole bytes batch))
 
 pub short_nothing : (bytes : List ℕ) → length bytes ≤ 1 → bodies_after 0 bytes ≡ []
@@ -184,18 +174,6 @@ one_alone (gate ∷ bytes) body more is short = elim (cases_eq gate 1) [
     | inr other ↦ absurd (no_bodies body more (bodies_after 0 (gate ∷ bytes)) is (batch_none gate bytes other))
   ]
   | inr shut ↦ absurd (no_bodies body more (bodies_after 0 (gate ∷ bytes)) is (gate_shut gate bytes shut))
-]
-
-pub same_bytes : (a b : List ℕ) → (a ≡ b) ⊎ (a ≢ b)
-same_bytes [] [] = inl refl
-same_bytes [] (y ∷ b) = inr (λ e. cc e)
-same_bytes (x ∷ a) [] = inr (λ e. cc e)
-same_bytes (x ∷ a) (y ∷ b) = elim (cases_eq x y) [
-  | inl head ↦ elim (same_bytes a b) [
-    | inl tail ↦ inl (λ i. head i ∷ tail i)
-    | inr other ↦ inr (λ e. let tails : a ≡ b = cc e in other tails)
-  ]
-  | inr other ↦ inr (λ e. let heads : x ≡ y = cc e in other heads)
 ]
 
 -- the parts of a batch after other bytes

@@ -1,5 +1,4 @@
 pub mod Bodies
-pub mod Counts
 pub mod Frames
 pub mod Logs
 pub mod Moments

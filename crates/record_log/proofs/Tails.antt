@@ -7,7 +7,8 @@ use Rattle.record_log.specs.declared.tail.Commit.{Commit}
 use Rattle.record_log.specs.declared.tail.Commit.TheVariants.{OneSync, TwoSyncs}
 use Rattle.record_log.specs.Durable.{BeginsWith, IsButFor, IsCutTo}
 use Rattle.record_log.specs.Tail.{four_in, sum_of, summed, has_batch, front_body, bodies_after, bodies_of, IsWholeTo, IsAtRest, IsWithOrWithout, IsSameTail}
-use Rattle.record_log.proofs.Bodies.{bodies_skip, gate_shut, closed_alone, batch_fits, short_nothing, front_nothing, summed_is, front_summed, bodies_summed, length-summed, one_alone, same_bytes}
+use Rattle.store_folder.proofs.NamesLemmas.{decided}
+use Rattle.record_log.proofs.Bodies.{bodies_skip, gate_shut, closed_alone, batch_fits, short_nothing, front_nothing, summed_is, front_summed, bodies_summed, length-summed, one_alone}
 
 -- ---- a tail that is read from its beginning
 
@@ -147,7 +148,7 @@ module _ (end : ℕ) (file body : List ℕ) (rest : IsAtRest OneSync end file) (
       let header = header_kept end file rest.whole c after here in
       elim (cases_of (bodies_after 0 after)) [
         | inl none ↦ record { header = header; bodies = inl (bodies ∙ ap (λ (l : List (List ℕ)). bodies_of file ++ l) none ∙ append-nil (bodies_of file)) }
-        | inr (other, more, begins) ↦ elim (same_bytes other body) [
+        | inr (other, more, begins) ↦ elim (decided other body) [
           | inl same ↦
               let begins_so : bodies_after 0 after ≡ body ∷ more = begins ∙ ap (λ (x : List ℕ). x ∷ more) same in
               let alone : more ≡ [] = one_alone after body more begins_so (omega (arith, short, n_is)) in

@@ -7,7 +7,7 @@ use Rattle.store_folder.specs.Folder.{Look}
 use Rattle.store_format.specs.Block.{Slot, doc}
 use Rattle.record_log.specs.Log.{IsWholeRecords}
 use Rattle.record_log.specs.Tail.{records_in, records_of, records_from, first_of, bodies_of, bodies_after, IsTail, IsWholeTo}
-use Rattle.record_log.proofs.Bodies.{same_bytes}
+use Rattle.store_folder.proofs.NamesLemmas.{decided}
 use Rattle.record_log.proofs.Logs.{first_same}
 use Rattle.segmented_log.specs.Names.{segment_name, tail_name}
 use Rattle.segmented_log.specs.Parts.{Part, log_slots, AreParts}
@@ -39,7 +39,7 @@ module _ (tail after : List ℕ) (whole : IsWholeTo (length tail) tail) where
 -- what stands after a tail where a batch of this body was written
 cases_of : (body : List ℕ) (bodies : List (List ℕ)) → (bodies ≡ []) ⊎ ((bodies ≡ body ∷ []) ⊎ ((bodies ≢ []) × (bodies ≢ body ∷ [])))
 cases_of body [] = inl refl
-cases_of body (other ∷ []) = elim (same_bytes other body) [
+cases_of body (other ∷ []) = elim (decided other body) [
   | inl same ↦ inr (inl (ap (λ (b : List ℕ). b ∷ []) same))
   | inr differs ↦ inr (inr ((λ e. cc e), (λ e. let one : other ≡ body = cc e in differs one)))
 ]

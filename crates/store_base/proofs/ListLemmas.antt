@@ -2,7 +2,8 @@
 use Rattle.std.proofs.Common.{◌≡◌, ◌⊎◌, inl, inr, ℕ, zero, suc, ◌+◌, ◌-◌, ◌<◌, ◌≤◌, List, [], ◌∷◌, ◌++◌, length, take, drop, get_or, set, Bool, true, false, ◌&&◌, cond, Option, Some, None}
 use Rattle.std.proofs.Common.{Result, Ok, Err, refl, sym, ◌∙◌, ap, arith, length-drop}
 use Rattle.std.proofs.lemmas.List.{take_more, get_or-drop, drop-set-lt, drop-drop, length-take-le, drop_at, take_at}
-use Rattle.std.specs.Prelude.{slice_range, OnOk, OnErr}
+use Rattle.std.proofs.lemmas.Option.{slice_get_within, get_or_from_slice_get}
+use Rattle.std.specs.Prelude.{slice_get, slice_range, OnOk, OnErr}
 use Rattle.std.specs.List.{AllByRecursion, enumerate_from}
 use Rattle.store_base.specs.Counts.{HasRisen}
 
@@ -10,6 +11,9 @@ use Rattle.store_base.specs.Counts.{HasRisen}
 
 pub risen_later : (a b c : ℕ) → a ≤ b → HasRisen b c → HasRisen a c
 risen_later a b c le h = record { no_lower = omega (arith, h.no_lower); risen = λ lt. omega (arith, h.risen lt) }
+
+pub risen_on : (a b c : ℕ) → HasRisen a b → b ≤ c → HasRisen a c
+risen_on a b c h le = record { no_lower = omega (arith, h.no_lower); risen = λ few. omega (arith, h.risen (omega (arith, few))) }
 
 pub both : (a b : Bool) → (a && b) ≡ true → (a ≡ true) × (b ≡ true)
 both true true is = (refl, refl)
@@ -53,6 +57,25 @@ pub rest_more : {A : Type 0} (olds news : List A) (i : ℕ) (new : A) → drop i
 rest_more olds news i new rest = drop-set-lt (i + 1) news i new (omega arith) ∙ sym (drop-drop 1 i news) ∙ ap (λ xs. drop 1 xs) rest ∙ drop-drop 1 i olds
 
 -- ---- parts and numbers of members
+
+pub get_front : {A : Type 0} (xs ys : List A) (i : ℕ) → i < length xs → slice_get (xs ++ ys) i ≡ slice_get xs i
+get_front [] ys i within = absurd (omega arith)
+get_front (x ∷ xs) ys zero within = refl
+get_front (x ∷ xs) ys (suc i) within = get_front xs ys i (omega arith)
+
+pub get_back : {A : Type 0} (xs ys : List A) (i j : ℕ) → i ≡ length xs + j → slice_get (xs ++ ys) i ≡ slice_get ys j
+get_back [] ys i j is = ap (λ (n : ℕ). slice_get ys n) (omega (arith, is))
+get_back (x ∷ xs) ys zero j is = absurd (omega (arith, is))
+get_back (x ∷ xs) ys (suc i) j is = get_back xs ys i j (omega (arith, is))
+
+pub get_dropped : {A : Type 0} (k : ℕ) (xs : List A) (i j : ℕ) → j ≡ k + i → slice_get (drop k xs) i ≡ slice_get xs j
+get_dropped zero xs i j is = ap (λ (n : ℕ). slice_get xs n) (omega (arith, is))
+get_dropped (suc k) [] i j is = refl
+get_dropped (suc k) (x ∷ xs) i zero is = absurd (omega (arith, is))
+get_dropped (suc k) (x ∷ xs) i (suc j) is = get_dropped k xs i j (omega (arith, is))
+
+pub take_next : {A : Type 0} (xs : List A) (i : ℕ) (x : A) → slice_get xs i ≡ Some x → take (i + 1) xs ≡ take i xs ++ x ∷ []
+take_next xs i x is = take_more xs i x (slice_get_within xs i x is) ∙ ap (λ y. take i xs ++ y ∷ []) (get_or_from_slice_get xs i x x is)
 
 pub length-slice : (xs : List ℕ) (from to : ℕ) → to ≤ length xs → length (slice_range xs from to) ≡ to - from
 length-slice xs from to within = length-take-le (to - from) (drop from xs) (omega (arith, length-drop from xs))

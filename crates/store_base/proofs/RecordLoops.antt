@@ -4,6 +4,7 @@ use Rattle.std.proofs.Common.{arith}
 use Rattle.std.specs.Prelude.{Vec, ◌&&◌}
 use Rattle.std.specs.List.{list_all}
 use Rattle.std.specs.declared.alloc.Global.{Global}
+use Rattle.std.proofs.Math.Bool.{and-false}
 use Rattle.std.proofs.lemmas.Bool.{lt-ltb}
 use Rattle.std.proofs.lemmas.List.{append-nil}
 use Rattle.store_base.specs.declared.fault.DocFault.{DocFault}
@@ -19,16 +20,12 @@ pub bytes_pass : (bs : List ℕ) → AreOctets bs → list_all (λ b. ltb b 256)
 bytes_pass [] fits = refl
 bytes_pass (b ∷ bs) fits = rw (lt-ltb b 256 (fits 0)) (bytes_pass bs (λ i. fits (suc i)))
 
-and_false : (b : Bool) → (b && false) ≡ false
-and_false true = refl
-and_false false = refl
-
 -- a field that can't be written is among them
 none_passes : (schema : ℕ) (fs : List (ℕ × Vec ℕ Global)) (i : ℕ) (f : ℕ × Vec ℕ Global) → i < length fs → f ≡ get_or fs i f → is_writable schema (field_seen f) ≡ false
     → list_all (is_writable schema) (fields_seen fs) ≡ false
 none_passes schema [] i f lt e fails = absurd (omega (arith, lt))
 none_passes schema (g ∷ fs) zero f lt e fails = rw (ap (λ (h : ℕ × Vec ℕ Global). is_writable schema (field_seen h)) (sym e) ∙ fails) refl
-none_passes schema (g ∷ fs) (suc i) f lt e fails = rw (none_passes schema fs i f (omega (arith, lt)) e fails) (and_false (is_writable schema (field_seen g)))
+none_passes schema (g ∷ fs) (suc i) f lt e fails = rw (none_passes schema fs i f (omega (arith, lt)) e fails) (and-false (is_writable schema (field_seen g)))
 
 no_bytes : (a b : Bool) (text : List ℕ) → a ≡ false → cond (a && b) (Some text) None ≡ None
 no_bytes a b text e = rw e refl

@@ -1,5 +1,5 @@
 -- The caller's memory of a writer once a store is put after it.
-use Rattle.std.proofs.Common.{◌≡◌, ℕ, suc, ◌+◌, ◌-◌, ◌^◌, ◌<◌, ◌≤◌, List, [], ◌∷◌, ◌++◌, length, take, map, refl, sym, ap, ◌∙◌, subst, arith, append_assoc, length-append}
+use Rattle.std.proofs.Common.{◌≡◌, ℕ, ◌+◌, ◌-◌, ◌^◌, ◌<◌, ◌≤◌, List, [], ◌∷◌, ◌++◌, length, take, map, refl, sym, ap, ◌∙◌, subst, arith, append_assoc, length-append}
 use Rattle.std.proofs.lemmas.List.{append-nil, map-append, take-map, drop-map, length-map, length-take, length-take-le, take-append-drop, take_all}
 use Rattle.std.proofs.lemmas.Slice.{take-put_mid}
 use Rattle.std.proofs.Math.Seq.{take-append_seam}
@@ -10,7 +10,7 @@ use Rattle.layered_index.specs.declared.checkpoint.Checkpoint.{Checkpoint}
 use Rattle.layered_index.specs.Checkpoint.{IsInLineFrom}
 use Rattle.store_format.specs.Footer.{version_number}
 use Rattle.store_format.specs.StoreFile.{StoreBlock, IsStoreBlock, IsStore, AreBlocks, data_of, docs_in, checkpoints_of, checkpoints_from}
-use Rattle.store_format.proofs.StoreLemmas.{data_of-append, data_fits, AreBlocks-append, checkpoints_from-append, checkpoints_in_line_from}
+use Rattle.store_format.proofs.StoreLemmas.{length-checkpoints, data_of-append, data_fits, AreBlocks-append, checkpoints_from-append, checkpoints_in_line_from}
 use Rattle.store_format.proofs.BlockLemmas.{length-block}
 use Rattle.store_reader.specs.Viewing.{Viewing, count_in}
 use Rattle.docstore.specs.BlockOutput.{BlockOutput, with_blocks}
@@ -50,10 +50,6 @@ without_documents w bs none =
     ap (λ (docs : List (List ℕ)). with_blocks w.output (blocks_of docs)) none
     ∙ (λ i. record w.output { finished = append-nil w.output.finished i; content = append-nil w.output.content i }) in
     ap (λ (out : BlockOutput). record w { pending = []; output = with_blocks out bs }) nothing
-
-pub length-checkpoints : (id byte : ℕ) (bs : List StoreBlock) → length (checkpoints_from id byte bs) ≡ length bs
-length-checkpoints id byte [] = refl
-length-checkpoints id byte (b ∷ bs) = ap suc (length-checkpoints (id + b.count) (byte + length b.bytes) bs)
 
 -- its table has the rows of its blocks
 pub rows_fit : (writer : Writer) (table : List Block) → length table < writer.blocks → IsOther writer table

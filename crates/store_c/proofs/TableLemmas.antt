@@ -2,11 +2,10 @@
 use Rattle.std.proofs.Common.{◌≡◌, ℕ, zero, suc, ◌+◌, ◌<◌, ◌-◌, ◌≤◌, List, [], ◌∷◌, ◌++◌, length, take, drop, set, map, Some, refl, sym, ap, ◌∙◌, subst}
 use Rattle.std.proofs.Common.{arith}
 use Rattle.std.specs.Prelude.{slice_get, slice_index_or}
-use Rattle.std.specs.List.{AllByRecursion}
 use Rattle.std.proofs.lemmas.List.{length-map, length-take-le, map-append, take-append-drop}
 use Rattle.std.proofs.lemmas.Slice.{drop-append-drop}
 use Rattle.layered_index.specs.declared.checkpoint.Checkpoint.{Checkpoint}
-use Rattle.layered_index.specs.Checkpoint.{checkpoint, IsInLineFrom, IsWithinLimits, IsFilled, docs_end}
+use Rattle.layered_index.specs.Checkpoint.{checkpoint, IsInLineFrom, IsWithinLimits, docs_end}
 use Rattle.layered_index.proofs.LineLemmas.{in_line-split}
 use Rattle.docstore.specs.Stacking.{shifted}
 use Rattle.layered_index.proofs.CheckpointLemmas.{same_checkpoint}
@@ -65,11 +64,6 @@ same_ends n table front is =
 pub same_rest : (n : ℕ) (table front : List Block) → n ≤ length table → ends_in front ≡ ends_in (take n table) → drop n (front ++ drop n table) ≡ drop n table
 same_rest n table front le is =
     drop-append-drop n table front n (omega arith) (omega (arith, length-map front end_of, length-map (take n table) end_of, ap length is, length-take-le n table le))
-
--- each block has a document
-pub few_blocks : (doc byte : ℕ) (cs : List Checkpoint) → IsInLineFrom doc byte cs → AllByRecursion IsFilled cs → doc + length cs ≤ docs_end doc cs
-few_blocks doc byte [] r f = omega arith
-few_blocks doc byte (c ∷ cs) r f = let on = few_blocks c.doc_range.end c.byte_range.end cs r.3 f.1 in omega (arith, on, r.0, f.0.0)
 
 -- ---- seeking
 

@@ -7,6 +7,7 @@ use Rattle.store_base.proofs.ListLemmas.{length-slice}
 use Rattle.layered_index.specs.declared.checkpoint.Checkpoint.{Checkpoint}
 use Rattle.layered_index.specs.Checkpoint.{checkpoint, Covers, IsInLineFrom, bytes_end, docs_end, first_past}
 use Rattle.layered_index.specs.Layers.{index_part}
+use Rattle.layered_index.proofs.LineLemmas.{few_filled}
 use Rattle.store_base.proofs.Ranges.{part_of_part}
 use Rattle.store_format.specs.Block.{Slot, slot, doc}
 use Rattle.store_format.specs.Footer.{footer, version_number}
@@ -19,7 +20,6 @@ use Rattle.store_reader.proofs.ViewLemmas.{count_is, seek_stays, slot_none, slot
 use Rattle.store_c.specs.declared.table_row.Block.{Block}
 use Rattle.store_c.specs.declared.place.Place.{Place}
 use Rattle.store_c.specs.Calls.{ends_of, ends_in, IsTableOf, HasSlot, IsPlace, IsTableBlock}
-use Rattle.store_c.proofs.TableLemmas.{few_blocks}
 
 -- ---- the parts of a file
 
@@ -65,7 +65,7 @@ module _ (file : List ℕ) (v : Viewing) (of : IsViewOf file v) where
 
   -- there are no more blocks than documents
   pub no_more : length cs ≤ count_in v
-  no_more = let few = few_blocks 0 0 cs covers.in_line covers.filled in omega (arith, few, count)
+  no_more = let few = few_filled 0 0 cs covers.in_line covers.filled in omega (arith, few, count)
 
   -- where the block that a seek finds lies
   pub block_within : (id : ℕ) (c : Checkpoint) → first_past cs id ≡ Some c → IsWithin 0 0 cs id c

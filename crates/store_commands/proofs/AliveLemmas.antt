@@ -1,20 +1,7 @@
 -- The slots that are in a set.
-use Rattle.std.proofs.Common.{◌≡◌, ℕ, ◌+◌, ◌<◌, ◌≤◌, Bool, true, false, cond, List, [], ◌∷◌, ◌++◌, length, map, Option, refl, ap, ◌∙◌, arith}
-use Rattle.std.specs.List.{filter, enumerate_from}
-use Rattle.std.proofs.lemmas.List.{map-append}
-use Rattle.std.proofs.lemmas.List.Elements.{filter-append}
-use Rattle.store_base.proofs.ListLemmas.{enumerate_append}
+use Rattle.std.proofs.Common.{◌≡◌, ℕ, ◌+◌, ◌<◌, ◌≤◌, Bool, true, false, cond, List, [], ◌∷◌, length, map, Option, refl, ap, arith}
 use Rattle.store_format.specs.Block.{Slot}
-use Rattle.store_reader.specs.Iteration.{is_in, alive}
-use Rattle.store_commands.specs.Documents.{alive_from}
-
-pub alive_joined : (n : ℕ) (xs ys : List Slot) (set : Option (ℕ → Bool)) → alive_from n (xs ++ ys) set ≡ alive_from n xs set ++ alive_from (n + length xs) ys set
-alive_joined n xs ys set =
-    let p : ℕ × Slot → Bool = λ x. is_in set x.0 in
-    let second : ℕ × Slot → Slot = λ x. x.1 in
-    ap (λ (zs : List (ℕ × Slot)). map second (filter p zs)) (enumerate_append n xs ys)
-    ∙ ap (map second) (filter-append p (enumerate_from n xs) (enumerate_from (n + length xs) ys))
-    ∙ map-append second (filter p (enumerate_from n xs)) (filter p (enumerate_from (n + length xs) ys))
+use Rattle.store_reader.specs.Iteration.{is_in, alive, alive_from}
 
 -- sets that agree below the end give the same
 agreed : (n : ℕ) (xs : List Slot) (set other : Option (ℕ → Bool)) → ((id : ℕ) → n ≤ id → id < n + length xs → is_in set id ≡ is_in other id) → alive_from n xs set ≡ alive_from n xs other

@@ -8,7 +8,7 @@ use Rattle.store_format.specs.Slots.{slots}
 use Rattle.store_reader.specs.Reading.{Reading, IsSameStore, store_of}
 use Rattle.store_published.specs.Filling.{AddsSome}
 use Rattle.store_commands.specs.Appending.{CopiesStore, IsAppended}
-use Rattle.store_commands.specs.Documents.{alive_from}
+use Rattle.store_reader.specs.Iteration.{alive_from}
 use Rattle.store_commands.specs.Merging.{is_kept, kept_slots}
 use Rattle.store_commands.proofs.AliveLemmas.{alive_agreed}
 
@@ -21,10 +21,6 @@ pub all_kept : (words : List (Bor (List ℕ))) (reader : Reading) → words ≡ 
 all_kept words reader none =
     ap (λ (ws : List (Bor (List ℕ))). kept_slots ws reader) none ∙ alive_agreed (slots (store_of reader)) (Some (is_kept [])) None (λ id lt. refl)
     ∙ all_alive 0 (slots (store_of reader))
-
--- a reader that was read has the same slots
-pub same_slots : (old new : Reading) → IsSameStore old new → slots (store_of new) ≡ slots (store_of old)
-same_slots old new same = (λ i. slots (store_of (record old { checkpoints = same.checkpoints i; file = record old.file { content = same.content i } })))
 
 pub same_honest : (old new : Reading) → IsSameStore old new → IsTrue new.file.honest → IsTrue old.file.honest
 same_honest old new same honest = subst IsTrue same.honest honest

@@ -4,6 +4,7 @@ use Rattle.std.specs.Prelude.{not, ◌&&◌, ◌||◌, is_none, is_some, IsSome,
 use Rattle.std.specs.List.{count_by, list_all, list_any, range_with_len}
 use Rattle.std.proofs.lemmas.List.{append-nil, map-append}
 use mir.Val.{bool_byte}
+use Rattle.std.proofs.Math.Bool.{and-false}
 use Rattle.std.proofs.lemmas.Bool.Decides.{nat_tests}
 use Rattle.std.proofs.lemmas.Option.{IfSome_then}
 use Rattle.std.proofs.lemmas.List.Concat.{flat_map-append}
@@ -87,11 +88,7 @@ pub sound_if : (block : List ℕ) (n : ℕ) → true ≡ has_table block n → A
 sound_if block n table whole = rw (← table, none_damaged block n whole) refl
 
 pub broken_if : (block : List ℕ) (n k : ℕ) → k < n → slot block k ≡ damaged → false ≡ is_sound block n
-broken_if block n k lt e = rw (one_damaged block n k lt e) (and_false (has_table block n))
-  where
-    and_false : (b : Bool) → false ≡ (b && false)
-    and_false true = refl
-    and_false false = refl
+broken_if block n k lt e = rw (one_damaged block n k lt e) (sym (and-false (has_table block n)))
 
 pub broken_table : (block : List ℕ) (n : ℕ) → false ≡ has_table block n → false ≡ is_sound block n
 broken_table block n table = rw (← table) refl

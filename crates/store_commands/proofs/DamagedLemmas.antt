@@ -2,6 +2,7 @@
 use Rattle.std.proofs.Common.{◌≡◌, ◌≢◌, ℕ, zero, suc, ◌+◌, ◌-◌, ◌<◌, ◌≤◌, Bool, true, false, List, [], ◌∷◌, ◌++◌, length, map, Some, refl, sym, ap, ◌∙◌, arith}
 use Rattle.std.specs.Prelude.{IsTrue, ◌&&◌, ◌||◌, nat_eq, slice_range}
 use Rattle.std.specs.List.{AllByRecursion, list_any, enumerate_from, range_with_len}
+use Rattle.std.proofs.Math.Bool.{and-false, and-true}
 use Rattle.std.proofs.lemmas.Bool.Decides.{nat_tests}
 use Rattle.std.proofs.lemmas.List.Folds.{list_any-append}
 use Rattle.std.proofs.lemmas.List.FromFn.{length-map-range_with_len}
@@ -53,14 +54,6 @@ damaged_one block first n id =
     ∙ ap (λ (k : ℕ). damaged_from first (slots_in block n) id || damaged_from (first + k) (slot block n ∷ []) id) size
     ∙ ap (λ (b : Bool). damaged_from first (slots_in block n) id || b) (or_false (nat_eq (first + n) id && is_damaged (slot block n)))
 
-and_true : (b : Bool) → (b && true) ≡ b
-and_true true = refl
-and_true false = refl
-
-and_false : (b : Bool) → (b && false) ≡ false
-and_false true = refl
-and_false false = refl
-
 pub filled_push : (spans : List IdSpan) (s : IdSpan) → AllByRecursion HasId spans → s.start < s.end → AllByRecursion HasId (spans ++ s ∷ [])
 filled_push [] s h some = (some, tt)
 filled_push (x ∷ xs) s h some = (h.0, filled_push xs s h.1 some)
@@ -71,7 +64,7 @@ pub found_one : (block : List ℕ) (first n : ℕ) (old spans : List IdSpan) →
 found_one block first n old spans h bad id =
     let d = damaged_from first (slots_in block n) id in
     let here : is_in (record { start = first + n; end = (first + n) + 1 }) id ≡ (nat_eq (first + n) id && is_damaged (slot block n)) =
-    range_of_one (first + n) id ∙ sym (ap (λ (b : Bool). nat_eq (first + n) id && b) bad ∙ and_true (nat_eq (first + n) id)) in
+    range_of_one (first + n) id ∙ sym (ap (λ (b : Bool). nat_eq (first + n) id && b) bad ∙ and-true (nat_eq (first + n) id)) in
     among_push spans (record { start = first + n; end = (first + n) + 1 }) id
     ∙ ap (λ (b : Bool). b || is_in (record { start = first + n; end = (first + n) + 1 }) id) (h id)
     ∙ or_assoc (is_among old id) d (is_in (record { start = first + n; end = (first + n) + 1 }) id)
@@ -82,7 +75,7 @@ pub found_none : (block : List ℕ) (first n : ℕ) (old spans : List IdSpan) �
     → (id : ℕ) → is_among spans id ≡ (is_among old id || damaged_from first (slots_in block (n + 1)) id)
 found_none block first n old spans h sound id =
     let d = damaged_from first (slots_in block n) id in
-    let none : (nat_eq (first + n) id && is_damaged (slot block n)) ≡ false = ap (λ (b : Bool). nat_eq (first + n) id && b) sound ∙ and_false (nat_eq (first + n) id) in
+    let none : (nat_eq (first + n) id && is_damaged (slot block n)) ≡ false = ap (λ (b : Bool). nat_eq (first + n) id && b) sound ∙ and-false (nat_eq (first + n) id) in
     h id ∙ ap (λ (b : Bool). is_among old id || b) (sym (damaged_one block first n id ∙ ap (λ (b : Bool). d || b) none ∙ or_false d))
 
 -- those from a place on, if all are damaged
@@ -94,7 +87,7 @@ rest block k a (suc n) id h =
     let split : is_in (record { start = k; end = k + suc n }) id ≡ (nat_eq k id || is_in (record { start = k + 1; end = (k + 1) + n }) id) =
     is_in_by (record { start = k; end = k + suc n }) id (nat_eq k id || is_in (record { start = k + 1; end = (k + 1) + n }) id) (forth k n id) (back k n id) in
     split ∙ ap (λ (b : Bool). nat_eq k id || b) on
-    ∙ ap (λ (b : Bool). b || damaged_from (k + 1) (map (slot block) (range_with_len (a + 1) n)) id) (sym (ap (λ (b : Bool). nat_eq k id && b) first ∙ and_true (nat_eq k id)))
+    ∙ ap (λ (b : Bool). b || damaged_from (k + 1) (map (slot block) (range_with_len (a + 1) n)) id) (sym (ap (λ (b : Bool). nat_eq k id && b) first ∙ and-true (nat_eq k id)))
   where
     forth : (k n id : ℕ) → (nat_eq k id || is_in (record { start = k + 1; end = (k + 1) + n }) id) ≡ true → (k ≤ id) × (id < k + suc n)
     forth k n id e = (elim (nat_eq k id) as (λ x. nat_eq k id ≡ x → (x || is_in (record { start = k + 1; end = (k + 1) + n }) id) ≡ true → (k ≤ id) × (id < k + suc n)) [

@@ -3,12 +3,11 @@ use Rattle.std.proofs.Common.{◌≡◌, ℕ, suc, ◌+◌, ◌-◌, ◌<◌, �
 use Rattle.std.specs.Prelude.{IsTrue, slice_get, slice_range, get_or, nat_lt, ◌⊎◌, Result, Ok, Err, IfErr, IsErrOf, IsOkAnd, IsNone}
 use Rattle.std.specs.List.{range_with_len}
 use Rattle.std.proofs.lemmas.List.{take_at}
-use Rattle.std.proofs.lemmas.List.Concat.{flat_map-append}
 use Rattle.std.proofs.lemmas.Option.{slice_get-get_or}
 use Rattle.std.proofs.Math.Seq.{get_or-append_seam}
 use Rattle.std.proofs.lemmas.List.FromFn.{length-map-range_with_len}
 use Rattle.std.proofs.lemmas.Bool.{ltb-true, ltb-false}
-use Rattle.docstore.proofs.TakenLemmas.{length-slots}
+use Rattle.docstore.proofs.TakenLemmas.{slots-append, length-slots}
 use Rattle.store_format.proofs.StoreLemmas.{docs_in-cons, docs_in-append}
 use Rattle.layered_index.specs.declared.checkpoint.Checkpoint.{Checkpoint}
 use Rattle.layered_index.specs.Checkpoint.{docs_end, first_past}
@@ -19,28 +18,25 @@ use Rattle.store_format.specs.Block.{Slot, slot}
 use Rattle.store_format.specs.Slots.{slots}
 use Rattle.store_format.specs.StoreFile.{StoreBlock, docs_in}
 use Rattle.store_reader.specs.declared.data_part.DataPart.{DataPart}
-use Rattle.store_reader.specs.Iteration.{alive}
+use Rattle.store_reader.specs.Iteration.{alive, alive_from}
 use Rattle.store_reader.specs.Parts.{place_of}
 use Rattle.store_reader.specs.Reading.{Reading, num_docs, store_of}
 use Rattle.store_commands.specs.declared.block_walk.GivingError.{GivingError}
 use Rattle.store_commands.specs.declared.block_walk.GivingError.TheVariants.{Store, Target}
 use Rattle.store_commands.specs.Checks.{slots_in}
-use Rattle.store_commands.specs.Documents.{alive_from, TakesSlots}
+use Rattle.store_commands.specs.Documents.{TakesSlots}
 use Rattle.store_commands.specs.Giving.{RefusesSlot, EndsBlock, HasTakenTo, EndsAtBlock, EndsByStore, EndsGiving}
-use Rattle.store_commands.proofs.AliveLemmas.{alive_joined}
+use Rattle.store_reader.proofs.ItemsSoFarLemmas.{alive_joined}
 use Rattle.store_commands.proofs.GivingLemmas.{HasGiven, next_in, slots_split}
 use Rattle.store_commands.proofs.TakingLemmas.{takes_more}
 use Rattle.store_commands.proofs.WalkLemmas.{IsNext, docs_of_all}
 
 -- ---- the slots below an id
 
-slots_front : (front rest : List StoreBlock) → slots (front ++ rest) ≡ slots front ++ slots rest
-slots_front front rest = flat_map-append (λ (x : StoreBlock). map (slot x.bytes) (range_with_len 0 x.count)) front rest
-
 below_block : (front rest : List StoreBlock) (id : ℕ) → id ≡ docs_in front → take id (slots (front ++ rest)) ≡ slots front
 below_block front rest id e =
     let size : length (slots front) ≡ id = omega (arith, length-slots front, e) in
-    ap (take id) (slots_front front rest) ∙ take_at (slots front) (slots rest) id size
+    ap (take id) (slots-append front rest) ∙ take_at (slots front) (slots rest) id size
 
 -- the slots from a position of a block on
 slots_after : (b : StoreBlock) (rest : List StoreBlock) (position : ℕ) → List Slot
@@ -53,7 +49,7 @@ cut_at front rest b position lt =
     let more : b.count ≡ position + suc (b.count - (position + 1)) = omega arith in
     let here : slots_in b.bytes b.count ≡ slots_in b.bytes position ++ (slot b.bytes position ∷ map (slot b.bytes) (range_with_len (position + 1) (b.count - (position + 1)))) =
     ap (slots_in b.bytes) more ∙ slots_split b.bytes position (suc (b.count - (position + 1))) in
-    slots_front front (b ∷ rest)
+    slots-append front (b ∷ rest)
     ∙ ap (λ (xs : List Slot). slots front ++ (xs ++ slots rest)) here
     ∙ ap (λ (xs : List Slot). slots front ++ xs)
     (append_assoc (slots_in b.bytes position) (slot b.bytes position ∷ map (slot b.bytes) (range_with_len (position + 1) (b.count - (position + 1)))) (slots rest))

@@ -10,12 +10,13 @@ use Rattle.store_format.specs.Block.{Slot, slot}
 use Rattle.store_format.specs.Slots.{slots}
 use Rattle.store_format.specs.StoreFile.{StoreBlock}
 use Rattle.store_reader.specs.declared.data_part.DataPart.{DataPart}
-use Rattle.store_reader.specs.Iteration.{is_in, alive}
+use Rattle.store_reader.specs.Iteration.{is_in, alive, alive_from}
 use Rattle.store_reader.specs.Parts.{place_of, IsBlockRead}
 use Rattle.store_reader.specs.Reading.{Reading, num_docs, store_of}
 use Rattle.store_commands.specs.Checks.{slots_in}
-use Rattle.store_commands.specs.Documents.{alive_from, TakesSlots}
-use Rattle.store_commands.proofs.AliveLemmas.{alive_joined, none_alive, one_alive}
+use Rattle.store_commands.specs.Documents.{TakesSlots}
+use Rattle.store_commands.proofs.AliveLemmas.{none_alive, one_alive}
+use Rattle.store_reader.proofs.ItemsSoFarLemmas.{alive_joined}
 use Rattle.store_commands.proofs.CountLemmas.{range_joined, slots_joined}
 use Rattle.store_commands.proofs.TakingLemmas.{takes_none, takes_more}
 use Rattle.store_commands.proofs.WalkLemmas.{HasWalked, walked_first, walked_next, walked_more, walked_all, IsNext}

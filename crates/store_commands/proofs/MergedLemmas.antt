@@ -11,12 +11,12 @@ use Rattle.docstore.specs.Writer.{Writing}
 use Rattle.std.proofs.lemmas.List.{append-nil, take_at}
 use Rattle.store_format.specs.Block.{Slot}
 use Rattle.store_format.specs.Slots.{slots}
-use Rattle.store_reader.specs.Iteration.{alive, is_in}
+use Rattle.store_reader.specs.Iteration.{alive, is_in, flags_of}
 use Rattle.store_reader.specs.Reading.{Reading, IsSameStore, num_docs, store_of}
 use Rattle.store_reader.specs.Walking.{PassesDead}
 use Rattle.store_merge.specs.declared.input.MergeInput.{MergeInput}
 use Rattle.store_merge.specs.declared.merge_error.MergeError.{MergeError}
-use Rattle.store_merge.specs.Choice.{flags_of, alive_of, alive_slots, first_old}
+use Rattle.store_merge.specs.Choice.{alive_of, alive_slots, first_old}
 use Rattle.store_merge.specs.Inputs.{AreEach, AreInputsKept, IsAskedOnce, IsSteadyInput}
 use Rattle.store_merge.specs.Merge.{IsEnded, IsFailed}
 use Rattle.store_commands.specs.Merging.{is_kept, KeepsDocuments, kept_slots, IsMergedReader, IsSteadyMerge, input_of, EndsStore}

@@ -1,8 +1,9 @@
 -- Ranges of ids that are apart.
 use Rattle.std.proofs.Common.{◌≡◌, ℕ, zero, suc, ◌+◌, ◌<◌, ◌≤◌, Bool, true, false, List, [], ◌∷◌, ◌++◌, length, take, max, get_or, subst, refl, sym, ap, ◌∙◌, arith}
-use Rattle.std.specs.Prelude.{◌&&◌, ◌||◌, nat_lt, nat_le}
+use Rattle.std.specs.Prelude.{◌||◌, nat_lt, nat_le}
 use Rattle.std.specs.List.{AllByRecursion, AllWithin}
 use Rattle.std.specs.List.Sorted.{IsNonDecreasingBy}
+use Rattle.std.proofs.Math.Bool.{and-false}
 use Rattle.std.proofs.lemmas.Bool.{lt-ltb, le-ltb, ltb-true, ltb-false, le-leb, leb-true, lt-leb}
 use Rattle.std.proofs.lemmas.List.{take_all, get_or_default}
 use Rattle.std.proofs.lemmas.List.Elements.{All-get_or, All-from_recursion}
@@ -51,11 +52,7 @@ is_in_parts s id e = (elim (nat_le s.start id) as (λ b. nat_le s.start id ≡ b
 ]) refl
 
 pub is_in_past : (s : IdSpan) (id : ℕ) → s.end ≤ id → is_in s id ≡ false
-is_in_past s id le = rw (le-ltb id s.end le) (and_false (nat_le s.start id))
-  where
-    and_false : (b : Bool) → (b && false) ≡ false
-    and_false true = refl
-    and_false false = refl
+is_in_past s id le = rw (le-ltb id s.end le) (and-false (nat_le s.start id))
 
 pub is_in_before : (s : IdSpan) (id : ℕ) → id < s.start → is_in s id ≡ false
 is_in_before s id lt = rw (lt-leb s.start id lt) refl

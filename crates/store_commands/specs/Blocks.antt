@@ -1,12 +1,7 @@
 -- What is found in a block.
-use Rattle.std.specs.Prelude.{◌≢◌, ◌<◌, ◌-◌, ℕ, List}
-use Rattle.layered_index.specs.declared.checkpoint.Checkpoint.{Checkpoint}
+use Rattle.std.specs.Prelude.{◌≢◌, ◌<◌, ℕ, List}
 use Rattle.store_format.specs.Block.{slot, damaged}
 
 -- None of the first this many documents of a block is damaged.
 abbrev pub AreWhole : List ℕ → ℕ → Type 0
 AreWhole block end = (k : ℕ) → k < end → slot block k ≢ damaged
-
--- how many documents a block has by its checkpoint
-abbrev pub documents_of : Checkpoint → ℕ
-documents_of checkpoint = checkpoint.doc_range.end - checkpoint.doc_range.start

@@ -1,8 +1,6 @@
 -- The documents that are given out of a store.
 use Rattle.std.specs.Prelude.{◌≡◌, ℕ, Bool, not, List, [], ◌∷◌, map, Option, Some}
-use Rattle.std.specs.List.{filter, enumerate_from}
 use Rattle.store_format.specs.Block.{Slot, doc}
-use Rattle.store_reader.specs.Iteration.{is_in as is_in_set}
 use Rattle.store_commands.specs.declared.left_out.IdSpan.{IdSpan}
 use Rattle.store_commands.specs.LeftOut.{is_among}
 
@@ -21,7 +19,3 @@ pub record TakesSlots {T : Type 0} (takes : T → List ℕ → T → Type 0) (so
   pub documents : List (List ℕ)
   pub are : map doc documents ≡ some
   pub taken : TakesEach takes old documents new
-
--- those of these slots that are in the set; the first one has this id
-abbrev pub alive_from : ℕ → List Slot → Option (ℕ → Bool) → List Slot
-alive_from first slots set = map (λ x. x.1) (filter (λ x. is_in_set set x.0) (enumerate_from first slots))

@@ -5,12 +5,12 @@ use Rattle.store_base.specs.declared.error.StoreError.{StoreError}
 use Rattle.store_base.specs.declared.error.StoreError.TheVariants.{DamagedDocument, Read, Memory}
 use Rattle.store_format.specs.Block.{Slot, doc, damaged, slot}
 use Rattle.store_format.specs.Slots.{slots}
-use Rattle.store_reader.specs.Iteration.{is_in, alive}
+use Rattle.store_reader.specs.Iteration.{is_in, alive, alive_from}
 use Rattle.store_reader.specs.Reading.{Reading, num_docs, store_of}
 use Rattle.store_commands.specs.declared.block_walk.GivingError.{GivingError}
 use Rattle.store_commands.specs.declared.block_walk.GivingError.TheVariants.{Store, Target}
 use Rattle.store_commands.specs.Checks.{slots_in}
-use Rattle.store_commands.specs.Documents.{TakesSlots, alive_from}
+use Rattle.store_commands.specs.Documents.{TakesSlots}
 
 -- Why the document of a slot was not given: it is damaged, and the target is as it was; or the target refused it.
 abbrev pub RefusesSlot : {T E : Type 0} → (T → List ℕ → T → Type 0) → ℕ → Slot → T → T → GivingError E → Type 0

@@ -1,12 +1,12 @@
 //! Goes over the documents of a store block by block. Each block is read once, and no document is copied.
 
 ghost use Rattle.std.specs.Prelude.{◌≡◌, ◌≤◌, ◌-◌, [], ◌∷◌, IfErr, OnOk, IsTrue};
-ghost use Rattle.store_reader.specs.Iteration.{alive};
+ghost use Rattle.store_reader.specs.Iteration.{alive, alive_from};
 ghost use Rattle.store_reader.specs.Reading.{IsSameStore, store_of};
 ghost use Rattle.store_format.specs.Block.{slot};
 ghost use Rattle.store_format.specs.Slots.{slots};
 ghost use Rattle.store_commands.specs.Checks.{slots_in};
-ghost use Rattle.store_commands.specs.Documents.{kept_by, alive_from, TakesSlots};
+ghost use Rattle.store_commands.specs.Documents.{kept_by, TakesSlots};
 ghost use Rattle.store_commands.specs.Giving.{RefusesSlot, EndsBlock, EndsGiving, HasTargetFailed};
 ghost use Rattle.store_commands.specs.LeftOut.{AreApartFrom};
 

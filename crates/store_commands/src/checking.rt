@@ -3,10 +3,11 @@
 ghost use Rattle.std.specs.Prelude.{◌≡◌, ◌<◌, ◌+◌, ◌^◌, IfOk, IfSome, IfErr};
 ghost use Rattle.std.specs.Prelude.{IsNone, IsSome, is_none, None, [], true, if◌then◌else◌, IsTrue, IsErrOf, ◌⊎◌, not};
 ghost use Rattle.store_base.specs.Counts.{raised, HasRisen};
+ghost use Rattle.layered_index.specs.Checkpoint.{doc_count};
 ghost use Rattle.store_format.specs.Block.{slot, damaged};
 ghost use Rattle.store_reader.specs.Parts.{place_of};
 ghost use Rattle.store_reader.specs.Reading.{IsSameStore, num_docs, store_of};
-ghost use Rattle.store_commands.specs.Blocks.{AreWhole, documents_of};
+ghost use Rattle.store_commands.specs.Blocks.{AreWhole};
 ghost use Rattle.store_commands.specs.Checks.{damaged_count, has_table, is_sound, HasTableFault, HasFault, Judges};
 
 use crate::block_documents::documents_with_room;
@@ -182,18 +183,18 @@ impl Verdict {
         ensures documents { self.new.documents ≡ self.old.documents }
         ensures blocks { self.new.blocks ≡ raised self.old.blocks 1 }
         ensures damaged { self.new.damaged
-            ≡ raised self.old.damaged (damaged_count block.now.bytes (documents_of (place_of block.now))) }
+            ≡ raised self.old.damaged (damaged_count block.now.bytes (doc_count (place_of block.now))) }
         ensures broken { self.new.broken_blocks
-            ≡ (if is_sound block.now.bytes (documents_of (place_of block.now)) then self.old.broken_blocks
+            ≡ (if is_sound block.now.bytes (doc_count (place_of block.now)) then self.old.broken_blocks
             else raised self.old.broken_blocks 1) }
 
         // The first fault stays.
         ensures kept { IsSome self.old.first → self.new.first ≡ self.old.first }
         ensures sound { self.old.first ≡ None
-            → is_none self.new.first ≡ is_sound block.now.bytes (documents_of (place_of block.now)) }
+            → is_none self.new.first ≡ is_sound block.now.bytes (doc_count (place_of block.now)) }
         ensures found { self.old.first ≡ None → IfSome self.new.first (λ place. (place.block ≡ self.old.blocks)
             × (place.byte ≡ block.now.start)
-            × HasFault block.now.ids.start block.now.bytes (documents_of (place_of block.now)) place.fault) }
+            × HasFault block.now.ids.start block.now.bytes (doc_count (place_of block.now)) place.fault) }
     {
         let documents = block.ids.end.saturating_sub(block.ids.start);
         let bytes = block.bytes.as_slice();

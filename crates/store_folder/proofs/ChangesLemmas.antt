@@ -13,7 +13,7 @@ use Rattle.store_folder.specs.Changes.{after, changed, nothing, look_of, Is, Was
 use Rattle.store_folder.specs.declared.memory.Change.{Change}
 use Rattle.store_folder.proofs.Elapsing.{goes_on}
 
-differ : (a b : List ℕ) → a ≢ b → pointwise nat_eq a b ≡ false
+pub differ : (a b : List ℕ) → a ≢ b → pointwise nat_eq a b ≡ false
 differ a b ne = told (pointwise nat_eq a b) refl
   where
     told : (v : Bool) → v ≡ pointwise nat_eq a b → pointwise nat_eq a b ≡ false

@@ -1,5 +1,5 @@
 -- Blocks, their data and their checkpoints.
-use Rattle.std.proofs.Common.{◌≡◌, ℕ, ◌+◌, ◌-◌, ◌*◌, ◌^◌, ◌<◌, ◌≤◌, List, [], ◌∷◌, ◌++◌, length, take, drop, refl, sym, ◌∙◌, ap, arith, length-append}
+use Rattle.std.proofs.Common.{◌≡◌, ℕ, suc, ◌+◌, ◌-◌, ◌*◌, ◌^◌, ◌<◌, ◌≤◌, List, [], ◌∷◌, ◌++◌, length, take, drop, refl, sym, ◌∙◌, ap, arith, length-append}
 use Rattle.std.proofs.lemmas.List.Concat.{flat_map-append}
 use Rattle.std.proofs.lemmas.List.Sums.{sum_by-cons}
 use Rattle.std.proofs.Math.Seq.{drop-append_seam, take-append_seam}
@@ -23,6 +23,10 @@ length-data_of-cons b bs = length-append b.bytes (data_of bs)
 
 pub data_of-append : (bs cs : List StoreBlock) → data_of (bs ++ cs) ≡ data_of bs ++ data_of cs
 data_of-append bs cs = flat_map-append (λ (b : StoreBlock). b.bytes) bs cs
+
+pub length-checkpoints : (id byte : ℕ) (bs : List StoreBlock) → length (checkpoints_from id byte bs) ≡ length bs
+length-checkpoints id byte [] = refl
+length-checkpoints id byte (b ∷ bs) = ap suc (length-checkpoints (id + b.count) (byte + length b.bytes) bs)
 
 -- each block has a document, so the data is bounded by the documents
 pub data_bound : (bs : List StoreBlock) → AllByRecursion IsStoreBlock bs → length (data_of bs) ≤ 4294967295 * docs_in bs

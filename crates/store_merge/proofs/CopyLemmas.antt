@@ -2,13 +2,11 @@
 use Rattle.std.proofs.Common.{◌≡◌, ℕ, zero, suc, ◌+◌, ◌-◌, ◌<◌, ◌≤◌, ◌⊎◌, inl, inr, Bool, true, false, cond, List, [], ◌∷◌, ◌++◌, length, take, get_or, map, Option, Some, None, Result, Ok, Err, refl}
 use Rattle.std.proofs.Common.{sym, ◌∙◌, ap, subst, arith, append_assoc, length-append}
 use Rattle.std.proofs.lemmas.List.{append-nil, take_more, take_all, map-append}
-use Rattle.std.proofs.lemmas.List.Elements.{filter-append}
 use Rattle.std.proofs.lemmas.List.Sums.{fold-append}
 use Rattle.std.proofs.lemmas.Option.{get_or_from_slice_get}
 use Rattle.std.specs.Prelude.{slice_get, IsTrue, IfErr, IfSome, IsSomeAnd, nat_lt}
-use Rattle.std.specs.List.{filter, enumerate_from}
-use Rattle.store_reader.proofs.ItemsSoFarLemmas.{same_slots, same_count}
-use Rattle.store_base.proofs.ListLemmas.{enumerate_append}
+use Rattle.std.specs.List.{filter}
+use Rattle.store_reader.proofs.ItemsSoFarLemmas.{same_slots, same_count, alive_joined}
 use Rattle.store_base.specs.Counts.{HasRisen}
 use Rattle.store_base.specs.Files.{Part}
 use Rattle.store_base.specs.declared.error.StoreError.{StoreError}
@@ -17,7 +15,7 @@ use Rattle.layered_index.specs.declared.checkpoint.Checkpoint.{Checkpoint}
 use Rattle.store_reader.specs.GetAnswer.{AnswersFrom, AnswersTruly}
 use Rattle.store_format.specs.Block.{Slot, doc, damaged}
 use Rattle.store_reader.specs.declared.walk.Walk.{Walk}
-use Rattle.store_reader.specs.Iteration.{is_in, alive}
+use Rattle.store_reader.specs.Iteration.{is_in, alive, alive_from}
 use Rattle.store_reader.specs.LookingUp.{LooksUp, IsShared}
 use Rattle.store_reader.specs.Reading.{Reading, IsSameStore, num_docs, store_of}
 use Rattle.store_format.specs.Slots.{slots}
@@ -35,18 +33,10 @@ use Rattle.store_merge.specs.Refusals.{RefusesItem, StopsAt}
 
 -- ---- slots that are alive
 
--- the slots of the set, of those that are after so many others
-abbrev pub alive_following : ℕ → List Slot → Option (ℕ → Bool) → List Slot
-alive_following n xs set = map (λ (x : ℕ × Slot). x.1) (filter (λ (x : ℕ × Slot). is_in set x.0) (enumerate_from n xs))
-
-pub alive_append : (set : Option (ℕ → Bool)) (xs ys : List Slot) → alive (xs ++ ys) set ≡ alive xs set ++ alive_following (length xs) ys set
+pub alive_append : (set : Option (ℕ → Bool)) (xs ys : List Slot) → alive (xs ++ ys) set ≡ alive xs set ++ alive_from (length xs) ys set
 alive_append set xs ys =
-    let p : ℕ × Slot → Bool = λ y. is_in set y.0 in
-    let second : ℕ × Slot → Slot = λ y. y.1 in
     let here : 0 + length xs ≡ length xs = omega arith in
-    ap (λ (zs : List (ℕ × Slot)). map second (filter p zs)) (enumerate_append 0 xs ys ∙ ap (λ (k : ℕ). enumerate_from 0 xs ++ enumerate_from k ys) here)
-    ∙ ap (map second) (filter-append p (enumerate_from 0 xs) (enumerate_from (length xs) ys))
-    ∙ map-append second (filter p (enumerate_from 0 xs)) (filter p (enumerate_from (length xs) ys))
+    alive_joined 0 xs ys set ∙ ap (λ (k : ℕ). alive xs set ++ alive_from k ys set) here
 
 -- the slot of an id, if it is alive
 abbrev one : Bool → Slot → List Slot

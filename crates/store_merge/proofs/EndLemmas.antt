@@ -17,7 +17,8 @@ use Rattle.store_merge.specs.declared.merge_error.MergeError.{MergeError}
 use Rattle.store_merge.specs.declared.stacking.Stacking.{Stacking}
 use Rattle.store_merge.specs.declared.stacking.Stacking.TheVariants.{Whole, InParts}
 use Rattle.store_merge.specs.Stacking.{Leaves}
-use Rattle.store_merge.specs.Choice.{flags_of, alive_slots}
+use Rattle.store_merge.specs.Choice.{alive_slots}
+use Rattle.store_reader.specs.Iteration.{flags_of}
 use Rattle.store_merge.specs.Refusals.{RefusesBytes, RefusesStore, RefusesInput, StopsAt}
 use Rattle.store_merge.specs.Merge.{IsHonest, IsEnded, IsFailed, HasBegun}
 use Rattle.store_merge.proofs.CopyLemmas.{same_failure}

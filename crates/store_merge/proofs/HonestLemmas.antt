@@ -6,17 +6,16 @@ use Rattle.std.proofs.lemmas.List.Sums.{fails_before_first}
 use Rattle.std.specs.List.{AllByRecursion, filter, enumerate_from, flat_map, list_all, position, position_or_len, range_with_len}
 use Rattle.store_base.proofs.ListLemmas.{both}
 use Rattle.store_format.specs.Block.{Slot}
-use Rattle.store_reader.specs.Iteration.{is_in}
+use Rattle.store_reader.specs.Iteration.{is_in, flags_of, alive_from}
 use Rattle.docstore.specs.Laws.{StackedSlotsAreCounted}
 use Rattle.store_reader.specs.Reading.{num_docs, store_of}
 use Rattle.store_format.specs.Slots.{slots}
 use Rattle.store_format.specs.StoreFile.{StoreBlock}
 use Rattle.store_merge.specs.declared.input.MergeInput.{MergeInput}
 use Rattle.store_merge.specs.Bringing.{Brought, stacked, copied, slots_brought, IsBrought, AreBrought}
-use Rattle.store_merge.specs.Choice.{flags_of, is_first_version, first_old, alive_slots}
+use Rattle.store_merge.specs.Choice.{is_first_version, first_old, alive_slots}
 use Rattle.store_merge.specs.Inputs.{HasWholeSet, CanBeTaken}
 use Rattle.store_merge.specs.Merge.{IsHonest}
-use Rattle.store_merge.proofs.CopyLemmas.{alive_following}
 
 -- ---- versions
 
@@ -42,7 +41,7 @@ can_be_taken {H} xs h none =
 -- ---- slots
 
 -- where each id is in the set, so is each slot
-pub all_alive : (set : Option (ℕ → Bool)) (n : ℕ) (xs : List Slot) → list_all (is_in set) (range_with_len n (length xs)) ≡ true → alive_following n xs set ≡ xs
+pub all_alive : (set : Option (ℕ → Bool)) (n : ℕ) (xs : List Slot) → list_all (is_in set) (range_with_len n (length xs)) ≡ true → alive_from n xs set ≡ xs
 all_alive set n [] is = refl
 all_alive set n (x ∷ xs) is =
     let h = both (is_in set n) (list_all (is_in set) (range_with_len (n + 1) (length xs))) is in

@@ -10,14 +10,14 @@ use Rattle.store_base.specs.declared.error.StoreError.TheVariants.{Unserializabl
 use Rattle.store_format.specs.Block.{slot}
 use Rattle.store_format.specs.Slots.{slots}
 use Rattle.store_format.specs.StoreFile.{StoreBlock, AreBlocks}
-use Rattle.store_reader.specs.Iteration.{is_in}
+use Rattle.store_reader.specs.Iteration.{is_in, flags_of}
 use Rattle.store_reader.specs.Reading.{Reading, num_docs, store_of}
 use Rattle.docstore.specs.Laws.{taken, StoresAreStackedInOrder}
 use Rattle.docstore.specs.Stacking.{with_store}
 use Rattle.docstore.specs.StackingInParts.{BeginsStack, AfterStackInParts}
 use Rattle.docstore.specs.Writer.{Writing, IsStoreWriter}
 use Rattle.store_merge.specs.declared.input.MergeInput.{MergeInput}
-use Rattle.store_merge.specs.Choice.{flags_of, is_stacked, alive_slots}
+use Rattle.store_merge.specs.Choice.{is_stacked, alive_slots}
 use Rattle.store_merge.specs.Refusals.{HasGrown}
 use Rattle.store_merge.specs.Stacking.{BeginsSlots}
 use Rattle.store_merge.proofs.HonestLemmas.{all_alive}

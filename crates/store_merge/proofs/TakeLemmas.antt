@@ -8,7 +8,7 @@ use Rattle.store_base.specs.declared.error.StoreError.{StoreError}
 use Rattle.store_base.specs.declared.error.StoreError.TheVariants.{ShortFile, BadVersion, BadBlockKind, BadOffset, BadIndex, InvalidArgument, DamagedDocument, BadDocument, Read, Memory, OldVersion}
 use Rattle.store_base.specs.declared.error.StoreError.TheVariants.{Unserializable, BlockTooLarge, TooManyDocs, Failed, BadPeriod}
 use Rattle.store_format.specs.Block.{Slot, doc}
-use Rattle.store_reader.specs.Iteration.{alive}
+use Rattle.store_reader.specs.Iteration.{alive, flags_of, alive_from}
 use Rattle.docstore.specs.Laws.{taken}
 use Rattle.store_reader.specs.Reading.{Reading, store_of}
 use Rattle.store_format.specs.Slots.{slots}
@@ -16,10 +16,10 @@ use Rattle.store_reader.specs.Walking.{set_of as set_of_lent}
 use Rattle.docstore.specs.Writer.{Writing, AfterFailed}
 use Rattle.store_merge.specs.declared.input.MergeInput.{MergeInput}
 use Rattle.store_merge.specs.Bringing.{stacked, copied, IsCopied}
-use Rattle.store_merge.specs.Choice.{flags_of, is_stacked, alive_of, alive_slots}
+use Rattle.store_merge.specs.Choice.{is_stacked, alive_of, alive_slots}
 use Rattle.store_merge.specs.Inputs.{IsStacked, IsInputTaken}
 use Rattle.store_merge.specs.Refusals.{RefusesBytes, StopsAt, HasGrown}
-use Rattle.store_merge.proofs.CopyLemmas.{alive_append, alive_following, same_failure}
+use Rattle.store_merge.proofs.CopyLemmas.{alive_append, same_failure}
 
 pub ok_then : {T E : Type 0} (P Q : Type 0) (r : Result T E) → (P → Q) → OnOk r P → OnOk r Q
 ok_then P Q (Ok x) on h = on h
@@ -80,14 +80,14 @@ stopped_grown x set read old new e same s unchanged =
       | inl c ↦ c.1
       | inr c ↦ refused_bytes c.bytes s.before new e (unchanged ∙ sym before_is) c.refused
     ] in
-    let split : alive_slots x ≡ alive (take s.id all) set ++ alive_following (length (take s.id all)) (drop s.id all) set =
+    let split : alive_slots x ≡ alive (take s.id all) set ++ alive_from (length (take s.id all)) (drop s.id all) set =
     ap (alive_of x.reader) (sym same) ∙ ap (λ (xs : List Slot). alive xs set) (sym (take-append-drop s.id all)) ∙ alive_append set (take s.id all) (drop s.id all) in
     record {
       more = map doc s.copied.docs;
       grown = ap taken stays ∙ s.copied.grown;
       front = λ honest. (
-        alive_following (length (take s.id all)) (drop s.id all) set,
-        split ∙ ap (λ (xs : List Slot). xs ++ alive_following (length (take s.id all)) (drop s.id all) set)
+        alive_from (length (take s.id all)) (drop s.id all) set,
+        split ∙ ap (λ (xs : List Slot). xs ++ alive_from (length (take s.id all)) (drop s.id all) set)
             (sym (s.copied.came.truly honest)),
       );
     }

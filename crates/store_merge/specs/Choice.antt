@@ -1,19 +1,13 @@
 -- Which inputs of a merge are stacked, and what is alive in them.
-use Rattle.std.specs.Prelude.{ℕ, nat_le, Bool, true, false, ◌&&◌, List, length, Option, Some, None}
+use Rattle.std.specs.Prelude.{ℕ, nat_le, Bool, true, false, ◌&&◌, List, length, Option}
 use Rattle.std.specs.List.{list_all, position, range_with_len}
-use Rattle.store_base.specs.AliveBitSet.{is_alive_at}
 use Rattle.store_format.specs.declared.version.DocStoreVersion.{DocStoreVersion}
 use Rattle.store_format.specs.declared.version.DocStoreVersion.TheVariants.{V1, V2, V3}
 use Rattle.store_format.specs.Block.{Slot}
-use Rattle.store_reader.specs.Iteration.{is_in, alive}
+use Rattle.store_reader.specs.Iteration.{is_in, alive, flags_of}
 use Rattle.store_reader.specs.Reading.{Reading, num_docs, store_of}
 use Rattle.store_format.specs.Slots.{slots}
 use Rattle.store_merge.specs.declared.input.MergeInput.{MergeInput}
-
--- the set of the ids that are alive
-abbrev pub flags_of : Option (List Bool) → Option (ℕ → Bool)
-flags_of None = None
-flags_of (Some alive) = Some (is_alive_at alive)
 
 -- whether an input is stacked: it has at least six blocks, and each id below its count is alive
 abbrev pub is_stacked : {H : Type 0} → MergeInput H → Bool

@@ -9,7 +9,8 @@ use Rattle.docstore.specs.Stacking.{AreRead, with_store}
 use Rattle.store_format.specs.StoreFile.{StoreBlock}
 use Rattle.docstore.specs.Writer.{Writing, with_failures}
 use Rattle.store_merge.specs.declared.input.MergeInput.{MergeInput}
-use Rattle.store_merge.specs.Choice.{flags_of, is_stacked}
+use Rattle.store_merge.specs.Choice.{is_stacked}
+use Rattle.store_reader.specs.Iteration.{flags_of}
 use Rattle.store_merge.specs.Stacking.{IsStackedBy}
 use Rattle.store_merge.specs.Bringing.{Brought, IsBrought, with_brought, slots_brought, WorkedOrIdle}
 

@@ -7,7 +7,7 @@ use Rattle.store_base.specs.declared.error.StoreError.{StoreError}
 use Rattle.store_base.specs.declared.error.StoreError.TheVariants.{DamagedDocument, Read, Memory, BlockTooLarge}
 use Rattle.store_base.specs.declared.error.StoreError.TheVariants.{TooManyDocs, Failed}
 use Rattle.store_format.specs.Block.{Slot, doc, damaged}
-use Rattle.store_reader.specs.Iteration.{is_in, alive}
+use Rattle.store_reader.specs.Iteration.{is_in, alive, flags_of}
 use Rattle.docstore.specs.Laws.{taken}
 use Rattle.store_reader.specs.Reading.{Reading, num_docs as docs_of, store_of}
 use Rattle.store_format.specs.Slots.{slots}
@@ -15,7 +15,7 @@ use Rattle.store_reader.specs.Walking.{IsSteadyBetween}
 use Rattle.docstore.specs.Stacking.{HasTooMany}
 use Rattle.docstore.specs.Writer.{Writing, num_docs, IsTooLarge, AfterFailed}
 use Rattle.store_merge.specs.declared.input.MergeInput.{MergeInput}
-use Rattle.store_merge.specs.Choice.{flags_of, is_stacked, alive_slots}
+use Rattle.store_merge.specs.Choice.{is_stacked, alive_slots}
 use Rattle.store_merge.specs.Bringing.{IsCopied}
 
 -- Why the bytes of a document were refused, and what that leaves of the writer.

@@ -1,10 +1,10 @@
 -- What is known of a store that was exported and published.
-use Rattle.std.proofs.Common.{◌≡◌, ℕ, suc, ◌+◌, ◌≤◌, List, [], ◌∷◌, length, Result, Ok, Err, refl, sym, ◌∙◌, ap, subst, arith}
+use Rattle.std.proofs.Common.{◌≡◌, ℕ, ◌≤◌, List, length, Result, Ok, Err, sym, ◌∙◌, ap, subst, arith}
 use Rattle.std.specs.Prelude.{IfOk}
-use Rattle.std.specs.List.{AllByRecursion}
 use Rattle.layered_index.specs.declared.checkpoint.Checkpoint.{Checkpoint}
-use Rattle.layered_index.specs.Checkpoint.{IsInLineFrom, IsFilled, docs_end, Covers}
-use Rattle.store_format.specs.StoreFile.{StoreBlock, checkpoints_from, checkpoints_of}
+use Rattle.layered_index.proofs.LineLemmas.{few_filled}
+use Rattle.layered_index.specs.Checkpoint.{docs_end, Covers}
+use Rattle.store_format.proofs.StoreLemmas.{length-checkpoints}
 use Rattle.store_reader.specs.Reading.{Reading, num_docs}
 use Rattle.docstore.specs.Laws.{StackedSlotsAreCounted}
 use Rattle.tantivy_export.specs.Exporting.{IsExportOf}
@@ -18,16 +18,8 @@ abbrev pub HasExport : Reading → List ℕ → Written → Type 0
 HasExport reader content written = (export : IsExportOf reader content) × AreNumbersOf content export.blocks written
 
 -- each block has a document
-count_blocks : (doc byte : ℕ) (cs : List Checkpoint) → IsInLineFrom doc byte cs → AllByRecursion IsFilled cs → doc + length cs ≤ docs_end doc cs
-count_blocks doc byte [] r f = omega arith
-count_blocks doc byte (c ∷ cs) r f = let on = count_blocks c.doc_range.end c.byte_range.end cs r.3 f.1 in omega (arith, on, r.0, f.0.0)
-
 pub few_blocks : (cs : List Checkpoint) (bytes : ℕ) → Covers cs bytes → length cs ≤ docs_end 0 cs
-few_blocks cs bytes covers = let all = count_blocks 0 0 cs covers.in_line covers.filled in omega (arith, all)
-
-length-places : (id byte : ℕ) (bs : List StoreBlock) → length (checkpoints_from id byte bs) ≡ length bs
-length-places id byte [] = refl
-length-places id byte (b ∷ bs) = ap suc (length-places (id + b.count) (byte + length b.bytes) bs)
+few_blocks cs bytes covers = let all = few_filled 0 0 cs covers.in_line covers.filled in omega (arith, all)
 
 -- the numbers of the reader, which has the store still, are those of the export
 pub export_numbers : (reader read : Reading) (content : List ℕ) (written : Written) (export : IsExportOf reader content) → StackedSlotsAreCounted → read.checkpoints ≡ reader.checkpoints
@@ -36,7 +28,7 @@ export_numbers reader read content written export counted same documents blocks 
   export,
   record {
     documents = documents ∙ ap (docs_end 0) same ∙ sym (counted reader export.blocks export.came);
-    count = blocks ∙ ap length same ∙ ap length (sym export.came.places) ∙ length-places 0 0 export.blocks;
+    count = blocks ∙ ap length same ∙ ap length (sym export.came.places) ∙ length-checkpoints 0 0 export.blocks;
     bytes = bytes;
   },
 )

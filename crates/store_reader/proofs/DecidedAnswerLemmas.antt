@@ -9,7 +9,8 @@ use Rattle.store_reader.specs.declared.call_list.Answer.TheVariants.{Got, Listed
 use Rattle.store_reader.specs.declared.call_list.ReadCall.{ReadCall}
 use Rattle.store_reader.specs.declared.call_list.ReadCall.TheVariants.{Bytes, Iter}
 use Rattle.store_reader.specs.GetAnswer.{AnswersTruly}
-use Rattle.store_reader.specs.CallAnswers.{IsAnswer, HasCome, AllCame, IsSameAnswer, SlotsDecideAnswers, set_here}
+use Rattle.store_reader.specs.CallAnswers.{IsAnswer, HasCome, AllCame, IsSameAnswer, SlotsDecideAnswers}
+use Rattle.store_reader.specs.Iteration.{flags_of}
 use Rattle.store_format.specs.Block.{Slot, doc, damaged}
 use Rattle.store_reader.specs.CallList.{AreItems, first_alive}
 
@@ -52,7 +53,7 @@ same_items (x ∷ xs) (a ∷ rs) [] p q come come' = absurd q
 
 same_answer : (all : List Slot) (call : ReadCall) (a b : Answer) → IsAnswer all call a → IsAnswer all call b → AllCame a → AllCame b → IsSameAnswer a b
 same_answer all (Bytes id) (Got a) (Got b) p q come come' = same_result id (slice_get all id) a b p q come come'
-same_answer all (Iter alive take) (Listed v) (Listed w) p q come come' = same_items (first_alive take all (set_here alive)) v.items w.items p q come come'
+same_answer all (Iter alive take) (Listed v) (Listed w) p q come come' = same_items (first_alive take all (flags_of alive)) v.items w.items p q come come'
 same_answer all (Bytes id) (Listed v) b p q come come' = absurd p
 same_answer all (Bytes id) (Got a) (Listed w) p q come come' = absurd q
 same_answer all (Iter alive take) (Got a) b p q come come' = absurd p

@@ -10,7 +10,8 @@ use Rattle.store_reader.specs.declared.call_list.Answer.TheVariants.{Got, Listed
 use Rattle.store_reader.specs.declared.call_list.ReadCall.{ReadCall}
 use Rattle.store_reader.specs.declared.call_list.ReadCall.TheVariants.{Bytes, Iter}
 use Rattle.store_reader.specs.GetAnswer.{AnswersTruly}
-use Rattle.store_reader.specs.CallAnswers.{IsAnswer, AnswersAreExact, results_of, exact_result, exact_results, set_here}
+use Rattle.store_reader.specs.CallAnswers.{IsAnswer, AnswersAreExact, results_of, exact_result, exact_results}
+use Rattle.store_reader.specs.Iteration.{flags_of}
 use Rattle.store_format.specs.Block.{Slot}
 use Rattle.store_reader.specs.CallList.{AreItems, first_alive}
 
@@ -37,7 +38,7 @@ exact_answer : (all : List Slot) (call : ReadCall) (answer : Answer) → IsAnswe
     → ¬ Contains (results_of answer) (Err Read) → ¬ Contains (results_of answer) (Err Memory) → results_of answer ≡ exact_results all call
 exact_answer all (Bytes id) (Got r) h no_read no_memory =
     ap (λ (x : Result (List ℕ) StoreError). x ∷ []) (exact id (slice_get all id) r h (λ is. no_read (contains_first r [] (Err Read) is)) (λ is. no_memory (contains_first r [] (Err Memory) is)))
-exact_answer all (Iter alive take) (Listed v) h no_read no_memory = exact_items (first_alive take all (set_here alive)) v.items h no_read no_memory
+exact_answer all (Iter alive take) (Listed v) h no_read no_memory = exact_items (first_alive take all (flags_of alive)) v.items h no_read no_memory
 exact_answer all (Bytes id) (Listed v) h no_read no_memory = absurd h
 exact_answer all (Iter alive take) (Got r) h no_read no_memory = absurd h
 

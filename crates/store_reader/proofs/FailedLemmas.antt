@@ -1,11 +1,11 @@
 -- Where an answer is a failed read, the file's count of failures has risen.
-use Rattle.std.proofs.Common.{◌≡◌, ◌⊎◌, inl, inr, ℕ, ◌+◌, ◌-◌, ◌<◌, ◌≤◌, Bool, List, [], ◌∷◌, ◌++◌, length, take, get_or, Option, Some, None, sym, ap, ◌∙◌, subst, arith}
+use Rattle.std.proofs.Common.{◌≡◌, ◌⊎◌, inl, inr, ℕ, ◌+◌, ◌-◌, ◌<◌, Bool, List, [], ◌∷◌, ◌++◌, length, take, get_or, Option, Some, None, sym, ap, ◌∙◌, subst}
 use Rattle.std.proofs.lemmas.List.Elements.{Contains-append_cases, Contains-append_left, Contains-append_right, Contains-push_cases}
 use Rattle.std.proofs.lemmas.Grind.{flat_map-append}
 use Rattle.std.proofs.lemmas.List.{append-nil, take_more}
 use Rattle.std.specs.List.{AllByRecursion, Contains, flat_map}
 use Rattle.std.specs.Prelude.{IsSomeAnd, Result, Ok, Err}
-use Rattle.store_base.proofs.ListLemmas.{risen_later}
+use Rattle.store_base.proofs.ListLemmas.{risen_later, risen_on}
 use Rattle.store_base.specs.Counts.{HasRisen}
 use Rattle.store_base.specs.declared.error.StoreError.{StoreError}
 use Rattle.store_base.specs.declared.error.StoreError.TheVariants.{Read}
@@ -21,10 +21,6 @@ use Rattle.store_reader.specs.Walking.{taken_last, IsBlockTaken, LooksAlong, Giv
 use Rattle.store_reader.proofs.GetAnswerLemmas.{has_failed}
 use Rattle.store_reader.proofs.IterationLookUpLemmas.{IsListedTo}
 use Rattle.store_reader.proofs.RecentLemmas.{same_store, same_along}
-
--- and where it goes on
-risen_on : (a b c : ℕ) → HasRisen a b → b ≤ c → HasRisen a c
-risen_on a b c h le = record { no_lower = omega (arith, h.no_lower); risen = λ few. omega (arith, h.risen (omega (arith, few))) }
 
 failed_once : (r : Reading) (id : ℕ) (c : Checkpoint) (block : Result (List ℕ) StoreError) (mid : Reading) → IsBlockTaken r id c block mid → block ≡ Err Read → HasRisen r.file.failures mid.file.failures
 failed_once r id c block mid t is = by t.came t.looked (subst (λ (b : Result (List ℕ) StoreError). IsShared t.came b) is t.taken)

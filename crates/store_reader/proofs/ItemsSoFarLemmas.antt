@@ -1,7 +1,7 @@
 -- The items of an iteration, as far as it has come.
 use Rattle.std.proofs.Common.{◌≡◌, ℕ, zero, suc, ◌+◌, ◌-◌, ◌<◌, ◌≤◌, ◌⊎◌, inl, inr, min, Bool, true, false, cond, List, [], ◌∷◌, ◌++◌, length, take, drop, get_or, Option, Some, None, Result, refl}
-use Rattle.std.proofs.Common.{sym, ◌∙◌, ap, subst, arith, length-append}
-use Rattle.std.proofs.lemmas.List.{append-nil, take_more, take_all, take-append-le, take-append-drop}
+use Rattle.std.proofs.Common.{sym, ◌∙◌, ap, subst, arith, length-append, map}
+use Rattle.std.proofs.lemmas.List.{append-nil, map-append, take_more, take_all, take-append-le, take-append-drop}
 use Rattle.std.proofs.lemmas.List.Elements.{filter-append}
 use Rattle.std.proofs.lemmas.List.FromFn.{get_or-enumerate_from, length-enumerate_from}
 use Rattle.std.proofs.lemmas.List.Sums.{length-filter, count_by-le-length}
@@ -9,17 +9,28 @@ use Rattle.std.proofs.lemmas.Option.{slice_get-get_or}
 use Rattle.std.proofs.lemmas.Bool.{cases_lt}
 use Rattle.std.specs.Prelude.{slice_get, IsTrue}
 use Rattle.std.specs.List.{filter, enumerate_from}
+use Rattle.store_base.proofs.ListLemmas.{enumerate_append}
 use Rattle.store_base.specs.declared.error.StoreError.{StoreError}
 use Rattle.store_reader.specs.GetAnswer.{AnswersTruly}
 use Rattle.store_format.specs.StoreFile.{blocks_at}
 use Rattle.store_format.specs.Block.{Slot, damaged}
-use Rattle.store_reader.specs.Iteration.{is_in}
-use Rattle.layered_index.specs.Checkpoint.{docs_end}
+use Rattle.store_reader.specs.Iteration.{is_in, alive_from}
+use Rattle.layered_index.specs.declared.checkpoint.Checkpoint.{Checkpoint}
+use Rattle.layered_index.specs.Checkpoint.{Covers, docs_end}
 use Rattle.store_reader.specs.declared.walk.Walk.{Walk}
 use Rattle.store_reader.specs.Reading.{Reading, IsSameStore, num_docs, store_of}
 use Rattle.store_format.specs.Slots.{slots}
 use Rattle.store_reader.specs.Walking.{GivesNext}
 use Rattle.store_reader.specs.CallList.{first_alive, AreItems}
+
+-- the slots of the set, of a list and of one after it
+pub alive_joined : (n : ℕ) (xs ys : List Slot) (set : Option (ℕ → Bool)) → alive_from n (xs ++ ys) set ≡ alive_from n xs set ++ alive_from (n + length xs) ys set
+alive_joined n xs ys set =
+    let p : ℕ × Slot → Bool = λ x. is_in set x.0 in
+    let second : ℕ × Slot → Slot = λ x. x.1 in
+    ap (λ (zs : List (ℕ × Slot)). map second (filter p zs)) (enumerate_append n xs ys)
+    ∙ ap (map second) (filter-append p (enumerate_from n xs) (enumerate_from (n + length xs) ys))
+    ∙ map-append second (filter p (enumerate_from n xs)) (filter p (enumerate_from (n + length xs) ys))
 
 -- the slots of the set below this id, each with its id
 abbrev pub alive_so_far : Option (ℕ → Bool) → List Slot → ℕ → List (ℕ × Slot)
@@ -143,6 +154,10 @@ listed_all set all n count items listed few below dead =
 
 pub same_slots : (first old : Reading) → IsSameStore first old → slots (store_of old) ≡ slots (store_of first)
 same_slots first old same = λ i. slots (blocks_at (same.checkpoints i) (same.content i))
+
+pub covered : (first now : Reading) → IsSameStore first now → Covers first.checkpoints (length first.file.content) → Covers now.checkpoints (length now.file.content)
+covered first now same covers = subst (λ (n : ℕ). Covers now.checkpoints n) (sym (ap length same.content))
+    (subst (λ (cs : List Checkpoint). Covers cs (length first.file.content)) (sym same.checkpoints) covers)
 
 pub same_count : (first old : Reading) → IsSameStore first old → num_docs old ≡ num_docs first
 same_count first old same = ap (docs_end 0) same.checkpoints

@@ -12,7 +12,7 @@ use Rattle.store_reader.specs.Iteration.{is_in, looked_along, alive_below, keys_
 use Rattle.store_reader.specs.LookLaws.{AreLookUps}
 use Rattle.store_reader.specs.Reading.{Reading, IsSameStore, num_docs}
 use Rattle.store_reader.specs.Walking.{taken_last, IsWalk, LooksAlong, WalksTo, GivesNext}
-use Rattle.store_reader.proofs.ItemsSoFarLemmas.{same_count}
+use Rattle.store_reader.proofs.ItemsSoFarLemmas.{same_count, covered}
 use Rattle.store_reader.proofs.BlocksAlongLemmas.{alive_in, alive-split, take_length_one, walks_look_up}
 use Rattle.store_reader.proofs.RecentLemmas.{looks_are_recent}
 use Rattle.store_reader.proofs.WalkingLemmas.{looks_on, range_joined}
@@ -115,10 +115,6 @@ listed_on first set count old from item new to same listed gives =
 looked_by : (first now : Reading) (w : Walk) (keys : List ℕ) → LooksAlong (take w.place first.checkpoints) first None now (taken_last w) → keys_along (take w.place first.checkpoints) ≡ keys
     → AreLookUps keys first now
 looked_by first now w keys looks is = subst (λ (ks : List ℕ). AreLookUps ks first now) is (looks_are_recent (take w.place first.checkpoints) first None now (taken_last w) looks)
-
-covered : (first now : Reading) → IsSameStore first now → Covers first.checkpoints (length first.file.content) → Covers now.checkpoints (length now.file.content)
-covered first now same covers = subst (λ (n : ℕ). Covers now.checkpoints n) (sym (ap length same.content))
-    (subst (λ (cs : List Checkpoint). Covers cs (length first.file.content)) (sym same.checkpoints) covers)
 
 -- so many items as were asked for
 listed_enough : (first : Reading) (set : Option (ℕ → Bool)) (count : ℕ) (now : Reading) (w : Walk) → IsSameStore first now → Covers first.checkpoints (length first.file.content) → IsWalk now w

@@ -186,9 +186,6 @@ pub whatever_is : (o : Option Checkpoint) (P : Checkpoint → Type 0) → ((c : 
 whatever_is None P all = tt
 whatever_is (Some c) P all = all c
 
-pub found_not_none : (o : Option Checkpoint) (c : Checkpoint) → o ≡ Some c → o ≡ None → ⊥
-found_not_none o c is none = cc
-
 -- the block that a seek found was read
 pub some_found : (period id : ℕ) (c : Checkpoint) (cs : List Checkpoint) (old mid inside new : Part) → first_past cs id ≡ Some c → inside ≡ mid
     → ReadsRuns period (digit_count period (length cs)) old mid → ReadsOnce (byte_len c) inside new

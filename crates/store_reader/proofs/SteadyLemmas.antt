@@ -16,7 +16,7 @@ use Rattle.store_reader.specs.LookingUp.{IsShared}
 use Rattle.store_reader.specs.Reading.{Reading, IsSameStore, num_docs}
 use Rattle.store_reader.specs.Walking.{taken_last, IsBlockTaken, IsWalk, LooksAlong, WalksTo, PassesDead, IsSteadyBetween, GivesNext}
 use Rattle.store_reader.proofs.GetAnswerLemmas.{look_steady}
-use Rattle.store_reader.proofs.ItemsSoFarLemmas.{same_count}
+use Rattle.store_reader.proofs.ItemsSoFarLemmas.{same_count, covered}
 use Rattle.store_reader.proofs.SeekLemmas.{docs_end-take_more}
 use Rattle.store_reader.proofs.WalkingLemmas.{taken_place, start_at, there, range_more, checkpoints_along, docs_of_some, no_block}
 
@@ -155,10 +155,6 @@ steady_begins set first now w next looks = elim (first_blocks first.checkpoints 
   | inl failed ↦ inr (next, failed)
   | inr same ↦ inl (inl same)
 ]
-
-covered : (first now : Reading) → IsSameStore first now → Covers first.checkpoints (length first.file.content) → Covers now.checkpoints (length now.file.content)
-covered first now same covers = subst (λ (n : ℕ). Covers now.checkpoints n) (sym (ap length same.content))
-    (subst (λ (cs : List Checkpoint). Covers cs (length first.file.content)) (sym same.checkpoints) covers)
 
 module _ (set : Option (ℕ → Bool)) (first old : Reading) (from : Walk) (same : IsSameStore first old) (covers : Covers first.checkpoints (length first.file.content)) (start : IsWalk old from)
     (so_far : IsSteadySoFar set first old from) where

@@ -4,6 +4,7 @@ use Rattle.std.specs.Prelude.{slice_get}
 use Rattle.std.specs.List.{range_with_len}
 use Rattle.std.proofs.lemmas.Bool.{ltb-true, ltb-false}
 use Rattle.std.proofs.lemmas.Option.{slice_get_past}
+use Rattle.store_base.proofs.ListLemmas.{get_front, get_back}
 use Rattle.layered_index.specs.declared.checkpoint.Checkpoint.{Checkpoint}
 use Rattle.layered_index.specs.Checkpoint.{IsInLineFrom, docs_end, doc_count, first_past}
 use Rattle.store_format.specs.Block.{Slot, slot}
@@ -32,15 +33,6 @@ get_mapped f a zero k lt = absurd (omega arith)
 get_mapped f a (suc n) zero lt = let e : a + 0 ≡ a = omega arith in rw e refl
 get_mapped f a (suc n) (suc k) lt = let e : a + suc k ≡ (a + 1) + k = omega arith in rw e (get_mapped f (a + 1) n k (omega arith))
 
-get_front : (xs ys : List Slot) (k : ℕ) → k < length xs → slice_get (xs ++ ys) k ≡ slice_get xs k
-get_front [] ys k lt = absurd (omega arith)
-get_front (x ∷ xs) ys zero lt = refl
-get_front (x ∷ xs) ys (suc k) lt = get_front xs ys k (omega arith)
-
-get_back : (xs ys : List Slot) (k : ℕ) → slice_get (xs ++ ys) (length xs + k) ≡ slice_get ys k
-get_back [] ys k = ap (slice_get ys) (omega arith)
-get_back (x ∷ xs) ys k = let e : suc (length xs) + k ≡ suc (length xs + k) = omega arith in rw e (get_back xs ys k)
-
 -- the slot of a document is that of its place in the block that a seek finds
 pub slot_sought : (content : List ℕ) (doc byte : ℕ) (cs : List Checkpoint) (id : ℕ) (c : Checkpoint) → IsInLineFrom doc byte cs → doc ≤ id → first_past cs id ≡ Some c
     → slice_get (slots (blocks_of content cs)) (id - doc) ≡ Some (slot (part_of content c) (id - c.doc_range.start))
@@ -62,8 +54,7 @@ slot_sought content doc byte (x ∷ cs) id c r le e =
       | false ↦ λ t.
           let above = ltb-false _ _ t in
           let place : id - doc ≡ length (slots_in content x) + (id - x.doc_range.end) = omega arith in
-          ap (slice_get (slots_in content x ++ slots (blocks_of content cs))) place
-          ∙ get_back (slots_in content x) (slots (blocks_of content cs)) (id - x.doc_range.end)
+          get_back (slots_in content x) (slots (blocks_of content cs)) (id - doc) (id - x.doc_range.end) place
           ∙ slot_sought content x.doc_range.end x.byte_range.end cs id c r.3 above (rw t at e)
     ]) refl
 

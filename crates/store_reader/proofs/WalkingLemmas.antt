@@ -4,6 +4,7 @@ use Rattle.std.proofs.lemmas.Bool.{ltb-true, ltb-false, lt-ltb, le-ltb}
 use Rattle.std.proofs.lemmas.List.{drop-drop}
 use Rattle.std.proofs.Math.Seq.{take-add}
 use Rattle.std.specs.Prelude.{nat_lt, IsTrue, IfOk, IfErr, IfSome, IsSome, IsSomeAnd, Result, Ok, Err, slice_get, slice_range}
+use Rattle.store_base.proofs.ListLemmas.{get_dropped, take_next}
 use Rattle.layered_index.proofs.LayerLemmas.{docs_grow}
 use Rattle.layered_index.specs.declared.checkpoint.Checkpoint.{Checkpoint}
 use Rattle.store_base.specs.declared.error.StoreError.{StoreError}
@@ -66,21 +67,10 @@ pub looks_more : (cs : List Checkpoint) (r : Reading) (b : Option (Result (List 
 looks_more [] r b mid b1 c r' b' l t = (r', b', subst (λ (x : Reading). IsBlockTaken x c.doc_range.start c b' r') l.0 t, (refl, refl))
 looks_more (d ∷ cs) r b mid b1 c r' b' l t = (l.0, l.1, l.2, looks_more cs l.0 (Some l.1) mid b1 c r' b' l.3 t)
 
-take_one_more : (cs : List Checkpoint) (n : ℕ) (c : Checkpoint) → slice_get cs n ≡ Some c → take (n + 1) cs ≡ take n cs ++ c ∷ []
-take_one_more [] n c e = absurd cc
-take_one_more (x ∷ cs) zero c e = let same : x ≡ c = cc in ap (λ y. y ∷ []) same
-take_one_more (x ∷ cs) (suc n) c e = let on = take_one_more cs n c e in rw add-one (ap (λ ys. x ∷ ys) (rw add-one at on))
-
-get_after : (cs : List Checkpoint) (p k : ℕ) → slice_get (drop p cs) k ≡ slice_get cs (p + k)
-get_after cs zero k = ap (slice_get cs) (omega arith)
-get_after [] (suc p) k = refl
-get_after (x ∷ cs) (suc p) k = let e : suc p + k ≡ suc (p + k) = omega arith in rw e (get_after cs p k)
-
 pub range_more : (cs : List Checkpoint) (p q : ℕ) (c : Checkpoint) → p ≤ q → slice_get cs q ≡ Some c → slice_range cs p (q + 1) ≡ slice_range cs p q ++ c ∷ []
 range_more cs p q c le e =
     let n : (q + 1) - p ≡ (q - p) + 1 = omega arith in
-    let place : p + (q - p) ≡ q = omega arith in
-    ap (λ k. take k (drop p cs)) n ∙ take_one_more (drop p cs) (q - p) c (get_after cs p (q - p) ∙ ap (slice_get cs) place ∙ e)
+    ap (λ k. take k (drop p cs)) n ∙ take_next (drop p cs) (q - p) c (get_dropped p cs (q - p) q (omega arith) ∙ e)
 
 -- past a document that is not alive
 pub walks_past : (set : Option (ℕ → Bool)) (old : Reading) (from : Walk) (id : ℕ) (new : Reading) (to to' : Walk) → WalksTo set old from id new to → is_in set id ≡ false → to'.place ≡ to.place

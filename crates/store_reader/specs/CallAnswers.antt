@@ -2,7 +2,6 @@
 use Rattle.std.specs.Prelude.{◌≡◌, ◌↔◌, ℕ, ◌≤◌, ◌<◌, Bool, true, nat_lt, if◌then◌else◌, List, [], ◌∷◌, length, map, slice_get}
 use Rattle.std.specs.Prelude.{Contains, Option, Some, None, IfSome, Result, Ok, Err, IsErrOf}
 use Rattle.std.specs.List.{AllByRecursion, flat_map}
-use Rattle.store_base.specs.AliveBitSet.{is_alive_at}
 use Rattle.store_reader.specs.declared.call_list.Answer.{Answer}
 use Rattle.store_reader.specs.declared.call_list.Answer.TheVariants.{Got, Listed}
 use Rattle.store_reader.specs.declared.call_list.ReadCall.{ReadCall}
@@ -13,13 +12,8 @@ use Rattle.layered_index.specs.declared.checkpoint.Checkpoint.{Checkpoint}
 use Rattle.layered_index.specs.Checkpoint.{docs_end, first_past}
 use Rattle.store_reader.specs.GetAnswer.{AnswersTruly}
 use Rattle.store_format.specs.Block.{Slot, doc, damaged}
-use Rattle.store_reader.specs.Iteration.{is_in, looked_along}
+use Rattle.store_reader.specs.Iteration.{is_in, flags_of, looked_along}
 use Rattle.store_reader.specs.CallList.{first_alive, AreItems}
-
--- the set of a call, or none
-abbrev pub set_here : Option (List Bool) → Option (ℕ → Bool)
-set_here None = None
-set_here (Some alive) = Some (is_alive_at alive)
 
 -- The set of an iteration reaches this many ids.
 abbrev pub CanAnswer : ℕ → ReadCall → Type 0
@@ -37,13 +31,13 @@ pub record HasAlive (set : Option (ℕ → Bool)) (c : Checkpoint) : Type 0 wher
 -- in whose set each block has a document.
 abbrev pub ShowsEachBlock : List Checkpoint → ReadCall → Type 0
 ShowsEachBlock cs (Bytes id) = Unit {0}
-ShowsEachBlock cs (Iter alive take) = (0 < take) × AllByRecursion (HasAlive (set_here alive)) cs
+ShowsEachBlock cs (Iter alive take) = (0 < take) × AllByRecursion (HasAlive (flags_of alive)) cs
 
 -- A document's slot answers a get; the first slots whose ids are alive answer an iteration, one by one; failed reads
 -- and memory aside.
 abbrev pub IsAnswer : List Slot → ReadCall → Answer → Type 0
 IsAnswer all (Bytes id) (Got result) = AnswersTruly id (slice_get all id) result
-IsAnswer all (Iter alive take) (Listed v) = AreItems (first_alive take all (set_here alive)) v.items
+IsAnswer all (Iter alive take) (Listed v) = AreItems (first_alive take all (flags_of alive)) v.items
 IsAnswer all _ _ = ⊥
 
 abbrev pub AreAnswers : List Slot → List ReadCall → List Answer → Type 0
@@ -82,7 +76,7 @@ key_of (Some c) = c.byte_range.start ∷ []
 -- dropped after this many items.
 abbrev pub keys_of_call : List Checkpoint → ReadCall → List ℕ
 keys_of_call cs (Bytes id) = if nat_lt id (docs_end 0 cs) then key_of (first_past cs id) else []
-keys_of_call cs (Iter alive take) = looked_along cs (set_here alive) take
+keys_of_call cs (Iter alive take) = looked_along cs (flags_of alive) take
 
 abbrev pub keys_of_calls : List Checkpoint → List ReadCall → List ℕ
 keys_of_calls cs calls = flat_map (keys_of_call cs) calls
@@ -123,7 +117,7 @@ exact_result id (Some (doc bytes)) = Ok bytes
 -- what the slots answer a call: the result of a get, or an item for each of the first slots whose ids are alive
 abbrev pub exact_results : List Slot → ReadCall → List (Result (List ℕ) StoreError)
 exact_results all (Bytes id) = exact_result id (slice_get all id) ∷ []
-exact_results all (Iter alive take) = map (λ x. exact_result x.0 (Some x.1)) (first_alive take all (set_here alive))
+exact_results all (Iter alive take) = map (λ x. exact_result x.0 (Some x.1)) (first_alive take all (flags_of alive))
 
 -- Where no read failed and memory was found, the slots and the calls say exactly what is answered.
 abbrev pub AnswersAreExact : Type 0

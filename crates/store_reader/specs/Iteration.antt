@@ -1,6 +1,7 @@
 -- What going over a store gives, and which blocks it looks up.
 use Rattle.std.specs.Prelude.{ℕ, ◌-◌, Bool, true, if◌then◌else◌, nat_le, List, [], ◌∷◌, map, Option, Some, None}
 use Rattle.std.specs.List.{filter, count_by, enumerate_from, range_with_len}
+use Rattle.store_base.specs.AliveBitSet.{is_alive_at}
 use Rattle.layered_index.specs.declared.checkpoint.Checkpoint.{Checkpoint}
 use Rattle.layered_index.specs.Checkpoint.{doc_count}
 use Rattle.store_format.specs.Block.{Slot}
@@ -10,6 +11,15 @@ use Rattle.store_format.specs.StoreFile.{StoreBlock, checkpoints_of}
 abbrev pub is_in : Option (ℕ → Bool) → ℕ → Bool
 is_in None id = true
 is_in (Some set) id = set id
+
+-- the set of the ids that are alive
+abbrev pub flags_of : Option (List Bool) → Option (ℕ → Bool)
+flags_of None = None
+flags_of (Some alive) = Some (is_alive_at alive)
+
+-- those of these slots that are in the set; the first one has this id
+abbrev pub alive_from : ℕ → List Slot → Option (ℕ → Bool) → List Slot
+alive_from first slots set = map (λ x. x.1) (filter (λ x. is_in set x.0) (enumerate_from first slots))
 
 -- the slots whose id is in the set, in order
 abbrev pub alive : List Slot → Option (ℕ → Bool) → List Slot

@@ -1,11 +1,10 @@
 -- Blocks that are copied a part at a time, and the file that they come to.
-use Rattle.std.proofs.Common.{◌≡◌, inl, inr, ℕ, ◌+◌, ◌≤◌, IsTrue, List, [], ◌∷◌, ◌++◌, length, replicate, refl, sym, ◌∙◌, ap, subst, arith, append_assoc, length-append}
+use Rattle.std.proofs.Common.{◌≡◌, inl, inr, ℕ, ◌+◌, ◌≤◌, IsTrue, List, [], ◌++◌, length, replicate, refl, sym, ◌∙◌, ap, subst, arith, append_assoc, length-append}
 use Rattle.std.specs.Prelude.{slice_range, Result, Ok, Err, OnOk}
 use Rattle.std.proofs.lemmas.List.{append-nil, take_all}
 use Rattle.layered_index.specs.declared.checkpoint.Checkpoint.{Checkpoint}
-use Rattle.layered_index.specs.Checkpoint.{Covers, IsInLine, IsInLineFrom, bytes_end}
+use Rattle.layered_index.specs.Checkpoint.{Covers, bytes_end}
 use Rattle.layered_index.specs.Layers.{Index, index_part}
-use Rattle.layered_index.proofs.LineLemmas.{in_line_from, in_line_somewhere, in_line-split}
 use Rattle.store_format.specs.Footer.{footer}
 use Rattle.store_format.specs.StoreFile.{StoreBlock, data_of, checkpoints_of, blocks_at, file, IsStore}
 use Rattle.store_reader.specs.Reading.{Reading}
@@ -58,13 +57,6 @@ copied_more size n store now left part text old mid new has taken text_is after 
   termination = termination ∙ has.termination;
   steady = steady ∙ has.steady;
 }
-
--- one more checkpoint of a list in line
-pub next_in_line : (before left more cs : List Checkpoint) (c : Checkpoint) → before ++ left ≡ cs → left ≡ c ∷ more → IsInLine cs → IsInLine (before ++ c ∷ [])
-next_in_line before left more cs c all is h =
-    let from = in_line_somewhere cs h in
-    let whole : (before ++ c ∷ []) ++ more ≡ cs = append_assoc before (c ∷ []) more ∙ ap (λ (xs : List Checkpoint). before ++ xs) (sym is) ∙ all in
-    in_line_from from.0 from.1 (before ++ c ∷ []) (in_line-split from.0 from.1 (before ++ c ∷ []) more (subst (IsInLineFrom from.0 from.1) (sym whole) from.2)).0
 
 -- where none is left, all are copied
 pub all_copied : (reader : Reading) (n : ℕ) (old new : List ℕ) → length reader.checkpoints ≤ n → IsCopied reader n old new → IsCopied reader (length reader.checkpoints) old new

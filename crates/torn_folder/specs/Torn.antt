@@ -4,8 +4,8 @@ use lib.Pointwise.{pointwise}
 use Rattle.std.proofs.Common.{sym, ◌∙◌, ap, subst, arith, inl, inr}
 use Rattle.std.proofs.lemmas.List.{take_all}
 use Rattle.std.proofs.lemmas.Cmp.{nat_list_eq_equiv}
-use Rattle.std.specs.Cmp.Lexicographic.{same_text}
 use Rattle.std.specs.declared.alloc.Global.{Global}
+use Rattle.store_folder.proofs.ChangesLemmas.{differ}
 use Rattle.store_folder.specs.Folder.{Look, Elsewhere, Written, Renamed, LosesFile, LeadsTo}
 use Rattle.torn_folder.specs.declared.Event.{Event}
 use Rattle.torn_folder.specs.declared.Event.TheVariants.{Created, Appended, Moved, Removed, FileSynced, FolderSynced}
@@ -81,13 +81,6 @@ was_now events t c le left =
 
 pub is_now : (events : List Event) (c : Look) → LeftSince events (length events) c → left_by (reverse events) c
 is_now events c was = subst (λ (es : List Event). left_by (reverse es) c) (take_all was.0 events was.1) was.3
-
-pub differ : (a b : List ℕ) → a ≢ b → pointwise nat_eq a b ≡ false
-differ a b ne = told (pointwise nat_eq a b) refl
-  where
-    told : (v : Bool) → v ≡ pointwise nat_eq a b → pointwise nat_eq a b ≡ false
-    told true e = absurd (ne (same_text a b e))
-    told false e = sym e
 
 pub put_there : (name : List ℕ) (file : Option (List ℕ)) (look : Look) → put name file look name ≡ file
 put_there name file look = ap (λ (b : Bool). if b then file else look name) (nat_list_eq_equiv.refl name)

@@ -1,4 +1,4 @@
-use Rattle.main_theorem.proofs.IndexLemmas.{next_in_line}
+use Rattle.layered_index.proofs.LineLemmas.{next_in_line}
 use Rattle.main_theorem.proofs.index.collected.Goals as goal
 
 pub push-requires : goal.push-requires

@@ -1,7 +1,8 @@
 use Rattle.std.proofs.Common.{List, ◌++◌, sym, ap, ◌∙◌, refl}
 use Rattle.docstore.specs.Laws.{taken}
 use Rattle.store_format.specs.Block.{Slot}
-use Rattle.store_commands.proofs.AppendLemmas.{all_kept, same_slots, same_honest}
+use Rattle.store_reader.proofs.ItemsSoFarLemmas.{same_slots}
+use Rattle.store_commands.proofs.AppendLemmas.{all_kept, same_honest}
 use Rattle.store_commands.proofs.appended_store.copy_store.Goals as goal
 
 pub returns-in-Ok-clause-copied : goal.returns-in-Ok-clause-copied

@@ -3,7 +3,8 @@ use Rattle.std.specs.Prelude.{not}
 use Rattle.std.proofs.lemmas.Result.{err_from_is_err_and}
 use Rattle.store_format.specs.Block.{Slot, slot}
 use Rattle.store_commands.specs.Checks.{slots_in}
-use Rattle.store_commands.specs.Documents.{kept_by, alive_from, TakesSlots}
+use Rattle.store_commands.specs.Documents.{kept_by, TakesSlots}
+use Rattle.store_reader.specs.Iteration.{alive_from}
 use Rattle.store_commands.specs.Giving.{RefusesSlot, EndsBlock}
 use Rattle.store_commands.specs.LeftOut.{is_among}
 use Rattle.store_commands.proofs.GivingLemmas.{alive_skip, alive_one}

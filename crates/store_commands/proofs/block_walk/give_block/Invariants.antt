@@ -1,6 +1,7 @@
 use Rattle.std.proofs.Common.{◌≡◌, ◌-◌, ◌≤◌, min}
 use Rattle.store_commands.specs.Checks.{slots_in}
-use Rattle.store_commands.specs.Documents.{kept_by, alive_from, TakesSlots}
+use Rattle.store_commands.specs.Documents.{kept_by, TakesSlots}
+use Rattle.store_reader.specs.Iteration.{alive_from}
 use Rattle.store_commands.proofs.block_walk.give_block.Given as goal
 
 -- the documents before the next id were given

@@ -1,6 +1,7 @@
-use Rattle.std.proofs.Common.{◌≡◌, ℕ, List, [], Some, sym, ◌∙◌}
+use Rattle.std.proofs.Common.{[], Some, sym, ◌∙◌}
 use Rattle.std.specs.Prelude.{IsTrue}
 use Rattle.std.proofs.lemmas.Result.{on_ok_weaker}
+use Rattle.store_base.specs.ReadingLemmas.{some_is}
 use Rattle.store_folder.specs.Stages.{IsBeside}
 use Rattle.store_folder.proofs.Steps.{weaker, written_elsewhere}
 use Rattle.store_folder.proofs.Runs.{again, of_both, then_both, begun, not_begun, untouched_old, appended, append_failed, named, named_kept}
@@ -61,9 +62,6 @@ pub returns-clause-crash : goal.returns-clause-crash
 returns-clause-crash g c = λ h.
     then_both c.args.beside.now c.args.name.now _ _ _
     (again c.args.beside.now _ _ _ (c.create.ensures.crash h) (written_elsewhere _ _ _ _ (c.append.ensures.crash h))) (c.publish.ensures.crash h)
-
-some_is : (a b : List ℕ) → Some a ≡ Some b → a ≡ b
-some_is a b e = cc e
 
 pub returns-clause-file : goal.returns-clause-file
 returns-clause-file g c = λ h.

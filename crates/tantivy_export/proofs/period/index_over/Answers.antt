@@ -1,4 +1,4 @@
-use Rattle.tantivy_export.proofs.ExportLemmas.{next_in_line}
+use Rattle.layered_index.proofs.LineLemmas.{next_in_line}
 use Rattle.tantivy_export.proofs.period.index_over.Goals as goal
 
 pub insert-requires : goal.insert-requires

@@ -2,7 +2,7 @@ use Rattle.std.proofs.Common.{inl, ◌∙◌, subst}
 use Rattle.std.proofs.lemmas.Result.{on_ok_weaker}
 use Rattle.store_folder.specs.Moments.{LeavesOnly}
 use Rattle.store_folder.proofs.Steps.{joined}
-use Rattle.record_log.proofs.Counts.{risen_after}
+use Rattle.store_base.proofs.ListLemmas.{risen_later}
 use Rattle.segmented_log.specs.Log.{IsLog}
 use Rattle.segmented_log.proofs.CauseLemmas.{if_seals, never_full}
 use Rattle.segmented_log.proofs.log.SegmentedLog.seal_tail.Goals as goal
@@ -22,7 +22,7 @@ returns-clause-slots g c = λ h.
     on_ok_weaker c.empty_tail.result (λ same. same ∙ c.in_ok-publish_unsealed.ensures.slots h) (c.empty_tail.ensures.slots h)
 
 pub returns-clause-failed : goal.returns-clause-failed
-returns-clause-failed g c = λ h is. inl (risen_after _ _ _ c.publish_unsealed.ensures.failures (c.empty_tail.ensures.failed is))
+returns-clause-failed g c = λ h is. inl (risen_later _ _ _ c.publish_unsealed.ensures.failures (c.empty_tail.ensures.failed is))
 
 pub returns-clause-full : goal.returns-clause-full
 returns-clause-full g c = λ h is. absurd (never_full c.empty_tail.result c.empty_tail.ensures.kind is)

@@ -4,7 +4,7 @@ use Rattle.std.proofs.lemmas.List.{append-nil}
 use Rattle.std.proofs.lemmas.Result.{on_ok_weaker}
 use Rattle.store_folder.proofs.Steps.{joined, weaker}
 use Rattle.store_format.specs.Block.{doc}
-use Rattle.record_log.proofs.Counts.{risen_after}
+use Rattle.store_base.proofs.ListLemmas.{risen_later}
 use Rattle.segmented_log.specs.declared.error.LogError.TheVariants.{Failed, Full}
 use Rattle.segmented_log.specs.Names.{segment_name}
 use Rattle.segmented_log.specs.Causes.{HasNoRoomForLast}
@@ -56,7 +56,7 @@ returns-in_err-write_pending-clause-full g c = λ h is.
 
 pub returns-clause-failed : goal.returns-clause-failed
 returns-clause-failed g c = λ h is.
-    ⊎_elim (λ risen. inl (risen_after _ _ _ c.write_pending.ensures.failures risen))
+    ⊎_elim (λ risen. inl (risen_later _ _ _ c.write_pending.ensures.failures risen))
     (λ new. inr (new.0, sym (c.in_ok-write_pending.ensures.elsewhere h (segment_name new.0) (segment_no_tail new.0)) ∙ new.1, new.2))
     (c.seal_large-2.ensures.failed h is)
 

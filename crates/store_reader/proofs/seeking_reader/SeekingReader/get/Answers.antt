@@ -2,8 +2,9 @@ use Rattle.std.proofs.Common.{length, arith}
 use Rattle.std.proofs.lemmas.Result.{err_from_is_err_and}
 use Rattle.layered_index.specs.Checkpoint.{byte_len, first_past}
 use Rattle.layered_index.proofs.FileSeekLemmas.{once_at_most}
+use Rattle.layered_index.proofs.IndexHeadLemmas.{none_is_some}
 use Rattle.store_format.specs.StoreFile.{checkpoints_of}
-use Rattle.store_reader.proofs.SeekingLemmas.{seeks_still, slot_found, slot_missing, part_came, block_read, no_block_read, whatever_is, some_found, found_not_none}
+use Rattle.store_reader.proofs.SeekingLemmas.{seeks_still, slot_found, slot_missing, part_came, block_read, no_block_read, whatever_is, some_found}
 use Rattle.store_reader.proofs.seeking_reader.SeekingReader.get.Goals as goal
 
 pub returns-in_err-checkpoint-clause-document : goal.returns-in_err-checkpoint-clause-document
@@ -52,7 +53,7 @@ returns-in_err-block-clause-reads g c honest s =
 
 pub returns-in_err-block-clause-none : goal.returns-in_err-block-clause-none
 returns-in_err-block-clause-none g c honest s none =
-    absurd (found_not_none (first_past (checkpoints_of s.blocks) c.args.doc_id) c.in_ok-checkpoint.checkpoint (c.in_ok-checkpoint.ensures.block honest s) none)
+    absurd (none_is_some (first_past (checkpoints_of s.blocks) c.args.doc_id) none (c.in_ok-checkpoint.ensures.block honest s))
 
 pub returns-clause-kept : goal.returns-clause-kept
 returns-clause-kept g c =
@@ -69,4 +70,4 @@ returns-clause-reads g c honest s =
 
 pub returns-clause-none : goal.returns-clause-none
 returns-clause-none g c honest s none =
-    absurd (found_not_none (first_past (checkpoints_of s.blocks) c.args.doc_id) c.in_ok-checkpoint.checkpoint (c.in_ok-checkpoint.ensures.block honest s) none)
+    absurd (none_is_some (first_past (checkpoints_of s.blocks) c.args.doc_id) none (c.in_ok-checkpoint.ensures.block honest s))

@@ -1,4 +1,5 @@
-use Rattle.std.proofs.Common.{◌≡◌, ℕ, Option, Some, None, length, refl, sym, ap, ◌∙◌, subst, inl}
+use Rattle.std.proofs.Common.{ℕ, length, refl, sym, ap, ◌∙◌, subst, inl}
+use Rattle.std.proofs.lemmas.Option.{none-some}
 use Rattle.layered_index.specs.Checkpoint.{Covers}
 use Rattle.layered_index.specs.Layers.{index_part}
 use Rattle.store_reader.proofs.CoveringLemmas.{IsCovered, some_pair, covers_by, not_covered}
@@ -20,11 +21,8 @@ returns-in_default c =
     inl (
       refl,
       not_covered c.args.period c.args.bytes c.args.covered c.in_ok-index.index.checkpoints c.requires.least c.in_ok-index.ensures.ok.1
-          (λ docs e. none_is_some docs c.args.covered (sym c.in_default.is ∙ c.covered_to.ensures ∙ e)),
+          (λ docs e. none-some (docs, c.args.covered) (sym c.in_default.is ∙ c.covered_to.ensures ∙ e)),
     )
-  where
-    none_is_some : (docs end : ℕ) → ◌≡◌ {A = Option (ℕ × ℕ)} None (Some (docs, end)) → ⊥
-    none_is_some docs end e = cc
 
 pub returns-then-end-covered : goal.returns-then-end-covered
 returns-then-end-covered c =
