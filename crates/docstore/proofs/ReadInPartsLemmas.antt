@@ -43,7 +43,8 @@ bytes_more count (suc n) (suc m) some =
     let same : suc (n + suc m) ≡ suc n + suc m = omega arith in
     more ∙ ap (after_more count) same
 
-read_more : (times bytes len : ℕ) (reader read new : Reading) → 0 < len → IsReadTimes times bytes reader read → IsReadOnce len read new → IsReadTimes (suc times) (bytes + len) reader new
+-- one more read
+pub read_more : (times bytes len : ℕ) (reader read new : Reading) → 0 < len → IsReadTimes times bytes reader read → IsReadOnce len read new → IsReadTimes (suc times) (bytes + len) reader new
 read_more times bytes len reader read new some p q = record {
   content = q.once.content ∙ p.content;
   honest = q.once.honest ∙ p.honest;

@@ -26,8 +26,8 @@ pub use store_base::{
 pub use store_compressor::BlockCompressor;
 pub use store_format::{
     BLOCK_LIMIT, Compressor, DOC_STORE_VERSION, Decompressor, DocStoreFooter, DocStoreVersion,
-    FOOTER_LEN, OpenError, block_len, block_read_index, likely_read_index, table_len, u32_at,
-    weight_of,
+    FOOTER_LEN, OpenError, block_len, block_read_index, likely_read_index, read_footer, table_len,
+    u32_at, weight_of,
 };
 pub use store_reader::{
     AliveDocuments, AliveSliceDocuments, Answer, BlockSlice, BlockSlices, CacheStats,

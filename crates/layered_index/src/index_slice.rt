@@ -195,14 +195,16 @@ impl<'a> IndexSlice<'a> {
     }
 
     /// The first checkpoint whose documents end past the target, and a cursor over those after it; or `None` where there
-    /// is none. It returns `BadIndex` where a run is not where the layer above points. It seeks as `seek` does, and then
-    /// decodes the run of the bottom layer again up to the checkpoint.
+    /// is none. It returns `BadIndex` where a run is not where the layer above points. It seeks as `seek` does, also in
+    /// bytes that are no index, and then decodes the run of the bottom layer again up to the checkpoint.
     pub fn seek_on(
         &self,
         target: DocId,
     ) -> Result<Option<(Checkpoint, LayerCursor<'a>)>, StoreError>
         ensures answer { (cs : List Checkpoint) → IsIndexPart self.now.period self.now.bytes cs
             → IsOkAnd result (λ found. found ≡ past_on cs target) }
+        ensures found { IfOk result (λ found. found_in_index false self.now.period target self.now.bytes
+            ≡ Some (option_map (λ x. x.0) found)) }
         ensures past { IfOk result (λ found. IfSome found (λ x. IsPast target x.0)) }
         ensures refused { IfErr result (λ e. e ≡ StoreError.BadIndex) }
     {

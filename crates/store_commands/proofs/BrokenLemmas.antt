@@ -1,14 +1,16 @@
 -- What a footer that was read tells of a file.
-use Rattle.std.proofs.Common.{◌≡◌, ℕ, ◌-◌, true, false, List, length, refl, sym, ap, ◌∙◌, subst}
+use Rattle.std.proofs.Common.{◌≡◌, ◌⊎◌, inl, inr, ℕ, ◌+◌, ◌-◌, ◌≤◌, arith, true, false, List, length, refl, sym, ap, ◌∙◌, subst}
 use Rattle.std.specs.Prelude.{IsTrue, IfOk, Result, Ok, Err, slice_range, nat_lt}
 use Rattle.std.proofs.lemmas.Bool.{ltb-true, ltb-false}
 use Rattle.std.proofs.lemmas.Result.{IfOk-weaker}
 use Rattle.store_base.specs.Files.{Part}
 use Rattle.store_base.specs.declared.error.StoreError.{StoreError}
+use Rattle.store_base.specs.declared.error.StoreError.TheVariants.{Read}
 use Rattle.store_format.specs.declared.footer.DocStoreFooter.{DocStoreFooter}
-use Rattle.store_format.specs.Extraction.{ExtractsFooter, Says, SaysFrom, narrowed}
+use Rattle.store_format.specs.Extraction.{ExtractsFooter, Says, SaysFrom}
 use Rattle.store_commands.specs.declared.broken_part.BrokenPart.{BrokenPart}
-use Rattle.store_commands.specs.BrokenParts.{BreaksBody, BreaksFile}
+use Rattle.store_commands.specs.BrokenParts.{BreaksBefore, BreaksFile}
+use Rattle.store_commands.specs.FileReads.{IsFileReadAtMost}
 
 record IsSaid (file mid : Part) (footer : DocStoreFooter) : Type 0 where
   says : Says (slice_range file.content (length file.content - 28) (length file.content)) (Ok footer)
@@ -27,14 +29,59 @@ is_said file mid footer honest h = (elim (nat_lt (length file.content) 28) as (�
       record { says = says_from long.0 _ footer (long.1.bytes honest) long.2; content = long.1.once.content; honest = long.1.once.honest }
 ]) refl
 
--- what is broken in the body is broken in the file
-pub breaks_file : (file mid body : Part) (footer : DocStoreFooter) (r : Result BrokenPart StoreError) → IsTrue file.honest → ExtractsFooter file (Ok footer) mid
-    → body ≡ narrowed mid (slice_range mid.content 0 (length mid.content - 28))
-    → (IsTrue body.honest → IfOk r (BreaksBody body.content footer)) → IfOk r (BreaksFile file.content)
-breaks_file file mid body footer r honest h e breaks =
+-- what is broken before the footer is broken in the file
+pub breaks_file : (file mid : Part) (footer : DocStoreFooter) (r : Result BrokenPart StoreError) → IsTrue file.honest → ExtractsFooter file (Ok footer) mid
+    → (IsTrue mid.honest → IfOk r (BreaksBefore mid.content footer)) → IfOk r (BreaksFile file.content)
+breaks_file file mid footer r honest h breaks =
     let said = is_said file mid footer honest h in
-    let good : IsTrue body.honest = subst IsTrue (sym (ap (λ (p : Part). p.honest) e ∙ said.honest)) honest in
-    let same : body.content ≡ slice_range file.content 0 (length file.content - 28) =
-    ap (λ (p : Part). p.content) e ∙ ap (λ (xs : List ℕ). slice_range xs 0 (length xs - 28)) said.content in
-    IfOk-weaker r (BreaksBody body.content footer) (BreaksFile file.content)
-    (λ part b. record { footer = footer; says = said.says; breaks = subst (λ (xs : List ℕ). BreaksBody xs footer part) same b }) (breaks good)
+    IfOk-weaker r (BreaksBefore mid.content footer) (BreaksFile file.content)
+    (λ part b. record { footer = footer; says = said.says; breaks = subst (λ (xs : List ℕ). BreaksBefore xs footer part) said.content b }) (breaks (subst IsTrue (sym said.honest) honest))
+
+-- a file whose footer was read has 28 bytes
+pub has_footer : (file mid : Part) (footer : DocStoreFooter) → ExtractsFooter file (Ok footer) mid → 28 ≤ length mid.content
+has_footer file mid footer h = (elim (nat_lt (length file.content) 28) as (λ b. nat_lt (length file.content) 28 ≡ b → 28 ≤ length mid.content) [
+  | true ↦ λ t. absurd (let bad = (h.short (ltb-true _ _ t)).0 in cc)
+  | false ↦ λ t. let le = ltb-false _ _ t in let long = h.long le in omega (arith, ap length long.1.once.content)
+]) refl
+
+-- what the read of a footer leaves of a file
+pub footer_read : (file mid : Part) (r : Result DocStoreFooter StoreError) → ExtractsFooter file r mid → IsFileReadAtMost 1 28 file mid
+footer_read file mid r h = (elim (nat_lt (length file.content) 28) as (λ b. nat_lt (length file.content) 28 ≡ b → IsFileReadAtMost 1 28 file mid) [
+  | true ↦ λ t. subst (IsFileReadAtMost 1 28 file) (sym (h.short (ltb-true _ _ t)).1)
+      (record { content = refl; honest = refl; reads = omega arith; asked = omega arith; failures = omega arith })
+  | false ↦ λ t.
+      let le = ltb-false _ _ t in let once = (h.long le).1.once in
+      record { content = once.content; honest = once.honest; reads = omega (arith, once.reads); asked = omega (arith, once.asked); failures = once.failures }
+]) refl
+
+-- a footer that isn't read: only a failed read is counted
+pub footer_steady : (file mid : Part) (r : Result DocStoreFooter StoreError) → ExtractsFooter file r mid → (r ≡ Err Read) ⊎ (mid.failures ≡ file.failures)
+footer_steady file mid r h = (elim (nat_lt (length file.content) 28) as (λ b. nat_lt (length file.content) 28 ≡ b → (r ≡ Err Read) ⊎ (mid.failures ≡ file.failures)) [
+  | true ↦ λ t. inr (ap (λ (p : Part). p.failures) (h.short (ltb-true _ _ t)).1)
+  | false ↦ λ t. let long = h.long (ltb-false _ _ t) in by long.0 long.1.steady long.2
+]) refl
+  where
+    by : (came : Result (List ℕ) StoreError) → (came ≡ Err Read) ⊎ (mid.failures ≡ file.failures) → SaysFrom came r → (r ≡ Err Read) ⊎ (mid.failures ≡ file.failures)
+    by (Ok bytes) (inl bad) says = absurd cc
+    by (Err e) (inl is) says = inl (cc)
+    by came (inr same) says = inr same
+
+-- two reads after each other
+pub read_twice : (a b n m : ℕ) (old mid new : Part) → IsFileReadAtMost a n old mid → IsFileReadAtMost b m mid new → IsFileReadAtMost (a + b) (n + m) old new
+read_twice a b n m old mid new p q = record {
+  content = q.content ∙ p.content;
+  honest = q.honest ∙ p.honest;
+  reads = omega (arith, p.reads, q.reads);
+  asked = omega (arith, p.asked, q.asked);
+  failures = omega (arith, p.failures, q.failures);
+}
+
+-- and so at most as often, and for no more bytes
+pub read_most : (a b n m : ℕ) (old new : Part) → a ≤ b → n ≤ m → IsFileReadAtMost a n old new → IsFileReadAtMost b m old new
+read_most a b n m old new times bytes p = record {
+  content = p.content;
+  honest = p.honest;
+  reads = omega (arith, p.reads);
+  asked = omega (arith, p.asked);
+  failures = p.failures;
+}

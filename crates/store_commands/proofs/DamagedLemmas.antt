@@ -119,7 +119,7 @@ found_rest block first m n old spans h bad id =
 -- ---- the blocks of a store
 
 -- these are the damaged documents of the blocks
-abbrev AreDamagedOf : List IdSpan → List StoreBlock → Type 0
+abbrev pub AreDamagedOf : List IdSpan → List StoreBlock → Type 0
 AreDamagedOf spans blocks = (id : ℕ) → is_among spans id ≡ damaged_from 0 (slots blocks) id
 
 -- the damaged documents of some blocks were found

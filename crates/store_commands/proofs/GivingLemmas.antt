@@ -50,7 +50,7 @@ alive_one first block m set h =
 -- ---- the documents of a store
 
 -- the documents of these blocks were given
-abbrev AreGiven : {T : Type 0} → (T → List ℕ → T → Type 0) → Option (ℕ → Bool) → T → T → List StoreBlock → Type 0
+abbrev pub AreGiven : {T : Type 0} → (T → List ℕ → T → Type 0) → Option (ℕ → Bool) → T → T → List StoreBlock → Type 0
 AreGiven takes set old new blocks = TakesSlots takes (alive_from 0 (slots blocks) set) old new
 
 -- the documents of some blocks were given

@@ -1,7 +1,7 @@
 -- Which slots of a store are merged.
-use Rattle.std.proofs.Common.{◌≡◌, ◌≢◌, ◌<◌, inl, inr, ℕ, zero, suc, Bool, true, false, List, [], ◌∷◌, ◌++◌, length, map, take, drop, Option, Some, None, Bor, Result, Ok, Err, refl, sym, ap, subst, ◌∙◌, arith}
-use Rattle.std.specs.Prelude.{◌⊎◌, IfSome, slice_get}
-use Rattle.std.specs.List.{flat_map}
+use Rattle.std.proofs.Common.{◌≡◌, ◌≢◌, ◌+◌, ◌<◌, ◌≤◌, inl, inr, ℕ, zero, suc, Bool, true, false, List, [], ◌∷◌, ◌++◌, length, map, take, drop, Option, Some, None, Bor, Result, Ok, Err, refl, sym, ap, subst, ◌∙◌, arith}
+use Rattle.std.specs.Prelude.{◌⊎◌, nat_le, ◌&&◌, IfSome, slice_get}
+use Rattle.std.specs.List.{flat_map, list_all, range_with_len}
 use Rattle.store_base.specs.declared.error.StoreError.{StoreError}
 use Rattle.store_base.specs.declared.error.StoreError.TheVariants.{OldVersion, Memory}
 use Rattle.store_format.specs.declared.version.DocStoreVersion.{DocStoreVersion}
@@ -16,10 +16,11 @@ use Rattle.store_reader.specs.Reading.{Reading, IsSameStore, num_docs, store_of}
 use Rattle.store_reader.specs.Walking.{PassesDead}
 use Rattle.store_merge.specs.declared.input.MergeInput.{MergeInput}
 use Rattle.store_merge.specs.declared.merge_error.MergeError.{MergeError}
-use Rattle.store_merge.specs.Choice.{alive_of, alive_slots, first_old}
-use Rattle.store_merge.specs.Inputs.{AreEach, AreInputsKept, IsAskedOnce, IsSteadyInput}
+use Rattle.store_merge.specs.Choice.{flags_of, is_stacked, alive_of, alive_slots, first_old}
+use Rattle.store_merge.specs.Inputs.{AreEach, AreInputsKept, AreStackedBy, IsAskedOnce, IsSteadyInput}
 use Rattle.store_merge.specs.Merge.{IsEnded, IsFailed}
-use Rattle.store_commands.specs.Merging.{is_kept, KeepsDocuments, kept_slots, IsMergedReader, IsSteadyMerge, input_of, EndsStore}
+use Rattle.store_merge.specs.Stacking.{IsReadInParts}
+use Rattle.store_commands.specs.Merging.{is_kept, KeepsDocuments, kept_slots, IsMergedReader, is_stacked_without, IsReadIfStacked, IsSteadyMerge, input_of, EndsStore}
 use Rattle.store_commands.proofs.AliveLemmas.{alive_agreed}
 
 of_set : (words : List (Bor (List ℕ))) (all : List Slot) (set : Option (List Bool)) → KeepsDocuments words (length all) set → alive all (flags_of set) ≡ alive all (Some (is_kept words))
@@ -71,6 +72,34 @@ pub reader_alone : {H : Type 0} (reader : Reading) (x : MergeInput H) (xs left :
     → map (λ (y : MergeInput H). y.reader) left ≡ r ∷ [] → IsMergedReader reader r
 reader_alone {H} reader x xs left r alone same kept is =
     merged_reader reader x left r same (left_alone x left r (subst (λ (ys : List (MergeInput H)). AreInputsKept ys left) alone kept) is)
+
+-- ---- how the one input was read
+
+-- what the set of an input says of an id is what the words say
+kept_in : (words : List (Bor (List ℕ))) (count : ℕ) (set : Option (List Bool)) → KeepsDocuments words count set → (id : ℕ) → id < count → is_in (flags_of set) id ≡ is_kept words id
+kept_in words count None none id below = sym (ap (λ (ws : List (Bor (List ℕ))). is_kept ws id) none)
+kept_in words count (Some set) keeps id below = keeps.2 id below
+
+all_agreed : (p q : ℕ → Bool) (from n : ℕ) → ((id : ℕ) → from ≤ id → id < from + n → p id ≡ q id) → list_all p (range_with_len from n) ≡ list_all q (range_with_len from n)
+all_agreed p q from zero h = refl
+all_agreed p q from (suc n) h =
+    ap (λ (b : Bool). b && list_all p (range_with_len (from + 1) n)) (h from (omega arith) (omega arith))
+    ∙ ap (λ (b : Bool). q from && b) (all_agreed p q (from + 1) n (λ id le lt. h id (omega arith) (omega arith)))
+
+same_stacked : {H : Type 0} (words : List (Bor (List ℕ))) (x : MergeInput H) → KeepsDocuments words (num_docs x.reader) x.alive → is_stacked x ≡ is_stacked_without words x.reader
+same_stacked words x keeps =
+    ap (λ (b : Bool). nat_le 6 (length x.reader.checkpoints) && b)
+    (all_agreed (is_in (flags_of x.alive)) (is_kept words) 0 (num_docs x.reader) (λ id le lt. kept_in words (num_docs x.reader) x.alive keeps id (omega arith)))
+
+pub read_alone : {H : Type 0} (size : ℕ) (words : List (Bor (List ℕ))) (reader : Reading) (x : MergeInput H) (xs left : List (MergeInput H)) (r : Reading) → xs ≡ x ∷ [] → x.reader ≡ reader
+    → KeepsDocuments words (num_docs reader) x.alive → AreInputsKept xs left → map (λ (y : MergeInput H). y.reader) left ≡ r ∷ [] → AreStackedBy (IsReadInParts size) xs left
+    → IsReadIfStacked size words reader r
+read_alone {H} size words reader x xs left r alone same keeps kept is read =
+    let here = left_alone x left r (subst (λ (ys : List (MergeInput H)). AreInputsKept ys left) alone kept) is in
+    let each : AreStackedBy (IsReadInParts size) (x ∷ []) (input_of H r x.alive ∷ []) =
+    subst (λ (ys : List (MergeInput H)). AreStackedBy (IsReadInParts size) (x ∷ []) ys) here.is (subst (λ (ys : List (MergeInput H)). AreStackedBy (IsReadInParts size) ys left) alone read) in
+    subst (λ (s : Reading). IsReadIfStacked size words s r) same
+    (λ whole. each.0 (same_stacked words x (subst (λ (s : Reading). KeepsDocuments words (num_docs s) x.alive) (sym same) keeps) ∙ whole))
 
 -- ---- which reads of the one input failed
 

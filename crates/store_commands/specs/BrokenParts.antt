@@ -21,15 +21,15 @@ BreaksIndex index period offset (Index begin fault) = (begin ≡ offset) × (Has
 BreaksIndex index period offset (Coverage end covered) = (end ≡ offset) × ((cs : List Checkpoint)
     × IsIndexPart period index cs × (covered ≡ option_map (λ ends. ends.1) (covered_to 0 0 cs)))
 
--- the same of the bytes from the footer's offset to the end of those before the footer
-abbrev pub BreaksBody : List ℕ → DocStoreFooter → BrokenPart → Type 0
-BreaksBody body footer part = BreaksIndex (slice_range body footer.offset (length body)) footer.period footer.offset part
+-- the same of the bytes from the footer's offset to the footer, which ends the file
+abbrev pub BreaksBefore : List ℕ → DocStoreFooter → BrokenPart → Type 0
+BreaksBefore file footer part = BreaksIndex (slice_range file footer.offset (length file - 28)) footer.period footer.offset part
 
 -- the same of a file, by what its last 28 bytes say
 pub record BreaksFile (file : List ℕ) (part : BrokenPart) : Type 0 where
   pub footer : DocStoreFooter
   pub says : Says (slice_range file (length file - 28) (length file)) (Ok footer)
-  pub breaks : BreaksBody (slice_range file 0 (length file - 28)) footer part
+  pub breaks : BreaksBefore file footer part
 
 -- An error that the footer's bytes alone bring about.
 pub record IsOfFooter (e : StoreError) : Type 0 where

@@ -1,6 +1,6 @@
 -- What breaks a promise of the format in the blocks of a store.
 use Rattle.std.specs.Prelude.{◌≡◌, ◌≢◌, ℕ, ◌+◌, ◌*◌, ◌<◌, ◌≤◌, Bool, true, false, ◌&&◌, ◌||◌, not, ◌==◌, nat_le}
-use Rattle.std.specs.Prelude.{List, ◌∷◌, ◌++◌, length, map, IfSome, is_none}
+use Rattle.std.specs.Prelude.{List, [], ◌∷◌, ◌++◌, length, map, IfSome, is_none}
 use Rattle.std.specs.List.{count_by, list_all, list_any, range_with_len}
 use Rattle.store_format.specs.Block.{Slot, doc, damaged, slot, count_of, start_of}
 use Rattle.store_format.specs.Slots.{slots}
@@ -12,6 +12,14 @@ use Rattle.store_commands.specs.declared.checking.TableFault.{TableFault}
 use Rattle.store_commands.specs.declared.checking.TableFault.TheVariants.{Short, Count, Large, Start}
 use Rattle.store_commands.specs.declared.checking.Verdict.{Verdict}
 use Rattle.store_commands.specs.Blocks.{AreWhole}
+
+-- ---- who watches a check
+
+-- A watch was called for these blocks, in order: how many documents and bytes each has.
+abbrev pub IsToldOf : {P : Type 0} → (P → ℕ → ℕ → P → Type 0) → List StoreBlock → P → P → Type 0
+IsToldOf adds [] old new = new ≡ old
+IsToldOf {P} adds (b ∷ blocks) old new = (middle : P) × adds old b.count (length b.bytes) middle
+    × IsToldOf adds blocks middle new
 
 -- ---- damaged documents
 

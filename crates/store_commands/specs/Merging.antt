@@ -1,5 +1,6 @@
 -- Which documents of a store are merged.
-use Rattle.std.specs.Prelude.{◌≡◌, ◌≢◌, ◌⊎◌, ℕ, ◌*◌, ◌<◌, ◌≤◌, Bool, not, List, [], ◌∷◌, length, Option, Some, None}
+use Rattle.std.specs.Prelude.{◌≡◌, ◌≢◌, ◌⊎◌, ℕ, ◌*◌, ◌<◌, ◌≤◌, nat_le, Bool, true, not, ◌&&◌, List, [], ◌∷◌, length, Option, Some, None}
+use Rattle.std.specs.List.{list_all, range_with_len}
 use Rattle.std.specs.Borrow.{Bor}
 use Rattle.store_base.specs.AliveBitSet.{is_alive_at}
 use Rattle.store_base.specs.Counts.{raised}
@@ -22,6 +23,7 @@ use Rattle.docstore.specs.Writer.{Writing}
 use Rattle.store_merge.specs.declared.input.MergeInput.{MergeInput}
 use Rattle.store_merge.specs.Inputs.{IsAskedOnce}
 use Rattle.store_merge.specs.Merge.{IsEnded, IsFailed}
+use Rattle.store_merge.specs.Stacking.{IsReadInParts}
 use Rattle.store_commands.specs.LeftOut.{words_name, RefusesWords}
 
 -- whether none of the words names an id
@@ -57,6 +59,16 @@ kept_slots words reader = alive (slots (store_of reader)) (Some (is_kept words))
 pub record IsMergedReader (reader left : Reading) : Type 0 where
   pub store : IsSameStore reader left
   pub asked : IsAskedOnce reader left
+
+-- Whether a store is stacked without the documents that words name: it has at least six blocks, and each document is
+-- kept.
+abbrev pub is_stacked_without : List (Bor (List ℕ)) → Reading → Bool
+is_stacked_without words reader = nat_le 6 (length reader.checkpoints)
+    && list_all (is_kept words) (range_with_len 0 (num_docs reader))
+
+-- The whole data of a store that is stacked was read, once for each part of this many bytes.
+abbrev pub IsReadIfStacked : ℕ → List (Bor (List ℕ)) → Reading → Reading → Type 0
+IsReadIfStacked size words reader left = is_stacked_without words reader ≡ true → IsReadInParts size reader left
 
 -- No read of a reader's file failed, but of a block of which the words keep no document.
 abbrev pub IsSteadyMerge : List (Bor (List ℕ)) → Reading → Reading → Type 0

@@ -1,8 +1,11 @@
 //! Fills a store with the documents of one that is there, and then with others.
 
-ghost use Rattle.std.specs.Prelude.{IfOk, OnOk};
+ghost use Rattle.std.specs.Prelude.{◌≡◌, ◌≤◌, ◌⊎◌, [], IfOk, IfErr, IsErrAnd, OnOk};
+ghost use Rattle.docstore.specs.Writer.{IsStoreWriter};
 ghost use Rattle.store_published.specs.Filling.{IsSameFile};
 ghost use Rattle.store_commands.specs.Appending.{CopiesStore};
+ghost use Rattle.store_commands.specs.Merging.{IsMergedReader, IsReadIfStacked, IsSteadyMerge};
+ghost use Rattle.store_commands.specs.Merging.{EndsMerge, IsOfOutput};
 
 use crate::merging::{MergeFailure, merge_store};
 use docstore::{FileHandle, StoreError, StoreReader, StoreWriter, TerminatingWrite};
@@ -71,6 +74,13 @@ pub fn copy_store<W: TerminatingWrite, H: FileHandle>(
 ) -> Result<StoreReader<H>, MergeFailure<H>>
     ensures copied { IfOk result (CopiesStore writer.old writer.new) }
     ensures file { OnOk result (IsSameFile writer.old writer.new) }
+    ensures reader { IfOk result (IsMergedReader reader) }
+    ensures read { IfOk result (IsReadIfStacked part_bytes [] reader) }
+    ensures faults { IfOk result (IsSteadyMerge [] reader) }
+    ensures ended { IfErr result (EndsMerge [] reader writer.old writer.new) }
+    ensures count { writer.old.output.failures ≤ writer.new.output.failures }
+    ensures steady { IsErrAnd result IsOfOutput ⊎ (writer.new.output.failures ≡ writer.old.output.failures) }
+    ensures sound { IsStoreWriter writer.new }
 {
     match merge_store(alloc, writer, reader, &[], part_bytes) {
         Ok(reader) => Ok(reader),

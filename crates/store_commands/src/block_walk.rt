@@ -1,6 +1,7 @@
 //! Goes over the documents of a store block by block. Each block is read once, and no document is copied.
 
-ghost use Rattle.std.specs.Prelude.{◌≡◌, ◌≤◌, ◌-◌, [], ◌∷◌, IfErr, OnOk, IsTrue};
+ghost use Rattle.std.specs.Prelude.{◌≡◌, ◌≤◌, ◌-◌, [], ◌∷◌, IfErr, OnOk, IsTrue, length};
+ghost use Rattle.docstore.specs.StackingInParts.{IsReadInPieces, IsReadAtMost};
 ghost use Rattle.store_reader.specs.Iteration.{alive, alive_from};
 ghost use Rattle.store_reader.specs.Reading.{IsSameStore, store_of};
 ghost use Rattle.store_format.specs.Block.{slot};
@@ -123,6 +124,8 @@ pub fn give_documents<H: FileHandle, T: DocumentTarget>(
     ensures failed { IfErr result (HasTargetFailed (T.failures target.old) (T.failures target.new)) }
     ensures target { OnOk result (T.failures target.new ≡ T.failures target.old) }
     ensures steady { OnOk result (reader.new.file.failures ≡ reader.old.file.failures) }
+    ensures read { OnOk result (IsReadInPieces (length reader.old.checkpoints) reader.old reader.new) }
+    ensures kept { IsReadAtMost (length reader.old.checkpoints) reader.old reader.new }
     ensures same_store { IsSameStore reader.old reader.new }
 {
     // By its clause the blocks cover the data.

@@ -1,10 +1,14 @@
 //! Which part of a file keeps it from being opened.
 
-ghost use Rattle.std.specs.Prelude.{◌≡◌, ◌⊎◌, Ok, Err, IsTrue, IfOk, IfErr};
-ghost use Rattle.store_commands.specs.BrokenParts.{BreaksBody, BreaksFile, IsOfFooter};
+ghost use Rattle.std.specs.Prelude.{◌≡◌, ◌≢◌, ◌≤◌, ◌-◌, ◌⊎◌, Ok, Err, IsTrue, IfOk, IfErr, IsErrOf, length};
+ghost use Rattle.store_commands.specs.BrokenParts.{BreaksBefore, BreaksFile, IsOfFooter};
+ghost use Rattle.store_commands.specs.FileReads.{IsFileReadAtMost};
 
 use crate::store_part::part_of;
-use docstore::{DocStoreFooter, FileHandle, FileSlice, IndexFault, SkipIndex, StoreError};
+use docstore::{
+    DocStoreFooter, FOOTER_LEN, FileHandle, FileSlice, IndexFault, SkipIndex, StoreError,
+    read_footer,
+};
 use std::alloc::Global;
 use std::fmt;
 
@@ -46,16 +50,20 @@ impl fmt::Display for BrokenPart {
     }
 }
 
-// Which part it is. `file` lacks this footer at its end.
+// Which part before the footer it is. The file ends with this footer.
 fn part_before<H: FileHandle>(
     alloc: Global,
     footer: &DocStoreFooter,
     file: &mut FileSlice<H>,
 ) -> Result<BrokenPart, StoreError>
-    ensures breaks { IsTrue file.old.honest → IfOk result (BreaksBody file.old.content footer.now) }
+    requires { 28 ≤ length file.old.content }
+    ensures breaks { IsTrue file.old.honest → IfOk result (BreaksBefore file.old.content footer.now) }
     ensures causes { IfErr result (λ e. (e ≡ StoreError.Read) ⊎ (e ≡ StoreError.Memory)) }
+    ensures steady { IsErrOf result StoreError.Read ⊎ (file.new.failures ≡ file.old.failures) }
+    ensures kept { IsFileReadAtMost 1 (length file.old.content - 28) file.old file.new }
 {
-    let part = part_of(alloc, file, footer.offset, file.len())?;
+    let end = file.len() - FOOTER_LEN;
+    let part = part_of(alloc, file, footer.offset, end)?;
     if let Some(fault) = SkipIndex::find_fault(alloc, &part, footer.period)? {
         return Ok(BrokenPart::Index {
             begin: footer.offset,
@@ -72,25 +80,32 @@ fn part_before<H: FileHandle>(
 // Which part before the footer it is.
 fn part_before_footer<H: FileHandle>(
     alloc: Global,
-    file: FileSlice<H>,
+    file: &mut FileSlice<H>,
 ) -> Result<BrokenPart, StoreError>
-    ensures breaks { IsTrue file.honest → IfOk result (BreaksFile file.content) }
+    ensures breaks { IsTrue file.old.honest → IfOk result (BreaksFile file.old.content) }
+    ensures steady { IsErrOf result StoreError.Read ⊎ (file.new.failures ≡ file.old.failures) }
+    ensures kept { IsFileReadAtMost 2 (length file.old.content) file.old file.new }
 {
-    let (footer, mut body) = DocStoreFooter::extract_footer(alloc, file)?;
-    part_before(alloc, &footer, &mut body)
+    let footer = read_footer(file, alloc)?;
+    part_before(alloc, &footer, file)
 }
 
 /// Which part of this file keeps it from being opened, by the error; or an error, if it is not the file's fault. An
-/// index that is reported is broken, and its fault is the first one.
+/// index that is reported is broken, and its fault is the first one. Only for `BadIndex` the file is read: its footer
+/// and its index, once each.
 pub fn broken_part<H: FileHandle>(
     alloc: Global,
-    file: FileSlice<H>,
+    file: &mut FileSlice<H>,
     error: StoreError,
 ) -> Result<BrokenPart, StoreError>
     ensures footer { IsOfFooter error → result ≡ Ok BrokenPart.Footer }
-    ensures breaks { IsTrue file.honest → error ≡ StoreError.BadIndex → IfOk result (BreaksFile file.content) }
+    ensures breaks { IsTrue file.old.honest → error ≡ StoreError.BadIndex
+        → IfOk result (BreaksFile file.old.content) }
     ensures read { error ≡ StoreError.Read → result ≡ Err StoreError.Read }
     ensures memory { error ≡ StoreError.Memory → result ≡ Err StoreError.Memory }
+    ensures no_read { error ≢ StoreError.BadIndex → file.new ≡ file.old }
+    ensures steady { IsErrOf result StoreError.Read ⊎ (file.new.failures ≡ file.old.failures) }
+    ensures kept { IsFileReadAtMost 2 (length file.old.content) file.old file.new }
 {
     match error {
         StoreError::Read | StoreError::Memory => Err(error),

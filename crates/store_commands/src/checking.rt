@@ -1,14 +1,16 @@
 //! Checks a store block by block and slot by slot.
 
-ghost use Rattle.std.specs.Prelude.{◌≡◌, ◌<◌, ◌+◌, ◌^◌, IfOk, IfSome, IfErr};
+ghost use Rattle.std.specs.Prelude.{◌≡◌, ◌<◌, ◌+◌, ◌^◌, ℕ, IfOk, IfSome, IfErr, OnOk, OnErr, length, take};
 ghost use Rattle.std.specs.Prelude.{IsNone, IsSome, is_none, None, [], true, if◌then◌else◌, IsTrue, IsErrOf, ◌⊎◌, not};
 ghost use Rattle.store_base.specs.Counts.{raised, HasRisen};
 ghost use Rattle.layered_index.specs.Checkpoint.{doc_count};
+ghost use Rattle.docstore.specs.StackingInParts.{IsReadInPieces, IsReadAtMost};
 ghost use Rattle.store_format.specs.Block.{slot, damaged};
 ghost use Rattle.store_reader.specs.Parts.{place_of};
 ghost use Rattle.store_reader.specs.Reading.{IsSameStore, num_docs, store_of};
 ghost use Rattle.store_commands.specs.Blocks.{AreWhole};
-ghost use Rattle.store_commands.specs.Checks.{damaged_count, has_table, is_sound, HasTableFault, HasFault, Judges};
+ghost use Rattle.store_commands.specs.Checks.{damaged_count, has_table, is_sound, HasTableFault, HasFault};
+ghost use Rattle.store_commands.specs.Checks.{IsToldOf, Judges};
 
 use crate::block_documents::documents_with_room;
 use docstore::{DataPart, DocId, FileHandle, StoreError, StoreReader, block_read_index, u32_at};
@@ -93,8 +95,14 @@ pub struct Verdict {
 
 /// Is called for each block that is checked.
 pub trait BlockWatch {
+    ghost use Rattle.std.specs.Prelude.{ℕ};
+
+    /// What one block more does, by how many documents and bytes it has.
+    ghost adds: { Self → ℕ → ℕ → Self → Type 0 };
+
     /// One block more, of this many documents and bytes.
-    fn add(&mut self, documents: DocId, bytes: u64);
+    fn add(&mut self, documents: DocId, bytes: u64)
+        ensures { adds self.old documents bytes self.new };
 }
 
 // Where the table of a block breaks what the index promises, by how many documents.
@@ -221,8 +229,15 @@ pub fn check_blocks<H: FileHandle, P: BlockWatch>(
 ) -> Result<Verdict, StoreError>
     ensures documents { IfOk result (λ verdict. verdict.documents ≡ num_docs reader.old) }
     ensures judged { IsTrue reader.old.file.honest → IfOk result (Judges (store_of reader.old)) }
+    ensures told { OnOk result (IsToldOf P.adds (store_of reader.old) watch.old watch.new) }
+    ensures told_first { OnErr result ((count : ℕ)
+        × IsToldOf P.adds (take count (store_of reader.old)) watch.old watch.new) }
     ensures causes { IfErr result (λ e. (e ≡ StoreError.Read) ⊎ (e ≡ StoreError.Memory)) }
     ensures failed { IsErrOf result StoreError.Read → HasRisen reader.old.file.failures reader.new.file.failures }
+    ensures steady { IsErrOf result StoreError.Read
+        ⊎ (reader.new.file.failures ≡ reader.old.file.failures) }
+    ensures read { OnOk result (IsReadInPieces (length reader.old.checkpoints) reader.old reader.new) }
+    ensures kept { IsReadAtMost (length reader.old.checkpoints) reader.old reader.new }
     ensures same_store { IsSameStore reader.old reader.new }
 {
     let mut verdict = Verdict::of_documents(reader.num_docs());

@@ -1,7 +1,9 @@
 //! Finds all damaged documents of a store.
 
-ghost use Rattle.std.specs.Prelude.{◌≡◌, ◌<◌, ◌≤◌, ◌+◌, ◌-◌, ◌^◌, ◌||◌, ◌⊎◌, ℕ, IfOk, IfErr, OnOk, IsErrOf, IsTrue};
+ghost use Rattle.std.specs.Prelude.{◌≡◌, ◌<◌, ◌≤◌, ◌+◌, ◌-◌, ◌^◌, ◌||◌, ◌⊎◌, ℕ, IfOk, IfErr, OnOk, length};
+ghost use Rattle.std.specs.Prelude.{IsErrOf, IsTrue};
 ghost use Rattle.std.specs.List.{AllByRecursion};
+ghost use Rattle.docstore.specs.StackingInParts.{IsReadInPieces, IsReadAtMost};
 ghost use Rattle.store_base.specs.Counts.{HasRisen};
 ghost use Rattle.store_reader.specs.Reading.{IsSameStore};
 ghost use Rattle.store_commands.specs.Checks.{slots_in};
@@ -54,6 +56,10 @@ pub fn damaged_documents<H: FileHandle>(
     ensures apart { IfOk result (λ spans. AreApartFrom 0 spans.items) }
     ensures causes { IfErr result (λ e. (e ≡ StoreError.Read) ⊎ (e ≡ StoreError.Memory)) }
     ensures failed { IsErrOf result StoreError.Read → HasRisen reader.old.file.failures reader.new.file.failures }
+    ensures steady { IsErrOf result StoreError.Read
+        ⊎ (reader.new.file.failures ≡ reader.old.file.failures) }
+    ensures read { OnOk result (IsReadInPieces (length reader.old.checkpoints) reader.old reader.new) }
+    ensures kept { IsReadAtMost (length reader.old.checkpoints) reader.old reader.new }
     ensures same_store { IsSameStore reader.old reader.new }
 {
     // By its clause the blocks cover the data.

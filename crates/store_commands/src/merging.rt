@@ -9,7 +9,7 @@ ghost use Rattle.store_merge.specs.Inputs.{HasWholeSet};
 ghost use Rattle.store_reader.specs.Reading.{num_docs, store_of};
 ghost use Rattle.store_commands.specs.Merging.{kept_slots, KeepsDocuments, RefusesSet, bytes_of};
 ghost use Rattle.store_published.specs.Filling.{IsSameFile};
-ghost use Rattle.store_commands.specs.Merging.{IsMergedReader, IsSteadyMerge, EndsMerge, IsOfOutput};
+ghost use Rattle.store_commands.specs.Merging.{IsMergedReader, IsReadIfStacked, IsSteadyMerge, EndsMerge, IsOfOutput};
 
 use crate::kept_documents::input_without;
 use crate::request_error::RequestError;
@@ -78,6 +78,7 @@ pub fn merge_store<W: TerminatingWrite, H: FileHandle>(
         → OnOk result (taken writer.new ≡ taken writer.old ++ kept_slots words.now reader) }
     ensures file { OnOk result (IsSameFile writer.old writer.new) }
     ensures reader { IfOk result (IsMergedReader reader) }
+    ensures read { IfOk result (IsReadIfStacked part_bytes words.now reader) }
     ensures faults { IfOk result (IsSteadyMerge words.now reader) }
     ensures ended { IfErr result (EndsMerge words.now reader writer.old writer.new) }
     ensures count { writer.old.output.failures ≤ writer.new.output.failures }

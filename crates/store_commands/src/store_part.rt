@@ -1,6 +1,8 @@
 //! Parts of a file: a range of its bytes, and the store in a file of tantivy's directory.
 
-ghost use Rattle.std.specs.Prelude.{◌≡◌, ◌≢◌, ◌<◌, ◌≤◌, ◌^◌, ℕ, Err, IfOk, IfErr, MatchOption, length};
+ghost use Rattle.std.specs.Prelude.{◌≡◌, ◌≢◌, ◌<◌, ◌≤◌, ◌-◌, ◌^◌, ◌⊎◌, ℕ, Err, IfOk, IfErr, IsErrOf};
+ghost use Rattle.std.specs.Prelude.{MatchOption, length};
+ghost use Rattle.store_commands.specs.FileReads.{IsFileReadAtMost};
 ghost use Rattle.store_format.specs.FileReading.{Comes};
 ghost use Rattle.store_commands.specs.Tails.{IsNoRange, tail_of, IsCutOff, RefusesTail};
 ghost use Rattle.store_commands.specs.Tails.{HasLooked, FailsLook, IsStoreIn};
@@ -24,6 +26,9 @@ pub fn part_of<H: FileHandle>(
     ensures comes { start ≤ end → end ≤ length file.old.content → Comes file.old start end result file.new }
     ensures none { IsNoRange start end (length file.old.content)
         → (result ≡ Err StoreError.Read) × (file.new ≡ file.old) }
+    ensures causes { IfErr result (λ e. (e ≡ StoreError.Read) ⊎ (e ≡ StoreError.Memory)) }
+    ensures steady { IsErrOf result StoreError.Read ⊎ (file.new.failures ≡ file.old.failures) }
+    ensures kept { IsFileReadAtMost 1 (end - start) file.old file.new }
 {
     if start > end || end > file.len() {
         return Err(StoreError::Read);

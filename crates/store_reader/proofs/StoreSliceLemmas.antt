@@ -4,6 +4,7 @@ use Rattle.std.specs.Prelude.{Result, Ok, Err, slice_range, slice_get}
 use Rattle.std.proofs.lemmas.List.{append-nil}
 use Rattle.std.proofs.lemmas.Option.{slice_get_past}
 use Rattle.store_format.specs.FooterLemmas.{kind_zero}
+use Rattle.store_base.proofs.ListLemmas.{length-slice}
 use Rattle.store_base.specs.declared.error.StoreError.{StoreError}
 use Rattle.store_base.specs.declared.error.StoreError.TheVariants.{BadIndex, BadOffset, InvalidArgument, DamagedDocument}
 use Rattle.layered_index.specs.declared.checkpoint.Checkpoint.{Checkpoint}
@@ -24,7 +25,7 @@ use Rattle.store_reader.specs.CallAnswers.{exact_result}
 use Rattle.store_reader.specs.GetAnswer.{AnswersTruly}
 use Rattle.store_reader.specs.Opening.{IsSomeStore}
 use Rattle.store_reader.specs.Viewing.{Viewing, IsView, FindsFooter, Finds, data_in}
-use Rattle.store_reader.specs.StoreSlices.{IsLaidOut, IsStoreSlice, IsBlockSlice, document_in, count_of_store}
+use Rattle.store_reader.specs.StoreSlices.{IsPartOf, IsLaidOut, IsStoreSlice, IsBlockSlice, document_in, count_of_store}
 use Rattle.store_reader.proofs.OpenedLemmas.{IsTail}
 use Rattle.store_reader.proofs.RefusedLemmas.{parts_of, footer_of, not_refused}
 use Rattle.store_reader.proofs.SeekLemmas.{within}
@@ -273,3 +274,10 @@ none_stored bytes s id e =
 -- no document stands at or past the count
 pub document_past : (bytes : List ℕ) (s : IsSomeStore bytes) (id : ℕ) → count_of_store bytes s ≤ id → document_in bytes s id ≡ Err (InvalidArgument id)
 document_past bytes s id le = ap (exact_result id) (slice_get_past (slots s.blocks) id le)
+
+-- a range of bytes is a part of them
+pub range_is_part : (bytes part : List ℕ) (from to : ℕ) → part ≡ slice_range bytes from to → from ≤ to → to ≤ length bytes → IsPartOf bytes part
+range_is_part bytes part from to is order within =
+    let size : length part ≡ to - from = ap length is ∙ length-slice bytes from to within in
+    let end : to ≡ from + length part = omega (arith, size) in
+    record { start = from; within = omega (arith, end); part_is = is ∙ ap (slice_range bytes from) end }

@@ -29,6 +29,12 @@ document_in bytes s id = exact_result id (slice_get (slots s.blocks) id)
 abbrev pub count_of_store : (bytes : List ℕ) → IsSomeStore bytes → ℕ
 count_of_store bytes s = length (slots s.blocks)
 
+-- These bytes are a part of the others.
+pub record IsPartOf (bytes part : List ℕ) : Type 0 where
+  pub start : ℕ
+  pub within : start + length part ≤ length bytes
+  pub part_is : part ≡ slice_range bytes start (start + length part)
+
 -- These parts of the bytes are those of the store.
 pub record IsLaidOut (bytes : List ℕ) (data_len : ℕ) (index : IndexBytes) (version : ℕ)
     (s : IsSomeStore bytes) : Type 0 where

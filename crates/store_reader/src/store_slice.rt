@@ -12,7 +12,7 @@ ghost use Rattle.store_format.specs.StoreFile.{checkpoints_of, data_of};
 ghost use Rattle.store_reader.specs.Documents.{document_version, ReadsFrom, ReadsTruly};
 ghost use Rattle.store_reader.specs.Opening.{IsSomeStore};
 ghost use Rattle.store_reader.specs.Viewing.{Finds, given, placed_in};
-ghost use Rattle.store_reader.specs.StoreSlices.{document_in, count_of_store, IsBlockSlice, AreLeft, IsAmid};
+ghost use Rattle.store_reader.specs.StoreSlices.{document_in, count_of_store, IsPartOf, IsBlockSlice, AreLeft, IsAmid};
 ghost use Rattle.store_reader.specs.StoreSlices.{RefusesOne, RefusesReading};
 ghost use Rattle.store_reader.specs.StoreTails.{HasIndexIn};
 
@@ -145,6 +145,7 @@ impl<'a> StoreSlice<'a> {
     #[inline(always)]
     pub fn get(&self, doc_id: DocId) -> Result<&'a [u8], StoreError>
         ensures document { (s : IsSomeStore self.now) → given result ≡ document_in self.now s doc_id }
+        ensures part { IfOk result (λ bytes. IsPartOf self.now bytes.now) }
         ensures refused { IfErr result (RefusesOne doc_id) }
 
         // What follows.

@@ -132,7 +132,12 @@ impl<'a> Progress<'a> {
     }
 }
 
+/// No clause says what is on the terminal.
 impl<'a> BlockWatch for Progress<'a> {
+    ghost use Rattle.std.specs.Prelude.{⊤};
+
+    ghost adds = { λ old documents bytes new. ⊤ };
+
     fn add(&mut self, documents: DocId, bytes: u64) {
         Progress::add(self, documents, bytes);
     }

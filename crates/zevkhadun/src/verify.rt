@@ -83,7 +83,7 @@ impl Verifying {
     pub fn look_at(&self, rt: &HostRuntime, store: StorePath<'_>) -> Result<Found, FailureCause> {
         match reader_of(rt, store.file(rt)?) {
             Ok(mut reader) => self.look_over(rt, &mut reader),
-            Err(refusal) => match broken_part(rt.alloc(), refusal.file, refusal.error)? {
+            Err(mut refusal) => match broken_part(rt.alloc(), &mut refusal.file, refusal.error)? {
                 BrokenPart::Footer => Ok(Found::Footer(refusal.error)),
                 part => Ok(Found::Part(part)),
             },

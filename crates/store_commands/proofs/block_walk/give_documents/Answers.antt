@@ -1,8 +1,8 @@
 use Rattle.std.proofs.Common.{refl, ◌∙◌}
 use Rattle.std.proofs.lemmas.Result.{err_from_is_err_and}
 use Rattle.store_commands.proofs.EndingLemmas.{steady_of, ends_by_read, ends_in_block}
-use Rattle.store_commands.proofs.GivingLemmas.{HasGiven, given_first, given_more, given_all}
-use Rattle.store_commands.proofs.WalkLemmas.{seeks_some, bytes_some, none_left}
+use Rattle.store_commands.proofs.GivingLemmas.{HasGiven, AreGiven, given_first, given_more, given_all}
+use Rattle.store_commands.proofs.WalkLemmas.{seeks_some, bytes_some, none_left, walked_whole, walked_within}
 use Rattle.store_commands.specs.Documents.{kept_by}
 use Rattle.store_commands.proofs.block_walk.give_documents.Goals.{In_ok-give_block}
 use Rattle.store_commands.proofs.block_walk.give_documents.Goals as goal
@@ -61,3 +61,23 @@ pub returns-clause-given : goal.returns-clause-given
 returns-clause-given g c honest =
     given_all g.T.DocumentTarget.takes (kept_by c.args.left_out.now) c.args.reader.now c.loop-block.reader c.loop-block.next_id c.args.target.now c.loop-block.target c.loop-block.invariant.given
     (c.in_ok-block.ensures.none.0 (none_left c.in_ok-block.field-0 c.in_default.is)) honest
+
+pub returns-clause-read : goal.returns-clause-read
+returns-clause-read g c =
+    walked_whole (AreGiven g.T.DocumentTarget.takes (kept_by c.args.left_out.now) c.args.target.now c.loop-block.target) c.args.reader.now c.loop-block.reader c.read_block.new.self c.loop-block.next_id
+    c.loop-block.invariant.given (c.in_ok-block.ensures.none.0 (none_left c.in_ok-block.field-0 c.in_default.is)) c.read_block.ensures.no_read
+
+pub returns-clause-kept : goal.returns-clause-kept
+returns-clause-kept g c =
+    walked_within (AreGiven g.T.DocumentTarget.takes (kept_by c.args.left_out.now) c.args.target.now c.loop-block.target) c.args.reader.now c.loop-block.reader c.read_block.new.self c.loop-block.next_id
+    c.loop-block.invariant.given c.read_block.ensures.no_read c.read_block.ensures.once
+
+pub returns-in_err-block-clause-kept : goal.returns-in_err-block-clause-kept
+returns-in_err-block-clause-kept g c =
+    walked_within (AreGiven g.T.DocumentTarget.takes (kept_by c.args.left_out.now) c.args.target.now c.loop-block.target) c.args.reader.now c.loop-block.reader c.read_block.new.self c.loop-block.next_id
+    c.loop-block.invariant.given c.read_block.ensures.no_read c.read_block.ensures.once
+
+pub returns-in_err-give_block-clause-kept : goal.returns-in_err-give_block-clause-kept
+returns-in_err-give_block-clause-kept g c =
+    walked_within (AreGiven g.T.DocumentTarget.takes (kept_by c.args.left_out.now) c.args.target.now c.loop-block.target) c.args.reader.now c.loop-block.reader c.read_block.new.self c.loop-block.next_id
+    c.loop-block.invariant.given c.read_block.ensures.no_read c.read_block.ensures.once

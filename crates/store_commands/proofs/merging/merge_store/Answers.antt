@@ -8,7 +8,7 @@ use Rattle.store_merge.specs.Merge.{IsHonest}
 use Rattle.store_reader.specs.Reading.{Reading}
 use Rattle.store_commands.specs.Merging.{KeepsDocuments}
 use Rattle.store_commands.proofs.FileLemmas.{merged_in_file}
-use Rattle.store_commands.proofs.MergedLemmas.{kept_alone, items_left, reader_alone, steady_alone, ends_alone}
+use Rattle.store_commands.proofs.MergedLemmas.{kept_alone, items_left, reader_alone, read_alone, steady_alone, ends_alone}
 use Rattle.store_commands.proofs.merging.merge_store.Goals as goal
 
 pub returns-in-Ok-clause-reader : goal.returns-in-Ok-clause-reader
@@ -25,6 +25,14 @@ returns-in-Ok-clause-faults g c =
     c.merge_in_parts-merged.ensures.kept
     (items_left one.0 c.deref_mut.result.now c.merge_in_parts-merged.new.inputs c.in_ok-inputs.inputs.items c.in_ok-inputs.inputs.len c.reader_of-reader.result (c.deref_mut.ensures.value ∙ one.1)
     c.merge_in_parts-merged.ensures.kept (sym c.deref_mut.ensures.len) c.reader_of-reader.ensures) c.in-Ok.ensures.faults
+
+pub returns-in-Ok-clause-read : goal.returns-in-Ok-clause-read
+returns-in-Ok-clause-read g c =
+    let one = c.in_ok-inputs.ensures.one in
+    read_alone c.args.part_bytes c.args.words.now c.args.reader one.0 c.deref_mut.result.now c.merge_in_parts-merged.new.inputs c.reader_of-reader.result (c.deref_mut.ensures.value ∙ one.1) one.2 one.3
+    c.merge_in_parts-merged.ensures.kept
+    (items_left one.0 c.deref_mut.result.now c.merge_in_parts-merged.new.inputs c.in_ok-inputs.inputs.items c.in_ok-inputs.inputs.len c.reader_of-reader.result (c.deref_mut.ensures.value ∙ one.1)
+    c.merge_in_parts-merged.ensures.kept (sym c.deref_mut.ensures.len) c.reader_of-reader.ensures) c.in-Ok.ensures.read
 
 pub returns-in-Err-clause-ended : goal.returns-in-Err-clause-ended
 returns-in-Err-clause-ended g c =
