@@ -29,13 +29,14 @@ _zevkhadun() {
                 'log append --seal-size' | \
                 'log get --framing' | \
                 'log cat --from' | \
-                'log cat --framing')
+                'log cat --framing' | \
+                'log drop --before')
                 if [ "${COMP_WORDS[i + 1]}" = '=' ]; then ((i++)); fi
                 ((i++))
                 ;;
             *' -'?*) ;;
             ' '*) command=${COMP_WORDS[i]} ;;
-            'log append' | 'log get' | 'log cat' | 'log stat' | 'log verify' | 'log seal') command="$command ${COMP_WORDS[i]}" ;;
+            'log append' | 'log get' | 'log cat' | 'log stat' | 'log verify' | 'log seal' | 'log drop') command="$command ${COMP_WORDS[i]}" ;;
             *) ((place++)) ;;
         esac
     done
@@ -61,11 +62,14 @@ _zevkhadun() {
         'log get --framing') words='lines text nul lengths files' ;;
         'log cat --from') : ;;
         'log cat --framing') words='lines text nul lengths files' ;;
+        'log drop --before') : ;;
         *)
             case "$command $place $word" in
                 ' 0 -'*) words='-h --help -V --version' ;;
                 ' 0 '*) words='pack append get cat stat verify merge export inspect log help' ;;
                 'help 0 '*) words='pack append get cat stat verify merge export inspect log help' ;;
+                'log drop '*' -'*) words='--before -h --help' ;;
+                'log drop 0 '*) files=yes ;;
                 'log seal '*' -'*) words='-h --help' ;;
                 'log seal 0 '*) files=yes ;;
                 'log verify '*' -'*) words='-q --quiet -h --help' ;;
@@ -80,7 +84,7 @@ _zevkhadun() {
                 'log append 0 '*) files=yes ;;
                 'log append '*) files=yes ;;
                 'log '*' -'*) words='-h --help' ;;
-                'log 0 '*) words='append get cat stat verify seal help' ;;
+                'log 0 '*) words='append get cat stat verify seal drop help' ;;
                 'inspect '*' -'*) words='--html --tantivy -h --help' ;;
                 'inspect 0 '*) files=yes ;;
                 'inspect 1 '*) files=yes ;;

@@ -5,52 +5,9 @@ import os
 import shutil
 import subprocess
 
-from harness import ProgramCase, changed, numbers
+from harness import changed, numbers
+from program.log_case import FIRST, LogCase
 from program.texts import LINES
-
-FIRST = "00000000000000000000.store"
-
-
-class LogCase(ProgramCase):
-    """A test with a log in the folder `events`."""
-
-    def append(self, text: bytes, *words: str) -> bytes:
-        """Appends records from the standard input, and returns what is printed."""
-        return self.program.gives("log", "append", "events", *words, input=text)
-
-    def records(self, *words: str, name: str = "events") -> bytes:
-        """What `log cat` prints."""
-        return self.program.gives("log", "cat", name, *words)
-
-    def files(self) -> dict[str, bytes]:
-        """The files of the log, but for its lock."""
-        folder = self.folder / "events"
-        return {name: (folder / name).read_bytes() for name in sorted(os.listdir(folder)) if name != "lock"}
-
-    def change(self, name: str, content: bytes) -> None:
-        """Gives a file of the log other bytes."""
-        (self.folder / "events" / name).write_bytes(content)
-
-    def begin(self, *words: str) -> subprocess.Popen:
-        """Begins an append that waits for its input."""
-        pipes = {"stdin": subprocess.PIPE, "stdout": subprocess.PIPE, "stderr": subprocess.PIPE}
-        command = [self.program.path, "log", "append", "events", *words]
-        writing = subprocess.Popen(command, cwd=self.folder, **pipes)
-        self.addCleanup(self.end, writing)
-        return writing
-
-    def end(self, writing: subprocess.Popen) -> None:
-        """Ends an append, and closes its pipes."""
-        writing.kill()
-        writing.wait()
-        for pipe in (writing.stdin, writing.stdout, writing.stderr):
-            pipe.close()
-
-    def say(self, writing: subprocess.Popen, text: bytes) -> bytes:
-        """Gives an append some input, and returns the line that it prints then."""
-        writing.stdin.write(text)
-        writing.stdin.flush()
-        return writing.stdout.readline()
 
 
 class Append(LogCase):
@@ -235,7 +192,7 @@ class Refused(LogCase):
         writing = self.begin("--number")
         self.say(writing, b"one\n")
         said = "zevkhadun: events: the log is being written by another; wait until it ends, or stop it\n"
-        for words in (["append", "events"], ["seal", "events"]):
+        for words in (["append", "events"], ["seal", "events"], ["drop", "events", "--before", "1"]):
             self.assertEqual(self.program.fails(3, said, "log", *words, input=LINES).stderr.decode(), said)
         writing.communicate(b"two\n", timeout=60)
         self.assertEqual(self.records(), b"one\ntwo\n")
@@ -246,19 +203,22 @@ class Refused(LogCase):
         self.pack("a.store", LINES)
         advice = "not a log; 'zevkhadun log append' begins one in a new or empty folder"
         for name in ("full", "a.store"):
-            for words in ("append {}", "cat {}", "get {} 0", "stat {}", "verify -q {}", "seal {}"):
+            for words in ("append {}", "cat {}", "get {} 0", "stat {}", "verify -q {}", "seal {}",
+                          "drop {} --before 1"):
                 self.program.fails(1, f"{name}: {advice}", "log", *words.format(name).split(), input=LINES)
         self.assertEqual(os.listdir(self.folder / "full"), ["notes.txt"])
 
     def test_a_log_that_is_not_there_is_not_made(self):
-        for words in ("cat gone", "get gone 0", "stat gone", "verify -q gone", "seal gone"):
+        for words in ("cat gone", "get gone 0", "stat gone", "verify -q gone", "seal gone",
+                      "drop gone --before 1"):
             self.program.fails(3, "gone: No such file", "log", *words.split())
         self.program.fails(3, "gone/events: No such file", "log", "append", "gone/events", input=LINES)
         self.assertEqual(self.names(), [])
 
     def test_wrong_words_end_with_2(self):
         for words in ("", "append", "get events", "cat", "stat", "append --sync never x", "append --seal-size x x",
-                      "none", "cat --from x events", "append --sync every"):
+                      "none", "cat --from x events", "append --sync every", "drop events", "drop --before x events",
+                      "drop --before -1 events"):
             done = self.program.run("log", *words.split())
             self.assertEqual((done.returncode, done.stdout), (2, b""), words)
         self.assertEqual(self.names(), [])

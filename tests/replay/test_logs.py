@@ -1,4 +1,5 @@
-"""What a power cut leaves of a log to which `log append` appends, and which it or `log seal` seals.
+"""What a power cut leaves of a log to which `log append` appends, which it or `log seal` seals, or whose segments
+`log drop` removes.
 
 Each beginning of the recorded calls is replayed on the model of a disk, as for a file that is published. The program
 then opens what is left, to read it and to write it: it has the first records, and all whose number had been printed.
@@ -79,8 +80,22 @@ class LogReplay:
         return faults, looks
 
 
+class DropReplay(LogReplay):
+    """Calls on the folder of a log that lose its first segments, one after another.
+
+    Once this many lines are printed, as many segments are gone.
+    """
+
+    def __init__(self, program: Program, files: dict[str, bytes], texts: list[bytes]) -> None:
+        super().__init__(program, files, 0, texts[0])
+        self.texts = texts
+
+    def is_right(self, left: dict[str, bytes], acknowledged: int) -> bool:
+        return self.records(left) in self.texts[acknowledged:]
+
+
 class Logs(ProgramCase):
-    """The calls of `log append` and `log seal`."""
+    """The calls of `log append`, `log seal` and `log drop`."""
 
     def setUp(self) -> None:
         self.require("strace")
@@ -127,6 +142,21 @@ class Logs(ProgramCase):
         replay, calls = self.check(5, numbers(5), "log", "seal", self.log)
         # Without the last sync a crash may bring the old tail back, whose records the segment has, too.
         self.check_syncs(replay, calls, 1)
+
+    def seal_three(self) -> None:
+        """Makes three segments of ten records each."""
+        for i in range(3):
+            self.program.gives("log", "append", self.log, input=numbers(i * 10 + 9, i * 10))
+            self.program.gives("log", "seal", self.log)
+
+    def test_old_segments_are_removed(self):
+        self.seal_three()
+        self.program.gives("log", "append", self.log, input=numbers(34, 30))
+        replay = DropReplay(self.program, self.files(), [numbers(34, first) for first in (0, 10, 20)])
+        calls = recorded(self.program.path, self.log, "log", "drop", self.log, "--before", "25", kind=LogRecording)
+        calls.append(("print", b"\n\n"))
+        self.assertEqual(replay.faults(calls)[0], [], f"a crash after that many of {calls} leaves another log")
+        self.check_syncs(replay, calls, 0)
 
     def test_what_a_crash_left_is_cut_off(self):
         self.program.gives("log", "append", self.log, input=numbers(2))

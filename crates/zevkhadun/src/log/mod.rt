@@ -2,6 +2,7 @@
 
 mod append;
 mod cat;
+mod drop;
 mod get;
 mod inputs;
 mod log_folder;
@@ -26,7 +27,7 @@ const FOLDER: &str = "FOLDER";
 
 const AFTER_HELP: &str = "\
 A log is a folder: sealed segments, which are ordinary stores, and a tail. A record is any bytes, and its number stays.
-'append' and 'seal' lock the log, so it has one writer; the other commands take no lock and change nothing.
+'append', 'seal' and 'drop' lock the log, so it has one writer; the other commands take no lock and change nothing.
 
 Example:
   zevkhadun log append events new.txt && zevkhadun log get events 0";
@@ -47,7 +48,8 @@ pub fn command<'a>(alloc: Global) -> Result<Command<'a>, AllocError> {
     let writing = with(bare_command(alloc), append::command(alloc));
     let reading = with(with(writing, get::command(alloc)), cat::command(alloc));
     let telling = with(with(reading, stat::command(alloc)), verify::command(alloc));
-    with(telling, seal::command(alloc))
+    let sealing = with(telling, seal::command(alloc));
+    with(sealing, drop::command(alloc))
 }
 
 /// The folder of a log.
@@ -75,6 +77,7 @@ pub fn run(rt: &HostRuntime, matches: &ArgMatches<'_>) -> Result<(), Failure> {
         "stat" => stat::run(rt, matches),
         "verify" => verify::run(rt, matches),
         "seal" => seal::run(rt, matches),
+        "drop" => drop::run(rt, matches),
         _ => Err(wrong_words(rt.alloc(), "unknown command", name)),
     }
 }

@@ -75,6 +75,12 @@ impl<'a> OpenedLog<'a> {
         self.result_of(sealed)
     }
 
+    /// Removes the segments whose records all have smaller numbers.
+    pub fn drop_before(&mut self, number: u64) -> Result<(), FailureCause> {
+        let dropped = self.log.drop_before(number);
+        self.result_of(dropped)
+    }
+
     /// The record of a number that the log has.
     pub fn get(&mut self, number: u64) -> Result<Vec<u8>, FailureCause> {
         let (first, end) = (self.first(), self.end());
