@@ -3,15 +3,13 @@
 use crate::arguments;
 use crate::document_output::{self, DocumentForm, DocumentOutput, form_of, standard_output};
 use crate::failure::{Failure, FailureCause, to_output, with_file};
+use crate::listed_numbers::{NumberPrinter, print_listed};
 use crate::store_file::{DiskReader, StorePath, store_path};
 use clap::{ArgMatches, Command};
 use std::alloc::{AllocError, Global};
-use std::io::{BufRead, BufReader, Read, Write};
+use std::io::Write;
 use store_commands::id_range::range_of;
 use store_commands::{IdRange, ranges_of};
-
-// How many bytes of numbers are read at once.
-const BUFFER_SIZE: usize = 1 << 16;
 
 const EXAMPLE: &str = "\
 Examples:
@@ -76,46 +74,29 @@ impl<'a> Printer<'a> {
         for range in ranges {
             self.print(*range)?;
         }
-        to_output(self.output.flush())
+        self.flush()
     }
+}
 
-    // Prints the documents of the range on a line.
-    fn print_line(&mut self, line: &str) -> Result<(), FailureCause> {
-        let word = line.trim();
-        if word.is_empty() {
-            return Ok(());
-        }
+impl<'a> NumberPrinter for Printer<'a> {
+    fn print_word(&mut self, word: &str) -> Result<(), FailureCause> {
         let range = range_of(self.alloc, word)?;
         self.print(range)
     }
 
-    // Prints the documents of the range on each line of an input. What was asked for is printed before more is waited
-    // for.
-    fn print_lines<R: Read>(&mut self, input: &mut BufReader<R>) -> Result<(), FailureCause> {
-        let mut line = String::new(self.alloc);
-        for _ in 0..u64::MAX {
-            line.clear();
-            if input.read_line(&mut line)? == 0 {
-                break;
-            }
-            self.print_line(line.as_str())?;
-            if input.buffer().is_empty() {
-                to_output(self.output.flush())?;
-            }
-        }
+    fn flush(&mut self) -> Result<(), FailureCause> {
         to_output(self.output.flush())
     }
 }
 
 // Prints the documents whose numbers are in the standard input.
-fn print_listed(
+fn print_numbers(
     rt: &HostRuntime,
     store: StorePath<'_>,
     form: DocumentForm,
 ) -> Result<(), FailureCause> {
     let mut printer = Printer::open(rt, store, form)?;
-    let mut input = BufReader::with_capacity(rt.alloc(), BUFFER_SIZE, rt.reader())?;
-    printer.print_lines(&mut input)
+    print_listed(rt, &mut printer)
 }
 
 // Prints the documents that words name.
@@ -134,7 +115,7 @@ pub fn run(rt: &HostRuntime, matches: &ArgMatches<'_>) -> Result<(), Failure> {
     let store = store_path(rt, matches)?;
     let form = form_of(rt.alloc(), matches)?;
     let printed = match matches.get_strs("ID").unwrap_or(&[]) {
-        ["-"] => print_listed(rt, store, form),
+        ["-"] => print_numbers(rt, store, form),
         words => print_named(rt, store, form, words),
     };
     with_file(rt.alloc(), store.path, printed)

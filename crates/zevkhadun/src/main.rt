@@ -17,6 +17,7 @@ mod get;
 mod input_files;
 mod inspect;
 mod inspect_words;
+mod listed_numbers;
 mod log;
 mod merge;
 mod pack;

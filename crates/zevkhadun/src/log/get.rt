@@ -3,16 +3,14 @@
 use crate::arguments;
 use crate::document_output::{self, DocumentForm, DocumentOutput, form_of, standard_output};
 use crate::failure::{Failure, FailureCause, to_output, with_file};
+use crate::listed_numbers::{NumberPrinter, print_listed};
 use crate::log::log_folder::SystemCause;
 use crate::log::number_range::NumberRange;
 use crate::log::opened_log::OpenedLog;
 use crate::log::places::open_to_read;
 use clap::{ArgMatches, Command};
 use std::alloc::{AllocError, Global};
-use std::io::{BufRead, BufReader, Read, Write};
-
-// How many bytes of numbers are read at once.
-const BUFFER_SIZE: usize = 1 << 16;
+use std::io::Write;
 
 const EXAMPLE: &str = "\
 It takes no lock, so a writer may go on. It shows the log as it was when it was opened.
@@ -61,36 +59,19 @@ impl<'a> Printer<'a> {
     // Prints the records of the range that each word names, which all are ranges.
     fn print_all(&mut self, words: &[&str]) -> Result<(), FailureCause> {
         for word in words {
-            let range = NumberRange::parse(self.alloc, word)?;
-            self.print(range)?;
+            self.print_word(word)?;
         }
-        to_output(self.output.flush())
+        self.flush()
     }
+}
 
-    // Prints the records of the range on a line.
-    fn print_line(&mut self, line: &str) -> Result<(), FailureCause> {
-        let word = line.trim();
-        if word.is_empty() {
-            return Ok(());
-        }
+impl<'a> NumberPrinter for Printer<'a> {
+    fn print_word(&mut self, word: &str) -> Result<(), FailureCause> {
         let range = NumberRange::parse(self.alloc, word)?;
         self.print(range)
     }
 
-    // Prints the records of the range on each line of an input. What was asked for is printed before more is waited
-    // for.
-    fn print_lines<R: Read>(&mut self, input: &mut BufReader<R>) -> Result<(), FailureCause> {
-        let mut line = String::new(self.alloc);
-        for _ in 0..u64::MAX {
-            line.clear();
-            if input.read_line(&mut line)? == 0 {
-                break;
-            }
-            self.print_line(line.as_str())?;
-            if input.buffer().is_empty() {
-                to_output(self.output.flush())?;
-            }
-        }
+    fn flush(&mut self) -> Result<(), FailureCause> {
         to_output(self.output.flush())
     }
 }
@@ -125,8 +106,7 @@ fn print(
     if !is_listed {
         return printer.print_all(words);
     }
-    let mut input = BufReader::with_capacity(alloc, BUFFER_SIZE, rt.reader())?;
-    printer.print_lines(&mut input)
+    print_listed(rt, &mut printer)
 }
 
 /// Prints the records.
