@@ -16,7 +16,7 @@ use Rattle.store_reader.specs.Reading.{Reading, IsSameStore, num_docs, store_of}
 use Rattle.store_reader.specs.Walking.{PassesDead}
 use Rattle.store_merge.specs.declared.input.MergeInput.{MergeInput}
 use Rattle.store_merge.specs.declared.merge_error.MergeError.{MergeError}
-use Rattle.store_merge.specs.Choice.{flags_of, is_stacked, alive_of, alive_slots, first_old}
+use Rattle.store_merge.specs.Choice.{is_stacked, alive_of, alive_slots, first_old}
 use Rattle.store_merge.specs.Inputs.{AreEach, AreInputsKept, AreStackedBy, IsAskedOnce, IsSteadyInput}
 use Rattle.store_merge.specs.Merge.{IsEnded, IsFailed}
 use Rattle.store_merge.specs.Stacking.{IsReadInParts}
