@@ -73,7 +73,7 @@ class Killed(ProgramCase):
             self.assertLessEqual(found, acknowledged + 1, f"records from nowhere, at moment {moment}")
             killed_in_the_midst += count < found < count + MORE
             count = found
-        self.assertGreater(killed_in_the_midst, MOMENTS // 4, "most kills came before or after the records")
+        self.assertGreater(killed_in_the_midst, MOMENTS // 10, "most kills came before or after the records")
         self.assertGreater(segments, MOMENTS, "few segments")
         self.program.gives("log", "append", "events")
         self.program.gives("log", "verify", "-q", "events")
