@@ -30,13 +30,14 @@ _zevkhadun() {
                 'log get --framing' | \
                 'log cat --from' | \
                 'log cat --framing' | \
+                'log compact --size' | \
                 'log drop --before')
                 if [ "${COMP_WORDS[i + 1]}" = '=' ]; then ((i++)); fi
                 ((i++))
                 ;;
             *' -'?*) ;;
             ' '*) command=${COMP_WORDS[i]} ;;
-            'log append' | 'log get' | 'log cat' | 'log stat' | 'log verify' | 'log seal' | 'log drop') command="$command ${COMP_WORDS[i]}" ;;
+            'log append' | 'log get' | 'log cat' | 'log stat' | 'log verify' | 'log seal' | 'log compact' | 'log drop') command="$command ${COMP_WORDS[i]}" ;;
             *) ((place++)) ;;
         esac
     done
@@ -62,6 +63,7 @@ _zevkhadun() {
         'log get --framing') words='lines text nul lengths files' ;;
         'log cat --from') : ;;
         'log cat --framing') words='lines text nul lengths files' ;;
+        'log compact --size') : ;;
         'log drop --before') : ;;
         *)
             case "$command $place $word" in
@@ -70,6 +72,8 @@ _zevkhadun() {
                 'help 0 '*) words='pack append get cat stat verify merge export inspect log help' ;;
                 'log drop '*' -'*) words='--before -h --help' ;;
                 'log drop 0 '*) files=yes ;;
+                'log compact '*' -'*) words='--size -h --help' ;;
+                'log compact 0 '*) files=yes ;;
                 'log seal '*' -'*) words='-h --help' ;;
                 'log seal 0 '*) files=yes ;;
                 'log verify '*' -'*) words='-q --quiet -h --help' ;;
@@ -84,7 +88,7 @@ _zevkhadun() {
                 'log append 0 '*) files=yes ;;
                 'log append '*) files=yes ;;
                 'log '*' -'*) words='-h --help' ;;
-                'log 0 '*) words='append get cat stat verify seal drop help' ;;
+                'log 0 '*) words='append get cat stat verify seal compact drop help' ;;
                 'inspect '*' -'*) words='--html --tantivy -h --help' ;;
                 'inspect 0 '*) files=yes ;;
                 'inspect 1 '*) files=yes ;;

@@ -66,14 +66,15 @@ complete -c zevkhadun -n '__fish_seen_subcommand_from inspect' -l html -r -F -d 
 complete -c zevkhadun -n '__fish_seen_subcommand_from inspect' -l tantivy -d 'Require the footer that tantivy\'s directory adds to a segment\'s .store file; it is recognized without this'
 complete -c zevkhadun -n '__fish_seen_subcommand_from inspect' -s h -l help -d 'Print help'
 complete -c zevkhadun -n '__fish_seen_subcommand_from inspect' -F
-complete -c zevkhadun -n '__fish_seen_subcommand_from log; and not __fish_seen_subcommand_from append get cat stat verify seal drop help' -a append -d 'Add the records in files or standard input to a log'
-complete -c zevkhadun -n '__fish_seen_subcommand_from log; and not __fish_seen_subcommand_from append get cat stat verify seal drop help' -a get -d 'Print records by their numbers'
-complete -c zevkhadun -n '__fish_seen_subcommand_from log; and not __fish_seen_subcommand_from append get cat stat verify seal drop help' -a cat -d 'Print all records in order'
-complete -c zevkhadun -n '__fish_seen_subcommand_from log; and not __fish_seen_subcommand_from append get cat stat verify seal drop help' -a stat -d 'Print counts and sizes of logs'
-complete -c zevkhadun -n '__fish_seen_subcommand_from log; and not __fish_seen_subcommand_from append get cat stat verify seal drop help' -a verify -d 'Check logs completely, and report what is broken'
-complete -c zevkhadun -n '__fish_seen_subcommand_from log; and not __fish_seen_subcommand_from append get cat stat verify seal drop help' -a seal -d 'Put the records of the tail into a segment, which is a store'
-complete -c zevkhadun -n '__fish_seen_subcommand_from log; and not __fish_seen_subcommand_from append get cat stat verify seal drop help' -a drop -d 'Remove the segments before a record'
-complete -c zevkhadun -n '__fish_seen_subcommand_from log; and not __fish_seen_subcommand_from append get cat stat verify seal drop help' -a help -d 'Print help'
+complete -c zevkhadun -n '__fish_seen_subcommand_from log; and not __fish_seen_subcommand_from append get cat stat verify seal compact drop help' -a append -d 'Add the records in files or standard input to a log'
+complete -c zevkhadun -n '__fish_seen_subcommand_from log; and not __fish_seen_subcommand_from append get cat stat verify seal compact drop help' -a get -d 'Print records by their numbers'
+complete -c zevkhadun -n '__fish_seen_subcommand_from log; and not __fish_seen_subcommand_from append get cat stat verify seal compact drop help' -a cat -d 'Print all records in order'
+complete -c zevkhadun -n '__fish_seen_subcommand_from log; and not __fish_seen_subcommand_from append get cat stat verify seal compact drop help' -a stat -d 'Print counts and sizes of logs'
+complete -c zevkhadun -n '__fish_seen_subcommand_from log; and not __fish_seen_subcommand_from append get cat stat verify seal compact drop help' -a verify -d 'Check logs completely, and report what is broken'
+complete -c zevkhadun -n '__fish_seen_subcommand_from log; and not __fish_seen_subcommand_from append get cat stat verify seal compact drop help' -a seal -d 'Put the records of the tail into a segment, which is a store'
+complete -c zevkhadun -n '__fish_seen_subcommand_from log; and not __fish_seen_subcommand_from append get cat stat verify seal compact drop help' -a compact -d 'Join neighbouring segments'
+complete -c zevkhadun -n '__fish_seen_subcommand_from log; and not __fish_seen_subcommand_from append get cat stat verify seal compact drop help' -a drop -d 'Remove the segments before a record'
+complete -c zevkhadun -n '__fish_seen_subcommand_from log; and not __fish_seen_subcommand_from append get cat stat verify seal compact drop help' -a help -d 'Print help'
 complete -c zevkhadun -n '__fish_seen_subcommand_from log' -s h -l help -d 'Print help'
 complete -c zevkhadun -n '__fish_seen_subcommand_from log; and __fish_seen_subcommand_from append' -l files-from -r -F -d 'Take further input files from the lines of LIST, after the others; \'-\' is standard input'
 complete -c zevkhadun -n '__fish_seen_subcommand_from log; and __fish_seen_subcommand_from append' -l sync -x -a 'every batch end' -d 'When records are put on the disk'
@@ -102,6 +103,9 @@ complete -c zevkhadun -n '__fish_seen_subcommand_from log; and __fish_seen_subco
 complete -c zevkhadun -n '__fish_seen_subcommand_from log; and __fish_seen_subcommand_from verify' -F
 complete -c zevkhadun -n '__fish_seen_subcommand_from log; and __fish_seen_subcommand_from seal' -s h -l help -d 'Print help'
 complete -c zevkhadun -n '__fish_seen_subcommand_from log; and __fish_seen_subcommand_from seal' -F
+complete -c zevkhadun -n '__fish_seen_subcommand_from log; and __fish_seen_subcommand_from compact' -l size -x -d 'Join neighbouring segments while their data has at most BYTES; suffixes K, M, G'
+complete -c zevkhadun -n '__fish_seen_subcommand_from log; and __fish_seen_subcommand_from compact' -s h -l help -d 'Print help'
+complete -c zevkhadun -n '__fish_seen_subcommand_from log; and __fish_seen_subcommand_from compact' -F
 complete -c zevkhadun -n '__fish_seen_subcommand_from log; and __fish_seen_subcommand_from drop' -l before -x -d 'Remove segments whose records all have smaller numbers'
 complete -c zevkhadun -n '__fish_seen_subcommand_from log; and __fish_seen_subcommand_from drop' -s h -l help -d 'Print help'
 complete -c zevkhadun -n '__fish_seen_subcommand_from log; and __fish_seen_subcommand_from drop' -F

@@ -100,3 +100,31 @@ class Killed(ProgramCase):
             self.assertEqual(self.records(), text, f"at moment {moment}")
             left.add(len(list((self.folder / "events").glob("*.store"))))
         self.assertEqual(left, {0, 1}, "every kill came before or after the seal")
+
+    def kill_compaction(self, seconds):
+        """Ends a compaction after a time, and returns how many segments are left."""
+        shutil.rmtree(self.folder / "events")
+        shutil.copytree(self.folder / "whole", self.folder / "events")
+        writing = subprocess.Popen([self.program.path, "log", "compact", "events"], cwd=self.folder)
+        time.sleep(seconds)
+        writing.kill()
+        writing.wait()
+        return len(list((self.folder / "events").glob("*.store")))
+
+    def test_a_killed_compaction_leaves_the_records(self):
+        text = self.text[:self.ends[5 * MORE - 1]]
+        self.write("input", text)
+        self.program.gives("log", "append", "events", "input", "--sync", "every", "--seal-size", "2K")
+        shutil.copytree(self.folder / "events", self.folder / "whole")
+        start = time.monotonic()
+        self.program.gives("log", "compact", "events")
+        whole = time.monotonic() - start
+        left = set()
+        for moment in range(40):
+            left.add(self.kill_compaction(whole * 2 * moment / 40))
+            self.assertEqual(self.records(), text, f"at moment {moment}")
+            self.program.gives("log", "verify", "-q", "events")
+        self.assertGreater(len(left), 2, "every kill came before or after the compaction")
+        self.program.gives("log", "compact", "events")
+        self.assertEqual(len(list((self.folder / "events").glob("*.store"))), 1)
+        self.assertEqual(self.records(), text)

@@ -1,9 +1,10 @@
-"""`log drop`: old segments of a log that are removed."""
+"""`log compact` and `log drop`: segments of a log that are joined, and old ones that are removed."""
 
 import json
 
-from harness import numbers
-from program.log_case import LogCase
+from harness import changed, numbers
+from program.log_case import FIRST, LogCase
+from program.texts import LINES
 
 
 class SegmentCase(LogCase):
@@ -18,6 +19,10 @@ class SegmentCase(LogCase):
         self.append(text)
         self.program.gives("log", "seal", "events")
 
+    def compact(self, *words: str) -> None:
+        """Joins segments."""
+        self.assertEqual(self.program.gives("log", "compact", "events", *words), b"")
+
     def drop(self, number: int) -> None:
         """Removes the segments before a number."""
         self.assertEqual(self.program.gives("log", "drop", "events", "--before", str(number)), b"")
@@ -25,6 +30,87 @@ class SegmentCase(LogCase):
     def counts(self) -> dict:
         """What `log stat` counts."""
         return json.loads(self.program.gives("log", "stat", "--json", "events"))
+
+
+class Compact(SegmentCase):
+    def test_a_million_records_become_the_store_that_merge_writes(self):
+        text = numbers(1_000_000)
+        self.append(text, "--seal-size", "1M")
+        self.program.gives("log", "seal", "events")
+        segments = self.segments()
+        self.assertGreater(len(segments), 5)
+        self.program.gives("merge", "-q", "merged.store", *(f"events/{name}" for name in segments))
+        self.compact()
+        self.assertEqual(self.segments(), [FIRST])
+        self.assert_same(self.files()[FIRST], self.read("merged.store"), "not what merge writes")
+        self.assert_same(self.records(), text, "other records")
+        self.program.gives("log", "verify", "-q", "events")
+
+    def test_small_segments_become_the_store_that_merge_writes(self):
+        for i in range(5):
+            self.seal(numbers(i * 10 + 9, i * 10))
+        self.program.gives("merge", "-q", "merged.store", *(f"events/{name}" for name in self.segments()))
+        self.append(b"new\n")
+        self.compact()
+        self.assertEqual(self.files()[FIRST], self.read("merged.store"))
+        self.assertEqual(self.records(), numbers(49, 0) + b"new\n")
+        self.assertEqual(self.append(b"next\n", "--number"), b"51\n")
+
+    def test_segments_are_joined_up_to_the_size(self):
+        # Each has a block of 10,004 bytes: 1000 records of 6 bytes, and 4 for each and for their number.
+        text = b"".join(b"%06d\n" % i for i in range(8000))
+        for i in range(8):
+            self.seal(text[i * 7000:(i + 1) * 7000])
+        self.compact("--size", "10005")
+        self.assertEqual(len(self.segments()), 8)
+        self.compact("--size", "30012")
+        self.assertEqual(self.segments(), ["%020d.store" % first for first in (0, 3000, 6000)])
+        self.assertEqual(self.records(), text)
+        self.assertEqual(self.counts()["records"], 8000)
+        self.compact("--size", "1M")
+        self.assertEqual(self.segments(), [FIRST])
+        self.assertEqual(self.records(), text)
+
+    def test_segments_that_cannot_be_joined_stay_as_they_are(self):
+        self.seal(LINES)
+        self.append(b"four\n")
+        before = self.files()
+        self.compact()
+        self.assertEqual(self.files(), before)
+
+    def test_segments_that_a_crash_left_beside_the_joined_one_are_removed(self):
+        for i in range(3):
+            self.seal(numbers(i * 10 + 9, i * 10))
+        before = self.files()
+        self.compact()
+        joined = self.files()
+        for name in list(before)[1:3]:
+            self.change(name, before[name])
+            self.assertEqual(self.records(), numbers(29, 0))
+            self.program.gives("log", "verify", "-q", "events")
+        self.compact("--size", "0")
+        self.assertEqual(self.files(), joined)
+
+    def test_a_damaged_record_of_a_small_segment_is_an_error_and_all_files_stay(self):
+        self.seal(LINES)
+        self.seal(numbers(9))
+        self.change(FIRST, changed(self.files()[FIRST], 8, b"\xff"))
+        before = self.files()
+        said = "events: a record is damaged; 'zevkhadun log verify' says where\n"
+        self.program.fails(1, said, "log", "compact", "events")
+        self.assertEqual(self.files(), before)
+
+    def test_a_damaged_record_of_a_large_segment_stays_one(self):
+        self.seal(numbers(100_000, 0))
+        self.seal(numbers(200_000, 100_001))
+        self.change(FIRST, changed(self.files()[FIRST], 100_000, b"\xff" * 20_000))
+        damaged = self.program.run("log", "verify", "events").stdout
+        self.assertIn(b"damaged", damaged)
+        self.compact()
+        self.assertEqual(self.segments(), [FIRST])
+        self.assertEqual(self.program.gives("log", "get", "events", "100001..", "0..100"),
+                         numbers(200_000, 100_001) + numbers(99, 0))
+        self.program.fails(1, "is damaged", "log", "cat", "events")
 
 
 class Drop(SegmentCase):
@@ -53,3 +139,9 @@ class Drop(SegmentCase):
         self.drop(35)
         self.assertEqual((self.records(), self.segments()), (b"", []))
         self.assertEqual(self.append(b"35\n", "--number"), b"35\n")
+
+    def test_what_is_left_is_joined(self):
+        self.drop(15)
+        self.compact()
+        self.assertEqual(self.segments(), ["%020d.store" % 10])
+        self.assertEqual(self.records(), numbers(34, 10))

@@ -192,7 +192,8 @@ class Refused(LogCase):
         writing = self.begin("--number")
         self.say(writing, b"one\n")
         said = "zevkhadun: events: the log is being written by another; wait until it ends, or stop it\n"
-        for words in (["append", "events"], ["seal", "events"], ["drop", "events", "--before", "1"]):
+        for words in (["append", "events"], ["seal", "events"], ["compact", "events"],
+                      ["drop", "events", "--before", "1"]):
             self.assertEqual(self.program.fails(3, said, "log", *words, input=LINES).stderr.decode(), said)
         writing.communicate(b"two\n", timeout=60)
         self.assertEqual(self.records(), b"one\ntwo\n")
@@ -203,13 +204,13 @@ class Refused(LogCase):
         self.pack("a.store", LINES)
         advice = "not a log; 'zevkhadun log append' begins one in a new or empty folder"
         for name in ("full", "a.store"):
-            for words in ("append {}", "cat {}", "get {} 0", "stat {}", "verify -q {}", "seal {}",
+            for words in ("append {}", "cat {}", "get {} 0", "stat {}", "verify -q {}", "seal {}", "compact {}",
                           "drop {} --before 1"):
                 self.program.fails(1, f"{name}: {advice}", "log", *words.format(name).split(), input=LINES)
         self.assertEqual(os.listdir(self.folder / "full"), ["notes.txt"])
 
     def test_a_log_that_is_not_there_is_not_made(self):
-        for words in ("cat gone", "get gone 0", "stat gone", "verify -q gone", "seal gone",
+        for words in ("cat gone", "get gone 0", "stat gone", "verify -q gone", "seal gone", "compact gone",
                       "drop gone --before 1"):
             self.program.fails(3, "gone: No such file", "log", *words.split())
         self.program.fails(3, "gone/events: No such file", "log", "append", "gone/events", input=LINES)
@@ -217,8 +218,8 @@ class Refused(LogCase):
 
     def test_wrong_words_end_with_2(self):
         for words in ("", "append", "get events", "cat", "stat", "append --sync never x", "append --seal-size x x",
-                      "none", "cat --from x events", "append --sync every", "drop events", "drop --before x events",
-                      "drop --before -1 events"):
+                      "none", "cat --from x events", "append --sync every", "compact", "compact --size x events",
+                      "drop events", "drop --before x events", "drop --before -1 events"):
             done = self.program.run("log", *words.split())
             self.assertEqual((done.returncode, done.stdout), (2, b""), words)
         self.assertEqual(self.names(), [])

@@ -1,5 +1,5 @@
 """What a power cut leaves of a log to which `log append` appends, which it or `log seal` seals, or whose segments
-`log drop` removes.
+`log compact` joins and `log drop` removes.
 
 Each beginning of the recorded calls is replayed on the model of a disk, as for a file that is published. The program
 then opens what is left, to read it and to write it: it has the first records, and all whose number had been printed.
@@ -95,7 +95,7 @@ class DropReplay(LogReplay):
 
 
 class Logs(ProgramCase):
-    """The calls of `log append`, `log seal` and `log drop`."""
+    """The calls of `log append`, `log seal`, `log compact` and `log drop`."""
 
     def setUp(self) -> None:
         self.require("strace")
@@ -148,6 +148,13 @@ class Logs(ProgramCase):
         for i in range(3):
             self.program.gives("log", "append", self.log, input=numbers(i * 10 + 9, i * 10))
             self.program.gives("log", "seal", self.log)
+
+    def test_segments_are_joined(self):
+        self.seal_three()
+        replay, calls = self.check(30, numbers(29, 0), "log", "compact", self.log)
+        self.assertEqual(len([path for path in self.log.iterdir() if path.suffix == ".store"]), 1)
+        # Without the sync after a removal a crash may bring a segment back, whose records the joined one has, too.
+        self.check_syncs(replay, calls, 2)
 
     def test_old_segments_are_removed(self):
         self.seal_three()

@@ -1,8 +1,11 @@
 pub mod CauseLemmas
+pub mod CompactLemmas
 pub mod CrashLemmas
 pub mod DropLemmas
 pub mod GrowLemmas
 pub mod HoldLemmas
+pub mod JoinLemmas
+pub mod JoinedParts
 pub mod LoadLemmas
 pub mod NameLemmas
 pub mod NoLogLemmas
@@ -12,8 +15,10 @@ pub mod PartLemmas
 pub mod ReadLemmas
 pub mod RunLemmas
 pub mod ScanLemmas
+pub mod RunOfParts
 pub mod SealLemmas
 pub mod SegmentLemmas
+pub mod StepLemmas
 pub mod StoreLemmas
 pub mod SyncLemmas
 pub mod TailLemmas

@@ -72,11 +72,11 @@ found_at f xs i number n x within is before now line le =
     let found = slot_found n (map f xs) i number (f x) line le (omega (arith, within, length-map xs f)) passed (subst (λ (p : Part). number < end_of p) (sym here) now) in
     subst (λ (p : Part). (p.first ≤ number) × (slice_get (joined n (map f xs)) (number - n) ≡ slice_get p.slots (number - p.first))) here found
 
--- a thing is replaced that stands for the same part
-pub same_map : {X : Type 0} (f : X → Part) (xs : List X) (i : ℕ) (new old : X) → i < length xs → old ≡ get_or xs i old → f new ≡ f old → map f (set xs i new) ≡ map f xs
-same_map f xs i new old within is same =
+-- a thing is replaced that stands for the same
+pub same_map : {X Y : Type 0} (f : X → Y) (xs : List X) (i : ℕ) (new old : X) → i < length xs → old ≡ get_or xs i old → f new ≡ f old → map f (set xs i new) ≡ map f xs
+same_map {X} {Y} f xs i new old within is same =
     map-set f xs i new
-    ∙ ap (λ (p : Part). set (map f xs) i p) (same ∙ ap f is ∙ sym (get_or-map f xs i old (f old) within))
+    ∙ ap (λ (p : Y). set (map f xs) i p) (same ∙ ap f is ∙ sym (get_or-map f xs i old (f old) within))
     ∙ set-get_or (map f xs) i (f old)
 
 -- some part ends after a number before the end of them all

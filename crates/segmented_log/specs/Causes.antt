@@ -44,6 +44,17 @@ IsOfSeals Broken = ⊥
 IsOfSeals NoLog = ⊥
 IsOfSeals Damaged = ⊥
 
+-- those of a call that joins segments
+abbrev pub IsOfJoins : LogError → Type 0
+IsOfJoins Memory = Unit {0}
+IsOfJoins Failed = Unit {0}
+IsOfJoins Full = Unit {0}
+IsOfJoins BatchFull = ⊥
+IsOfJoins TooLong = ⊥
+IsOfJoins Broken = ⊥
+IsOfJoins NoLog = ⊥
+IsOfJoins Damaged = Unit {0}
+
 -- those of a sync or a seal of a log
 abbrev pub IsOfSyncs : LogError → Type 0
 IsOfSyncs Memory = Unit {0}

@@ -7,3 +7,4 @@ pub mod Opening
 pub mod Runs
 pub mod Laws
 pub mod Dropping
+pub mod Compacting

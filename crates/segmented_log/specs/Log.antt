@@ -10,7 +10,7 @@ use Rattle.record_log.specs.Tail.{bodies_after, records_from, body_of}
 use Rattle.segmented_log.specs.declared.error.LogError.{LogError}
 use Rattle.segmented_log.specs.declared.error.LogError.TheVariants.{Damaged}
 use Rattle.segmented_log.specs.Names.{segment_name, tail_name}
-use Rattle.segmented_log.specs.Parts.{Part, log_slots, AreParts}
+use Rattle.segmented_log.specs.Parts.{Part, Sealed, log_slots, AreParts}
 
 -- These bytes are the file of a store of these slots.
 pub record IsStoreWith (all : List Slot) (content : List ℕ) : Type 0 where
@@ -88,6 +88,8 @@ pub record LogView (F : Type 0) : Type 0 where
   -- the number of its first slot, and its slots that are on the disk
   pub first : ℕ
   pub slots : List Slot
+  -- its segments
+  pub segments : List Sealed
   -- the records that wait for a sync, and how many bytes they take in their batch
   pub pending : List (List ℕ)
   pub batch_bytes : ℕ

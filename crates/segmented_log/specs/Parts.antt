@@ -2,6 +2,7 @@
 use Rattle.std.specs.Prelude.{◌≡◌, ℕ, ◌+◌, ◌-◌, ◌^◌, ◌<◌, ◌≤◌, max, List, [], ◌∷◌, ◌++◌, length, drop, map}
 use Rattle.store_format.specs.Block.{Slot, doc}
 use Rattle.store_format.specs.Slots.{slots}
+use Rattle.store_format.specs.declared.version.DocStoreVersion.{DocStoreVersion}
 use Rattle.store_reader.specs.Reading.{Reading, store_of}
 use Rattle.record_log.specs.Tail.{records_of, first_of, IsTail}
 
@@ -17,6 +18,20 @@ end_of part = part.first + length part.slots
 -- the part of a store that a reader has
 abbrev pub part_of : ℕ → Reading → Part
 part_of first reader = record { first = first; slots = slots (store_of reader) }
+
+-- a segment that is open: its part, how many bytes its store's data has, and the version of its store
+pub record Sealed : Type 0 where
+  pub part : Part
+  pub bytes : ℕ
+  pub version : DocStoreVersion
+
+-- the segment of a reader
+abbrev pub sealed_of : ℕ → Reading → Sealed
+sealed_of first reader = record { part = part_of first reader; bytes = length reader.file.content; version = reader.version }
+
+-- the parts of segments
+abbrev pub parts_of : List Sealed → List Part
+parts_of segments = map (λ s. s.part) segments
 
 -- the slots of a tail's file
 abbrev pub tail_slots : List ℕ → List Slot

@@ -50,8 +50,12 @@ fn end_of_first<H: FileHandle>(
     }
 }
 
-// Removes the segment whose first record has this number, and syncs the folder.
-fn remove_segment<F: Folder>(alloc: Global, folder: &mut F, first: u64) -> Result<(), LogError>
+/// Removes the segment whose first record has this number, and syncs the folder.
+pub(crate) fn remove_segment<F: Folder>(
+    alloc: Global,
+    folder: &mut F,
+    first: u64,
+) -> Result<(), LogError>
     ensures gone { IsTrue F.honest → OnOk result (Keeps (segment_name first) None (F.may_leave folder.new)) }
     ensures seen { IsTrue F.honest → OnOk result (F.seen folder.new (segment_name first) ≡ None) }
     ensures elsewhere { IsTrue F.honest → Elsewhere (segment_name first) (F.seen folder.old) (F.seen folder.new) }

@@ -1,8 +1,10 @@
 //! A log of records in a folder: sealed segments, which are ordinary stores, and one tail.
 #![tactic(auto)]
 
+mod compacting;
 mod dropping;
 pub mod error;
+mod joining;
 pub mod laws;
 mod loading;
 pub mod log;

@@ -44,12 +44,12 @@ pub struct SegmentedLog<F: ReadableFolder> {
     pub(crate) is_broken: bool,
 }
 
-/// Clauses see the folder, the records, what waits for a sync, and whether a call on the folder failed.
+/// Clauses see the folder, the records, the segments, what waits for a sync, and whether a call on the folder failed.
 impl<F: ReadableFolder> Model for SegmentedLog<F> {
     ghost use Rattle.std.specs.Prelude.{length, map, All, IsTrue};
     ghost use Rattle.std.specs.Bool.{OnFalse};
     ghost use Rattle.record_log.specs.Tail.{records_in};
-    ghost use Rattle.segmented_log.specs.Parts.{part_of, log_slots};
+    ghost use Rattle.segmented_log.specs.Parts.{part_of, sealed_of, log_slots};
     ghost use Rattle.segmented_log.specs.Log.{LogView};
     ghost use Rattle.segmented_log.specs.Settled.{IsSettledTail, IsSettledFolder};
 
@@ -59,6 +59,7 @@ impl<F: ReadableFolder> Model for SegmentedLog<F> {
       folder = l.folder;
       first = l.first;
       slots = log_slots l.first (map (λ s. part_of s.first s.reader) l.segments.items) l.tail.items;
+      segments = map (λ s. sealed_of s.first s.reader) l.segments.items;
       pending = records_in l.pending.items;
       batch_bytes = length l.pending.items;
       is_broken = l.is_broken;

@@ -3,7 +3,7 @@
 ghost use Rattle.std.specs.Prelude.{◌≡◌, ◌⊎◌, ◌≤◌, ◌<◌, ◌-◌, ◌↔◌, ℕ, length, map, take, All, IsTrue, IfErr, IfOk};
 ghost use Rattle.std.specs.Prelude.{HoldsAt};
 ghost use Rattle.std.specs.Prelude.{slice_get};
-ghost use Rattle.segmented_log.specs.Parts.{part_of, end_of, end_from, joined, AreInLine};
+ghost use Rattle.segmented_log.specs.Parts.{part_of, sealed_of, end_of, end_from, joined, AreInLine};
 ghost use Rattle.segmented_log.specs.Log.{Gives};
 ghost use Rattle.segmented_log.specs.Causes.{IsOfReads, IsDamaged};
 ghost use Rattle.record_log.specs.Place.{content};
@@ -55,6 +55,7 @@ fn get_in<H: FileHandle>(
     number: u64,
 ) -> Result<Option<Vec<u8>>, LogError>
     ensures part { part_of segment.new.first segment.new.reader ≡ part_of segment.old.first segment.old.reader }
+    ensures sealed { sealed_of segment.new.first segment.new.reader ≡ sealed_of segment.old.first segment.old.reader }
     ensures honest { segment.new.reader.file.honest ≡ segment.old.reader.file.honest }
     ensures found { IsTrue segment.old.reader.file.honest → segment.old.first ≤ number
         → number < end_of (part_of segment.old.first segment.old.reader)
@@ -79,6 +80,8 @@ pub(crate) fn get_from<H: FileHandle>(
 ) -> Result<Option<Vec<u8>>, LogError>
     ensures parts { map (λ s. part_of s.first s.reader) segments.new.items
         ≡ map (λ s. part_of s.first s.reader) segments.old.items }
+    ensures sealed { map (λ s. sealed_of s.first s.reader) segments.new.items
+        ≡ map (λ s. sealed_of s.first s.reader) segments.old.items }
     ensures honest { All (λ s. IsTrue s.reader.file.honest) segments.old.items
         → All (λ s. IsTrue s.reader.file.honest) segments.new.items }
     ensures found { (n : ℕ) → All (λ s. IsTrue s.reader.file.honest) segments.old.items

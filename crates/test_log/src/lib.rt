@@ -14,6 +14,8 @@ mod segmented;
 mod tests;
 pub mod torn;
 #[cfg(test)]
+mod torn_compactions;
+#[cfg(test)]
 mod torn_drops;
 #[cfg(test)]
 mod torn_files;

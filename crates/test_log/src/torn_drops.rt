@@ -8,15 +8,15 @@ use std::alloc::Global;
 use std::io;
 use std::test::Fail;
 
-const SEGMENTS: usize = 5;
+pub const SEGMENTS: usize = 5;
 
 // How many crashes are played at each moment.
 const CRASHES: usize = 4;
 
-// The records of a log, and the numbers at which its segments and its tail begin.
+/// The records of a log, and the numbers at which its segments and its tail begin.
 #[derive(Drop)]
-struct Plain {
-    records: Vec<Vec<u8>>,
+pub struct Plain {
+    pub records: Vec<Vec<u8>>,
     begins: Vec<u64>,
 }
 
@@ -31,15 +31,15 @@ impl Plain {
     }
 }
 
-fn done(outcome: Result<(), LogError>) -> io::Result<()> {
+pub fn done(outcome: Result<(), LogError>) -> io::Result<()> {
     match outcome {
         Ok(()) => Ok(()),
         Err(_) => Err(io::ErrorKind::Other.into()),
     }
 }
 
-// A log that is sealed by `seal` alone.
-fn opened(alloc: Global, folder: Watched) -> io::Result<Log> {
+/// A log that is sealed by `seal` alone.
+pub fn opened(alloc: Global, folder: Watched) -> io::Result<Log> {
     match SegmentedLog::open(alloc, folder, 100_000) {
         Ok(log) => Ok(log),
         Err(_) => Err(io::ErrorKind::Other.into()),
@@ -63,8 +63,8 @@ fn write_batch(
     Ok(done(log.sync())?)
 }
 
-// The folder of a log of segments and a tail, and what the log has.
-fn filled(alloc: Global) -> Result<(Watched, Plain), Fail> {
+/// The folder of a log of segments and a tail, and what the log has.
+pub fn filled(alloc: Global) -> Result<(Watched, Plain), Fail> {
     let mut dice = Dice::new(5);
     let mut log = opened(alloc, Watched::new(alloc))?;
     let mut plain = Plain {
@@ -81,8 +81,8 @@ fn filled(alloc: Global) -> Result<(Watched, Plain), Fail> {
     Ok((log.into_folder(), plain))
 }
 
-// Whether the log has just the records from this number on, under their numbers.
-fn has_from(log: &mut Log, records: &[Vec<u8>], first: u64) -> bool {
+/// Whether the log has just the records from this number on, under their numbers.
+pub fn has_from(log: &mut Log, records: &[Vec<u8>], first: u64) -> bool {
     if log.first() != first || log.end() != records.len() as u64 {
         return false;
     }

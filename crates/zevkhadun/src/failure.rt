@@ -55,7 +55,8 @@ impl FailureCause {
                 "; wait until it ends, or stop it"
             }
             FailureCause::NotLog => "; 'zevkhadun log append' begins one in a new or empty folder",
-            FailureCause::Log(LogError::NoLog) | FailureCause::DamagedRecord(_) => {
+            FailureCause::Log(LogError::NoLog | LogError::Damaged)
+            | FailureCause::DamagedRecord(_) => {
                 "; 'zevkhadun log verify' says where"
             }
             FailureCause::Log(LogError::BatchFull) => "; use '--sync batch'",
@@ -163,6 +164,7 @@ impl fmt::Display for FailureCause {
             FailureCause::NotLog => f.write_str("not a log"),
             FailureCause::BusyLog => f.write_str("the log is being written by another"),
             FailureCause::Log(LogError::NoLog) => f.write_str("the log's files are broken"),
+            FailureCause::Log(LogError::Damaged) => f.write_str("a record is damaged"),
             FailureCause::Log(error) => write!(f, "{error}"),
             FailureCause::NoRecord { number, first, end } if first == end => {
                 write!(f, "no record {number}; the log has none")

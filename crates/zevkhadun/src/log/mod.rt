@@ -2,6 +2,7 @@
 
 mod append;
 mod cat;
+mod compact;
 mod drop;
 mod get;
 mod inputs;
@@ -27,7 +28,8 @@ const FOLDER: &str = "FOLDER";
 
 const AFTER_HELP: &str = "\
 A log is a folder: sealed segments, which are ordinary stores, and a tail. A record is any bytes, and its number stays.
-'append', 'seal' and 'drop' lock the log, so it has one writer; the other commands take no lock and change nothing.
+'append', 'seal', 'compact' and 'drop' lock the log, so it has one writer; the other commands take no lock and change
+nothing.
 
 Example:
   zevkhadun log append events new.txt && zevkhadun log get events 0";
@@ -48,8 +50,8 @@ pub fn command<'a>(alloc: Global) -> Result<Command<'a>, AllocError> {
     let writing = with(bare_command(alloc), append::command(alloc));
     let reading = with(with(writing, get::command(alloc)), cat::command(alloc));
     let telling = with(with(reading, stat::command(alloc)), verify::command(alloc));
-    let sealing = with(telling, seal::command(alloc));
-    with(sealing, drop::command(alloc))
+    let joining = with(with(telling, seal::command(alloc)), compact::command(alloc));
+    with(joining, drop::command(alloc))
 }
 
 /// The folder of a log.
@@ -77,6 +79,7 @@ pub fn run(rt: &HostRuntime, matches: &ArgMatches<'_>) -> Result<(), Failure> {
         "stat" => stat::run(rt, matches),
         "verify" => verify::run(rt, matches),
         "seal" => seal::run(rt, matches),
+        "compact" => compact::run(rt, matches),
         "drop" => drop::run(rt, matches),
         _ => Err(wrong_words(rt.alloc(), "unknown command", name)),
     }

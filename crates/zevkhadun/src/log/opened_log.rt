@@ -75,6 +75,12 @@ impl<'a> OpenedLog<'a> {
         self.result_of(sealed)
     }
 
+    /// Joins neighbouring segments whose data together has at most this many bytes.
+    pub fn compact(&mut self, size: u64) -> Result<(), FailureCause> {
+        let compacted = self.log.compact(size);
+        self.result_of(compacted)
+    }
+
     /// Removes the segments whose records all have smaller numbers.
     pub fn drop_before(&mut self, number: u64) -> Result<(), FailureCause> {
         let dropped = self.log.drop_before(number);

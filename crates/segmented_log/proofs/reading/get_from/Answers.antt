@@ -1,6 +1,6 @@
 use Rattle.std.proofs.Common.{◌≡◌, ◌≤◌, ◌<◌, length, take, get_or, sym, subst, arith}
 use Rattle.std.specs.Prelude.{All, IsTrue}
-use Rattle.segmented_log.specs.Parts.{part_of, end_of}
+use Rattle.segmented_log.specs.Parts.{part_of, sealed_of, end_of}
 use Rattle.segmented_log.specs.Log.{Gives}
 use Rattle.segmented_log.proofs.ReadLemmas.{found_at, same_map}
 use Rattle.segmented_log.proofs.reading.get_from.Goals as goal
@@ -9,6 +9,11 @@ pub returns-clause-parts : goal.returns-clause-parts
 returns-clause-parts g c =
     let within : c.find_segment-i.result < length c.args.segments.now.items = omega arith in
     same_map (λ s. part_of s.first s.reader) c.args.segments.now.items c.find_segment-i.result c.get_in.new.segment c.index_mut-segment.result.now within c.index_mut-segment.ensures.value c.get_in.ensures.part
+
+pub returns-clause-sealed : goal.returns-clause-sealed
+returns-clause-sealed g c =
+    let within : c.find_segment-i.result < length c.args.segments.now.items = omega arith in
+    same_map (λ s. sealed_of s.first s.reader) c.args.segments.now.items c.find_segment-i.result c.get_in.new.segment c.index_mut-segment.result.now within c.index_mut-segment.ensures.value c.get_in.ensures.sealed
 
 pub returns-clause-found : goal.returns-clause-found
 returns-clause-found g c = λ n honest line le below.

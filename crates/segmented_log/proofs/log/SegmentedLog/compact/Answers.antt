@@ -1,0 +1,83 @@
+use Rattle.std.proofs.Common.{◌≡◌, refl, sym, ◌∙◌, ap, subst, arith}
+use Rattle.std.specs.Prelude.{IsTrue}
+use Rattle.store_folder.specs.Moments.{LeavesOnly}
+use Rattle.store_folder.proofs.Steps.{started, weaker, joined}
+use Rattle.segmented_log.specs.Log.{IsLog}
+use Rattle.segmented_log.specs.Compacting.{ChangesSegments}
+use Rattle.segmented_log.proofs.CompactLemmas.{changes_none, changes_more}
+use Rattle.segmented_log.proofs.log.SegmentedLog.compact.Goals.{After-compact_next}
+use Rattle.segmented_log.proofs.log.SegmentedLog.compact.Goals as goal
+
+pub loop-init : goal.loop-init
+loop-init g c =
+    let F = g.F.Folder in
+    let log = c.args.self.now in
+    record {
+      works = sym c.is_broken.ensures.value ∙ c.if-is_broken.false;
+      first = refl;
+      slots = λ h. refl;
+      pending = refl;
+      files = λ h. changes_none (F.seen log.folder);
+      any_moment = λ h.
+          started F.moment F.left_since log.folder _ (λ l left. c.is_broken.ensures.durable h c.if-is_broken.false l (g.met.F.Folder.only_now log.folder l left));
+      failures = omega arith;
+    }
+
+pub compact_next-requires : goal.compact_next-requires
+compact_next-requires g c = record { works = c.loop.invariant.works }
+
+-- one step more
+slots_now : (g : _) (c : After-compact_next g) → IsTrue g.F.Folder.honest → c.compact_next.new.self.slots ≡ c.args.self.now.slots
+slots_now g c h = c.compact_next.ensures.slots h ∙ c.loop.invariant.slots h
+
+files_now : (g : _) (c : After-compact_next g) → IsTrue g.F.Folder.honest → ChangesSegments (g.F.Folder.seen c.args.self.now.folder) (g.F.Folder.seen c.compact_next.new.self.folder)
+files_now g c h =
+    let F = g.F.Folder in
+    changes_more (F.seen c.args.self.now.folder) (F.seen c.loop.self.folder) (F.seen c.compact_next.new.self.folder) (c.loop.invariant.files h) (c.compact_next.ensures.files h)
+
+moments_now : (g : _) (c : After-compact_next g) → IsTrue g.F.Folder.honest
+    → LeavesOnly g.F.Folder.moment g.F.Folder.left_since c.args.self.now.folder c.compact_next.new.self.folder (IsLog c.args.self.now.first c.args.self.now.slots)
+moments_now g c h =
+    let F = g.F.Folder in
+    let old = c.args.self.now in
+    let mid = c.loop.self in
+    let new = c.compact_next.new.self in
+    joined F.moment F.left_since old.folder mid.folder new.folder (IsLog old.first old.slots) (c.loop.invariant.any_moment h)
+    (weaker F.moment F.left_since mid.folder new.folder _ _
+    (λ l log. subst (λ n. IsLog n old.slots l) c.loop.invariant.first (subst (λ s. IsLog mid.first s l) (c.loop.invariant.slots h) log))
+    (c.compact_next.ensures.any_moment h))
+
+pub returns-in_err-compact_next-clause-slots : goal.returns-in_err-compact_next-clause-slots
+returns-in_err-compact_next-clause-slots g c = λ h. slots_now g (goal.at.returns-in_err-compact_next-clause-slots g c).After-compact_next h
+
+pub returns-in_err-compact_next-clause-files : goal.returns-in_err-compact_next-clause-files
+returns-in_err-compact_next-clause-files g c = λ h. files_now g (goal.at.returns-in_err-compact_next-clause-files g c).After-compact_next h
+
+pub returns-in_err-compact_next-clause-any_moment : goal.returns-in_err-compact_next-clause-any_moment
+returns-in_err-compact_next-clause-any_moment g c = λ h works. moments_now g (goal.at.returns-in_err-compact_next-clause-any_moment g c).After-compact_next h
+
+pub loop-smaller : goal.loop-smaller
+loop-smaller g c = omega (arith, c.in_ok-compact_next.ensures.fewer c.if-branch.true)
+
+pub loop-preserved : goal.loop-preserved
+loop-preserved g c =
+    let here = (goal.at.loop-preserved g c).After-compact_next in
+    let before = c.loop.invariant in
+    record {
+      works = c.in_ok-compact_next.ensures.works;
+      first = c.compact_next.ensures.first ∙ before.first;
+      slots = λ h. slots_now g here h;
+      pending = c.compact_next.ensures.pending ∙ before.pending;
+      files = λ h. files_now g here h;
+      any_moment = λ h. moments_now g here h;
+      failures = omega (arith, before.failures, c.compact_next.ensures.failures);
+    }
+
+pub returns-clause-slots : goal.returns-clause-slots
+returns-clause-slots g c = λ h. slots_now g (goal.at.returns-clause-slots g c).After-compact_next h
+
+pub returns-clause-files : goal.returns-clause-files
+returns-clause-files g c = λ h. files_now g (goal.at.returns-clause-files g c).After-compact_next h
+
+pub returns-clause-any_moment : goal.returns-clause-any_moment
+returns-clause-any_moment g c = λ h works. moments_now g (goal.at.returns-clause-any_moment g c).After-compact_next h

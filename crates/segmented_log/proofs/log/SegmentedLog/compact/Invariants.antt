@@ -1,0 +1,24 @@
+use Rattle.std.proofs.Common.{◌≡◌, ◌≤◌, length, false}
+use Rattle.std.specs.Prelude.{IsTrue}
+use Rattle.store_folder.specs.Moments.{LeavesOnly}
+use Rattle.segmented_log.specs.Log.{IsLog}
+use Rattle.segmented_log.specs.Compacting.{ChangesSegments}
+use Rattle.segmented_log.proofs.log.SegmentedLog.compact.Given as goal
+
+-- some neighbours have become one
+abbrev pub invariant-loop : goal.invariant-loop
+invariant-loop g l = let F = g.F.Folder in
+    let old = l.fn.self in
+    record {
+      works : l.self.is_broken ≡ false;
+      first : l.self.first ≡ old.first;
+      slots : IsTrue F.honest → l.self.slots ≡ old.slots;
+      pending : l.self.pending ≡ old.pending;
+      files : IsTrue F.honest → ChangesSegments (F.seen old.folder) (F.seen l.self.folder);
+      any_moment : IsTrue F.honest → LeavesOnly F.moment F.left_since old.folder l.self.folder (IsLog old.first old.slots);
+      failures : F.failures old.folder ≤ F.failures l.self.folder;
+    }
+
+-- a step leaves fewer segments
+abbrev pub decreases-loop : goal.decreases-loop
+decreases-loop g l = length l.self.segments

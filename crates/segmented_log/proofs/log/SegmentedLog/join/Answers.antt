@@ -1,0 +1,173 @@
+use Rattle.std.proofs.Common.{◌≡◌, ◌+◌, ◌-◌, ◌<◌, ◌++◌, List, length, map, take, drop, set, refl, sym, ◌∙◌, ap, subst, arith}
+use Rattle.std.specs.Prelude.{All, IsTrue, IsSome}
+use Rattle.std.proofs.lemmas.Bool.{OnFalse_at}
+use Rattle.std.proofs.lemmas.List.Elements.{All-take, All-drop, All-set}
+use Rattle.std.specs.List.{AllByRecursion}
+use Rattle.store_folder.specs.Moments.{LeavesOnly, ComesFrom}
+use Rattle.store_folder.specs.Folder.{ElsewhereOfBoth, FilesElsewhereOfBoth}
+use Rattle.store_folder.specs.Publishing.{part}
+use Rattle.store_folder.proofs.Steps.{weaker}
+use Rattle.segmented_log.specs.Names.{segment_name}
+use Rattle.segmented_log.specs.Parts.{Part, part_of, sealed_of, parts_of, log_slots}
+use Rattle.segmented_log.specs.Log.{HasSegment, Holds, IsLog}
+use Rattle.segmented_log.specs.Settled.{AddsSegment, IsSettledFolder}
+use Rattle.segmented_log.specs.Compacting.{IsRun, slots_in, with_joined, ChangesSegments}
+use Rattle.segmented_log.proofs.CompactLemmas.{changes_replaced, segment_there}
+use Rattle.segmented_log.proofs.RunOfParts.{one_of, run_moved, moved_joined, view_parts, run_within, parts_there, head_is, run_part, run_set, run_log, run_same, run_folder}
+use Rattle.segmented_log.proofs.log.SegmentedLog.join.Goals.{After-join_segments}
+use Rattle.segmented_log.proofs.log.SegmentedLog.join.Goals as goal
+
+pub overflow_add-end : goal.overflow_add-end
+overflow_add-end g c =
+    let log = c.self.inside in
+    let same = ap (λ w. parts_of w.segments) (sym c.self.view_is) ∙ view_parts (λ s. sealed_of s.first s.reader) (λ s. part_of s.first s.reader) (λ s. refl) log.segments.items in
+    let r = run_moved _ (map (λ s. part_of s.first s.reader) log.segments.items) c.args.place c.args.count same c.requires.run in
+    omega (arith, run_within (λ s. part_of s.first s.reader) log.segments.items c.args.place c.args.count r, log.segments.ok.0)
+
+pub overflow_add-end-2 : goal.overflow_add-end-2
+overflow_add-end-2 g c =
+    let log = c.self.inside in
+    let same = ap (λ w. parts_of w.segments) (sym c.self.view_is) ∙ view_parts (λ s. sealed_of s.first s.reader) (λ s. part_of s.first s.reader) (λ s. refl) log.segments.items in
+    let r = run_moved _ (map (λ s. part_of s.first s.reader) log.segments.items) c.args.place c.args.count same c.requires.run in
+    omega (arith, run_within (λ s. part_of s.first s.reader) log.segments.items c.args.place c.args.count r, log.segments.ok.0)
+
+pub index-requires : goal.index-requires
+index-requires g c =
+    let log = c.self.inside in
+    let same = ap (λ w. parts_of w.segments) (sym c.self.view_is) ∙ view_parts (λ s. sealed_of s.first s.reader) (λ s. part_of s.first s.reader) (λ s. refl) log.segments.items in
+    let r = run_moved _ (map (λ s. part_of s.first s.reader) log.segments.items) c.args.place c.args.count same c.requires.run in
+    omega (arith, run_within (λ s. part_of s.first s.reader) log.segments.items c.args.place c.args.count r)
+
+pub offset_bounds-deref-place : goal.offset_bounds-deref-place
+offset_bounds-deref-place g c =
+    let log = c.self.inside in
+    let same = ap (λ w. parts_of w.segments) (sym c.self.view_is) ∙ view_parts (λ s. sealed_of s.first s.reader) (λ s. part_of s.first s.reader) (λ s. refl) log.segments.items in
+    let r = run_moved _ (map (λ s. part_of s.first s.reader) log.segments.items) c.args.place c.args.count same c.requires.run in
+    omega (arith, run_within (λ s. part_of s.first s.reader) log.segments.items c.args.place c.args.count r, ap (λ l. length l) c.deref.ensures.value)
+
+pub slice_bounds-join_segments-end : goal.slice_bounds-join_segments-end
+slice_bounds-join_segments-end g c =
+    let log = c.self.inside in
+    let same = ap (λ w. parts_of w.segments) (sym c.self.view_is) ∙ view_parts (λ s. sealed_of s.first s.reader) (λ s. part_of s.first s.reader) (λ s. refl) log.segments.items in
+    let r = run_moved _ (map (λ s. part_of s.first s.reader) log.segments.items) c.args.place c.args.count same c.requires.run in
+    omega (arith, run_within (λ s. part_of s.first s.reader) log.segments.items c.args.place c.args.count r, ap (λ l. length l) c.deref.ensures.value)
+
+-- the run, of the segments as the log has them
+run_is : (g : _) (c : After-join_segments g) → IsRun (parts_of c.args.self.now.segments) c.args.place c.args.count → IsRun (map (λ s. part_of s.first s.reader) c.self.inside.segments.items) c.args.place c.args.count
+run_is g c r =
+    let log = c.self.inside in
+    let same = ap (λ w. parts_of w.segments) (sym c.self.view_is) ∙ view_parts (λ s. sealed_of s.first s.reader) (λ s. part_of s.first s.reader) (λ s. refl) log.segments.items in
+    run_moved _ (map (λ s. part_of s.first s.reader) log.segments.items) c.args.place c.args.count same r
+
+run_joined : (g : _) (c : After-join_segments g) (r : IsRun (parts_of c.args.self.now.segments) c.args.place c.args.count) → with_joined (run_is g c r) ≡ with_joined r
+unfolding run_is
+run_joined g c r = moved_joined _ _ c.args.place c.args.count _ r
+
+-- the folder has its segments
+there : (g : _) (c : After-join_segments g) → IsTrue g.F.Folder.honest
+    → All (λ s. HasSegment (g.F.Folder.seen c.self.inside.folder) (part_of s.first s.reader)) (take (c.args.place + c.args.count + 1 - c.args.place) (drop c.args.place c.deref.result.now))
+there g c h =
+    let F = g.F.Folder in
+    let log = c.self.inside in
+    let f = ((OnFalse_at (ap (λ v. v.is_broken) c.self.view_is ∙ c.requires.works) c.self.invariant).1 h).0 in
+    let held = f.on_disk.outcomes (F.seen log.folder) (g.met.F.Folder.seen_may_be_left log.folder h) in
+    parts_there (HasSegment (F.seen log.folder)) (λ s. part_of s.first s.reader) log.segments.items c.deref.result.now c.deref.ensures.value held.each c.args.place (c.args.place + c.args.count + 1 - c.args.place)
+
+-- the segment that is published
+part_is : (g : _) (c : After-join_segments g) (r : IsRun (map (λ s. part_of s.first s.reader) c.self.inside.segments.items) c.args.place c.args.count)
+    → record { first = c.index.result.now.first; slots = slots_in (map (λ s. part_of s.first s.reader) (take (c.args.place + c.args.count + 1 - c.args.place) (drop c.args.place c.deref.result.now))) } ≡ one_of r
+part_is g c r =
+    let items = c.self.inside.segments.items in
+    let x = c.index.result.now in
+    subst (λ l. record { first = x.first; slots = slots_in (map (λ s. part_of s.first s.reader) (take (c.args.place + c.args.count + 1 - c.args.place) (drop c.args.place l))) } ≡ one_of r) (sym c.deref.ensures.value)
+    (run_part (λ s. part_of s.first s.reader) items c.args.place c.args.count r x x.first (c.args.place + c.args.count + 1 - c.args.place) c.index.ensures refl (omega arith))
+
+-- its name
+first_is : (g : _) (c : After-join_segments g) (r : IsRun (map (λ s. part_of s.first s.reader) c.self.inside.segments.items) c.args.place c.args.count) → c.index.result.now.first ≡ r.head.first
+first_is g c r = ap (λ (p : Part). p.first) (head_is (λ s. part_of s.first s.reader) c.self.inside.segments.items c.args.place c.args.count r c.index.result.now c.index.ensures)
+
+moments_now : (g : _) (c : After-join_segments g) → IsTrue g.F.Folder.honest
+    → LeavesOnly g.F.Folder.moment g.F.Folder.left_since c.args.self.now.folder c.join_segments.new.folder (IsLog c.args.self.now.first c.args.self.now.slots)
+moments_now g c h =
+    let F = g.F.Folder in
+    let log = c.self.inside in
+    let f = ((OnFalse_at (ap (λ v. v.is_broken) c.self.view_is ∙ c.requires.works) c.self.invariant).1 h).0 in
+    let segments = map (λ s. part_of s.first s.reader) log.segments.items in
+    let r = run_is g c c.requires.run in
+    subst (λ w. LeavesOnly F.moment F.left_since w.folder c.join_segments.new.folder (IsLog w.first w.slots)) c.self.view_is
+    (weaker F.moment F.left_since log.folder c.join_segments.new.folder _ _
+    (λ l adds. run_log log.first segments log.tail.items c.args.place c.args.count r f.parts (F.may_leave log.folder) (λ d left. f.on_disk.outcomes d left) l
+    (subst (λ p. AddsSegment (F.may_leave log.folder) p l) (part_is g c r) adds)) (c.join_segments.ensures.any_moment h (there g c h)))
+
+files_now : (g : _) (c : After-join_segments g) → IsTrue g.F.Folder.honest → ChangesSegments (g.F.Folder.seen c.args.self.now.folder) (g.F.Folder.seen c.join_segments.new.folder)
+files_now g c h =
+    let F = g.F.Folder in
+    let log = c.self.inside in
+    let f = ((OnFalse_at (ap (λ v. v.is_broken) c.self.view_is ∙ c.requires.works) c.self.invariant).1 h).0 in
+    let r = run_is g c c.requires.run in
+    let held = f.on_disk.outcomes (F.seen log.folder) (g.met.F.Folder.seen_may_be_left log.folder h) in
+    let some = segment_there r.before r.head (r.run ++ r.after) log.tail.items (F.seen log.folder) (subst (λ l. Holds l log.tail.items (F.seen log.folder)) r.split held) in
+    subst (λ w. ChangesSegments (F.seen w.folder) (F.seen c.join_segments.new.folder)) c.self.view_is
+    (changes_replaced c.index.result.now.first (F.seen log.folder) (F.seen c.join_segments.new.folder) (subst (λ n. IsSome (F.seen log.folder (segment_name n))) (sym (first_is g c r)) some)
+    (c.join_segments.ensures.elsewhere h))
+
+pub returns-in_err-joined-clause-any_moment : goal.returns-in_err-joined-clause-any_moment
+returns-in_err-joined-clause-any_moment g c = λ h. moments_now g (goal.at.returns-in_err-joined-clause-any_moment g c).After-join_segments h
+
+pub returns-in_err-joined-clause-files : goal.returns-in_err-joined-clause-files
+returns-in_err-joined-clause-files g c = λ h. files_now g (goal.at.returns-in_err-joined-clause-files g c).After-join_segments h
+
+pub returns-clause-any_moment : goal.returns-clause-any_moment
+returns-clause-any_moment g c = λ h. moments_now g (goal.at.returns-clause-any_moment g c).After-join_segments h
+
+pub returns-clause-files : goal.returns-clause-files
+returns-clause-files g c = λ h. files_now g (goal.at.returns-clause-files g c).After-join_segments h
+
+pub returns-clause-joined : goal.returns-clause-joined
+returns-clause-joined g c = λ h run.
+    let here = (goal.at.returns-clause-joined g c).After-join_segments in
+    let items = c.self.inside.segments.items in
+    let y = c.in_ok-joined.joined in
+    let r = run_is g here run in
+    let is : part_of y.first y.reader ≡ one_of r = c.in_ok-joined.ensures.segment h (there g here h) ∙ part_is g here r in
+    view_parts (λ s. sealed_of s.first s.reader) (λ s. part_of s.first s.reader) (λ s. refl) (set items c.args.place y)
+    ∙ run_set (λ s. part_of s.first s.reader) items c.args.place c.args.count r y is ∙ run_joined g here run
+
+pub returns-clause-slots : goal.returns-clause-slots
+returns-clause-slots g c = λ h.
+    let here = (goal.at.returns-clause-slots g c).After-join_segments in
+    let log = c.self.inside in
+    let f = ((OnFalse_at (ap (λ v. v.is_broken) c.self.view_is ∙ c.requires.works) c.self.invariant).1 h).0 in
+    let segments = map (λ s. part_of s.first s.reader) log.segments.items in
+    let y = c.in_ok-joined.joined in
+    let r = run_is g here c.requires.run in
+    let is : part_of y.first y.reader ≡ one_of r = c.in_ok-joined.ensures.segment h (there g here h) ∙ part_is g here r in
+    ap (λ l. log_slots log.first l log.tail.items) (run_set (λ s. part_of s.first s.reader) log.segments.items c.args.place c.args.count r y is)
+    ∙ run_same log.first segments log.tail.items c.args.place c.args.count r f.parts ∙ ap (λ w. w.slots) c.self.view_is
+
+pub invariant_of-self-2 : goal.invariant_of-self-2
+invariant_of-self-2 g c = (
+  (OnFalse_at (ap (λ v. v.is_broken) c.self.view_is ∙ c.requires.works) c.self.invariant).0,
+  λ h.
+      let here = (goal.at.invariant_of-self-2 g c).After-join_segments in
+      let F = g.F.Folder in
+      let log = c.self.inside in
+      let new = c.join_segments.new.folder in
+      let kept = (OnFalse_at (ap (λ v. v.is_broken) c.self.view_is ∙ c.requires.works) c.self.invariant).1 h in
+      let f = kept.0 in
+      let segments = map (λ s. part_of s.first s.reader) log.segments.items in
+      let y = c.in_ok-joined.joined in
+      let r = run_is g here c.requires.run in
+      let name_is = first_is g here r in
+      let is : part_of y.first y.reader ≡ one_of r = c.in_ok-joined.ensures.segment h (there g here h) ∙ part_is g here r in
+      let left = run_set (λ s. part_of s.first s.reader) log.segments.items c.args.place c.args.count r y is in (
+        subst (λ l. IsSettledFolder (F.may_hold new) (F.may_leave new) (F.entry_kept new) log.first log.sealed l log.tail.items) (sym left)
+            (run_folder log.first segments log.tail.items c.args.place c.args.count r f.parts log.sealed
+            (F.may_hold log.folder) (F.may_hold new) (F.may_leave log.folder) (F.may_leave new) (F.entry_kept log.folder) (F.entry_kept new) f
+            (subst (λ n. FilesElsewhereOfBoth (segment_name n ++ part) (segment_name n) (F.may_hold log.folder) (F.may_hold new)) name_is (c.join_segments.ensures.files h))
+            (c.in_ok-joined.ensures.kept h)
+            (subst (λ n. ComesFrom (ElsewhereOfBoth (segment_name n ++ part) (segment_name n)) (F.may_leave log.folder) (F.may_leave new)) name_is (c.join_segments.ensures.crash h))
+            (subst (λ p. (d : _) → F.may_leave new d → HasSegment d p) (part_is g here r) (c.in_ok-joined.ensures.published h (there g here h)))),
+        All-set (λ s. IsTrue s.reader.file.honest) log.segments.items c.args.place y (c.in_ok-joined.ensures.honest h) kept.1,
+      ),
+)

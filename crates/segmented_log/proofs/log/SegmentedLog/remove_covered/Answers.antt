@@ -1,0 +1,141 @@
+use Rattle.std.proofs.Common.{rules, ◌≡◌, ◌<◌, ◌+◌, ◌++◌, length, take, drop, suc, map, refl, sym, ◌∙◌, ap, subst, arith}
+use Rattle.std.specs.Prelude.{All, IsTrue, IsSome, None}
+use Rattle.std.proofs.lemmas.Bool.{OnFalse_at}
+use Rattle.std.proofs.lemmas.List.{length-map}
+use Rattle.std.proofs.lemmas.List.Elements.{All-take, All-drop, All-append, All-same}
+use Rattle.std.specs.List.{remove}
+use Rattle.store_folder.specs.Moments.{LeavesOnly}
+use Rattle.store_folder.specs.Folder.{LosesFile, FilesElsewhere, Elsewhere}
+use Rattle.store_folder.specs.Moments.{ComesFrom}
+use Rattle.store_folder.proofs.Steps.{weaker}
+use Rattle.segmented_log.specs.Names.{segment_name}
+use Rattle.segmented_log.specs.Parts.{Part, part_of, sealed_of, parts_of, log_slots}
+use Rattle.segmented_log.specs.Log.{Holds, IsLog}
+use Rattle.segmented_log.specs.Settled.{IsSettledFolder}
+use Rattle.segmented_log.specs.Dropping.{LosesSegment}
+use Rattle.segmented_log.specs.Compacting.{IsCovered, ChangesSegments}
+use Rattle.segmented_log.proofs.CompactLemmas.{changes_removed, segment_there}
+use Rattle.segmented_log.proofs.RunOfParts.{covered_moved, view_parts, covered_is, covered_left, without, covered_same, covered_log, covered_folder}
+use Rattle.segmented_log.proofs.log.SegmentedLog.remove_covered.Goals as goal
+
+pub returns-in_err-remove_segment-clause-any_moment : goal.returns-in_err-remove_segment-clause-any_moment
+returns-in_err-remove_segment-clause-any_moment g c = λ h.
+    let F = g.F.Folder in
+    let log = c.self.inside in
+    let f = ((OnFalse_at (ap (λ v. v.is_broken) c.self.view_is ∙ c.requires.works) c.self.invariant).1 h).0 in
+    let segments = map (λ s. part_of s.first s.reader) log.segments.items in
+    let same = view_parts (λ s. sealed_of s.first s.reader) (λ s. part_of s.first s.reader) (λ s. refl) log.segments.items in
+    let v = covered_moved log.first _ segments c.args.place same (subst (λ w. IsCovered w.first (parts_of w.segments) c.args.place) (sym c.self.view_is) (c.requires.covered h)) in
+    let many = length-map log.segments.items (λ s. sealed_of s.first s.reader) in
+    let size = ap (λ w. length w.segments) c.self.view_is in
+    let within : c.args.place < length log.segments.items = omega (arith, c.requires.within, many, size) in
+    let first_is = ap (λ (p : Part). p.first) (covered_is (λ s. part_of s.first s.reader) log.segments.items log.first c.args.place v c.index.result.now within c.index.ensures) in
+    subst (λ w. LeavesOnly F.moment F.left_since w.folder c.remove_segment.new.folder (IsLog w.first w.slots)) c.self.view_is
+    (weaker F.moment F.left_since log.folder c.remove_segment.new.folder _ _
+    (λ l loses. covered_log log.first segments log.tail.items c.args.place v f.parts (F.may_leave log.folder) (λ d left. f.on_disk.outcomes d left) l
+    (subst (λ n. LosesSegment (F.may_leave log.folder) n l) first_is loses)) (c.remove_segment.ensures.any_moment h))
+
+pub returns-in_err-remove_segment-clause-files : goal.returns-in_err-remove_segment-clause-files
+returns-in_err-remove_segment-clause-files g c = λ h.
+    let F = g.F.Folder in
+    let log = c.self.inside in
+    let f = ((OnFalse_at (ap (λ v. v.is_broken) c.self.view_is ∙ c.requires.works) c.self.invariant).1 h).0 in
+    let segments = map (λ s. part_of s.first s.reader) log.segments.items in
+    let same = view_parts (λ s. sealed_of s.first s.reader) (λ s. part_of s.first s.reader) (λ s. refl) log.segments.items in
+    let v = covered_moved log.first _ segments c.args.place same (subst (λ w. IsCovered w.first (parts_of w.segments) c.args.place) (sym c.self.view_is) (c.requires.covered h)) in
+    let many = length-map log.segments.items (λ s. sealed_of s.first s.reader) in
+    let size = ap (λ w. length w.segments) c.self.view_is in
+    let within : c.args.place < length log.segments.items = omega (arith, c.requires.within, many, size) in
+    let first_is = ap (λ (p : Part). p.first) (covered_is (λ s. part_of s.first s.reader) log.segments.items log.first c.args.place v c.index.result.now within c.index.ensures) in
+    let held = f.on_disk.outcomes (F.seen log.folder) (g.met.F.Folder.seen_may_be_left log.folder h) in
+    let some = segment_there v.before v.covered v.after log.tail.items (F.seen log.folder) (subst (λ l. Holds l log.tail.items (F.seen log.folder)) v.split held) in
+    subst (λ w. ChangesSegments (F.seen w.folder) (F.seen c.remove_segment.new.folder)) c.self.view_is
+    (changes_removed c.index.result.now.first (F.seen log.folder) (F.seen c.remove_segment.new.folder) (subst (λ n. IsSome (F.seen log.folder (segment_name n))) (sym first_is) some)
+    (c.remove_segment.ensures.elsewhere h))
+
+pub returns-clause-any_moment : goal.returns-clause-any_moment
+returns-clause-any_moment g c = λ h.
+    let F = g.F.Folder in
+    let log = c.self.inside in
+    let f = ((OnFalse_at (ap (λ v. v.is_broken) c.self.view_is ∙ c.requires.works) c.self.invariant).1 h).0 in
+    let segments = map (λ s. part_of s.first s.reader) log.segments.items in
+    let same = view_parts (λ s. sealed_of s.first s.reader) (λ s. part_of s.first s.reader) (λ s. refl) log.segments.items in
+    let v = covered_moved log.first _ segments c.args.place same (subst (λ w. IsCovered w.first (parts_of w.segments) c.args.place) (sym c.self.view_is) (c.requires.covered h)) in
+    let many = length-map log.segments.items (λ s. sealed_of s.first s.reader) in
+    let size = ap (λ w. length w.segments) c.self.view_is in
+    let within : c.args.place < length log.segments.items = omega (arith, c.requires.within, many, size) in
+    let first_is = ap (λ (p : Part). p.first) (covered_is (λ s. part_of s.first s.reader) log.segments.items log.first c.args.place v c.index.result.now within c.index.ensures) in
+    subst (λ w. LeavesOnly F.moment F.left_since w.folder c.remove_segment.new.folder (IsLog w.first w.slots)) c.self.view_is
+    (weaker F.moment F.left_since log.folder c.remove_segment.new.folder _ _
+    (λ l loses. covered_log log.first segments log.tail.items c.args.place v f.parts (F.may_leave log.folder) (λ d left. f.on_disk.outcomes d left) l
+    (subst (λ n. LosesSegment (F.may_leave log.folder) n l) first_is loses)) (c.remove_segment.ensures.any_moment h))
+
+pub returns-clause-files : goal.returns-clause-files
+returns-clause-files g c = λ h.
+    let F = g.F.Folder in
+    let log = c.self.inside in
+    let f = ((OnFalse_at (ap (λ v. v.is_broken) c.self.view_is ∙ c.requires.works) c.self.invariant).1 h).0 in
+    let segments = map (λ s. part_of s.first s.reader) log.segments.items in
+    let same = view_parts (λ s. sealed_of s.first s.reader) (λ s. part_of s.first s.reader) (λ s. refl) log.segments.items in
+    let v = covered_moved log.first _ segments c.args.place same (subst (λ w. IsCovered w.first (parts_of w.segments) c.args.place) (sym c.self.view_is) (c.requires.covered h)) in
+    let many = length-map log.segments.items (λ s. sealed_of s.first s.reader) in
+    let size = ap (λ w. length w.segments) c.self.view_is in
+    let within : c.args.place < length log.segments.items = omega (arith, c.requires.within, many, size) in
+    let first_is = ap (λ (p : Part). p.first) (covered_is (λ s. part_of s.first s.reader) log.segments.items log.first c.args.place v c.index.result.now within c.index.ensures) in
+    let held = f.on_disk.outcomes (F.seen log.folder) (g.met.F.Folder.seen_may_be_left log.folder h) in
+    let some = segment_there v.before v.covered v.after log.tail.items (F.seen log.folder) (subst (λ l. Holds l log.tail.items (F.seen log.folder)) v.split held) in
+    subst (λ w. ChangesSegments (F.seen w.folder) (F.seen c.remove_segment.new.folder)) c.self.view_is
+    (changes_removed c.index.result.now.first (F.seen log.folder) (F.seen c.remove_segment.new.folder) (subst (λ n. IsSome (F.seen log.folder (segment_name n))) (sym first_is) some)
+    (c.remove_segment.ensures.elsewhere h))
+
+pub returns-clause-slots : goal.returns-clause-slots
+returns-clause-slots g c = λ h.
+    let F = g.F.Folder in
+    let log = c.self.inside in
+    let f = ((OnFalse_at (ap (λ v. v.is_broken) c.self.view_is ∙ c.requires.works) c.self.invariant).1 h).0 in
+    let segments = map (λ s. part_of s.first s.reader) log.segments.items in
+    let same = view_parts (λ s. sealed_of s.first s.reader) (λ s. part_of s.first s.reader) (λ s. refl) log.segments.items in
+    let v = covered_moved log.first _ segments c.args.place same (subst (λ w. IsCovered w.first (parts_of w.segments) c.args.place) (sym c.self.view_is) (c.requires.covered h)) in
+    let many = length-map log.segments.items (λ s. sealed_of s.first s.reader) in
+    let size = ap (λ w. length w.segments) c.self.view_is in
+    let within : c.args.place < length log.segments.items = omega (arith, c.requires.within, many, size) in
+    let first_is = ap (λ (p : Part). p.first) (covered_is (λ s. part_of s.first s.reader) log.segments.items log.first c.args.place v c.index.result.now within c.index.ensures) in
+    let next : c.args.place + 1 ≡ suc c.args.place = omega arith in
+    let items : c.remove.new.self.items ≡ remove log.segments.items c.args.place =
+    c.remove.ensures.by_index.2 ∙ ap (λ n. take c.args.place log.segments.items ++ drop n log.segments.items) next in
+    let left : map (λ s. part_of s.first s.reader) c.remove.new.self.items ≡ without v = ap (λ l. map (λ s. part_of s.first s.reader) l) items ∙ covered_left (λ s. part_of s.first s.reader) log.segments.items log.first c.args.place v in
+    ap (λ l. log_slots log.first l log.tail.items) left
+    ∙ covered_same log.first segments log.tail.items c.args.place v f.parts ∙ ap (λ w. w.slots) c.self.view_is
+
+pub invariant_of-self-2 : goal.invariant_of-self-2
+invariant_of-self-2 g c = (
+  (OnFalse_at (ap (λ v. v.is_broken) c.self.view_is ∙ c.requires.works) c.self.invariant).0,
+  λ h.
+      let F = g.F.Folder in
+      let log = c.self.inside in
+      let f = ((OnFalse_at (ap (λ v. v.is_broken) c.self.view_is ∙ c.requires.works) c.self.invariant).1 h).0 in
+      let segments = map (λ s. part_of s.first s.reader) log.segments.items in
+      let same = view_parts (λ s. sealed_of s.first s.reader) (λ s. part_of s.first s.reader) (λ s. refl) log.segments.items in
+      let v = covered_moved log.first _ segments c.args.place same (subst (λ w. IsCovered w.first (parts_of w.segments) c.args.place) (sym c.self.view_is) (c.requires.covered h)) in
+      let many = length-map log.segments.items (λ s. sealed_of s.first s.reader) in
+      let size = ap (λ w. length w.segments) c.self.view_is in
+      let within : c.args.place < length log.segments.items = omega (arith, c.requires.within, many, size) in
+      let first_is = ap (λ (p : Part). p.first) (covered_is (λ s. part_of s.first s.reader) log.segments.items log.first c.args.place v c.index.result.now within c.index.ensures) in
+      let next : c.args.place + 1 ≡ suc c.args.place = omega arith in
+      let items : c.remove.new.self.items ≡ remove log.segments.items c.args.place =
+      c.remove.ensures.by_index.2 ∙ ap (λ n. take c.args.place log.segments.items ++ drop n log.segments.items) next in
+      let left : map (λ s. part_of s.first s.reader) c.remove.new.self.items ≡ without v = ap (λ l. map (λ s. part_of s.first s.reader) l) items ∙ covered_left (λ s. part_of s.first s.reader) log.segments.items log.first c.args.place v in
+      let new = c.remove_segment.new.folder in
+      let kept = (OnFalse_at (ap (λ w. w.is_broken) c.self.view_is ∙ c.requires.works) c.self.invariant).1 h in (
+        subst (λ l. IsSettledFolder (F.may_hold new) (F.may_leave new) (F.entry_kept new) log.first log.sealed l log.tail.items) (sym left)
+            (covered_folder log.first segments log.tail.items c.args.place v f.parts log.sealed
+            (F.may_hold log.folder) (F.may_hold new) (F.may_leave log.folder) (F.may_leave new) (F.entry_kept log.folder) (F.entry_kept new) f
+            (subst (λ n. FilesElsewhere (segment_name n) (F.may_hold log.folder) (F.may_hold new)) first_is (c.remove_segment.ensures.files h))
+            (c.in_ok-remove_segment.ensures.kept h)
+            (subst (λ n. ComesFrom (LosesFile (segment_name n)) (F.may_leave log.folder) (F.may_leave new)) first_is (c.remove_segment.ensures.crash h))
+            (subst (λ n. (d : _) → F.may_leave new d → d (segment_name n) ≡ None) first_is (c.in_ok-remove_segment.ensures.gone h))),
+        All-same (λ s. IsTrue s.reader.file.honest) c.remove.new.self.items (take c.args.place log.segments.items ++ drop (suc c.args.place) log.segments.items) items
+            (All-append (λ s. IsTrue s.reader.file.honest) (take c.args.place log.segments.items) (drop (suc c.args.place) log.segments.items)
+            (All-take (λ s. IsTrue s.reader.file.honest) c.args.place log.segments.items kept.1) (All-drop (λ s. IsTrue s.reader.file.honest) (suc c.args.place) log.segments.items kept.1)),
+      ),
+)

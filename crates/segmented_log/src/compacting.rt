@@ -1,0 +1,266 @@
+//! Neighbouring segments that become one.
+
+ghost use Rattle.std.specs.Prelude.{◌≡◌, ◌≢◌, ◌⊎◌, ◌↔◌, false, ◌≤◌, ◌<◌, ◌+◌, ◌^◌, ℕ, List, [], ◌∷◌, length, map, take};
+ghost use Rattle.std.specs.Prelude.{IsTrue, IfOk, IfErr, IfSome, IfNone, OnSome, OnOk, OnErr, IsErrOf};
+ghost use Rattle.store_folder.specs.Moments.{LeavesOnly};
+ghost use Rattle.segmented_log.specs.Parts.{part_of, sealed_of, parts_of, end_of};
+ghost use Rattle.segmented_log.specs.Log.{IsLog};
+ghost use Rattle.segmented_log.specs.Compacting.{AreNext, IsRun, with_joined, IsCovered, CanFollow, AreApart};
+ghost use Rattle.segmented_log.specs.Compacting.{CoversFirst, IsPassedByFirst, CanJoinFirst, CanBecomeOne, IsCompacted};
+ghost use Rattle.segmented_log.specs.Compacting.{ChangesSegments};
+ghost use Rattle.segmented_log.specs.Causes.{IsOfFolders, IsOfJoins};
+
+use crate::dropping::remove_segment;
+use crate::error::LogError;
+use crate::joining::join_segments;
+use crate::log::SegmentedLog;
+use crate::segment::Segment;
+use docstore::{DocStoreVersion, FileHandle};
+use store_folder::ReadableFolder;
+
+// Neighbours that can be joined: the number where they end, the bytes of their data, and how many records they have.
+#[derive(Clone, Copy)]
+struct Run {
+    end: u64,
+    bytes: u64,
+    records: u32,
+}
+
+// Neighbours that become one: the first of them, and how many follow it. Where none does, it covers the next one.
+#[derive(Clone, Copy)]
+struct Step {
+    first: usize,
+    count: usize,
+}
+
+// One segment as a run. None where it can't be joined with others.
+fn run_of<H: FileHandle>(segment: &Segment<H>) -> Option<Run>
+    ensures end { IfSome result (λ run. run.end ≡ end_of (part_of segment.now.first segment.now.reader)) }
+    ensures bytes { IfSome result (λ run. run.bytes ≡ length segment.now.reader.file.content) }
+    ensures records { IfSome result
+        (λ run. run.records ≡ length (part_of segment.now.first segment.now.reader).slots) }
+    ensures newer { IfSome result (λ run. segment.now.reader.version ≢ DocStoreVersion.V1) }
+    ensures none { IfNone result ((segment.now.reader.version ≡ DocStoreVersion.V1)
+        ⊎ (2 ^ 64 ≤ end_of (part_of segment.now.first segment.now.reader))) }
+{
+    if segment.reader.version() == DocStoreVersion::V1 {
+        return None;
+    }
+    let records = segment.reader.num_docs();
+    Some(Run {
+        end: segment.first.checked_add(u64::from(records))?,
+        bytes: segment.reader.space_usage().data_usage(),
+        records,
+    })
+}
+
+// The run with this segment after it, if they can be joined.
+fn with_next<H: FileHandle>(run: Run, segment: &Segment<H>, size: u64) -> Option<Run>
+    ensures some { OnSome result (CanFollow size run.end run.bytes run.records
+        (sealed_of segment.now.first segment.now.reader)) }
+    ensures end { IfSome result (λ more. more.end ≡ end_of (part_of segment.now.first segment.now.reader)) }
+    ensures none { IfNone result (CanFollow size run.end run.bytes run.records
+        (sealed_of segment.now.first segment.now.reader) → ⊥) }
+{
+    let next = run_of(segment)?;
+    let bytes = run.bytes.checked_add(next.bytes)?;
+    let records = run.records.checked_add(next.records)?;
+    if segment.first != run.end || bytes > size {
+        return None;
+    }
+    Some(Run {
+        end: next.end,
+        bytes,
+        records,
+    })
+}
+
+// How many of these segments can be joined with the one before them.
+fn count_next<H: FileHandle>(segment: &Segment<H>, others: &[Segment<H>], size: u64) -> usize
+    ensures within { result ≤ length others.now }
+    ensures next { AreNext (end_of (part_of segment.now.first segment.now.reader))
+        (map (λ s. part_of s.first s.reader) (take result others.now)) }
+    ensures none { result ≡ 0 → CanJoinFirst size (sealed_of segment.now.first segment.now.reader)
+        (map (λ s. sealed_of s.first s.reader) others.now) → ⊥ }
+{
+    let Some(mut run) = run_of(segment) else {
+        return 0;
+    };
+    for i in 0..others.len() {
+        match with_next(run, &others[i], size) {
+            Some(more) => run = more,
+            None => return i,
+        }
+    }
+    others.len()
+}
+
+// The number where a segment ends.
+fn end_of_segment<H: FileHandle>(segment: &Segment<H>) -> u128
+    ensures { result ≡ end_of (part_of segment.now.first segment.now.reader) }
+{
+    u128::from(segment.first) + u128::from(segment.reader.num_docs())
+}
+
+// Whether a segment has all records of the first of those after it.
+fn covers_next<H: FileHandle>(segment: &Segment<H>, others: &[Segment<H>]) -> bool
+    ensures yes { IsTrue result → CoversFirst (part_of segment.now.first segment.now.reader)
+        (map (λ s. part_of s.first s.reader) others.now) }
+    ensures no { result ≡ false → IsPassedByFirst (part_of segment.now.first segment.now.reader)
+        (map (λ s. part_of s.first s.reader) others.now) }
+{
+    match others.first() {
+        Some(next) => end_of_segment(next) <= end_of_segment(segment),
+        None => false,
+    }
+}
+
+// The first neighbours that can become one.
+fn find_step<H: FileHandle>(segments: &[Segment<H>], size: u64) -> Option<Step>
+    ensures some { IfSome result (λ step. CanBecomeOne (map (λ s. part_of s.first s.reader) segments.now)
+        step.first step.count) }
+    ensures none { IfNone result (AreApart size (map (λ s. sealed_of s.first s.reader) segments.now)) }
+{
+    for first in 0..segments.len() {
+        let segment = &segments[first];
+        let others = &segments[first + 1..];
+        if covers_next(segment, others) {
+            return Some(Step { first, count: 0 });
+        }
+        let count = count_next(segment, others, size);
+        if count > 0 {
+            return Some(Step { first, count });
+        }
+    }
+    None
+}
+
+impl<F: ReadableFolder> SegmentedLog<F> {
+    // Publishes the segment at this place and those that follow it as one, under the name of the first. The others, all
+    // of whose records it has, stay.
+    fn join(&mut self, place: usize, count: usize) -> Result<(), LogError>
+        requires works { self.old.is_broken ≡ false }
+        requires run { IsRun (parts_of self.old.segments) place count }
+        ensures first { self.new.first ≡ self.old.first }
+        ensures slots { IsTrue F.honest → self.new.slots ≡ self.old.slots }
+        ensures pending { self.new.pending ≡ self.old.pending }
+        ensures joined { IsTrue F.honest → OnOk result ((r : IsRun (parts_of self.old.segments) place count)
+            → parts_of self.new.segments ≡ with_joined r) }
+        ensures many { length self.new.segments ≡ length self.old.segments }
+        ensures works { OnOk result (self.new.is_broken ≡ false) }
+        ensures broken { OnErr result (IsTrue self.new.is_broken) }
+        ensures any_moment { IsTrue F.honest → LeavesOnly F.moment F.left_since self.old.folder self.new.folder
+            (IsLog self.old.first self.old.slots) }
+        ensures files { IsTrue F.honest → ChangesSegments (F.seen self.old.folder) (F.seen self.new.folder) }
+        ensures failures { F.failures self.old.folder ≤ F.failures self.new.folder }
+        ensures kind { IfErr result IsOfJoins }
+    {
+        // A call that fails leaves the log so.
+        self.is_broken = true;
+        let end = place + count + 1;
+        let first = self.segments[place].first;
+        let joined = join_segments(
+            self.alloc,
+            &mut self.folder,
+            first,
+            &self.segments[place..end],
+        )?;
+        self.segments[place] = joined;
+        self.is_broken = false;
+        Ok(())
+    }
+
+    // Removes the segment at this place, all of whose records those before it have.
+    fn remove_covered(&mut self, place: usize) -> Result<(), LogError>
+        requires works { self.old.is_broken ≡ false }
+        requires within { place < length self.old.segments }
+        requires covered { IsTrue F.honest → IsCovered self.old.first (parts_of self.old.segments) place }
+        ensures first { self.new.first ≡ self.old.first }
+        ensures slots { IsTrue F.honest → self.new.slots ≡ self.old.slots }
+        ensures pending { self.new.pending ≡ self.old.pending }
+        ensures fewer { OnOk result (length self.new.segments + 1 ≡ length self.old.segments) }
+        ensures works { OnOk result (self.new.is_broken ≡ false) }
+        ensures broken { OnErr result (IsTrue self.new.is_broken) }
+        ensures any_moment { IsTrue F.honest → LeavesOnly F.moment F.left_since self.old.folder self.new.folder
+            (IsLog self.old.first self.old.slots) }
+        ensures files { IsTrue F.honest → ChangesSegments (F.seen self.old.folder) (F.seen self.new.folder) }
+        ensures failures { F.failures self.old.folder ≤ F.failures self.new.folder }
+        ensures kind { IfErr result IsOfFolders }
+    {
+        self.is_broken = true;
+        let first = self.segments[place].first;
+        remove_segment(self.alloc, &mut self.folder, first)?;
+        let _ = self.segments.remove(place);
+        self.is_broken = false;
+        Ok(())
+    }
+
+    // Makes one of the first neighbours that can be joined, and removes the next one, which the first then covers.
+    // Returns whether there were any.
+    fn compact_next(&mut self, size: u64) -> Result<bool, LogError>
+        requires works { self.old.is_broken ≡ false }
+        ensures first { self.new.first ≡ self.old.first }
+        ensures slots { IsTrue F.honest → self.new.slots ≡ self.old.slots }
+        ensures pending { self.new.pending ≡ self.old.pending }
+        ensures fewer { IfOk result (λ more. IsTrue more → length self.new.segments < length self.old.segments) }
+        ensures compacted { IsTrue F.honest → IfOk result (λ more. more ≡ false
+            → IsCompacted self.new.first size self.new.segments (F.seen self.new.folder)) }
+        ensures works { OnOk result (self.new.is_broken ≡ false) }
+        ensures broken { OnErr result (IsTrue self.new.is_broken) }
+        ensures any_moment { IsTrue F.honest → LeavesOnly F.moment F.left_since self.old.folder self.new.folder
+            (IsLog self.old.first self.old.slots) }
+        ensures files { IsTrue F.honest → ChangesSegments (F.seen self.old.folder) (F.seen self.new.folder) }
+        ensures failures { F.failures self.old.folder ≤ F.failures self.new.folder }
+        ensures kind { IfErr result IsOfJoins }
+    {
+        let Some(step) = find_step(&self.segments, size) else {
+            return Ok(false);
+        };
+        if step.count == 0 {
+            self.remove_covered(step.first + 1)?;
+            return Ok(true);
+        }
+        self.join(step.first, step.count)?;
+        self.remove_covered(step.first + 1)?;
+        Ok(true)
+    }
+
+    /// Joins neighbouring segments whose data together has at most this many bytes. Numbers and records stay. A segment
+    /// is joined with the next one only if that one begins at the number where it ends, and a store has numbers for the
+    /// records of both. A segment all of whose records the one before it has is removed.
+    ///
+    /// The joined segment takes the name of its first one, and then the others are removed. So at any moment the log is
+    /// the same. What waits for a sync goes on waiting. The joined segment is made in memory.
+    ///
+    /// Errors: `Broken`; `Memory`; `Failed` where a call of the folder or a read of a segment failed; `Damaged` where a
+    /// segment of fewer than six blocks has a damaged record; and `Full` where a store has no room for the records. After
+    /// these the log is broken.
+    pub fn compact(&mut self, size: u64) -> Result<(), LogError>
+        ensures first { self.new.first ≡ self.old.first }
+        ensures slots { IsTrue F.honest → self.new.slots ≡ self.old.slots }
+        ensures pending { self.new.pending ≡ self.old.pending }
+        ensures works { OnOk result (self.new.is_broken ≡ false) }
+
+        // No neighbours are left that can be joined.
+        ensures compacted { IsTrue F.honest → OnOk result
+            (IsCompacted self.new.first size self.new.segments (F.seen self.new.folder)) }
+
+        // A crash at any moment leaves the same log.
+        ensures any_moment { IsTrue F.honest → self.old.is_broken ≡ false
+            → LeavesOnly F.moment F.left_since self.old.folder self.new.folder (IsLog self.old.first self.old.slots) }
+
+        // Of the folder's files only segments change, and files beside them.
+        ensures files { IsTrue F.honest → ChangesSegments (F.seen self.old.folder) (F.seen self.new.folder) }
+        ensures broken { IsErrOf result LogError.Broken ↔ IsTrue self.old.is_broken }
+        ensures err { OnErr result (IsTrue self.new.is_broken) }
+        ensures same { IsTrue self.old.is_broken → self.new ≡ self.old }
+        ensures failures { F.failures self.old.folder ≤ F.failures self.new.folder }
+        ensures kind { IfErr result (λ e. (e ≡ LogError.Broken) ⊎ IsOfJoins e) }
+    {
+        if self.is_broken() {
+            return Err(LogError::Broken);
+        }
+        while self.compact_next(size)? {}
+        Ok(())
+    }
+}

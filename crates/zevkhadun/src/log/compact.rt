@@ -1,0 +1,63 @@
+//! `log compact`: joins segments.
+
+use crate::arguments::{self, option, wrong_words};
+use crate::byte_size::parse_size;
+use crate::failure::{Failure, FailureCause, with_file};
+use crate::log::log_folder::SystemCause;
+use crate::log::places::open_to_write;
+use clap::{Arg, ArgMatches, Command};
+use std::alloc::{AllocError, Global};
+
+// The name of the argument for the size of a joined segment.
+const SIZE: &str = "size";
+
+const EXAMPLE: &str = "\
+The records and their numbers stay. A joined segment is the store that 'merge' writes of its segments, and takes the
+name of the first one. It is in memory while it is written.
+
+Example:
+  zevkhadun log compact --size 1G events";
+
+// How many bytes joined segments have at most.
+fn size<'a>(alloc: Global) -> Arg<'a> {
+    option(
+        alloc,
+        SIZE,
+        "BYTES",
+        "Join neighbouring segments while their data has at most BYTES; suffixes K, M, G",
+    )
+    .default_value("256M")
+}
+
+/// The words of `log compact`.
+pub fn command<'a>(alloc: Global) -> Result<Command<'a>, AllocError> {
+    Command::new(alloc, "compact")
+        .about("Join neighbouring segments")
+        .after_help(EXAMPLE)
+        .arg(crate::log::log(alloc))?
+        .arg(size(alloc))
+}
+
+// The size that the words give, in bytes.
+fn size_of(alloc: Global, matches: &ArgMatches<'_>) -> Result<u64, Failure> {
+    let text = arguments::word(alloc, matches, SIZE)?;
+    match parse_size(text) {
+        Some(size) => Ok(size as u64),
+        None => Err(wrong_words(alloc, "invalid size", text)),
+    }
+}
+
+// Joins segments of the log at a path.
+fn compact(rt: &HostRuntime, path: &str, size: u64) -> Result<(), FailureCause> {
+    let cause = SystemCause::new();
+    let mut log = open_to_write(rt, path, &cause)?;
+    log.compact(size)
+}
+
+/// Joins the segments.
+pub fn run(rt: &HostRuntime, matches: &ArgMatches<'_>) -> Result<(), Failure> {
+    let alloc = rt.alloc();
+    let path = arguments::word(alloc, matches, crate::log::FOLDER)?;
+    let size = size_of(alloc, matches)?;
+    with_file(alloc, path, compact(rt, path, size))
+}
