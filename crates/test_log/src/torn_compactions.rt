@@ -16,19 +16,16 @@ const CRASHES: usize = 4;
 // How many segments a folder has.
 fn count_segments(alloc: Global, folder: &Watched) -> io::Result<usize> {
     let names = folder.names(alloc)?;
-    Ok(names
-        .iter()
-        .filter(|name| segment_number(name.as_str()).is_some())
-        .count())
+    Ok(
+        names
+            .iter()
+            .filter(|name| segment_number(name.as_str()).is_some())
+            .count(),
+    )
 }
 
 // The folder of a log whose segments were joined up to this size. None where it has not all records.
-fn joined(
-    alloc: Global,
-    folder: Watched,
-    plain: &Plain,
-    size: u64,
-) -> io::Result<Option<Watched>> {
+fn joined(alloc: Global, folder: Watched, plain: &Plain, size: u64) -> io::Result<Option<Watched>> {
     let mut log = opened(alloc, folder)?;
     if !has_from(&mut log, &plain.records, 0) {
         return Ok(None);

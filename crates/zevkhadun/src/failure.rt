@@ -56,9 +56,7 @@ impl FailureCause {
             }
             FailureCause::NotLog => "; 'zevkhadun log append' begins one in a new or empty folder",
             FailureCause::Log(LogError::NoLog | LogError::Damaged)
-            | FailureCause::DamagedRecord(_) => {
-                "; 'zevkhadun log verify' says where"
-            }
+            | FailureCause::DamagedRecord(_) => { "; 'zevkhadun log verify' says where" }
             FailureCause::Log(LogError::BatchFull) => "; use '--sync batch'",
             FailureCause::OtherFile(_) => "; choose another name, or remove it",
             FailureCause::CutInput => "; does it have another framing?",
