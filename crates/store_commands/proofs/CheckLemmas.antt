@@ -7,7 +7,7 @@ use Rattle.store_reader.specs.declared.data_part.DataPart.{DataPart}
 use Rattle.store_reader.specs.Parts.{place_of, IsBlockRead}
 use Rattle.store_reader.specs.Reading.{Reading, num_docs, store_of}
 use Rattle.store_commands.specs.declared.checking.Verdict.{Verdict}
-use Rattle.store_commands.specs.Checks.{IsToldOf, Judges}
+use Rattle.store_commands.specs.Checks.{HasWatched, Judges}
 use Rattle.store_commands.proofs.CountLemmas.{TakesBlock, judges_more}
 use Rattle.store_commands.proofs.WalkLemmas.{HasWalked, walked_first, walked_next, walked_more, walked_all, walked_front, walked_to_the_end, IsNext}
 
@@ -34,30 +34,30 @@ judged_next r now next v w part h n takes honest old =
     subst (λ (k : ℕ). TakesBlock v w (docs_in front) (length (data_of front)) n.block.bytes k) n.count t3 in
     judges_more front n.block v w (omega (arith, n.few, n.number)) (omega (arith, n.few, h.walked.come.next_is)) old t4
 
--- Some blocks were judged, and the watch was told of them.
+-- Some blocks were judged, and the watch has watched them.
 pub record HasTold {P : Type 0} (adds : P → ℕ → ℕ → P → Type 0) (r now : Reading) (next : ℕ) (verdict : Verdict) (old new : P) : Type 0 where
   pub checked : HasChecked r now next verdict
-  pub told : IsToldOf adds checked.walked.front old new
+  pub told : HasWatched adds checked.walked.front old new
 
-told_joined : {P : Type 0} (adds : P → ℕ → ℕ → P → Type 0) (front : List StoreBlock) (b : StoreBlock) (old middle new : P) → IsToldOf adds front old middle → adds middle b.count (length b.bytes) new
-    → IsToldOf adds (front ++ b ∷ []) old new
-told_joined {P} adds [] b old middle new same one = (new, subst (λ (x : P). adds x b.count (length b.bytes) new) same one, refl)
-told_joined adds (x ∷ front) b old middle new h one = (h.0, h.1, told_joined adds front b h.0 middle new h.2 one)
+watched_joined : {P : Type 0} (adds : P → ℕ → ℕ → P → Type 0) (front : List StoreBlock) (b : StoreBlock) (old middle new : P) → HasWatched adds front old middle → adds middle b.count (length b.bytes) new
+    → HasWatched adds (front ++ b ∷ []) old new
+watched_joined {P} adds [] b old middle new same one = (new, subst (λ (x : P). adds x b.count (length b.bytes) new) same one, refl)
+watched_joined adds (x ∷ front) b old middle new h one = (h.0, h.1, watched_joined adds front b h.0 middle new h.2 one)
 
-pub told_first : {P : Type 0} (adds : P → ℕ → ℕ → P → Type 0) (r : Reading) (v : Verdict) (old : P) → Covers r.checkpoints (length r.file.content) → v.documents ≡ num_docs r → Judges [] v
+pub watched_first : {P : Type 0} (adds : P → ℕ → ℕ → P → Type 0) (r : Reading) (v : Verdict) (old : P) → Covers r.checkpoints (length r.file.content) → v.documents ≡ num_docs r → Judges [] v
     → HasTold adds r r 0 v old old
 unfolding checked_first walked_first
-told_first adds r v old covers documents judged = record { checked = checked_first r v covers documents judged; told = refl }
+watched_first adds r v old covers documents judged = record { checked = checked_first r v covers documents judged; told = refl }
 
 -- one block more
-pub told_more : {P : Type 0} (adds : P → ℕ → ℕ → P → Type 0) (r now new : Reading) (next : ℕ) (v w : Verdict) (part : DataPart) (old middle after : P) → HasTold adds r now next v old middle
+pub watched_more : {P : Type 0} (adds : P → ℕ → ℕ → P → Type 0) (r now new : Reading) (next : ℕ) (v w : Verdict) (part : DataPart) (old middle after : P) → HasTold adds r now next v old middle
     → Some (place_of part) ≡ first_past now.checkpoints next
     → (IsTrue now.file.honest → part.bytes ≡ slice_range now.file.content part.start (part.start + length part.bytes))
     → (num_docs now ≤ next → new ≡ now) → (next < num_docs now → IsBlockRead now next new)
     → w.documents ≡ v.documents → TakesBlock v w part.ids.start part.start part.bytes (part.ids.end - part.ids.start)
     → adds middle (part.ids.end - part.ids.start) (length part.bytes) after → HasTold adds r new part.ids.end w old after
 unfolding walked_more
-told_more {P} adds r now new next v w part old middle after h seeks given none once documents takes one =
+watched_more {P} adds r now new next v w part old middle after h seeks given none once documents takes one =
     let walked = h.checked.walked in
     let n = walked_next (λ front. Judges front v) r now next part walked seeks given in
     record {
@@ -65,7 +65,7 @@ told_more {P} adds r now new next v w part old middle after h seeks given none o
         walked = walked_more (λ front. Judges front v) (λ front. Judges front w) r now new next part walked n none once (judged_next r now next v w part h.checked n takes);
         documents = documents ∙ h.checked.documents;
       };
-      told = told_joined adds walked.front n.block old middle after h.told
+      told = watched_joined adds walked.front n.block old middle after h.told
           (subst (λ (k : ℕ). adds middle n.block.count k after) n.size (subst (λ (k : ℕ). adds middle k (length part.bytes) after) n.count one));
     }
 
@@ -73,12 +73,12 @@ told_more {P} adds r now new next v w part old middle after h seeks given none o
 pub checked_all : (r now : Reading) (next : ℕ) (v : Verdict) → HasChecked r now next v → num_docs now ≤ next → IsTrue r.file.honest → Judges (store_of r) v
 checked_all r now next v h le honest = walked_all (λ front. Judges front v) r now next h.walked le honest
 
-pub told_all : {P : Type 0} (adds : P → ℕ → ℕ → P → Type 0) (r now : Reading) (next : ℕ) (v : Verdict) (old new : P) → HasTold adds r now next v old new → num_docs now ≤ next
-    → IsToldOf adds (store_of r) old new
-told_all adds r now next v old new h le =
-    subst (λ (bs : List StoreBlock). IsToldOf adds bs old new) (sym (walked_to_the_end (λ front. Judges front v) r now next h.checked.walked le)) h.told
+pub watched_all : {P : Type 0} (adds : P → ℕ → ℕ → P → Type 0) (r now : Reading) (next : ℕ) (v : Verdict) (old new : P) → HasTold adds r now next v old new → num_docs now ≤ next
+    → HasWatched adds (store_of r) old new
+watched_all adds r now next v old new h le =
+    subst (λ (bs : List StoreBlock). HasWatched adds bs old new) (sym (walked_to_the_end (λ front. Judges front v) r now next h.checked.walked le)) h.told
 
-pub told_some : {P : Type 0} (adds : P → ℕ → ℕ → P → Type 0) (r now : Reading) (next : ℕ) (v : Verdict) (old new : P) → HasTold adds r now next v old new
-    → (count : ℕ) × IsToldOf adds (take count (store_of r)) old new
-told_some adds r now next v old new h =
-    (length h.checked.walked.front, subst (λ (bs : List StoreBlock). IsToldOf adds bs old new) (sym (walked_front (λ front. Judges front v) r now next h.checked.walked)) h.told)
+pub watched_some : {P : Type 0} (adds : P → ℕ → ℕ → P → Type 0) (r now : Reading) (next : ℕ) (v : Verdict) (old new : P) → HasTold adds r now next v old new
+    → (count : ℕ) × HasWatched adds (take count (store_of r)) old new
+watched_some adds r now next v old new h =
+    (length h.checked.walked.front, subst (λ (bs : List StoreBlock). HasWatched adds bs old new) (sym (walked_front (λ front. Judges front v) r now next h.checked.walked)) h.told)

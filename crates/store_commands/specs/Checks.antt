@@ -15,11 +15,11 @@ use Rattle.store_commands.specs.Blocks.{AreWhole}
 
 -- ---- who watches a check
 
--- A watch was called for these blocks, in order: how many documents and bytes each has.
-abbrev pub IsToldOf : {P : Type 0} → (P → ℕ → ℕ → P → Type 0) → List StoreBlock → P → P → Type 0
-IsToldOf adds [] old new = new ≡ old
-IsToldOf {P} adds (b ∷ blocks) old new = (middle : P) × adds old b.count (length b.bytes) middle
-    × IsToldOf adds blocks middle new
+-- A watch has watched these blocks, in order: how many documents and bytes each has.
+abbrev pub HasWatched : {P : Type 0} → (P → ℕ → ℕ → P → Type 0) → List StoreBlock → P → P → Type 0
+HasWatched adds [] old new = new ≡ old
+HasWatched {P} adds (b ∷ blocks) old new = (middle : P) × adds old b.count (length b.bytes) middle
+    × HasWatched adds blocks middle new
 
 -- ---- damaged documents
 

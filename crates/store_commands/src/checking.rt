@@ -10,7 +10,7 @@ ghost use Rattle.store_reader.specs.Parts.{place_of};
 ghost use Rattle.store_reader.specs.Reading.{IsSameStore, num_docs, store_of};
 ghost use Rattle.store_commands.specs.Blocks.{AreWhole};
 ghost use Rattle.store_commands.specs.Checks.{damaged_count, has_table, is_sound, HasTableFault, HasFault};
-ghost use Rattle.store_commands.specs.Checks.{IsToldOf, Judges};
+ghost use Rattle.store_commands.specs.Checks.{HasWatched, Judges};
 
 use crate::block_documents::documents_with_room;
 use docstore::{DataPart, DocId, FileHandle, StoreError, StoreReader, block_read_index, u32_at};
@@ -229,9 +229,9 @@ pub fn check_blocks<H: FileHandle, P: BlockWatch>(
 ) -> Result<Verdict, StoreError>
     ensures documents { IfOk result (λ verdict. verdict.documents ≡ num_docs reader.old) }
     ensures judged { IsTrue reader.old.file.honest → IfOk result (Judges (store_of reader.old)) }
-    ensures told { OnOk result (IsToldOf P.adds (store_of reader.old) watch.old watch.new) }
-    ensures told_first { OnErr result ((count : ℕ)
-        × IsToldOf P.adds (take count (store_of reader.old)) watch.old watch.new) }
+    ensures watched { OnOk result (HasWatched P.adds (store_of reader.old) watch.old watch.new) }
+    ensures watched_first { OnErr result ((count : ℕ)
+        × HasWatched P.adds (take count (store_of reader.old)) watch.old watch.new) }
     ensures causes { IfErr result (λ e. (e ≡ StoreError.Read) ⊎ (e ≡ StoreError.Memory)) }
     ensures failed { IsErrOf result StoreError.Read → HasRisen reader.old.file.failures reader.new.file.failures }
     ensures steady { IsErrOf result StoreError.Read

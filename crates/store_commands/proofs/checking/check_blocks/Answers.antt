@@ -1,14 +1,14 @@
 use Rattle.std.proofs.Common.{ℕ, ◌-◌, refl, ◌∙◌, subst}
 use Rattle.std.proofs.lemmas.Result.{err_from_is_err_and}
 use Rattle.store_commands.specs.Checks.{Judges}
-use Rattle.store_commands.proofs.CheckLemmas.{told_first, told_more, told_all, told_some, checked_all}
+use Rattle.store_commands.proofs.CheckLemmas.{watched_first, watched_more, watched_all, watched_some, checked_all}
 use Rattle.store_commands.proofs.EndingLemmas.{steady_of}
 use Rattle.store_commands.proofs.WalkLemmas.{seeks_some, bytes_some, none_left, walked_whole, walked_within}
 use Rattle.store_commands.proofs.checking.check_blocks.Goals as goal
 
 pub loop-block-init : goal.loop-block-init
 loop-block-init g c = record {
-  checked = told_first g.P.BlockWatch.adds c.args.reader.now c.of_documents-verdict.result c.args.watch.now c.num_docs.ensures.covers
+  checked = watched_first g.P.BlockWatch.adds c.args.reader.now c.of_documents-verdict.result c.args.watch.now c.num_docs.ensures.covers
       (c.of_documents-verdict.ensures.documents ∙ c.num_docs.ensures.count) c.of_documents-verdict.ensures.nothing;
   steady = refl;
 }
@@ -17,7 +17,7 @@ pub loop-block-preserved-in-Some : goal.loop-block-preserved-in-Some
 loop-block-preserved-in-Some g c =
     let part = c.in-Some.block in
     record {
-      checked = told_more g.P.BlockWatch.adds c.args.reader.now c.loop-block.reader c.read_block.new.self c.loop-block.next_id c.loop-block.verdict c.take.new.self part
+      checked = watched_more g.P.BlockWatch.adds c.args.reader.now c.loop-block.reader c.read_block.new.self c.loop-block.next_id c.loop-block.verdict c.take.new.self part
           c.args.watch.now c.loop-block.watch c.add.new.self c.loop-block.invariant.checked
           (seeks_some c.in_ok-block.field-0 part _ c.in-Some.is c.in_ok-block.ensures.place)
           (λ honest. bytes_some c.loop-block.reader.file.content c.in_ok-block.field-0 part c.in-Some.is (c.in_ok-block.ensures.bytes honest))
@@ -38,7 +38,7 @@ pub loop-block-preserved : goal.loop-block-preserved
 loop-block-preserved g c =
     let part = c.in-Some.block in
     record {
-      checked = told_more g.P.BlockWatch.adds c.args.reader.now c.loop-block.reader c.read_block.new.self c.loop-block.next_id c.loop-block.verdict c.take.new.self part
+      checked = watched_more g.P.BlockWatch.adds c.args.reader.now c.loop-block.reader c.read_block.new.self c.loop-block.next_id c.loop-block.verdict c.take.new.self part
           c.args.watch.now c.loop-block.watch c.add.new.self c.loop-block.invariant.checked
           (seeks_some c.in_ok-block.field-0 part _ c.in-Some.is c.in_ok-block.ensures.place)
           (λ honest. bytes_some c.loop-block.reader.file.content c.in_ok-block.field-0 part c.in-Some.is (c.in_ok-block.ensures.bytes honest))
@@ -60,15 +60,15 @@ returns-clause-judged g c honest =
     checked_all c.args.reader.now c.loop-block.reader c.loop-block.next_id c.loop-block.verdict c.loop-block.invariant.checked.checked
     (c.in_ok-block.ensures.none.0 (none_left c.in_ok-block.field-0 c.in_default.is)) honest
 
-pub returns-clause-told : goal.returns-clause-told
-returns-clause-told g c =
-    told_all g.P.BlockWatch.adds c.args.reader.now c.loop-block.reader c.loop-block.next_id c.loop-block.verdict c.args.watch.now c.loop-block.watch c.loop-block.invariant.checked
+pub returns-clause-watched : goal.returns-clause-watched
+returns-clause-watched g c =
+    watched_all g.P.BlockWatch.adds c.args.reader.now c.loop-block.reader c.loop-block.next_id c.loop-block.verdict c.args.watch.now c.loop-block.watch c.loop-block.invariant.checked
     (c.in_ok-block.ensures.none.0 (none_left c.in_ok-block.field-0 c.in_default.is))
 
-pub returns-in_err-block-clause-told_first : goal.returns-in_err-block-clause-told_first
-returns-in_err-block-clause-told_first g c =
+pub returns-in_err-block-clause-watched_first : goal.returns-in_err-block-clause-watched_first
+returns-in_err-block-clause-watched_first g c =
     let given = err_from_is_err_and c.from_residual.result c.from_residual.ensures.1 in
-    rw given.1 (told_some g.P.BlockWatch.adds c.args.reader.now c.loop-block.reader c.loop-block.next_id c.loop-block.verdict c.args.watch.now c.loop-block.watch c.loop-block.invariant.checked)
+    rw given.1 (watched_some g.P.BlockWatch.adds c.args.reader.now c.loop-block.reader c.loop-block.next_id c.loop-block.verdict c.args.watch.now c.loop-block.watch c.loop-block.invariant.checked)
 
 pub returns-clause-read : goal.returns-clause-read
 returns-clause-read g c =

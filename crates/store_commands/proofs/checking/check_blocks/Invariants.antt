@@ -3,7 +3,7 @@ use Rattle.store_reader.specs.Reading.{num_docs}
 use Rattle.store_commands.proofs.CheckLemmas.{HasTold}
 use Rattle.store_commands.proofs.checking.check_blocks.Given as goal
 
--- the blocks so far were judged, and the watch was told of them
+-- the blocks so far were judged, and the watch has watched them
 abbrev pub invariant-loop-block : goal.invariant-loop-block
 invariant-loop-block g l = record {
   checked : HasTold g.P.BlockWatch.adds l.fn.reader l.reader l.next_id l.verdict l.fn.watch l.watch;
