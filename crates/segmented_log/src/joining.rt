@@ -19,7 +19,7 @@ ghost use Rattle.segmented_log.specs.Causes.{IsOfJoins};
 use crate::error::LogError;
 use crate::names::{name_beside, segment_file};
 use crate::sealing::BLOCK_SIZE;
-use crate::segment::{Segment, open_segment};
+use crate::segment::{Segment, open_segment, reopen_error};
 use docstore::{Compressor, FileHandle, MemSink, StoreError, StoreWriter, laws};
 use std::alloc::Global;
 use store_folder::{ReadableFolder, replace};
@@ -37,16 +37,6 @@ fn join_error(error: StoreError) -> LogError
         StoreError::Memory | StoreError::Failed(_) => LogError::Memory,
         StoreError::TooManyDocs | StoreError::BlockTooLarge => LogError::Full,
         StoreError::DamagedDocument(_) => LogError::Damaged,
-        _ => LogError::Failed,
-    }
-}
-
-// Why a segment that is there could not be opened.
-fn open_error(error: LogError) -> LogError
-    ensures { IsOfJoins result }
-{
-    match error {
-        LogError::Memory => LogError::Memory,
         _ => LogError::Failed,
     }
 }
@@ -70,7 +60,7 @@ fn open_input<F: ReadableFolder>(
             reader: segment.reader,
             alive: None,
         }),
-        Err(error) => Err(open_error(error)),
+        Err(error) => Err(reopen_error(error)),
     }
 }
 
@@ -148,7 +138,7 @@ fn replace_segment<F: ReadableFolder>(
     replace(folder, beside.as_str(), name.as_str(), bytes)?;
     match open_segment(alloc, folder, first) {
         Ok(segment) => Ok(segment),
-        Err(error) => Err(open_error(error)),
+        Err(error) => Err(reopen_error(error)),
     }
 }
 

@@ -12,7 +12,7 @@ ghost use Rattle.segmented_log.specs.Parts.{part_of};
 ghost use Rattle.segmented_log.specs.Log.{HasSegment};
 ghost use Rattle.segmented_log.specs.Settled.{part_at, AddsSegment};
 ghost use Rattle.segmented_log.specs.Opening.{IsNoSegment};
-ghost use Rattle.segmented_log.specs.Causes.{IsOfFiles, IsOfSeals, HasNoRoom};
+ghost use Rattle.segmented_log.specs.Causes.{IsOfFiles, IsOfSeals, IsOfJoins, HasNoRoom};
 
 use crate::error::LogError;
 use crate::names::{name_beside, segment_file};
@@ -98,10 +98,11 @@ pub(crate) fn publish_segment<F: Folder>(
     Ok(())
 }
 
-// Why a segment that was just published could not be opened.
-fn seal_error(error: LogError) -> LogError
+/// Why a segment that the folder has could not be opened.
+pub(crate) fn reopen_error(error: LogError) -> LogError
     ensures full { result ≡ LogError.Full → ⊥ }
-    ensures kind { IsOfSeals result }
+    ensures seals { IsOfSeals result }
+    ensures joins { IsOfJoins result }
 {
     match error {
         LogError::Memory => LogError::Memory,
@@ -142,6 +143,6 @@ pub(crate) fn add_segment<F: ReadableFolder>(
     publish_segment(alloc, folder, first, tail, places)?;
     match open_segment(alloc, folder, first) {
         Ok(segment) => Ok(segment),
-        Err(error) => Err(seal_error(error)),
+        Err(error) => Err(reopen_error(error)),
     }
 }
