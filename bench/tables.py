@@ -1,7 +1,7 @@
 """The tables of docs/PERFORMANCE.md. A figure is the median of the rounds; where the quartiles lie more than 15 % of it
 apart they follow in brackets."""
 
-from typing import Dict, List, Optional
+from typing import Collection, Dict, List, Optional
 
 import volume
 from figures import Figures, Spread, label_of, spread_of
@@ -132,9 +132,14 @@ def appending(figures: Figures) -> Lines:
 LOG_SIDES = ["log"] + LOG_PEERS
 
 
+def _of_log(figures: Figures, workloads: Collection[str]) -> List[Dict[str, object]]:
+    """The log's own rows of these workloads."""
+    return [row for row in figures.find(group="log", side="log") if row["workload"] in workloads]
+
+
 def log(figures: Figures) -> Lines:
     """A row for each batch, and for one sync after all, in memory and on a disk."""
-    rows = [row for row in figures.find(group="log", side="log") if row["workload"] in LOG_MAKES]
+    rows = _of_log(figures, LOG_MAKES)
     if not rows:
         return []
     lines = head(f"append to a log, each record of {rows[0]['length']} bytes", LOG_SIDES)
@@ -148,7 +153,7 @@ def log(figures: Figures) -> Lines:
 
 def log_reading(figures: Figures) -> Lines:
     """Opening a long log and its gets."""
-    rows = [row for row in figures.find(group="log", side="log") if row["workload"] in LOG_READS]
+    rows = _of_log(figures, LOG_READS)
     if not rows:
         return []
     lines = head(f"a log of {rows[0]['documents']} records of {rows[0]['length']} bytes", LOG_SIDES)
