@@ -117,10 +117,7 @@ static PyObject *extend(PyObject *object, PyObject *documents) {
     int is_done = add_documents(self, iterator);
     leave(self);
     Py_DECREF(iterator);
-    if (!is_done) {
-        return NULL;
-    }
-    Py_RETURN_NONE;
+    return is_done ? Py_NewRef(Py_None) : NULL;
 }
 
 /* ---- whole stores, and the end */
@@ -142,10 +139,7 @@ static PyObject *stack(PyObject *object, PyObject *store) {
         PyBuffer_Release(&file);
     }
     leave(self);
-    if (!is_done) {
-        return NULL;
-    }
-    Py_RETURN_NONE;
+    return is_done ? Py_NewRef(Py_None) : NULL;
 }
 
 static PyObject *finish(PyObject *object, PyObject *arguments) {
