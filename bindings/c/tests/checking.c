@@ -94,8 +94,7 @@ static void known_places(const uint8_t *file, size_t len) {
 
 int main(int argc, char **argv) {
     size_t len = 0;
-    WANT(argc == 2);
-    uint8_t *file = loaded(argv[1], &len);
+    uint8_t *file = loaded(argc, argv, &len);
     beginnings(file, len);
     changed_bits(file, len);
     known_places(file, len);

@@ -8,8 +8,7 @@ int main(int argc, char **argv) {
     zevk_place place;
     size_t len = 0, count = 0;
     uint32_t id = 1;
-    WANT(argc == 2);
-    uint8_t *file = loaded(argv[1], &len);
+    uint8_t *file = loaded(argc, argv, &len);
     zevk_block *table = table_of(file, len, &count);
     for (int i = 0; i < 100000; i++) {
         id = (id * 1664525u + 1013904223u) % DOCUMENTS;

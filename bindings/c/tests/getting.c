@@ -110,8 +110,7 @@ static size_t many_layers(uint8_t *file, size_t *data_len) {
 
 int main(int argc, char **argv) {
     size_t len = 0;
-    WANT(argc == 2);
-    uint8_t *file = loaded(argv[1], &len);
+    uint8_t *file = loaded(argc, argv, &len);
     map_page();
     read_all(file, len);
     beginnings(file, len);

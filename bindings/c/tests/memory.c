@@ -96,8 +96,7 @@ static uint32_t write_with(const uint8_t *file, size_t len, long allocations) {
 int main(int argc, char **argv) {
     size_t len = 0;
     long opening = 0, writing = 0;
-    WANT(argc == 2);
-    uint8_t *file = loaded(argv[1], &len);
+    uint8_t *file = loaded(argc, argv, &len);
     while (open_with(file, len, opening) != ZEVK_DONE) {
         WANT(open_with(file, len, opening) == ZEVK_NO_MEMORY);
         opening++;

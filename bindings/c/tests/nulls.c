@@ -106,8 +106,7 @@ static void writing(const uint8_t *file, size_t file_len) {
 
 int main(int argc, char **argv) {
     size_t len = 0;
-    WANT(argc == 2);
-    uint8_t *file = loaded(argv[1], &len);
+    uint8_t *file = loaded(argc, argv, &len);
     texts();
     getting(file, len);
     ranges(len);

@@ -112,8 +112,7 @@ static void changed(const uint8_t *file, size_t len) {
 
 int main(int argc, char **argv) {
     far_file file = {NULL, 0, 0};
-    WANT(argc == 2);
-    uint8_t *bytes = loaded(argv[1], &file.len);
+    uint8_t *bytes = loaded(argc, argv, &file.len);
     file.bytes = bytes;
     for (size_t tail_len = 0; tail_len <= file.len; tail_len++) {
         for (uint32_t id = 0; id <= DOCUMENTS; id++) {

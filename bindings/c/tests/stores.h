@@ -36,11 +36,12 @@ static inline void *tight(const void *bytes, size_t len) {
     return copy;
 }
 
-/* The file's bytes, from its hexadecimal text. */
-static inline uint8_t *loaded(const char *path, size_t *len) {
+/* The file's bytes, from its hexadecimal text, which the program's one argument names. */
+static inline uint8_t *loaded(int argc, char **argv, size_t *len) {
     uint8_t bytes[4096];
     unsigned byte = 0;
-    FILE *text = fopen(path, "r");
+    WANT(argc == 2);
+    FILE *text = fopen(argv[1], "r");
     WANT(text != NULL);
     for (*len = 0; fscanf(text, "%2x", &byte) == 1; ++*len) {
         WANT(*len < sizeof bytes);

@@ -184,8 +184,7 @@ static void texts(void) {
 
 int main(int argc, char **argv) {
     size_t len = 0;
-    WANT(argc == 2);
-    uint8_t *file = loaded(argv[1], &len);
+    uint8_t *file = loaded(argc, argv, &len);
     texts();
     open_all(file, len);
     read_all(file, len);

@@ -59,8 +59,7 @@ static void *read_all(void *given) {
 int main(int argc, char **argv) {
     pthread_t threads[THREADS];
     size_t len = 0, count = 0;
-    WANT(argc == 2);
-    uint8_t *file = loaded(argv[1], &len);
+    uint8_t *file = loaded(argc, argv, &len);
     zevk_block *table = table_of(file, len, &count);
     const uint8_t *sealed_file = (const uint8_t *)sealed(file, len);
     const zevk_block *sealed_table = (const zevk_block *)sealed(table, count * sizeof *table);

@@ -261,7 +261,6 @@ static void any_writer_is_safe(uint8_t *file, size_t file_len) {
 
 int main(int argc, char **argv) {
     size_t sizes[] = {0, 1, 20, 50, 1000, 16384, SIZE_MAX};
-    WANT(argc == 2);
     for (size_t i = 0; i < sizeof sizes / sizeof *sizes; i++) {
         for (uint32_t to = 0; to < MOST; to = 2 * to + 1) {
             output out = written(sizes[i], (uint8_t)(2 + 31 * i % 63), 0, to);
@@ -273,7 +272,7 @@ int main(int argc, char **argv) {
     refuses_to_stack();
     refuses_what_is_too_large();
     size_t len = 0;
-    uint8_t *file = loaded(argv[1], &len);
+    uint8_t *file = loaded(argc, argv, &len);
     any_writer_is_safe(file, len);
     free(file);
     return 0;
