@@ -38,6 +38,10 @@ class Killed(ProgramCase):
         """The records of the log."""
         return self.program.gives("log", "cat", "events")
 
+    def segment_count(self):
+        """How many segments the log has."""
+        return len(list((self.folder / "events").glob("*.store")))
+
     def input_from(self, count):
         """The text of the records after this many."""
         start = self.ends[count - 1] if count else 0
@@ -60,7 +64,7 @@ class Killed(ProgramCase):
         count = killed_in_the_midst = segments = 0
         for moment in range(MOMENTS):
             if moment % MOMENTS_A_LOG == 0:
-                segments += len(list((self.folder / "events").glob("*.store")))
+                segments += self.segment_count()
                 shutil.rmtree(self.folder / "events", ignore_errors=True)
                 count = 0
             acknowledged = self.append_until(count, moment * MORE // MOMENTS)
@@ -78,6 +82,20 @@ class Killed(ProgramCase):
         self.program.gives("log", "append", "events")
         self.program.gives("log", "verify", "-q", "events")
 
+    def seconds_of(self, command):
+        """How long a command takes on the log."""
+        start = time.monotonic()
+        self.program.gives("log", command, "events")
+        return time.monotonic() - start
+
+    def killed(self, command, seconds):
+        """Ends a command on the log after a time, and returns how many segments are left."""
+        writing = subprocess.Popen([self.program.path, "log", command, "events"], cwd=self.folder)
+        time.sleep(seconds)
+        writing.kill()
+        writing.wait()
+        return self.segment_count()
+
     def begin_log(self):
         """Begins a log with a tail of 5000 records."""
         shutil.rmtree(self.folder / "events", ignore_errors=True)
@@ -87,44 +105,28 @@ class Killed(ProgramCase):
         text = self.text[:self.ends[5 * MORE - 1]]
         self.write("input", text)
         self.begin_log()
-        start = time.monotonic()
-        self.program.gives("log", "seal", "events")
-        whole = time.monotonic() - start
+        whole = self.seconds_of("seal")
         left = set()
         for moment in range(40):
             self.begin_log()
-            writing = subprocess.Popen([self.program.path, "log", "seal", "events"], cwd=self.folder)
-            time.sleep(whole * 3 * moment / 40)
-            writing.kill()
-            writing.wait()
+            left.add(self.killed("seal", whole * 3 * moment / 40))
             self.assertEqual(self.records(), text, f"at moment {moment}")
-            left.add(len(list((self.folder / "events").glob("*.store"))))
         self.assertEqual(left, {0, 1}, "every kill came before or after the seal")
-
-    def kill_compaction(self, seconds):
-        """Ends a compaction after a time, and returns how many segments are left."""
-        shutil.rmtree(self.folder / "events")
-        shutil.copytree(self.folder / "whole", self.folder / "events")
-        writing = subprocess.Popen([self.program.path, "log", "compact", "events"], cwd=self.folder)
-        time.sleep(seconds)
-        writing.kill()
-        writing.wait()
-        return len(list((self.folder / "events").glob("*.store")))
 
     def test_a_killed_compaction_leaves_the_records(self):
         text = self.text[:self.ends[5 * MORE - 1]]
         self.write("input", text)
         self.program.gives("log", "append", "events", "input", "--sync", "every", "--seal-size", "2K")
         shutil.copytree(self.folder / "events", self.folder / "whole")
-        start = time.monotonic()
-        self.program.gives("log", "compact", "events")
-        whole = time.monotonic() - start
+        whole = self.seconds_of("compact")
         left = set()
         for moment in range(40):
-            left.add(self.kill_compaction(whole * 2 * moment / 40))
+            shutil.rmtree(self.folder / "events")
+            shutil.copytree(self.folder / "whole", self.folder / "events")
+            left.add(self.killed("compact", whole * 2 * moment / 40))
             self.assertEqual(self.records(), text, f"at moment {moment}")
             self.program.gives("log", "verify", "-q", "events")
         self.assertGreater(len(left), 2, "every kill came before or after the compaction")
         self.program.gives("log", "compact", "events")
-        self.assertEqual(len(list((self.folder / "events").glob("*.store"))), 1)
+        self.assertEqual(self.segment_count(), 1)
         self.assertEqual(self.records(), text)
