@@ -99,6 +99,12 @@ class Case(unittest.TestCase):
         self.fail(f"{what}: {len(given)} bytes, not {len(wanted)}; at {place}: {found!r}, not {there!r}")
 
 
+# Before a command: what that mounts, it alone sees.
+UNSHARED = ("unshare", "-m" if os.geteuid() == 0 else "-rm")
+# Makes a device of 1 MiB in the folder `$1`.
+MOUNT = 'mount -t tmpfs -o size=1m none "$1" || exit 77\n'
+
+
 class FolderCase(Case):
     """A test in a folder of its own."""
 
@@ -111,6 +117,16 @@ class FolderCase(Case):
         folder = Path(tempfile.mkdtemp(prefix="zevkhadun-"))
         self.addCleanup(shutil.rmtree, folder, ignore_errors=True)
         return folder
+
+    def on_device(self, script: str, *words: str | Path, **how) -> subprocess.CompletedProcess:
+        """Runs a script of the shell that has a device of 1 MiB in `$1`, and then these words. Skips the test where
+        none can be mounted."""
+        self.require("unshare")
+        command = [*UNSHARED, "sh", "-c", MOUNT + script, "", self.new_folder(), *words]
+        done = subprocess.run(command, capture_output=True, timeout=SECONDS, **how)
+        if done.returncode == 77 or b"unshare:" in done.stderr:
+            self.skipTest("no device can be mounted here")
+        return done
 
     def write(self, name: str, content: bytes) -> Path:
         """Writes a file into the folder."""

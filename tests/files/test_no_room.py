@@ -1,16 +1,13 @@
 """Where a device is full, or a file may not grow, the old store stays."""
 
-import os
 import resource
 import signal
-import subprocess
 
 from files.old_store import MIB, OldStoreCase, lines
 from harness import limited
 
-# Packs over the old store on a device of 1 MiB, after a command that may fill it.
+# Packs over the old store on a device, after a command that may fill it.
 ON_DEVICE = """
-mount -t tmpfs -o size=1m none "$1" || exit 77
 cp "$3" "$1/a.store"
 sh -c "$4" "" "$1"
 "$2" pack "$1/a.store"
@@ -30,13 +27,7 @@ class NoRoom(OldStoreCase):
 
     def assert_full_device(self, fill, text):
         """Packs a text over the old store on a device, after the command `fill` wrote other files to it."""
-        device = self.folder / "device"
-        device.mkdir()
-        space = ["unshare", "-m" if os.geteuid() == 0 else "-rm", "sh", "-c", ON_DEVICE, ""]
-        command = [*space, device, self.program.path, self.path, fill]
-        done = subprocess.run(command, input=text, capture_output=True, timeout=60)
-        if done.returncode == 77 or b"unshare:" in done.stderr:
-            self.skipTest("no device can be mounted here")
+        done = self.on_device(ON_DEVICE, self.program.path, self.path, fill, input=text)
         self.assertIn(b"No space left on device", done.stderr)
         self.assertEqual((done.returncode, done.stdout), (0, b"3\n" + self.OLD))
 
@@ -50,12 +41,10 @@ class NoRoom(OldStoreCase):
         self.assertEqual(self.text(), self.OLD)
 
     def test_a_full_device_leaves_the_old_store(self):
-        self.require("unshare")
         self.assert_full_device("true", self.NEW)
 
     # The bytes of a small store go to the system when it is closed, so these refuse the close.
     def test_a_close_on_a_full_device_leaves_the_old_store(self):
-        self.require("unshare")
         self.assert_full_device('cat /dev/zero >"$1/full" 2>/dev/null', lines(3))
 
     def test_a_close_at_the_limit_on_the_size_of_files_leaves_the_old_store(self):

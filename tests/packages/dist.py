@@ -12,7 +12,7 @@ import sys
 import tempfile
 from pathlib import Path
 
-from harness import LIBRARY, PROGRAM, TOP
+from harness import LIBRARY, PROGRAM, TOP, UNSHARED
 from library.compiling import SECONDS
 from packages.installed import InstalledCase
 
@@ -56,8 +56,7 @@ def environment() -> dict[str, str]:
 def hidden() -> tuple[str, ...]:
     """What runs a command where the repository and the kit can't be seen; nothing where the system doesn't let us."""
     page = subprocess.run(["rt", "doc"], capture_output=True, text=True, check=True).stdout.splitlines()[0]
-    space = ("unshare", "-m" if os.geteuid() == 0 else "-rm")
-    command = (*space, "sh", "-c", HIDE, "", str(TOP), str(Path(page).parent))
+    command = (*UNSHARED, "sh", "-c", HIDE, "", str(TOP), str(Path(page).parent))
     try:
         done = subprocess.run([*command, "true"], capture_output=True)
     except OSError:
