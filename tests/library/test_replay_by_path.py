@@ -71,13 +71,8 @@ class Replaying:
         self.assertIn(len(without), replay.faults(without)[0], "shared bytes that are missing")
 
 
-class ReplayByPath(Replaying, WrappedCase):
-    """The wrapped calls share no bytes: the old store is written, as the model of a disk has it."""
-
-    def setUp(self):
-        super().setUp()
-        names = ("pack_lines.c", "print_store.c")
-        self.packing, self.printing = (self.built(self.programs, name) for name in names)
+class ReplayedPacking(Replaying):
+    """The tests of the program that packs, for such a test case."""
 
     def test_a_store_is_replaced(self):
         files = self.pack_old()
@@ -85,6 +80,15 @@ class ReplayByPath(Replaying, WrappedCase):
 
     def test_a_store_is_written_where_there_was_none(self):
         self.check(self.recorded("", numbers(100)), numbers(100), {})
+
+
+class ReplayByPath(ReplayedPacking, WrappedCase):
+    """The wrapped calls share no bytes: the old store is written, as the model of a disk has it."""
+
+    def setUp(self):
+        super().setUp()
+        names = ("pack_lines.c", "print_store.c")
+        self.packing, self.printing = (self.built(self.programs, name) for name in names)
 
     def test_lines_are_appended(self):
         files = self.pack_old()

@@ -2,9 +2,8 @@
 
 from __future__ import annotations
 
-from harness import numbers
 from library.compiling import EXAMPLES, LibraryCase, default_compiler
-from library.test_replay_by_path import Replaying
+from library.test_replay_by_path import ReplayedPacking
 from packages.cargo import example
 from packages.installed import PACKAGE, InstalledCase, python
 
@@ -14,7 +13,7 @@ PYTHONDONTWRITEBYTECODE=1 exec '{python}' '{example}' "$@"
 """
 
 
-class PackageReplay(Replaying):
+class PackageReplay(ReplayedPacking):
     """The tests, for a test case that has the program that packs lines in `new_program`."""
 
     def setUp(self):
@@ -22,13 +21,6 @@ class PackageReplay(Replaying):
         self.printing = self.compiled([default_compiler(), "-std=c11"], EXAMPLES / "print_store.c")
         self.packing = self.new_program()
         self.folder = self.new_folder()
-
-    def test_a_store_is_replaced(self):
-        files = self.pack_old()
-        self.check(self.recorded("", numbers(20000)), numbers(20000), files)
-
-    def test_a_store_is_written_where_there_was_none(self):
-        self.check(self.recorded("", numbers(100)), numbers(100), {})
 
 
 class ReplayInPython(PackageReplay, InstalledCase):
