@@ -2,6 +2,7 @@
 
 from __future__ import annotations
 
+import atexit
 import os
 import re
 import resource
@@ -53,6 +54,13 @@ def changed(content: bytes, place: int, new: bytes) -> bytes:
     """The content with other bytes at a place, which is counted from the end if it is negative."""
     place %= len(content)
     return content[:place] + new + content[place + len(new):]
+
+
+def kept_folder(name: str) -> Path:
+    """Makes a folder that several tests use. It is removed when all tests are done."""
+    folder = Path(tempfile.mkdtemp(prefix=f"zevkhadun-{name}-"))
+    atexit.register(shutil.rmtree, folder, ignore_errors=True)
+    return folder
 
 
 def limited(kind: int, most: int, on_large_file: signal.Handlers = signal.SIG_IGN) -> Callable[[], None]:

@@ -2,17 +2,14 @@
 
 from __future__ import annotations
 
-import atexit
 import functools
 import os
 import re
-import shutil
 import subprocess
-import tempfile
 from dataclasses import dataclass
 from pathlib import Path
 
-from harness import LIBRARY, TOP, FolderCase
+from harness import LIBRARY, TOP, FolderCase, kept_folder
 
 C = TOP / "bindings/c"
 SOURCES = C / "tests"
@@ -61,15 +58,19 @@ def wrapped(names: list[str]) -> list[str]:
     return [f"-Wl,--wrap={name}" for name in names]
 
 
+def output_of(*command: str | Path, **how) -> str:
+    """Runs a command that has to end with 0, and returns what it printed."""
+    done = subprocess.run(command, capture_output=True, text=True, timeout=SECONDS, **how)
+    if done.returncode:
+        raise AssertionError(f"{' '.join(map(str, command))}: {(done.stdout + done.stderr)[-4000:]}")
+    return done.stdout
+
+
 @functools.cache
 def prefix() -> Path:
     """The folder in which the library is installed. It is made once, and removed at the end."""
-    folder = Path(tempfile.mkdtemp(prefix="zevkhadun-library-"))
-    atexit.register(shutil.rmtree, folder, ignore_errors=True)
-    command = ["bash", C / "build.sh", folder, LIBRARY.path()]
-    done = subprocess.run(command, capture_output=True, text=True, timeout=SECONDS)
-    if done.returncode:
-        raise AssertionError(f"build.sh ends with status {done.returncode}: {done.stdout}{done.stderr}")
+    folder = kept_folder("library")
+    output_of("bash", C / "build.sh", folder, LIBRARY.path())
     return folder
 
 

@@ -2,17 +2,13 @@
 
 from __future__ import annotations
 
-import atexit
 import functools
 import json
 import os
-import shutil
-import subprocess
-import tempfile
 from pathlib import Path
 
-from harness import TOP
-from library.compiling import SECONDS, prefix
+from harness import TOP, kept_folder
+from library.compiling import output_of, prefix
 
 PACKAGE = TOP / "bindings/rust"
 
@@ -20,9 +16,7 @@ PACKAGE = TOP / "bindings/rust"
 @functools.cache
 def target() -> Path:
     """The folder in which cargo builds. It is removed at the end."""
-    folder = Path(tempfile.mkdtemp(prefix="zevkhadun-rust-"))
-    atexit.register(shutil.rmtree, folder, ignore_errors=True)
-    return folder
+    return kept_folder("rust")
 
 
 def environment() -> dict[str, str]:
@@ -39,12 +33,7 @@ def run_cargo(*words: str) -> str:
     """Runs cargo without a network, once with the same words, and returns what it printed."""
     cargo, _, own = " ".join(words).partition(" -- ")
     command = ["cargo", *cargo.split(), "--offline", "--locked", *(["--", *own.split()] if own else [])]
-    done = subprocess.run(
-        command, cwd=PACKAGE, env=environment(), capture_output=True, text=True, timeout=SECONDS
-    )
-    if done.returncode:
-        raise AssertionError(f"cargo {' '.join(words)}: {(done.stdout + done.stderr)[-4000:]}")
-    return done.stdout
+    return output_of(*command, cwd=PACKAGE, env=environment())
 
 
 def example(name: str) -> Path:

@@ -2,18 +2,15 @@
 
 from __future__ import annotations
 
-import atexit
 import functools
 import importlib.util
 import os
-import shutil
 import subprocess
 import sys
-import tempfile
 from pathlib import Path
 
-from harness import LIBRARY, PROGRAM, TOP, UNSHARED
-from library.compiling import SECONDS
+from harness import LIBRARY, PROGRAM, TOP, UNSHARED, kept_folder
+from library.compiling import output_of
 from packages.installed import InstalledCase
 
 # What a build takes from the environment, and a user has not set.
@@ -25,19 +22,14 @@ HIDE = 'mount -t tmpfs none "$1" && mount -t tmpfs none "$2" && shift 2 && exec 
 def new_dist(folder: Path) -> Path:
     """Runs dist.sh, and returns the folder."""
     command = ["bash", TOP / "dist.sh", "--program", PROGRAM.path(), "--library", LIBRARY.path(), folder]
-    names = os.environ | {"PYTHON": sys.executable}
-    done = subprocess.run(command, env=names, capture_output=True, text=True, timeout=SECONDS)
-    if done.returncode:
-        raise AssertionError(f"dist.sh ends with status {done.returncode}: {done.stdout}{done.stderr}")
+    output_of(*command, env=os.environ | {"PYTHON": sys.executable})
     return folder
 
 
 @functools.cache
 def dist() -> Path:
     """The folder, which is made once and removed at the end."""
-    made = Path(tempfile.mkdtemp(prefix="zevkhadun-dist-"))
-    atexit.register(shutil.rmtree, made, ignore_errors=True)
-    return new_dist(made / "dist")
+    return new_dist(kept_folder("dist") / "dist")
 
 
 def path_without_kit() -> str:

@@ -2,20 +2,17 @@
 
 from __future__ import annotations
 
-import atexit
 import functools
 import importlib.util
 import os
-import shutil
 import subprocess
 import sys
 import sysconfig
-import tempfile
 from collections.abc import Iterator
 from pathlib import Path
 
-from harness import TOP
-from library.compiling import SECONDS, LibraryCase, default_compiler, prefix
+from harness import TOP, kept_folder
+from library.compiling import LibraryCase, default_compiler, output_of, prefix
 
 PACKAGE = TOP / "bindings/python"
 OLDEST = (3, 11)
@@ -32,11 +29,8 @@ def environment(**further: str) -> dict[str, str]:
 
 
 def run(*command: str | Path, **how) -> str:
-    """Runs a command that has to end with 0, and returns what it printed."""
-    done = subprocess.run(command, capture_output=True, text=True, timeout=SECONDS, **{"env": environment()} | how)
-    if done.returncode:
-        raise AssertionError(f"{' '.join(map(str, command))}: {(done.stdout + done.stderr)[-4000:]}")
-    return done.stdout
+    """Runs a command in this environment, where none is given. It has to end with 0; returns what it printed."""
+    return output_of(*command, **{"env": environment()} | how)
 
 
 def pip(*words: str | Path, **further: str) -> str:
@@ -47,9 +41,7 @@ def pip(*words: str | Path, **further: str) -> str:
 @functools.cache
 def folder() -> Path:
     """The folder of the wheel and of the environment. It is removed at the end."""
-    made = Path(tempfile.mkdtemp(prefix="zevkhadun-python-"))
-    atexit.register(shutil.rmtree, made, ignore_errors=True)
-    return made
+    return kept_folder("python")
 
 
 def new_wheel(source: Path, target: Path, **further: str) -> Path:
