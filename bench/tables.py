@@ -1,7 +1,7 @@
 """The tables of docs/PERFORMANCE.md. A figure is the median of the rounds; where the quartiles lie more than 15 % of it
 apart they follow in brackets."""
 
-from typing import Collection, Dict, List, Optional
+from typing import Callable, Collection, Dict, List, Optional
 
 import volume
 from figures import Figures, Spread, label_of, spread_of
@@ -16,6 +16,7 @@ HEADS = {"unopened": "`zevk_get`", "zevk": "`zevk_locate`", "path": "`zevk_file_
 
 Lines = List[str]
 Wanted = Dict[str, object]
+Row = Dict[str, object]
 
 
 def row_of(name: str, texts: List[str]) -> str:
@@ -132,35 +133,35 @@ def appending(figures: Figures) -> Lines:
 LOG_SIDES = ["log"] + LOG_PEERS
 
 
-def _of_log(figures: Figures, workloads: Collection[str]) -> List[Dict[str, object]]:
-    """The log's own rows of these workloads."""
-    return [row for row in figures.find(group="log", side="log") if row["workload"] in workloads]
+def _of_log(figures: Figures, workloads: Collection[str], title: str, name_of: Callable[[Row], str]) -> Lines:
+    """A row for each of these workloads of the log, under a title with what the first row has."""
+    rows = [row for row in figures.find(group="log", side="log") if row["workload"] in workloads]
+    if not rows:
+        return []
+    lines = head(title.format(**rows[0]), LOG_SIDES)
+    for row in rows:
+        wanted = {key: row[key] for key in ("group", "workload", "place", "questions")}
+        lines.append(row_of(name_of(row), cells(figures, LOG_SIDES, time_text, wanted)))
+    return lines
+
+
+def _making_name(row: Row) -> str:
+    syncs = f"{row['questions']} a sync" if row["workload"] == "log_append" else "one sync at the end"
+    return f"{syncs}, {'in memory' if row['place'] == MEMORY else 'on a disk'}"
 
 
 def log(figures: Figures) -> Lines:
     """A row for each batch, and for one sync after all, in memory and on a disk."""
-    rows = _of_log(figures, LOG_MAKES)
-    if not rows:
-        return []
-    lines = head(f"append to a log, each record of {rows[0]['length']} bytes", LOG_SIDES)
-    for row in rows:
-        wanted = {key: row[key] for key in ("group", "workload", "place", "questions")}
-        syncs = f"{row['questions']} a sync" if row["workload"] == "log_append" else "one sync at the end"
-        name = f"{syncs}, {'in memory' if row['place'] == MEMORY else 'on a disk'}"
-        lines.append(row_of(name, cells(figures, LOG_SIDES, time_text, wanted)))
-    return lines
+    return _of_log(figures, LOG_MAKES, "append to a log, each record of {length} bytes", _making_name)
+
+
+def _reading_name(row: Row) -> str:
+    return "open, and get record 0" if row["workload"] == "log_open" else "get, uniform"
 
 
 def log_reading(figures: Figures) -> Lines:
     """Opening a long log and its gets."""
-    rows = _of_log(figures, LOG_READS)
-    if not rows:
-        return []
-    lines = head(f"a log of {rows[0]['documents']} records of {rows[0]['length']} bytes", LOG_SIDES)
-    for row in rows:
-        name = "open, and get record 0" if row["workload"] == "log_open" else "get, uniform"
-        lines.append(row_of(name, cells(figures, LOG_SIDES, time_text, dict(group="log", workload=row["workload"]))))
-    return lines
+    return _of_log(figures, LOG_READS, "a log of {documents} records of {length} bytes", _reading_name)
 
 
 def long_log(figures: Figures) -> str:
