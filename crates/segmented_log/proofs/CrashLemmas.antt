@@ -1,60 +1,121 @@
 -- What processes leave of a log, one after another.
-use Rattle.std.proofs.Common.{◌≡◌, inl, inr, ⊎_elim, ℕ, List, [], ◌∷◌, ◌++◌, map, refl, sym, ◌∙◌, ap, subst, append_assoc}
-use Rattle.std.proofs.lemmas.List.{append-nil, map-append}
+use Rattle.std.proofs.Common.{◌≡◌, ◌≤◌, inl, inr, ⊎_elim, ℕ, ◌+◌, max, List, [], ◌∷◌, ◌++◌, length, map, refl, sym, ◌∙◌, ap, subst, arith, append_assoc}
+use Rattle.std.proofs.lemmas.List.{map-append}
 use Rattle.store_folder.specs.Folder.{Look}
 use Rattle.store_format.specs.Block.{Slot, doc}
 use Rattle.record_log.specs.Runs.{joined}
 use Rattle.record_log.specs.Tail.{records_from}
+use Rattle.segmented_log.specs.declared.runs.Call.{Call}
 use Rattle.segmented_log.specs.Log.{IsLog, IsBlank}
-use Rattle.segmented_log.specs.Runs.{slots_of, HasBeginning}
-use Rattle.segmented_log.specs.Laws.{HaveAllOf, OpeningsAreOfProcesses, CallsAreOfProcesses, CrashesLoseNothing, CrashesLoseNothingOfNewLogs}
-use Rattle.segmented_log.proofs.RunLemmas.{begins_from}
+use Rattle.segmented_log.specs.Dropping.{IsRest, DropsTo}
+use Rattle.segmented_log.specs.Runs.{batches_by, pending_by, slots_of, dropped_by}
+use Rattle.segmented_log.specs.Laws.{Process, IsLeftOf, IsLeftByAll, HaveAllOf, slots_by, dropped_in}
+use Rattle.segmented_log.specs.Laws.{OpeningsAreOfProcesses, CallsAreOfProcesses, CrashesLoseNothing, CrashesLoseNothingOfNewLogs}
+use Rattle.segmented_log.proofs.DropLemmas.{drops_none}
+use Rattle.segmented_log.proofs.RestLemmas.{rest_more, rest_grows, rest_after, rest_ends, drops_more}
+use Rattle.segmented_log.proofs.RunLemmas.{Records, batches_by-append, slots_of-append, dropped_by-more, makes_none, makes_more}
 
 pub openings_are_of_processes : OpeningsAreOfProcesses
-openings_are_of_processes batches old new keeps = record {
-  same = λ first kept log. subst (λ (l : List Slot). HasBeginning first l batches new) (sym (append-nil kept)) (keeps.same first kept log);
-  begun = λ blank. ⊎_elim (λ none. inl (none, refl)) (λ has. inr has) (keeps.begun blank);
+openings_are_of_processes calls old new keeps = record {
+  same = λ first kept log. record { number = first; slots = kept; makes = makes_none [] first kept; beginning = keeps.same first kept log };
+  begun = λ blank. ⊎_elim (λ none. inl (none, refl)) (λ has. inr (record { number = 0; slots = []; makes = makes_none [] 0 []; beginning = has })) (keeps.begun blank);
 }
 
 pub calls_are_of_processes : CallsAreOfProcesses
-calls_are_of_processes acknowledged others old new number slots found has = record {
-  same = λ first kept log. let is = found.same first kept log in begins_from first number (kept ++ slots_of acknowledged) slots others new is.0 is.1 has;
-  begun = λ blank. let is = found.begun blank in inr (begins_from 0 number (slots_of acknowledged) slots others new is.0 is.1 has);
+calls_are_of_processes made others old new number slots found has = record {
+  same = λ first kept log. record { number = number; slots = slots; makes = found.same first kept log; beginning = has };
+  begun = λ blank. inr (record { number = number; slots = slots; makes = found.begun blank; beginning = has });
 }
 
--- the slots of these and of more records
-abbrev More : ℕ → List Slot → Look → Type 0
-More first kept c = (more : List (List ℕ)) × IsLog first (kept ++ map doc more) c
+-- what a process leaves: its slots after those that it found, but some of the first
+module _ (process : Process) (first : ℕ) (kept : List Slot) (c : Look) (left : IsLeftOf process first kept c) where
+  -- the calls that were made
+  abbrev begun : List Call
+  begun = process.made ++ left.beginning.made
 
-more_after : (first : ℕ) (kept : List Slot) (batches : List (List (List ℕ))) (c : Look) → HasBeginning first kept batches c → More first kept c
-more_after first kept batches c has =
-    ⊎_elim {A = IsLog first (kept ++ slots_of has.written) c} (λ log. (joined has.written, log))
-    (λ ends.
-    let forged = records_from ends.forged.bytes in
-    let slots : (kept ++ slots_of has.written) ++ map doc forged ≡ kept ++ map doc (joined has.written ++ forged) =
-    append_assoc kept (slots_of has.written) (map doc forged)
-    ∙ ap (λ (l : List Slot). kept ++ l) (sym (map-append doc (joined has.written) forged)) in
-    (joined has.written ++ forged, subst (λ (l : List Slot). IsLog first l c) slots ends.forged.log))
-    has.log
+  abbrev after : List Records
+  after = batches_by (pending_by [] process.made) left.beginning.made
+
+  slots_are : kept ++ slots_of (batches_by [] begun) ≡ kept ++ slots_by process (joined after)
+  slots_are =
+      ap (λ (l : List Records). kept ++ slots_of l) (batches_by-append [] process.made left.beginning.made)
+      ∙ ap (λ (l : List Slot). kept ++ l) (slots_of-append (batches_by [] process.made) after)
+
+  begun_less : dropped_by (first + length kept) [] begun ≤ dropped_in (first + length kept) process
+  begun_less = subst (λ (l : List Call). dropped_by (first + length kept) [] begun ≤ dropped_by (first + length kept) [] l)
+      (append_assoc process.made left.beginning.made left.beginning.others ∙ ap (λ (l : List Call). process.made ++ l) (sym left.beginning.all))
+      (dropped_by-more (first + length kept) [] begun left.beginning.others)
+
+  rest_left : IsRest first (kept ++ slots_by process (joined after)) (dropped_in (first + length kept) process) left.beginning.new_first left.beginning.rest
+  rest_left =
+      let has = left.beginning in
+      let number = dropped_by (first + length kept) [] begun in
+      let slots = kept ++ slots_by process (joined after) in
+      rest_more first number (dropped_in (first + length kept) process) has.new_first slots has.rest
+      (subst (λ (l : List Slot). IsRest first l number has.new_first has.rest) slots_are
+      (makes_more [] (pending_by [] process.made) process.made has.made first left.number has.new_first kept left.slots has.rest left.makes refl has.makes))
+      begun_less
+
+  more_after : (more : Records) × DropsTo first (kept ++ slots_by process more) (dropped_in (first + length kept) process) c
+  more_after =
+      let has = left.beginning in
+      let dropped = dropped_in (first + length kept) process in
+      ⊎_elim {A = IsLog has.new_first has.rest c}
+      (λ log. (joined after, record { new_first = has.new_first; rest = has.rest; is_rest = rest_left; log = log }))
+      (λ ends.
+      let forged = records_from ends.forged.bytes in
+      let acknowledged = slots_of (batches_by [] process.made) in
+      let slots : (kept ++ slots_by process (joined after)) ++ map doc forged ≡ kept ++ slots_by process (joined after ++ forged) =
+      append_assoc kept (slots_by process (joined after)) (map doc forged)
+      ∙ ap (λ (l : List Slot). kept ++ l) (append_assoc acknowledged (map doc (joined after)) (map doc forged) ∙ ap (λ (l : List Slot). acknowledged ++ l) (sym (map-append doc (joined after) forged))) in (
+        joined after ++ forged,
+        record {
+          new_first = has.new_first;
+          rest = has.rest ++ map doc forged;
+          is_rest = subst (λ (l : List Slot). IsRest first l dropped has.new_first (has.rest ++ map doc forged)) slots
+              (rest_grows first dropped has.new_first (kept ++ slots_by process (joined after)) has.rest (map doc forged) rest_left);
+          log = ends.forged.log;
+        },
+      ))
+      has.log
+
+-- what processes leave of a log some of whose first slots are gone
+abbrev AllLeft : List Process → Look → ℕ → List Slot → ℕ → Type 0
+AllLeft processes new first all low = (number : ℕ) × (last : List Slot) × HaveAllOf first processes all number last × DropsTo first last (max low number) new
+
+goes_on : (processes : List Process) (old new : Look) (first low : ℕ) (all : List Slot) → DropsTo first all low old → IsLeftByAll processes old new → AllLeft processes new first all low
+goes_on [] old new first low all drops same = (0, all, (refl, refl), subst (λ (c : Look). DropsTo first all (max low 0) c) (sym same) (drops_more first low (max low 0) all old drops (omega arith)))
+goes_on (process ∷ later) old new first low all drops by =
+    let found = more_after process drops.new_first drops.rest by.0 (by.1.same drops.new_first drops.rest drops.log) in
+    let ends : drops.new_first + length drops.rest ≡ first + length all = rest_ends first low drops.new_first all drops.rest drops.is_rest in
+    let dropped = dropped_in (first + length all) process in
+    let slots = slots_by process found.0 in
+    let is_rest : IsRest first (all ++ slots) (max low dropped) found.1.new_first found.1.rest =
+    rest_after first drops.new_first found.1.new_first low dropped all drops.rest slots found.1.rest drops.is_rest
+    (subst (λ (n : ℕ). IsRest drops.new_first (drops.rest ++ slots) (dropped_in n process) found.1.new_first found.1.rest) ends found.1.is_rest) in
+    let rest = goes_on later by.0 new first (max low dropped) (all ++ slots) (record { new_first = found.1.new_first; rest = found.1.rest; is_rest = is_rest; log = found.1.log }) by.2 in
+    (max dropped rest.0, rest.1, (found.0, rest.0, refl, rest.2), drops_more first (max (max low dropped) rest.0) (max low (max dropped rest.0)) rest.1 new rest.3 (omega arith))
 
 pub crashes_lose_nothing : CrashesLoseNothing
-crashes_lose_nothing [] old new first kept log same = (kept, subst (λ (c : Look). IsLog first kept c) (sym same) log, refl)
-crashes_lose_nothing (process ∷ later) old new first kept log by =
-    let slots = kept ++ slots_of process.acknowledged in
-    let found = more_after first slots process.others by.0 (by.1.same first kept log) in
-    let rest = crashes_lose_nothing later by.0 new first (slots ++ map doc found.0) found.1 by.2 in
-    (rest.0, rest.1, (found.0, rest.2))
+crashes_lose_nothing processes old new first kept log by =
+    let rest = goes_on processes old new first 0 kept (drops_none first 0 kept old log) by in
+    (rest.0, rest.1, rest.2, drops_more first (max 0 rest.0) rest.0 rest.1 new rest.3 (omega arith))
 
 pub new_logs_lose_nothing : CrashesLoseNothingOfNewLogs
-new_logs_lose_nothing [] old new blank same = ([], inr (subst (λ (c : Look). IsBlank c) (sym same) blank, refl), refl)
+new_logs_lose_nothing [] old new blank same = (0, [], (refl, refl), inr (subst (λ (c : Look). IsBlank c) (sym same) blank, refl))
 new_logs_lose_nothing (process ∷ later) old new blank by =
     ⊎_elim
     (λ none.
     let rest = new_logs_lose_nothing later by.0 new none.0 by.2 in
-    (rest.0, rest.1, ([], subst (λ (batches : List (List (List ℕ))). HaveAllOf later (slots_of batches ++ []) rest.0) (sym none.1) rest.2)))
+    let dropped = dropped_in 0 process in (
+      max dropped rest.0,
+      rest.1,
+      ([], rest.0, refl, subst (λ (calls : List Call). HaveAllOf 0 later (slots_of (batches_by [] calls) ++ []) rest.0 rest.1) (sym none.1) rest.2),
+      ⊎_elim (λ drops. inl (drops_more 0 rest.0 (max dropped rest.0) rest.1 new drops (omega arith))) (λ still. inr still) rest.3,
+    ))
     (λ has.
-    let slots = slots_of process.acknowledged in
-    let found = more_after 0 slots process.others by.0 has in
-    let rest = crashes_lose_nothing later by.0 new 0 (slots ++ map doc found.0) found.1 by.2 in
-    (rest.0, inl rest.1, (found.0, rest.2)))
+    let found = more_after process 0 [] by.0 has in
+    let dropped = dropped_in 0 process in
+    let rest = goes_on later by.0 new 0 dropped (slots_by process found.0) found.1 by.2 in
+    (max dropped rest.0, rest.1, (found.0, rest.0, refl, rest.2), inl rest.3))
     (by.1.begun blank)

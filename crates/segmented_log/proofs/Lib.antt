@@ -1,3 +1,4 @@
+pub mod CallLemmas
 pub mod CauseLemmas
 pub mod CompactLemmas
 pub mod CrashLemmas
@@ -13,6 +14,7 @@ pub mod NumberLemmas
 pub mod OpeningLemmas
 pub mod PartLemmas
 pub mod ReadLemmas
+pub mod RestLemmas
 pub mod RunLemmas
 pub mod ScanLemmas
 pub mod RunOfParts

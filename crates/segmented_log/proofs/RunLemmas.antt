@@ -1,20 +1,27 @@
 -- Lists of calls on a log in a folder, one call more.
-use Rattle.std.proofs.Common.{◌≡◌, ◌<◌, inl, inr, ⊎_elim, ℕ, ◌+◌, List, [], ◌∷◌, ◌++◌, length, get_or, take, drop, map, refl, sym, ◌∙◌, ap, subst, append_assoc, take-append-drop}
+use Rattle.std.proofs.Common.{◌≡◌, ◌<◌, ◌≤◌, inl, inr, ⊎_elim, ℕ, zero, suc, ◌+◌, max, List, [], ◌∷◌, ◌++◌, length, get_or, take, drop, map, refl, sym, ◌∙◌, ap, subst, arith, append_assoc, length-append, take-append-drop}
 use Rattle.std.specs.Prelude.{Result, Ok, Err, OnErr}
-use Rattle.std.proofs.lemmas.List.{append-nil, map-append, drop_more, take_more}
+use Rattle.std.specs.List.{Contains}
+use Rattle.std.proofs.lemmas.List.{append-nil, length-map, map-append, drop_more, take_more}
 use Rattle.std.proofs.lemmas.List.Concat.{flat_map-append}
+use Rattle.std.proofs.lemmas.List.Elements.{Contains-append_right}
 use Rattle.store_folder.specs.Folder.{Look}
 use Rattle.store_format.specs.Block.{Slot, doc}
 use Rattle.record_log.specs.declared.runs.Call.{Call as Write}
 use Rattle.record_log.specs.declared.runs.Call.TheVariants.{Append as AppendOf, Sync as SyncOf}
 use Rattle.record_log.specs.Runs.{batches_of, pending_after, joined}
 use Rattle.record_log.proofs.RunLemmas.{batches_of-append, pending_after-append}
+use Rattle.segmented_log.specs.declared.error.LogError.{LogError}
 use Rattle.segmented_log.specs.declared.runs.Call.{Call}
-use Rattle.segmented_log.specs.declared.runs.Call.TheVariants.{Append, Sync, Seal}
-use Rattle.segmented_log.specs.Log.{IsLog, AddsForged, KeepsOrAdds, KeepsLog}
-use Rattle.segmented_log.specs.Runs.{writes_of, batches_by, pending_by, slots_of, HasBeginning, KeepsAndAdds}
+use Rattle.segmented_log.specs.declared.runs.Call.TheVariants.{Append, Sync, Seal, Compact, DropBefore}
+use Rattle.segmented_log.specs.Dropping.{IsRest}
+use Rattle.segmented_log.specs.Log.{IsLog, KeepsLog}
+use Rattle.segmented_log.specs.Runs.{writes_of, batches_by, pending_by, slots_of, dropped_by, Drops, Makes, HasBeginning, EndsInForged, KeepsAndAdds, IsOfCalls}
+use Rattle.segmented_log.specs.Laws.{OnlyDropsRemove}
+use Rattle.segmented_log.proofs.DropLemmas.{rest_itself}
+use Rattle.segmented_log.proofs.RestLemmas.{rest_after, rest_ends, rest_whole}
 
-abbrev Records : Type 0
+abbrev pub Records : Type 0
 Records = List (List ℕ)
 
 -- what holds whatever a call returns
@@ -27,6 +34,8 @@ writes_of-append [] b = refl
 writes_of-append (Append bytes ∷ a) b = ap (λ (l : List Write). AppendOf bytes ∷ l) (writes_of-append a b)
 writes_of-append (Sync ∷ a) b = ap (λ (l : List Write). SyncOf ∷ l) (writes_of-append a b)
 writes_of-append (Seal ∷ a) b = writes_of-append a b
+writes_of-append (Compact size ∷ a) b = writes_of-append a b
+writes_of-append (DropBefore number ∷ a) b = writes_of-append a b
 
 pub batches_by-append : (pending : Records) (a b : List Call) → batches_by pending (a ++ b) ≡ batches_by pending a ++ batches_by (pending_by pending a) b
 batches_by-append pending a b = ap (λ (l : List Write). batches_of pending l) (writes_of-append a b) ∙ batches_of-append pending (writes_of a) (writes_of b)
@@ -41,93 +50,179 @@ slots_of-append a b = ap (λ (l : Records). map doc l) (flat_map-append (λ (bat
 pub slots_after : (kept : List Slot) (a b : List Records) → (kept ++ slots_of a) ++ slots_of b ≡ kept ++ slots_of (a ++ b)
 slots_after kept a b = append_assoc kept (slots_of a) (slots_of b) ∙ ap (λ (l : List Slot). kept ++ l) (sym (slots_of-append a b))
 
+-- how many slots a batch adds
+length_one_more : (batch : Records) (batches : List Records) → length (slots_of (batch ∷ batches)) ≡ length batch + length (slots_of batches)
+length_one_more batch batches = omega (arith, length-map (joined (batch ∷ batches)) doc, length-append batch (joined batches), length-map (joined batches) doc)
+
+pub dropped_by-append : (next : ℕ) (pending : Records) (a b : List Call)
+    → dropped_by next pending (a ++ b) ≡ max (dropped_by next pending a) (dropped_by (next + length (slots_of (batches_by pending a))) (pending_by pending a) b)
+dropped_by-append next pending [] b =
+    let same : next + 0 ≡ next = omega arith in
+    omega (arith, ap (λ (n : ℕ). dropped_by n pending b) same)
+dropped_by-append next pending (Append bytes ∷ a) b = dropped_by-append next (pending ++ bytes.items ∷ []) a b
+dropped_by-append next pending (Sync ∷ a) b =
+    let later = slots_of (batches_by [] a) in
+    let same : next + length pending + length later ≡ next + length (slots_of (pending ∷ batches_by [] a)) = omega (arith, length_one_more pending (batches_by [] a)) in
+    omega (arith, dropped_by-append (next + length pending) [] a b, ap (λ (n : ℕ). dropped_by n (pending_by [] a) b) same)
+dropped_by-append next pending (Seal ∷ a) b = dropped_by-append next pending a b
+dropped_by-append next pending (Compact size ∷ a) b = dropped_by-append next pending a b
+dropped_by-append next pending (DropBefore number ∷ a) b = omega (arith, dropped_by-append next pending a b)
+
+-- more calls may drop more
+pub dropped_by-more : (next : ℕ) (pending : Records) (a b : List Call) → dropped_by next pending a ≤ dropped_by next pending (a ++ b)
+dropped_by-more next pending a b = omega (arith, dropped_by-append next pending a b)
+
+none_later : (call : Call) (calls : List Call) → (Drops (call ∷ calls) → ⊥) → Drops calls → ⊥
+none_later call calls none drops = none (drops.0, Contains-append_right (call ∷ []) calls (DropBefore drops.0) drops.1)
+
+-- calls without a drop
+none_dropped : (next : ℕ) (pending : Records) (calls : List Call) → (Drops calls → ⊥) → dropped_by next pending calls ≡ 0
+none_dropped next pending [] none = refl
+none_dropped next pending (Append bytes ∷ calls) none = none_dropped next (pending ++ bytes.items ∷ []) calls (none_later (Append bytes) calls none)
+none_dropped next pending (Sync ∷ calls) none = none_dropped (next + length pending) [] calls (none_later Sync calls none)
+none_dropped next pending (Seal ∷ calls) none = none_dropped next pending calls (none_later Seal calls none)
+none_dropped next pending (Compact size ∷ calls) none = none_dropped next pending calls (none_later (Compact size) calls none)
+none_dropped next pending (DropBefore number ∷ calls) none = absurd (none (number, (0, omega arith, refl)))
+
+-- ---- what calls make of a log
+
+pub makes_none : (pending : Records) (first : ℕ) (kept : List Slot) → Makes [] pending first kept first kept
+makes_none pending first kept = subst (λ (l : List Slot). IsRest first l 0 first kept) (sym (append-nil kept)) (rest_itself first 0 kept)
+
+pub only_drops_remove : OnlyDropsRemove
+only_drops_remove calls pending first kept new_first rest none makes =
+    rest_whole first (dropped_by (first + length kept) pending calls) new_first (kept ++ slots_of (batches_by pending calls)) rest makes (omega (arith, none_dropped (first + length kept) pending calls none))
+
+-- calls after calls
+pub makes_more : (pending waits : Records) (a b : List Call) (first mid last : ℕ) (kept some few : List Slot) → Makes a pending first kept mid some
+    → waits ≡ pending_by pending a → Makes b waits mid some last few → Makes (a ++ b) pending first kept last few
+makes_more pending waits a b first mid last kept some few one same two =
+    let before = slots_of (batches_by pending a) in
+    let after = slots_of (batches_by waits b) in
+    let begins = first + length kept in
+    let ends : mid + length some ≡ begins + length before = omega (arith, rest_ends first (dropped_by begins pending a) mid (kept ++ before) some one, length-append kept before) in
+    let number : max (dropped_by begins pending a) (dropped_by (mid + length some) waits b) ≡ dropped_by begins pending (a ++ b) =
+    ap (λ (n : ℕ). max (dropped_by begins pending a) (dropped_by n waits b)) ends
+    ∙ ap (λ (p : Records). max (dropped_by begins pending a) (dropped_by (begins + length before) p b)) same
+    ∙ sym (dropped_by-append begins pending a b) in
+    let slots : (kept ++ before) ++ after ≡ kept ++ slots_of (batches_by pending (a ++ b)) =
+    ap (λ (p : Records). (kept ++ before) ++ slots_of (batches_by p b)) same
+    ∙ slots_after kept (batches_by pending a) (batches_by (pending_by pending a) b)
+    ∙ ap (λ (l : List Records). kept ++ slots_of l) (sym (batches_by-append pending a b)) in
+    subst (λ (n : ℕ). IsRest first (kept ++ slots_of (batches_by pending (a ++ b))) n last few) number
+    (subst (λ (l : List Slot). IsRest first l (max (dropped_by begins pending a) (dropped_by (mid + length some) waits b)) last few) slots
+    (rest_after first mid last (dropped_by begins pending a) (dropped_by (mid + length some) waits b) (kept ++ before) some after few one two))
+
+-- the same of a log that is called by its numbers, slots and records
+pub makes_from : (calls : List Call) (waits pending : Records) (other first last : ℕ) (slots kept few : List Slot) → waits ≡ pending → other ≡ first → slots ≡ kept
+    → Makes calls waits other slots last few → Makes calls pending first kept last few
+makes_from calls waits pending other first last slots kept few same_waits same same_slots makes =
+    subst (λ (p : Records). Makes calls p first kept last few) same_waits
+    (subst (λ (n : ℕ). Makes calls waits n kept last few) same (subst (λ (l : List Slot). Makes calls waits other l last few) same_slots makes))
+
+-- ---- what a crash leaves meanwhile
+
 -- a log that is as it was
-pub has_itself : (first : ℕ) (kept : List Slot) (batches : List Records) (c : Look) → IsLog first kept c → HasBeginning first kept batches c
-has_itself first kept batches c log = record {
-  written = [];
-  others = batches;
+pub has_itself : (first : ℕ) (kept : List Slot) (pending : Records) (calls : List Call) (c : Look) → IsLog first kept c → HasBeginning first kept pending calls c
+has_itself first kept pending calls c log = record {
+  made = [];
+  others = calls;
   all = refl;
-  log = inl (subst (λ (l : List Slot). IsLog first l c) (sym (append-nil kept)) log);
+  new_first = first;
+  rest = kept;
+  makes = makes_none pending first kept;
+  log = inl log;
 }
 
--- a batch that is written
-pub has_or_adds : (first : ℕ) (kept : List Slot) (pending : Records) (c : Look) → KeepsOrAdds first kept pending c → HasBeginning first kept (pending ∷ []) c
-has_or_adds first kept pending c keeps =
-    ⊎_elim (λ same. has_itself first kept (pending ∷ []) c same)
-    (λ others. ⊎_elim
-    (λ more. let both : HasBeginning first kept (pending ∷ []) c = record {
-      written = pending ∷ [];
-      others = [];
-      all = refl;
-      log = inl (subst (λ (l : Records). IsLog first (kept ++ map doc l) c) (sym (append-nil pending)) more);
-    } in both)
-    (λ forged. let after : HasBeginning first kept (pending ∷ []) c = record {
-      written = [];
-      others = pending ∷ [];
-      all = refl;
-      log = inr (record { batch = pending; others = []; next = refl; forged = subst (λ (l : List Slot). AddsForged first l pending c) (sym (append-nil kept)) forged });
-    } in after)
-    others)
-    keeps
+-- forged batches after calls after calls
+forged_later : (first : ℕ) (rest : List Slot) (pending waits : Records) (a made others more : List Call) (c : Look) → waits ≡ pending_by pending a
+    → EndsInForged first rest (batches_by (pending_by waits made) others) c → EndsInForged first rest (batches_by (pending_by pending (a ++ made)) (others ++ more)) c
+forged_later first rest pending waits a made others more c same ends =
+    let here = pending_by waits made in
+    let is : pending_by pending (a ++ made) ≡ here = pending_by-append pending a made ∙ ap (λ (p : Records). pending_by p made) (sym same) in
+    record {
+      batch = ends.batch;
+      others = ends.others ++ batches_by (pending_by here others) more;
+      next =
+          ap (λ (p : Records). batches_by p (others ++ more)) is
+          ∙ batches_by-append here others more
+          ∙ ap (λ (l : List Records). l ++ batches_by (pending_by here others) more) ends.next;
+      forged = ends.forged;
+    }
 
--- a beginning of some batches after others is one of all of them
-pub begins_later : (first : ℕ) (kept : List Slot) (a b rest : List Records) (c : Look) → HasBeginning first (kept ++ slots_of a) b c → HasBeginning first kept (a ++ (b ++ rest)) c
-begins_later first kept a b rest c has = record {
-  written = a ++ has.written;
-  others = has.others ++ rest;
+-- a beginning of some calls after others is one of all of them
+pub begins_later : (pending waits : Records) (a b more : List Call) (first mid : ℕ) (kept some : List Slot) (c : Look) → Makes a pending first kept mid some
+    → waits ≡ pending_by pending a → HasBeginning mid some waits b c → HasBeginning first kept pending (a ++ (b ++ more)) c
+begins_later pending waits a b more first mid kept some c one same has = record {
+  made = a ++ has.made;
+  others = has.others ++ more;
   all =
-      ap (λ (l : List Records). a ++ (l ++ rest)) has.all
-      ∙ ap (λ (l : List Records). a ++ l) (append_assoc has.written has.others rest)
-      ∙ sym (append_assoc a has.written (has.others ++ rest));
-  log = ⊎_elim (λ log. inl (subst (λ (l : List Slot). IsLog first l c) (slots_after kept a has.written) log)) (λ ends. inr (record {
-    batch = ends.batch;
-    others = ends.others ++ rest;
-    next = ap (λ (l : List Records). l ++ rest) ends.next;
-    forged = subst (λ (l : List Slot). AddsForged first l ends.batch c) (slots_after kept a has.written) ends.forged;
-  })) has.log;
+      ap (λ (l : List Call). a ++ (l ++ more)) has.all
+      ∙ ap (λ (l : List Call). a ++ l) (append_assoc has.made has.others more)
+      ∙ sym (append_assoc a has.made (has.others ++ more));
+  new_first = has.new_first;
+  rest = has.rest;
+  makes = makes_more pending waits a has.made first mid has.new_first kept some has.rest one same has.makes;
+  log = ⊎_elim (λ log. inl log) (λ ends. inr (forged_later has.new_first has.rest pending waits a has.made has.others more c same ends)) has.log;
 }
 
--- the same, of a log that is called by its numbers and slots
-pub begins_from : (first other : ℕ) (kept slots : List Slot) (batches : List Records) (c : Look) → other ≡ first → slots ≡ kept → HasBeginning other slots batches c → HasBeginning first kept batches c
-begins_from first other kept slots batches c same same_slots has =
-    subst (λ (n : ℕ). HasBeginning n kept batches c) same (subst (λ (l : List Slot). HasBeginning other l batches c) same_slots has)
+-- the same, of a log that is called by its numbers, slots and records
+pub begins_from : (first other : ℕ) (kept slots : List Slot) (pending waits : Records) (calls : List Call) (c : Look) → other ≡ first → slots ≡ kept → waits ≡ pending
+    → HasBeginning other slots waits calls c → HasBeginning first kept pending calls c
+begins_from first other kept slots pending waits calls c same same_slots same_waits has =
+    subst (λ (p : Records). HasBeginning first kept p calls c) same_waits
+    (subst (λ (n : ℕ). HasBeginning n kept waits calls c) same (subst (λ (l : List Slot). HasBeginning other l waits calls c) same_slots has))
 
 -- what an opening leaves
-pub keeps_and_adds : (batches : List Records) (old c : Look) → KeepsLog old c → KeepsAndAdds batches old c
-keeps_and_adds batches old c keeps = record {
-  same = λ first kept log. has_itself first kept batches c (keeps.same first kept log);
-  begun = λ blank. ⊎_elim (λ none. inl none) (λ log. inr (has_itself 0 [] batches c log)) (keeps.begun blank);
+pub keeps_and_adds : (calls : List Call) (old c : Look) → KeepsLog old c → KeepsAndAdds calls old c
+keeps_and_adds calls old c keeps = record {
+  same = λ first kept log. has_itself first kept [] calls c (keeps.same first kept log);
+  begun = λ blank. ⊎_elim (λ none. inl none) (λ log. inr (has_itself 0 [] [] calls c log)) (keeps.begun blank);
 }
 
-module _ (pending : Records) (calls : List Call) (i : ℕ) (item : Call) (within : i < length calls) (is : item ≡ get_or calls i item) where
+-- one call more, of these
+module _ (calls : List Call) (i : ℕ) (item : Call) (within : i < length calls) (is : item ≡ get_or calls i item) where
   one_more_call : take (i + 1) calls ≡ take i calls ++ item ∷ []
   one_more_call = take_more calls i item within ∙ ap (λ (x : Call). take i calls ++ x ∷ []) (sym is)
 
   whole : calls ≡ take i calls ++ ((item ∷ []) ++ drop (i + 1) calls)
   whole = sym (take-append-drop i calls) ∙ ap (λ (l : List Call). take i calls ++ l) (drop_more calls i item within ∙ ap (λ (x : Call). x ∷ drop (i + 1) calls) (sym is))
 
-  pub pending_more : pending_by pending (take (i + 1) calls) ≡ pending_by (pending_by pending (take i calls)) (item ∷ [])
-  pending_more = ap (λ (l : List Call). pending_by pending l) one_more_call ∙ pending_by-append pending (take i calls) (item ∷ [])
+  contains_item : (x : Call) → Contains (item ∷ []) x → Contains calls x
+  contains_item x (zero, small, same) = subst (λ (y : Call). Contains calls y) same (i, within, sym is)
+  contains_item x (suc k, small, same) = absurd (omega (arith, small))
 
-  -- the slots after one call more
-  pub slots_more : (kept : List Slot) → (kept ++ slots_of (batches_by pending (take i calls))) ++ slots_of (batches_by (pending_by pending (take i calls)) (item ∷ [])) ≡ kept ++ slots_of (batches_by pending (take (i + 1) calls))
-  slots_more kept =
-      slots_after kept (batches_by pending (take i calls)) (batches_by (pending_by pending (take i calls)) (item ∷ []))
-      ∙ ap (λ (l : List Records). kept ++ slots_of l) (sym (ap (λ (l : List Call). batches_by pending l) one_more_call ∙ batches_by-append pending (take i calls) (item ∷ [])))
+  pub drops_item : Drops (item ∷ []) → Drops calls
+  drops_item (number, has) = (number, contains_item (DropBefore number) has)
 
-  -- what a crash in the next call leaves is a beginning of what all of them write
-  pub begins_all : (first other : ℕ) (kept slots : List Slot) (waits : Records) (c : Look) → other ≡ first → slots ≡ kept ++ slots_of (batches_by pending (take i calls)) → waits ≡ pending_by pending (take i calls)
-      → HasBeginning other slots (batches_by waits (item ∷ [])) c → HasBeginning first kept (batches_by pending calls) c
-  begins_all first other kept slots waits c same slots_is waits_is has =
-      let a = batches_by pending (take i calls) in
-      let q = pending_by pending (take i calls) in
-      let b = batches_by q (item ∷ []) in
-      let rest = batches_by (pending_by q (item ∷ [])) (drop (i + 1) calls) in
-      let here : HasBeginning first (kept ++ slots_of a) b c =
-      subst (λ (p : Records). HasBeginning first (kept ++ slots_of a) (batches_by p (item ∷ [])) c) waits_is
-      (begins_from first other (kept ++ slots_of a) slots (batches_by waits (item ∷ [])) c same slots_is has) in
-      let all : batches_by pending calls ≡ a ++ (b ++ rest) =
-      ap (λ (l : List Call). batches_by pending l) whole
-      ∙ batches_by-append pending (take i calls) ((item ∷ []) ++ drop (i + 1) calls)
-      ∙ ap (λ (l : List Records). a ++ l) (batches_by-append q (item ∷ []) (drop (i + 1) calls)) in
-      subst (λ (l : List Records). HasBeginning first kept l c) (sym all) (begins_later first kept a b rest c here)
+  pub of_item : (e : LogError) → IsOfCalls (item ∷ []) e → IsOfCalls calls e
+  of_item e = ⊎_elim (λ of. inl of) (λ others. inr (⊎_elim (λ of. inl of) (λ of. inr ((of.0.0, contains_item (Compact of.0.0) of.0.1), of.1)) others))
+
+  module _ (pending : Records) where
+    pub pending_more : pending_by pending (take (i + 1) calls) ≡ pending_by (pending_by pending (take i calls)) (item ∷ [])
+    pending_more = ap (λ (l : List Call). pending_by pending l) one_more_call ∙ pending_by-append pending (take i calls) (item ∷ [])
+
+    module _ (waits : Records) (first mid : ℕ) (kept some : List Slot) (waits_is : waits ≡ pending_by pending (take i calls)) (so_far : Makes (take i calls) pending first kept mid some) where
+      pub makes_item : (last : ℕ) (few : List Slot) → Makes (item ∷ []) waits mid some last few → Makes (take (i + 1) calls) pending first kept last few
+      makes_item last few makes =
+          subst (λ (l : List Call). Makes l pending first kept last few) (sym one_more_call)
+          (makes_more pending waits (take i calls) (item ∷ []) first mid last kept some few so_far waits_is makes)
+
+      -- what a crash in the next call leaves is a beginning of all of them
+      pub begins_all : (c : Look) → HasBeginning mid some waits (item ∷ []) c → HasBeginning first kept pending calls c
+      begins_all c has =
+          subst (λ (l : List Call). HasBeginning first kept pending l c) (sym whole)
+          (begins_later pending waits (take i calls) (item ∷ []) (drop (i + 1) calls) first mid kept some c so_far waits_is has)
+
+      -- how far the next call drops
+      pub reaches_all : (last : ℕ) → last ≤ max mid (dropped_by (mid + length some) waits (item ∷ [])) → last ≤ max first (dropped_by (first + length kept) pending calls)
+      reaches_all last reaches =
+          let begins = first + length kept in
+          let before = slots_of (batches_by pending (take i calls)) in
+          let ends : mid + length some ≡ begins + length before =
+          omega (arith, rest_ends first (dropped_by begins pending (take i calls)) mid (kept ++ before) some so_far, length-append kept before) in
+          let now : dropped_by (mid + length some) waits (item ∷ []) ≡ dropped_by (begins + length before) (pending_by pending (take i calls)) (item ∷ []) =
+          ap (λ (n : ℕ). dropped_by n waits (item ∷ [])) ends ∙ ap (λ (p : Records). dropped_by (begins + length before) p (item ∷ [])) waits_is in
+          let all : dropped_by begins pending (take i calls ++ item ∷ []) ≤ dropped_by begins pending calls = subst (λ (l : List Call). dropped_by begins pending (take i calls ++ item ∷ []) ≤ dropped_by begins pending l) (
+          append_assoc (take i calls) (item ∷ []) (drop (i + 1) calls) ∙ sym whole) (dropped_by-more begins pending (take i calls ++ item ∷ []) (drop (i + 1) calls)) in
+          omega (arith, reaches, so_far.before, now, dropped_by-append begins pending (take i calls) (item ∷ []), all)

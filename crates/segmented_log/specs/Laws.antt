@@ -1,9 +1,11 @@
 -- What holds of every log in a folder, whatever is called.
-use Rattle.std.specs.Prelude.{◌≡◌, ◌⊎◌, ℕ, List, [], ◌∷◌, ◌++◌, map}
+use Rattle.std.specs.Prelude.{◌≡◌, ◌⊎◌, ℕ, ◌+◌, max, List, [], ◌∷◌, ◌++◌, length, map}
 use Rattle.store_folder.specs.Folder.{Look}
 use Rattle.store_format.specs.Block.{Slot, doc}
+use Rattle.segmented_log.specs.declared.runs.Call.{Call}
 use Rattle.segmented_log.specs.Log.{IsLog, IsBlank}
-use Rattle.segmented_log.specs.Runs.{slots_of, HasBeginning, KeepsAndAdds}
+use Rattle.segmented_log.specs.Dropping.{DropsTo}
+use Rattle.segmented_log.specs.Runs.{batches_by, pending_by, slots_of, dropped_by, Drops, Makes, HasBeginning, KeepsAndAdds}
 
 -- A folder is one log at most: it has one first number and one list of slots.
 abbrev pub FoldersAreOneLog : Type 0
@@ -14,52 +16,76 @@ FoldersAreOneLog = (c : Look) (first other : ℕ) (all slots : List Slot)
 abbrev pub BlankFoldersAreNoLog : Type 0
 BlankFoldersAreNoLog = (c : Look) (first : ℕ) (all : List Slot) → IsBlank c → IsLog first all c → ⊥
 
--- a process, from its opening of a log to a crash: the batches whose syncs returned Ok, and those that it was to sync next
+-- Calls that drop nothing leave every slot, under its number.
+abbrev pub OnlyDropsRemove : Type 0
+OnlyDropsRemove = (calls : List Call) (pending : List (List ℕ)) (first : ℕ) (kept : List Slot) (new_first : ℕ) (rest : List Slot)
+    → (Drops calls → ⊥) → Makes calls pending first kept new_first rest
+    → (new_first ≡ first) × (rest ≡ kept ++ slots_of (batches_by pending calls))
+
+-- a process, from its opening of a log to a crash: the calls that returned Ok, and those that it was to make next
 pub record Process : Type 0 where
-  pub acknowledged : List (List (List ℕ))
-  pub others : List (List (List ℕ))
+  pub made : List Call
+  pub others : List Call
 
--- What the crash of a process leaves of the folder that it opened: whatever log that was, its slots, then the acknowledged
--- records, and then a beginning of the other batches. A blank folder is so, if nothing was acknowledged, or it is a log of
--- these batches, whose first number is 0.
+-- The folder is what a process leaves of a log of these slots: what the calls that returned Ok make of it, and then what the
+-- first of the others do.
+pub record IsLeftOf (process : Process) (first : ℕ) (kept : List Slot) (c : Look) : Type 0 where
+  pub number : ℕ
+  pub slots : List Slot
+  pub makes : Makes process.made [] first kept number slots
+  pub beginning : HasBeginning number slots (pending_by [] process.made) process.others c
+
+-- What the crash of a process leaves of the folder that it opened, whatever log that was. A blank folder is so, if no call
+-- returned Ok, or it is what the process leaves of a log without slots, whose first number is 0.
 pub record IsLeftBy (process : Process) (old new : Look) : Type 0 where
-  pub same : (first : ℕ) (kept : List Slot) → IsLog first kept old → HasBeginning first (kept ++ slots_of process.acknowledged) process.others new
-  pub begun : IsBlank old → (IsBlank new × (process.acknowledged ≡ [])) ⊎ HasBeginning 0 (slots_of process.acknowledged) process.others new
+  pub same : (first : ℕ) (kept : List Slot) → IsLog first kept old → IsLeftOf process first kept new
+  pub begun : IsBlank old → (IsBlank new × (process.made ≡ [])) ⊎ IsLeftOf process 0 [] new
 
--- A log that was opened in this folder has this first number and these slots: those that the opening found, and then those
--- of these batches.
-pub record IsFoundWith (acknowledged : List (List (List ℕ))) (old : Look) (number : ℕ) (slots : List Slot) : Type 0 where
-  pub same : (first : ℕ) (kept : List Slot) → IsLog first kept old → (number ≡ first) × (slots ≡ kept ++ slots_of acknowledged)
-  pub begun : IsBlank old → (number ≡ 0) × (slots ≡ slots_of acknowledged)
+-- A log that was opened in this folder has this first number and these slots: what these calls make of the log that the
+-- opening found.
+pub record IsFoundWith (made : List Call) (old : Look) (number : ℕ) (slots : List Slot) : Type 0 where
+  pub same : (first : ℕ) (kept : List Slot) → IsLog first kept old → Makes made [] first kept number slots
+  pub begun : IsBlank old → Makes made [] 0 [] number slots
 
--- What a crash leaves while a log is opened and called is what such a process leaves; nothing is acknowledged yet.
+-- What a crash leaves while a log is opened and called is what such a process leaves; no call has returned Ok yet.
 abbrev pub OpeningsAreOfProcesses : Type 0
-OpeningsAreOfProcesses = (batches : List (List (List ℕ))) (old new : Look)
-    → KeepsAndAdds batches old new → IsLeftBy (record { acknowledged = []; others = batches }) old new
+OpeningsAreOfProcesses = (calls : List Call) (old new : Look)
+    → KeepsAndAdds calls old new → IsLeftBy (record { made = []; others = calls }) old new
 
--- So is what a crash leaves while further calls are made to the log that was opened; what is synced by then is acknowledged.
+-- So is what a crash leaves while further calls are made to the log that was opened.
 abbrev pub CallsAreOfProcesses : Type 0
-CallsAreOfProcesses = (acknowledged others : List (List (List ℕ))) (old new : Look) (number : ℕ) (slots : List Slot)
-    → IsFoundWith acknowledged old number slots → HasBeginning number slots others new
-    → IsLeftBy (record { acknowledged = acknowledged; others = others }) old new
+CallsAreOfProcesses = (made others : List Call) (old new : Look) (number : ℕ) (slots : List Slot)
+    → IsFoundWith made old number slots → HasBeginning number slots (pending_by [] made) others new
+    → IsLeftBy (record { made = made; others = others }) old new
 
 -- What processes leave, one after another: each opens what the crash of the one before it left.
 abbrev pub IsLeftByAll : List Process → Look → Look → Type 0
 IsLeftByAll [] old new = new ≡ old
 IsLeftByAll (process ∷ later) old new = (left : Look) × IsLeftBy process old left × IsLeftByAll later left new
 
--- These slots are the ones that were kept, and then the acknowledged records of each process, in order. Records whose sync
--- had not returned may stand after those of their process.
-abbrev pub HaveAllOf : List Process → List Slot → List Slot → Type 0
-HaveAllOf [] kept slots = slots ≡ kept
-HaveAllOf (process ∷ later) kept slots = (more : List (List ℕ)) × HaveAllOf later (kept ++ slots_of process.acknowledged ++ map doc more) slots
+-- the slots of a process: its acknowledged records, and then these, whose sync had not returned
+abbrev pub slots_by : Process → List (List ℕ) → List Slot
+slots_by process more = slots_of (batches_by [] process.made) ++ map doc more
 
--- Over any number of crashes a log keeps its slots and all acknowledged records, in order, under their numbers.
+-- the number from which on a process drops no record, if it finds a log that ends before `next`
+abbrev pub dropped_in : ℕ → Process → ℕ
+dropped_in next process = dropped_by next [] (process.made ++ process.others)
+
+-- The slots `all` are the ones that were kept, and then those of each process, in order: the acknowledged records, and maybe
+-- some whose sync had not returned. From `number` on no process drops one.
+abbrev pub HaveAllOf : ℕ → List Process → List Slot → ℕ → List Slot → Type 0
+HaveAllOf first [] kept number all = (number ≡ 0) × (all ≡ kept)
+HaveAllOf first (process ∷ later) kept number all = (more : List (List ℕ)) × (n : ℕ)
+    × (number ≡ max (dropped_in (first + length kept) process) n) × HaveAllOf first later (kept ++ slots_by process more) n all
+
+-- Over any number of crashes a log keeps its slots and all acknowledged records, in order, under their numbers, but those
+-- that were dropped.
 abbrev pub CrashesLoseNothing : Type 0
 CrashesLoseNothing = (processes : List Process) (old new : Look) (first : ℕ) (kept : List Slot)
-    → IsLog first kept old → IsLeftByAll processes old new → (slots : List Slot) × IsLog first slots new × HaveAllOf processes kept slots
+    → IsLog first kept old → IsLeftByAll processes old new
+    → (number : ℕ) × (all : List Slot) × HaveAllOf first processes kept number all × DropsTo first all number new
 
 -- So it does from a blank folder on. It is blank in the end only if nothing was acknowledged.
 abbrev pub CrashesLoseNothingOfNewLogs : Type 0
 CrashesLoseNothingOfNewLogs = (processes : List Process) (old new : Look) → IsBlank old → IsLeftByAll processes old new
-    → (slots : List Slot) × (IsLog 0 slots new ⊎ (IsBlank new × (slots ≡ []))) × HaveAllOf processes [] slots
+    → (number : ℕ) × (all : List Slot) × HaveAllOf 0 processes [] number all × (DropsTo 0 all number new ⊎ (IsBlank new × (all ≡ [])))

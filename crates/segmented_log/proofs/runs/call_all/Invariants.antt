@@ -1,7 +1,7 @@
-use Rattle.std.proofs.Common.{◌≡◌, ◌≤◌, ◌++◌, take, false}
+use Rattle.std.proofs.Common.{◌≡◌, ◌≤◌, take, false}
 use Rattle.std.specs.Prelude.{IsTrue}
 use Rattle.store_folder.specs.Moments.{LeavesOnly}
-use Rattle.segmented_log.specs.Runs.{batches_by, pending_by, slots_of, HasBeginning}
+use Rattle.segmented_log.specs.Runs.{pending_by, Drops, Makes, HasBeginning}
 use Rattle.segmented_log.proofs.runs.call_all.Given as goal
 
 abbrev pub invariant-loop-next : goal.invariant-loop-next
@@ -10,9 +10,9 @@ invariant-loop-next g l = let old = l.fn.log in
     let F = g.F.Folder in
     record {
       works : l.log.is_broken ≡ false;
-      first : l.log.first ≡ old.first;
-      slots : IsTrue F.honest → l.log.slots ≡ old.slots ++ slots_of (batches_by old.pending calls);
+      first : (Drops l.calls → ⊥) → l.log.first ≡ old.first;
+      makes : IsTrue F.honest → Makes calls old.pending old.first old.slots l.log.first l.log.slots;
       pending : l.log.pending ≡ pending_by old.pending calls;
-      any_moment : IsTrue F.honest → LeavesOnly F.moment F.left_since old.folder l.log.folder (HasBeginning old.first old.slots (batches_by old.pending l.calls));
+      any_moment : IsTrue F.honest → LeavesOnly F.moment F.left_since old.folder l.log.folder (HasBeginning old.first old.slots old.pending l.calls);
       failures : F.failures old.folder ≤ F.failures l.log.folder;
     }
