@@ -36,15 +36,18 @@ fn store<'a>(alloc: Global) -> Arg<'a> {
 
 /// The words of `append`.
 pub fn command<'a>(alloc: Global) -> Result<Command<'a>, AllocError> {
+    let args = vec![in alloc;
+        store(alloc),
+        inputs(alloc),
+        files_from(alloc),
+        arguments::framing(alloc),
+        arguments::block_size(alloc),
+        arguments::quiet(alloc),
+    ]?;
     Command::new(alloc, "append")
         .about("Add the documents in files or standard input to a store")
         .after_help(EXAMPLE)
-        .arg(store(alloc))?
-        .arg(inputs(alloc))?
-        .arg(files_from(alloc))?
-        .arg(arguments::framing(alloc))?
-        .arg(arguments::block_size(alloc))?
-        .arg(arguments::quiet(alloc))
+        .args(args)
 }
 
 // The store to which documents are appended.

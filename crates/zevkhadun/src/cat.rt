@@ -32,20 +32,24 @@ fn without<'a>(alloc: Global) -> Arg<'a> {
 
 /// The words of `cat`.
 pub fn command<'a>(alloc: Global) -> Result<Command<'a>, AllocError> {
-    Command::new(alloc, "cat")
-        .about("Print all documents in order")
-        .after_help(EXAMPLE)
-        .arg(arguments::input(alloc))?
-        .arg(without(alloc))?
-        .arg(flag(
+    let json = document_output::json(alloc)?;
+    let args = vec![in alloc;
+        arguments::input(alloc),
+        without(alloc),
+        flag(
             alloc,
             "keep-going",
             "Skip damaged documents; their numbers go to standard error, and the exit status is 1",
-        ))?
-        .arg(document_output::number(alloc))?
-        .arg(document_output::json(alloc)?)?
-        .arg(arguments::framing(alloc))?
-        .arg(arguments::tantivy(alloc))
+        ),
+        document_output::number(alloc),
+        json,
+        arguments::framing(alloc),
+        arguments::tantivy(alloc),
+    ]?;
+    Command::new(alloc, "cat")
+        .about("Print all documents in order")
+        .after_help(EXAMPLE)
+        .args(args)
 }
 
 // What is printed of a store.

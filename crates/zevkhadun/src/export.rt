@@ -31,13 +31,16 @@ fn for_tantivy<'a>(alloc: Global) -> Arg<'a> {
 
 /// The words of `export`.
 pub fn command<'a>(alloc: Global) -> Result<Command<'a>, AllocError> {
+    let args = vec![in alloc;
+        arguments::output(alloc),
+        arguments::input(alloc),
+        for_tantivy(alloc),
+        arguments::quiet(alloc),
+    ]?;
     Command::new(alloc, "export")
         .about("Write a store as a file that tantivy opens")
         .after_help(EXAMPLE)
-        .arg(arguments::output(alloc))?
-        .arg(arguments::input(alloc))?
-        .arg(for_tantivy(alloc))?
-        .arg(arguments::quiet(alloc))
+        .args(args)
 }
 
 // The failure of an export: of the store that is read, or of the file that is written.

@@ -18,20 +18,24 @@ Examples:
 
 /// The words of `get`.
 pub fn command<'a>(alloc: Global) -> Result<Command<'a>, AllocError> {
-    Command::new(alloc, "get")
-        .about("Print documents by their numbers")
-        .after_help(EXAMPLE)
-        .arg(arguments::input(alloc))?
-        .arg(arguments::several(
+    let json = document_output::json(alloc)?;
+    let args = vec![in alloc;
+        arguments::input(alloc),
+        arguments::several(
             alloc,
             "ID",
             "Documents to print: numbers from 0 on, or ranges that exclude their end: 3..9, 5.. or ..9; \
              '-' alone reads them from standard input, one on each line",
-        ))?
-        .arg(document_output::number(alloc))?
-        .arg(document_output::json(alloc)?)?
-        .arg(arguments::framing(alloc))?
-        .arg(arguments::tantivy(alloc))
+        ),
+        document_output::number(alloc),
+        json,
+        arguments::framing(alloc),
+        arguments::tantivy(alloc),
+    ]?;
+    Command::new(alloc, "get")
+        .about("Print documents by their numbers")
+        .after_help(EXAMPLE)
+        .args(args)
 }
 
 // An opened store, and the output for its documents.

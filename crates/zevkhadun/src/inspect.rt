@@ -38,13 +38,17 @@ fn html<'a>(alloc: Global) -> Result<Arg<'a>, AllocError> {
 
 /// The words of `inspect`.
 pub fn command<'a>(alloc: Global) -> Result<Command<'a>, AllocError> {
+    let html = html(alloc)?;
+    let args = vec![in alloc;
+        arguments::input(alloc),
+        page(alloc),
+        html,
+        arguments::tantivy(alloc),
+    ]?;
     Command::new(alloc, "inspect")
         .about("Print what a store has, or draw it on a page of HTML")
         .after_help(EXAMPLE)
-        .arg(arguments::input(alloc))?
-        .arg(page(alloc))?
-        .arg(html(alloc)?)?
-        .arg(arguments::tantivy(alloc))
+        .args(args)
 }
 
 // The documents of a store: how their sizes spread, how many are damaged, and how the first one of each block begins.

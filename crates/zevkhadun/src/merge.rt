@@ -40,16 +40,19 @@ fn without<'a>(alloc: Global) -> Arg<'a> {
 
 /// The words of `merge`.
 pub fn command<'a>(alloc: Global) -> Result<Command<'a>, AllocError> {
+    let args = vec![in alloc;
+        arguments::output(alloc),
+        arguments::several(alloc, "INPUT", "The stores to merge"),
+        without(alloc),
+        arguments::block_size(alloc),
+        arguments::period(alloc),
+        arguments::tantivy(alloc),
+        arguments::quiet(alloc),
+    ]?;
     Command::new(alloc, "merge")
         .about("Write a store of the documents of other stores, in order")
         .after_help(EXAMPLE)
-        .arg(arguments::output(alloc))?
-        .arg(arguments::several(alloc, "INPUT", "The stores to merge"))?
-        .arg(without(alloc))?
-        .arg(arguments::block_size(alloc))?
-        .arg(arguments::period(alloc))?
-        .arg(arguments::tantivy(alloc))?
-        .arg(arguments::quiet(alloc))
+        .args(args)
 }
 
 // A word like `INPUT=IDS`, of which the documents may be in a file: `INPUT=@FILE`.

@@ -33,16 +33,19 @@ Examples:
 
 /// The words of `pack`.
 pub fn command<'a>(alloc: Global) -> Result<Command<'a>, AllocError> {
+    let args = vec![in alloc;
+        arguments::output(alloc),
+        inputs(alloc),
+        files_from(alloc),
+        arguments::framing(alloc),
+        arguments::block_size(alloc),
+        arguments::period(alloc),
+        arguments::quiet(alloc),
+    ]?;
     Command::new(alloc, "pack")
         .about("Write a store of the documents in files or standard input")
         .after_help(EXAMPLE)
-        .arg(arguments::output(alloc))?
-        .arg(inputs(alloc))?
-        .arg(files_from(alloc))?
-        .arg(arguments::framing(alloc))?
-        .arg(arguments::block_size(alloc))?
-        .arg(arguments::period(alloc))?
-        .arg(arguments::quiet(alloc))
+        .args(args)
 }
 
 /// What is packed: documents of files or of the standard input.

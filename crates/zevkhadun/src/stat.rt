@@ -17,16 +17,19 @@ Example:
 
 /// The words of `stat`.
 pub fn command<'a>(alloc: Global) -> Result<Command<'a>, AllocError> {
-    Command::new(alloc, "stat")
-        .about("Print counts and sizes of stores")
-        .after_help(EXAMPLE)
-        .arg(arguments::several(alloc, "FILE", "The stores"))?
-        .arg(arguments::flag(
+    let args = vec![in alloc;
+        arguments::several(alloc, "FILE", "The stores"),
+        arguments::flag(
             alloc,
             "json",
             "Print a JSON object for each store, one per line",
-        ))?
-        .arg(arguments::tantivy(alloc))
+        ),
+        arguments::tantivy(alloc),
+    ]?;
+    Command::new(alloc, "stat")
+        .about("Print counts and sizes of stores")
+        .after_help(EXAMPLE)
+        .args(args)
 }
 
 // The numbers of a store.

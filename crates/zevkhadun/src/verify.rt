@@ -37,23 +37,27 @@ fn list<'a>(alloc: Global) -> Result<Arg<'a>, AllocError> {
 
 /// The words of `verify`.
 pub fn command<'a>(alloc: Global) -> Result<Command<'a>, AllocError> {
-    Command::new(alloc, "verify")
-        .about("Check stores completely and report the first violation of the format")
-        .after_help(EXAMPLE)
-        .arg(arguments::several(alloc, "FILE", "The stores"))?
-        .arg(list(alloc)?)?
-        .arg(flag(
+    let list = list(alloc)?;
+    let args = vec![in alloc;
+        arguments::several(alloc, "FILE", "The stores"),
+        list,
+        flag(
             alloc,
             "json",
             "Print a JSON object for each store, one per line, with all its damaged documents",
-        ))?
-        .arg(arguments::tantivy(alloc))?
-        .arg(flag(
+        ),
+        arguments::tantivy(alloc),
+        flag(
             alloc,
             "quiet",
             "Print broken stores only, and show no progress",
         )
-        .short('q'))
+        .short('q'),
+    ]?;
+    Command::new(alloc, "verify")
+        .about("Check stores completely and report the first violation of the format")
+        .after_help(EXAMPLE)
+        .args(args)
 }
 
 /// How stores are verified, by the words.

@@ -19,15 +19,13 @@ Example:
 
 // The program's command, without its subcommands.
 fn bare_command<'a>(alloc: Global) -> Result<Command<'a>, AllocError> {
-    Ok(
-        Command::new(alloc, "zevkhadun")
-            .bin_name("zevkhadun")?
-            .version("0.2.0 (writes format 3, reads formats 1 to 3)")
-            .about("Write-once files of documents, read back by number")
-            .after_help(AFTER_HELP)
-            .subcommand_required(true)
-            .arg_required_else_help(true),
-    )
+    Command::new(alloc, "zevkhadun")
+        .version("0.2.0 (writes format 3, reads formats 1 to 3)")
+        .about("Write-once files of documents, read back by number")
+        .after_help(AFTER_HELP)
+        .subcommand_required(true)
+        .arg_required_else_help(true)
+        .bin_name("zevkhadun")
 }
 
 /// A command with one more subcommand.

@@ -37,24 +37,27 @@ fn seal_size<'a>(alloc: Global) -> Arg<'a> {
 
 /// The words of `log append`.
 pub fn command<'a>(alloc: Global) -> Result<Command<'a>, AllocError> {
-    Command::new(alloc, "append")
-        .about("Add the records in files or standard input to a log")
-        .after_help(EXAMPLE)
-        .arg(crate::log::folder(
+    let args = vec![in alloc;
+        crate::log::folder(
             alloc,
             "The log's folder; a missing or empty one becomes a log",
-        ))?
-        .arg(inputs(alloc))?
-        .arg(files_from(alloc))?
-        .arg(sync(alloc))?
-        .arg(flag(
+        ),
+        inputs(alloc),
+        files_from(alloc),
+        sync(alloc),
+        flag(
             alloc,
             "number",
             "Print the number of each record, one per line, once it is on the disk",
-        ))?
-        .arg(arguments::framing(alloc))?
-        .arg(seal_size(alloc))?
-        .arg(arguments::quiet(alloc))
+        ),
+        arguments::framing(alloc),
+        seal_size(alloc),
+        arguments::quiet(alloc),
+    ]?;
+    Command::new(alloc, "append")
+        .about("Add the records in files or standard input to a log")
+        .after_help(EXAMPLE)
+        .args(args)
 }
 
 // The size past which a tail is sealed, in bytes.

@@ -30,14 +30,18 @@ fn from<'a>(alloc: Global) -> Arg<'a> {
 
 /// The words of `log cat`.
 pub fn command<'a>(alloc: Global) -> Result<Command<'a>, AllocError> {
+    let json = document_output::json(alloc)?;
+    let args = vec![in alloc;
+        crate::log::log(alloc),
+        from(alloc),
+        document_output::number(alloc),
+        json,
+        arguments::framing(alloc),
+    ]?;
     Command::new(alloc, "cat")
         .about("Print all records in order")
         .after_help(EXAMPLE)
-        .arg(crate::log::log(alloc))?
-        .arg(from(alloc))?
-        .arg(document_output::number(alloc))?
-        .arg(document_output::json(alloc)?)?
-        .arg(arguments::framing(alloc))
+        .args(args)
 }
 
 // Prints the records from a number on.

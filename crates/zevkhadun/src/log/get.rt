@@ -21,19 +21,23 @@ Examples:
 
 /// The words of `log get`.
 pub fn command<'a>(alloc: Global) -> Result<Command<'a>, AllocError> {
-    Command::new(alloc, "get")
-        .about("Print records by their numbers")
-        .after_help(EXAMPLE)
-        .arg(crate::log::log(alloc))?
-        .arg(arguments::several(
+    let json = document_output::json(alloc)?;
+    let args = vec![in alloc;
+        crate::log::log(alloc),
+        arguments::several(
             alloc,
             "NUMBER",
             "Records to print: numbers, or ranges that exclude their end: 3..9, 5.. or ..9; \
              '-' alone reads them from standard input, one on each line",
-        ))?
-        .arg(document_output::number(alloc))?
-        .arg(document_output::json(alloc)?)?
-        .arg(arguments::framing(alloc))
+        ),
+        document_output::number(alloc),
+        json,
+        arguments::framing(alloc),
+    ]?;
+    Command::new(alloc, "get")
+        .about("Print records by their numbers")
+        .after_help(EXAMPLE)
+        .args(args)
 }
 
 // An opened log, and the output for its records.
