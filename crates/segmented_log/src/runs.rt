@@ -6,11 +6,11 @@ ghost use Rattle.store_folder.specs.Moments.{LeavesOnly};
 ghost use Rattle.store_format.specs.Block.{Slot};
 ghost use Rattle.segmented_log.specs.Log.{IsLog, IsBlank};
 ghost use Rattle.segmented_log.specs.Opening.{IsRestarted};
-ghost use Rattle.segmented_log.specs.Causes.{IsOfAppends, IsOfOpenings, IsOfSyncs};
+ghost use Rattle.record_log.specs.Causes.{IsOfAppends, IsOfOpenings, IsOfSyncs};
 ghost use Rattle.segmented_log.specs.Runs.{batches_by, pending_by, slots_of, HasBeginning, KeepsAndAdds, HasMadeFirst};
 
-use crate::error::LogError;
 use crate::log::SegmentedLog;
+use record_log::LogError;
 use std::alloc::Global;
 use store_folder::ReadableFolder;
 
