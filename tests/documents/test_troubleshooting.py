@@ -13,7 +13,7 @@ ERRORS = TOP / "crates/store_base/src/error.rt"
 # The files whose attributes have the texts of errors, and those that write texts of errors and faults.
 DECLARED = (
     "store_commands/src/request_error.rt", "store_files/src/create_error.rt", "document_framing/src/fault.rt",
-    "segmented_log/src/error.rt",
+    "record_log/src/error.rt",
 )
 WRITTEN = {
     "zevkhadun/src/failure.rt": r'(?:write!\(\s*f,\s+|f\.write_str\()"([^"]+)"',
@@ -45,9 +45,10 @@ def source_texts() -> set[str]:
         texts.update(re.findall(form, crate_text(path)))
     for path in (TOP / "crates/zevkhadun/src").rglob("*.rt"):
         texts.update(f"{why}: '{{word}}'" for why in re.findall(WRONG_WORDS, text_of(path)))
-    # The program has texts of its own for compressed blocks, a damaged index, a broken log and a damaged record.
+    # The program has texts of its own for compressed blocks, a damaged index, a broken log, a damaged record and a
+    # folder that failed.
     texts -= {"block kind {0} is not raw", "index is not the encoding of a list of checkpoints"}
-    texts -= {"the folder is no log", "the record is damaged"}
+    texts -= {"there is no log", "the record is damaged", "a read or a write failed"}
     return {text for text in texts if re.search("[a-z]", re.sub(r"\{[^}]*\}", "", text))}
 
 

@@ -2,7 +2,8 @@
 use Rattle.std.specs.Prelude.{◌≡◌, ℕ, ◌+◌, ◌≤◌, max, min, List, ◌++◌, length, take, drop, Result, IsErrOf, IfErr}
 use Rattle.store_base.specs.Counts.{HasRisen}
 use Rattle.record_log.specs.declared.error.LogError.{LogError}
-use Rattle.record_log.specs.declared.error.LogError.TheVariants.{Memory, Failed, Full, BatchFull, TooLong, Broken, NoLog}
+use Rattle.record_log.specs.declared.error.LogError.TheVariants.{Failed}
+use Rattle.record_log.specs.Causes.{IsFault}
 
 -- new is old with these bytes at this offset
 abbrev pub Holds : List ℕ → ℕ → List ℕ → List ℕ → Type 0
@@ -24,58 +25,8 @@ pub record Cut (n : ℕ) (old new : List ℕ) : Type 0 where
 abbrev pub Only : List ℕ → (List ℕ → Type 0) → Type 0
 Only file outcomes = (c : List ℕ) → outcomes c → c ≡ file
 
--- an error that a device reports
-abbrev pub IsOfDevices : LogError → Type 0
-IsOfDevices Memory = Unit {0}
-IsOfDevices Failed = Unit {0}
-IsOfDevices Full = ⊥
-IsOfDevices BatchFull = ⊥
-IsOfDevices TooLong = ⊥
-IsOfDevices Broken = ⊥
-IsOfDevices NoLog = ⊥
-
--- the errors of an opening
-abbrev pub IsOfOpenings : LogError → Type 0
-IsOfOpenings Memory = Unit {0}
-IsOfOpenings Failed = Unit {0}
-IsOfOpenings Full = Unit {0}
-IsOfOpenings BatchFull = ⊥
-IsOfOpenings TooLong = ⊥
-IsOfOpenings Broken = ⊥
-IsOfOpenings NoLog = Unit {0}
-
--- the errors of an append
-abbrev pub IsOfAppends : LogError → Type 0
-IsOfAppends Memory = Unit {0}
-IsOfAppends Failed = ⊥
-IsOfAppends Full = Unit {0}
-IsOfAppends BatchFull = Unit {0}
-IsOfAppends TooLong = Unit {0}
-IsOfAppends Broken = Unit {0}
-IsOfAppends NoLog = ⊥
-
--- the errors of a sync
-abbrev pub IsOfSyncs : LogError → Type 0
-IsOfSyncs Memory = Unit {0}
-IsOfSyncs Failed = Unit {0}
-IsOfSyncs Full = Unit {0}
-IsOfSyncs BatchFull = ⊥
-IsOfSyncs TooLong = ⊥
-IsOfSyncs Broken = Unit {0}
-IsOfSyncs NoLog = ⊥
-
--- the errors of a read
-abbrev pub IsOfReads : LogError → Type 0
-IsOfReads Memory = Unit {0}
-IsOfReads Failed = Unit {0}
-IsOfReads Full = ⊥
-IsOfReads BatchFull = ⊥
-IsOfReads TooLong = ⊥
-IsOfReads Broken = Unit {0}
-IsOfReads NoLog = ⊥
-
 -- `Failed` is reported only where the count of failures has risen, and no other error but `Memory`.
 pub record HasCause {T : Type 0} (before now : ℕ) (result : Result T LogError) : Type 0 where
   pub later : before ≤ now
   pub failed : IsErrOf result Failed → HasRisen before now
-  pub no_other : IfErr result IsOfDevices
+  pub no_other : IfErr result IsFault

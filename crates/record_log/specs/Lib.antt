@@ -1,3 +1,4 @@
+pub mod Causes
 pub mod Device
 pub mod Durable
 pub mod Tail

@@ -15,6 +15,9 @@ pub const HEADER: usize = 16;
 /// How many bytes a batch has before its body: the gate, the length and the sum.
 pub const BATCH_HEADER: usize = 13;
 
+/// How long a batch's body can be: its length and that of its sum are one number of 32 bits.
+pub const MAX_BODY: usize = (1 << 32) - 1 - 8;
+
 /// Where a record lies in a file.
 #[derive(Clone, Copy, Debug, PartialEq, Eq)]
 pub struct Place {

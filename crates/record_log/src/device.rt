@@ -3,7 +3,8 @@
 ghost use Rattle.std.specs.Prelude.{◌≡◌, ◌≤◌, List, Bool, ℕ, length, take, IfOk, IfErr, OnOk, IsTrue, IsErrOf};
 ghost use Rattle.std.specs.Prelude.{slice_range};
 ghost use Rattle.store_folder.specs.Moments.{ComesFrom, NoMore, Elapses};
-ghost use Rattle.record_log.specs.Device.{Only, Torn, Cut, Holds, HasCause, IsOfDevices};
+ghost use Rattle.record_log.specs.Device.{Only, Torn, Cut, Holds, HasCause};
+ghost use Rattle.record_log.specs.Causes.{IsFault};
 ghost use Rattle.record_log.specs.declared.error.LogError.TheVariants.{Failed};
 
 use crate::error::LogError;
@@ -44,7 +45,7 @@ pub trait Device: Drop {
         requires within { end ≤ length (seen self.now) }
         ensures bytes { IfOk result (λ bytes. bytes.items ≡ slice_range (seen self.now) start end) }
         ensures failed { IsTrue (is_readable self.now) → IsErrOf result Failed → ⊥ }
-        ensures kind { IfErr result IsOfDevices };
+        ensures kind { IfErr result IsFault };
 
     /// Writes over what is there, and past the end. Until a sync, a crash may leave any bytes in the range.
     fn write_at(&mut self, at: usize, bytes: &[u8]) -> Result<(), LogError>

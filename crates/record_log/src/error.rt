@@ -4,18 +4,20 @@ ghost use Rattle.std.specs.Prelude.{◌≡◌};
 ghost use Rattle.record_log.specs.declared.error.LogError.TheVariants.{Memory};
 
 use std::alloc::{AllocError, AllocFailed};
+use std::io;
+use std::io::ErrorKind;
 use thiserror::Error;
 
-/// Why a call on a log, or on its device, failed.
+/// Why a call failed on a log, on its device or on its folder.
 #[derive(Clone, Copy, Debug, PartialEq, Eq, Error)]
 pub enum LogError {
     /// A growth was refused.
     #[error("no memory")]
     Memory,
-    /// The device failed.
-    #[error("the device failed")]
+    /// A call of the device or of the folder failed, or a read of one of the folder's files.
+    #[error("a read or a write failed")]
     Failed,
-    /// The tail is as long as it can be, or its numbers are used up.
+    /// The log's numbers are used up, its file is as long as it can be, or a store takes no more of its records.
     #[error("the log is full")]
     Full,
     /// The batch is as long as it can be: sync first.
@@ -24,12 +26,15 @@ pub enum LogError {
     /// The record is longer than a record can be.
     #[error("the record is too long")]
     TooLong,
-    /// A call on the device failed before: open it again.
+    /// A call of the device or of the folder failed before: open the log again.
     #[error("the log must be opened again")]
     Broken,
-    /// The file is no log's tail.
-    #[error("the file is no tail of a log")]
+    /// The file is no log's tail, or the folder's files are no log.
+    #[error("there is no log")]
     NoLog,
+    /// The block of a segment does not say where the record lies. No call on a `RecordLog` returns it.
+    #[error("the record is damaged")]
+    Damaged,
 }
 
 impl From<AllocError> for LogError {
@@ -45,5 +50,20 @@ impl<T: Drop> From<AllocFailed<T>> for LogError {
 
     fn from(_: AllocFailed<T>) -> Self {
         LogError::Memory
+    }
+}
+
+impl From<io::Error> for LogError {
+    ghost use Rattle.std.specs.IoError.{error_kind};
+    ghost use Rattle.record_log.specs.Causes.{IsOfKind};
+
+    ghost from_gives = { λ error e. IsOfKind (error_kind error) e };
+
+    fn from(error: io::Error) -> Self {
+        if error.kind() == ErrorKind::OutOfMemory {
+            LogError::Memory
+        } else {
+            LogError::Failed
+        }
     }
 }

@@ -4,12 +4,13 @@ ghost use Rattle.std.specs.Prelude.{◌≡◌, ◌⊎◌, ◌↔◌, false, ◌�
 ghost use Rattle.std.specs.Prelude.{IfOk, IfErr, OnOk, OnErr, IsErrOf, option_map};
 ghost use Rattle.store_base.specs.Counts.{HasRisen};
 ghost use Rattle.store_folder.specs.Moments.{LeavesOnly};
-ghost use Rattle.record_log.specs.Device.{Only, IsOfOpenings, IsOfAppends, IsOfSyncs, IsOfReads};
+ghost use Rattle.record_log.specs.Device.{Only};
+ghost use Rattle.record_log.specs.Causes.{IsFault, IsOfOpenings, IsOfAppends, IsOfSyncs};
 ghost use Rattle.record_log.specs.Tail.{records_of, first_of, IsAtRest, IsTail};
 ghost use Rattle.record_log.specs.Place.{contents, EndsBy};
 ghost use Rattle.record_log.specs.Log.{KeepsRecords, KeepsOrAdds, record_at};
 
-use crate::batches::{BATCH_HEADER, Place, add_record, find_records, place_records};
+use crate::batches::{BATCH_HEADER, MAX_BODY, Place, add_record, find_records, place_records};
 use crate::device::Device;
 use crate::error::LogError;
 use crate::tail::{Commit, first_number, repair, write_batch};
@@ -18,9 +19,6 @@ use std::marker::Model;
 
 /// A file grows to about this length.
 const MAX_LEN: usize = 1 << 62;
-
-/// How long a batch's body can be: its length and that of its sum are one number of 32 bits.
-const MAX_BODY: usize = (1 << 32) - 1 - 8;
 
 /// A log of records over a device. A record can be read once it is synced.
 ///
@@ -251,7 +249,7 @@ impl<D: Device> RecordLog<D> {
             ≡ record_at (first_of (D.seen self.now.device)) (records_of (D.seen self.now.device)) number) }
         ensures broken { IsErrOf result LogError.Broken ↔ IsTrue self.now.is_broken }
         ensures failed { IsTrue (D.is_readable self.now.device) → IsErrOf result LogError.Failed → ⊥ }
-        ensures kind { IfErr result IsOfReads }
+        ensures kind { IfErr result (λ e. (e ≡ LogError.Broken) ⊎ IsFault e) }
     {
         if self.is_broken {
             return Err(LogError::Broken);

@@ -3,11 +3,12 @@ use Rattle.std.proofs.Common.{◌≡◌, inl, inr, ⊎_elim, ◌⊎◌, ℕ, ◌
 use Rattle.std.proofs.lemmas.List.{append-nil}
 use Rattle.store_folder.specs.Folder.{Look}
 use Rattle.store_format.specs.Block.{Slot, doc}
-use Rattle.segmented_log.specs.declared.error.LogError.{LogError}
-use Rattle.segmented_log.specs.declared.error.LogError.TheVariants.{Memory, Failed, Full, BatchFull, TooLong, Broken, NoLog, Damaged}
+use Rattle.record_log.specs.declared.error.LogError.{LogError}
+use Rattle.record_log.specs.declared.error.LogError.TheVariants.{Memory, Failed, Full, BatchFull, TooLong, Broken, NoLog, Damaged}
 use Rattle.segmented_log.specs.declared.runs.Call.{Call}
 use Rattle.segmented_log.specs.declared.runs.Call.TheVariants.{Sync, Compact, DropBefore}
-use Rattle.segmented_log.specs.Causes.{IsOfFolders, IsOfSyncs, IsOfJoins}
+use Rattle.record_log.specs.Causes.{IsFault, IsOfSyncs}
+use Rattle.segmented_log.specs.Causes.{IsOfJoins}
 use Rattle.segmented_log.specs.Dropping.{IsRest, DropsTo}
 use Rattle.segmented_log.specs.Log.{KeepsOrAdds}
 use Rattle.segmented_log.specs.Runs.{batches_by, slots_of, dropped_by, Makes, HasBeginning, IsOfCalls}
@@ -79,15 +80,15 @@ has_dropped first number kept pending c drops = record {
 
 -- ---- errors
 
-folders_of_syncs : (e : LogError) → IsOfFolders e → IsOfSyncs e
-folders_of_syncs Memory of = tt
-folders_of_syncs Failed of = tt
-folders_of_syncs Full of = tt
-folders_of_syncs BatchFull of = of
-folders_of_syncs TooLong of = of
-folders_of_syncs Broken of = tt
-folders_of_syncs NoLog of = of
-folders_of_syncs Damaged of = of
+faults_of_syncs : (e : LogError) → IsFault e → IsOfSyncs e
+faults_of_syncs Memory of = tt
+faults_of_syncs Failed of = tt
+faults_of_syncs Full of = tt
+faults_of_syncs BatchFull of = of
+faults_of_syncs TooLong of = of
+faults_of_syncs Broken of = tt
+faults_of_syncs NoLog of = of
+faults_of_syncs Damaged of = of
 
 broken_of_syncs : (e : LogError) → e ≡ Broken → IsOfSyncs e
 broken_of_syncs e is = subst (λ (x : LogError). IsOfSyncs x) (sym is) tt
@@ -95,5 +96,5 @@ broken_of_syncs e is = subst (λ (x : LogError). IsOfSyncs x) (sym is) tt
 pub of_compaction : (call : Call) (size : ℕ) → call ≡ Compact size → (e : LogError) → (e ≡ Broken) ⊎ IsOfJoins e → IsOfCalls (call ∷ []) e
 of_compaction call size is e = ⊎_elim (λ broken. inr (inl (broken_of_syncs e broken))) (λ of. inr (inr ((size, (0, omega arith, is)), of)))
 
-pub of_drop : (calls : List Call) (e : LogError) → (e ≡ Broken) ⊎ IsOfFolders e → IsOfCalls calls e
-of_drop calls e = ⊎_elim (λ broken. inr (inl (broken_of_syncs e broken))) (λ of. inr (inl (folders_of_syncs e of)))
+pub of_drop : (calls : List Call) (e : LogError) → (e ≡ Broken) ⊎ IsFault e → IsOfCalls calls e
+of_drop calls e = ⊎_elim (λ broken. inr (inl (broken_of_syncs e broken))) (λ of. inr (inl (faults_of_syncs e of)))

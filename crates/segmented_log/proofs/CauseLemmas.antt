@@ -3,33 +3,30 @@ use Rattle.std.proofs.Common.{◌≡◌, ⊎_elim, ℕ, ◌<◌, List, [], ◌�
 use Rattle.std.specs.List.{AllByRecursion, Contains}
 use Rattle.std.specs.Prelude.{Result, Ok, Err, IfErr, IsErrOf}
 use Rattle.store_folder.specs.Folder.{Look}
-use Rattle.segmented_log.specs.declared.error.LogError.{LogError}
-use Rattle.segmented_log.specs.declared.error.LogError.TheVariants.{Memory, Failed, Full, BatchFull, TooLong, Broken, NoLog, Damaged}
+use Rattle.record_log.specs.declared.error.LogError.{LogError}
+use Rattle.record_log.specs.declared.error.LogError.TheVariants.{Memory, Failed}
 use Rattle.segmented_log.specs.Names.{segment_name}
 use Rattle.segmented_log.specs.Parts.{Part, end_from, AreParts}
 use Rattle.segmented_log.specs.Log.{Holds}
-use Rattle.segmented_log.specs.Causes.{IsOfFolders, IsOfSeals}
+use Rattle.segmented_log.specs.Causes.{IsOfSeals}
+use Rattle.record_log.specs.Causes.{IsFault}
 use Rattle.segmented_log.proofs.HoldLemmas.{firsts}
 use Rattle.segmented_log.proofs.PartLemmas.{begin_before}
 use Rattle.segmented_log.proofs.UniqueLemmas.{among_cons}
 
-pub folders_of_seals : (e : LogError) → IsOfFolders e → IsOfSeals e
-folders_of_seals Memory of = tt
-folders_of_seals Failed of = tt
-folders_of_seals Full of = absurd of
-folders_of_seals BatchFull of = of
-folders_of_seals TooLong of = of
-folders_of_seals Broken of = of
-folders_of_seals NoLog of = of
-folders_of_seals Damaged of = of
+seals_of : (e : LogError) → IsFault e → IsOfSeals e
+seals_of Memory of = tt
+seals_of Failed of = tt
+seals_of _ of = absurd of
 
-pub if_seals : {T : Type 0} (r : Result T LogError) → IfErr r IsOfFolders → IfErr r IsOfSeals
+pub if_seals : {T : Type 0} (r : Result T LogError) → IfErr r IsFault → IfErr r IsOfSeals
 if_seals (Ok x) of = tt
-if_seals (Err e) of = folders_of_seals e of
+if_seals (Err e) of = seals_of e of
 
-pub never_full : {T : Type 0} (r : Result T LogError) → IfErr r IsOfFolders → IsErrOf r Full → ⊥
-never_full (Ok x) of is = let no : ⊥ = cc in absurd no
-never_full (Err e) of is = let same : e ≡ Full = cc is in subst IsOfFolders same of
+-- an error that a table has not
+pub never : {T : Type 0} (P : LogError → Type 0) (e : LogError) → (P e → ⊥) → (r : Result T LogError) → IfErr r P → IsErrOf r e → ⊥
+never P e empty (Ok x) of is = let none : ⊥ = cc is in absurd none
+never P e empty (Err d) of is = let same : d ≡ e = cc is in empty (subst P same of)
 
 not_among : (k : ℕ) (parts : List Part) → AllByRecursion (λ part. part.first < k) parts → Contains (firsts parts) k → ⊥
 not_among k [] below among = absurd (omega (arith, among.1))

@@ -1,5 +1,5 @@
 -- What a crash leaves while segments are joined, and while one goes that others cover.
-use Rattle.std.proofs.Common.{◌≡◌, ◌≢◌, ◌⊎◌, inl, inr, ⊎_elim, ℕ, zero, suc, ◌+◌, ◌<◌, ◌≤◌, ◌^◌, List, [], ◌∷◌, ◌++◌, length, map, Option, Some, None, refl, sym, ◌∙◌, ap, subst, arith}
+use Rattle.std.proofs.Common.{◌≡◌, ◌≢◌, ◌⊎◌, inl, inr, ⊎_elim, ℕ, zero, suc, ◌+◌, ◌<◌, ◌≤◌, ◌^◌, List, [], ◌∷◌, ◌++◌, Some, None, refl, sym, ◌∙◌, ap, subst, arith}
 use Rattle.std.specs.Prelude.{IsSome}
 use Rattle.std.proofs.lemmas.Bool.{cases_eq}
 use Rattle.std.proofs.lemmas.List.{map-append}
@@ -10,15 +10,15 @@ use Rattle.store_folder.specs.Folder.{Look, Elsewhere, ElsewhereOfBoth, FilesEls
 use Rattle.store_folder.specs.Publishing.{part, IsOldOrWhole}
 use Rattle.store_folder.proofs.NamesLemmas.{decided}
 use Rattle.store_format.specs.Block.{Slot}
-use Rattle.record_log.specs.Tail.{first_of}
 use Rattle.segmented_log.specs.Names.{segment_name, tail_name}
-use Rattle.segmented_log.specs.Parts.{Part, end_of, end_from, AreInLine, Ascend, log_slots, AreParts}
+use Rattle.segmented_log.specs.Parts.{Part, end_of, end_from, Ascend, log_slots, AreParts}
 use Rattle.segmented_log.specs.Log.{IsStoreWith, HasSegment, Holds, IsLog}
-use Rattle.segmented_log.specs.Settled.{AddsSegment, TailIsKept, IsSettledFolder}
+use Rattle.segmented_log.specs.Opening.{HasSegments}
+use Rattle.segmented_log.specs.Settled.{AddsSegment, IsSettledFolder}
 use Rattle.segmented_log.specs.Dropping.{LosesSegment}
-use Rattle.segmented_log.specs.Compacting.{slots_in, AreNext, ChangesSegments}
-use Rattle.segmented_log.proofs.NameLemmas.{segment_no_tail, segments_apart, beside_no_segment, beside_no_tail, length-segment_name}
-use Rattle.segmented_log.proofs.HoldLemmas.{firsts, same_segments}
+use Rattle.segmented_log.specs.Compacting.{AreNext, ChangesSegments}
+use Rattle.segmented_log.proofs.NameLemmas.{segment_no_tail, segments_apart, beside_no_segment, beside_no_tail}
+use Rattle.segmented_log.proofs.HoldLemmas.{firsts}
 use Rattle.segmented_log.proofs.PartLemmas.{begin_before}
 use Rattle.segmented_log.proofs.JoinedParts.{whole, whole_ends, whole_parts, whole_slots, left_ends, left_parts, left_slots}
 
@@ -262,6 +262,9 @@ module _ (first : ℕ) (b : Part) (bs : List Part) (q : Part) (after : List Part
 
 pub changes_none : (look : Look) → ChangesSegments look look
 changes_none look n = inl refl
+
+pub changes_has : (old new : Look) → ChangesSegments old new → HasSegments new → HasSegments old
+changes_has old new changes has = ⊎_elim (λ same. (has.0, subst IsSome same has.1)) (λ other. (other.0, other.1)) (changes (segment_name has.0))
 
 pub changes_more : (old mid new : Look) → ChangesSegments old mid → ChangesSegments mid new → ChangesSegments old new
 changes_more old mid new one two n = elim (two n) [

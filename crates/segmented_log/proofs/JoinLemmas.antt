@@ -4,9 +4,7 @@ use Rattle.std.specs.Prelude.{None}
 use Rattle.std.specs.List.{filter, enumerate_from, flat_map, AllByRecursion}
 use Rattle.std.proofs.lemmas.List.{flat_map_more}
 use Rattle.store_format.specs.Block.{Slot}
-use Rattle.store_format.specs.Slots.{slots}
 use Rattle.store_format.specs.StoreFile.{IsStore, file}
-use Rattle.store_format.specs.Laws.{StoresAreApart}
 use Rattle.store_reader.specs.Iteration.{is_in, alive}
 use Rattle.docstore.specs.Laws.{taken, WrittenDocumentsAreFound}
 use Rattle.docstore.specs.Writer.{Writing, flushed, with_document, with_failures}

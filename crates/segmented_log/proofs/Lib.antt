@@ -14,12 +14,14 @@ pub mod NumberLemmas
 pub mod OpeningLemmas
 pub mod PartLemmas
 pub mod ReadLemmas
+pub mod RefusalLemmas
 pub mod RestLemmas
 pub mod RunLemmas
 pub mod ScanLemmas
 pub mod RunOfParts
 pub mod SealLemmas
 pub mod SegmentLemmas
+pub mod SlotLemmas
 pub mod StepLemmas
 pub mod StoreLemmas
 pub mod SyncLemmas

@@ -1,5 +1,5 @@
 -- Why a folder is refused.
-use Rattle.std.proofs.Common.{◌≡◌, ◌⊎◌, inl, inr, ⊎_elim, ℕ, suc, ◌+◌, ◌<◌, ◌≤◌, ◌^◌, List, [], ◌∷◌, ◌++◌, length, get_or, Option, Some, None, refl, sym, ◌∙◌, ap, subst, arith}
+use Rattle.std.proofs.Common.{◌≡◌, ⊎_elim, ℕ, suc, ◌+◌, ◌<◌, ◌≤◌, ◌^◌, List, [], ◌∷◌, length, Option, Some, None, refl, sym, ◌∙◌, ap, subst, arith}
 use Rattle.std.specs.Prelude.{Bool, true, false, IsSome}
 use Rattle.std.specs.List.{AllByRecursion, Contains}
 use Rattle.std.specs.List.Sorted.{IsStrictlyIncreasing, IsStrictlySortedBy}
@@ -9,10 +9,10 @@ use Rattle.std.proofs.lemmas.Map.Keys.{sorted_tail, below_from_sorted, sorted_fr
 use Rattle.store_folder.specs.Folder.{Look, AreNames}
 use Rattle.store_format.specs.Block.{Slot}
 use Rattle.store_format.specs.Laws.{StoresAreApart}
-use Rattle.record_log.specs.Tail.{records_of, first_of, IsTail}
+use Rattle.record_log.specs.Tail.{records_of, IsTail}
 use Rattle.segmented_log.specs.Names.{segment_name, tail_name}
-use Rattle.segmented_log.specs.Parts.{Part, tail_end, end_from, AreInLine, Ascend, AreParts}
-use Rattle.segmented_log.specs.Log.{HasSegment, Holds, IsLog, IsBlank}
+use Rattle.segmented_log.specs.Parts.{Part, tail_end, end_from, Ascend, AreParts}
+use Rattle.segmented_log.specs.Log.{HasSegment, IsLog, IsBlank}
 use Rattle.segmented_log.specs.Opening.{AreNumbersIn, IsNoLog, HasFullTail, HasSegments, IsNoSegment, IsNoTail, IsTailOf}
 use Rattle.segmented_log.proofs.HoldLemmas.{firsts}
 use Rattle.segmented_log.proofs.PartLemmas.{begin_before, more_parts}

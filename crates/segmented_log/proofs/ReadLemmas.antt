@@ -4,8 +4,11 @@ use Rattle.std.specs.Prelude.{slice_get, nat_le, All, option_map}
 use Rattle.std.proofs.Common.{set}
 use Rattle.std.proofs.lemmas.List.{length-map, get_or-map, take-map, map-set, set-get_or}
 use Rattle.std.proofs.lemmas.List.Elements.{All-head, All-tail, All-same, All-map}
+use Rattle.std.proofs.lemmas.List.Sums.{sum_by-set, get_or-le-sum_by}
+use Rattle.std.specs.List.{sum_by}
 use Rattle.std.proofs.lemmas.Option.{slice_get-map, slice_get_past, slice_get-get_or}
 use Rattle.std.proofs.lemmas.Bool.{cond-true, cond-false}
+use Rattle.store_base.specs.Counts.{HasRisen}
 use Rattle.record_log.proofs.Frames.{fits_le, short_le}
 use Rattle.record_log.specs.declared.batches.Place.{Place}
 use Rattle.record_log.specs.Place.{content, contents}
@@ -78,6 +81,21 @@ same_map {X} {Y} f xs i new old within is same =
     map-set f xs i new
     ∙ ap (λ (p : Y). set (map f xs) i p) (same ∙ ap f is ∙ sym (get_or-map f xs i old (f old) within))
     ∙ set-get_or (map f xs) i (f old)
+
+-- the count of all, where one of them is replaced whose count is no lower
+module _ {X : Type 0} (f : X → ℕ) (xs : List X) (i : ℕ) (new old : X) (within : i < length xs) (is : old ≡ get_or xs i old) where
+  pub count_of_all : f old ≤ f new → sum_by f xs ≤ sum_by f (set xs i new)
+  count_of_all le = omega (arith, le, sum_by-set f xs i new old within, ap f is)
+
+  pub risen_of_all : HasRisen (f old) (f new) → HasRisen (sum_by f xs) (sum_by f (set xs i new))
+  risen_of_all risen =
+      let change = sum_by-set f xs i new old within in
+      let least = get_or-le-sum_by f xs i old within in
+      let same = ap f is in
+      record {
+        no_lower = count_of_all risen.no_lower;
+        risen = λ low. omega (arith, change, same, risen.risen (omega (arith, low, change, least, same)));
+      }
 
 -- some part ends after a number before the end of them all
 pub slot_somewhere : (n : ℕ) (parts : List Part) (number : ℕ) → n ≤ number → All (λ p. end_of p ≤ number) parts → end_from n parts ≤ number

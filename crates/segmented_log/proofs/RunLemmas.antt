@@ -11,7 +11,7 @@ use Rattle.record_log.specs.declared.runs.Call.{Call as Write}
 use Rattle.record_log.specs.declared.runs.Call.TheVariants.{Append as AppendOf, Sync as SyncOf}
 use Rattle.record_log.specs.Runs.{batches_of, pending_after, joined}
 use Rattle.record_log.proofs.RunLemmas.{batches_of-append, pending_after-append}
-use Rattle.segmented_log.specs.declared.error.LogError.{LogError}
+use Rattle.record_log.specs.declared.error.LogError.{LogError}
 use Rattle.segmented_log.specs.declared.runs.Call.{Call}
 use Rattle.segmented_log.specs.declared.runs.Call.TheVariants.{Append, Sync, Seal, Compact, DropBefore}
 use Rattle.segmented_log.specs.Dropping.{IsRest}

@@ -1,20 +1,18 @@
 -- A run of a log's segments that become one, and a segment that others cover, by their places.
-use Rattle.std.proofs.Common.{◌≡◌, ◌≢◌, ℕ, zero, suc, ◌+◌, ◌-◌, ◌<◌, ◌≤◌, ◌^◌, List, [], ◌∷◌, ◌++◌, length, take, drop, map, set, get_or, Some, None, refl, sym, ◌∙◌, ap, subst, arith}
+use Rattle.std.proofs.Common.{◌≡◌, ℕ, suc, ◌+◌, ◌<◌, ◌≤◌, List, [], ◌∷◌, ◌++◌, length, take, drop, map, set, get_or, None, refl, sym, ◌∙◌, ap, subst, arith}
 use Rattle.std.specs.Prelude.{All}
-use Rattle.std.proofs.lemmas.List.{append_assoc, append-nil, drop_at, take_at, set_at, get_or_at, get_or-map, map-set, take-map, drop-map, map-append, drop-drop, length-map, length-append}
+use Rattle.std.proofs.lemmas.List.{drop_at, take_at, set_at, get_or_at, get_or-map, map-set, take-map, drop-map, map-append, drop-drop, length-map, length-append}
 use Rattle.std.proofs.lemmas.List.Elements.{All-nil, All-cons, All-take, All-drop}
 use Rattle.std.specs.List.{AllByRecursion, remove}
 use Rattle.store_folder.specs.Moments.{ComesFrom}
 use Rattle.store_folder.specs.Folder.{Look, ElsewhereOfBoth, FilesElsewhere, FilesElsewhereOfBoth, LosesFile}
 use Rattle.store_folder.specs.Publishing.{part}
-use Rattle.store_format.specs.Block.{Slot}
-use Rattle.record_log.specs.Tail.{first_of}
 use Rattle.segmented_log.specs.Names.{segment_name}
 use Rattle.segmented_log.specs.Parts.{Part, Sealed, end_of, end_from, parts_of, log_slots, AreParts}
 use Rattle.segmented_log.specs.Log.{HasSegment, Holds, IsLog}
 use Rattle.segmented_log.specs.Settled.{AddsSegment, IsSettledFolder}
 use Rattle.segmented_log.specs.Dropping.{LosesSegment}
-use Rattle.segmented_log.specs.Compacting.{slots_in, AreNext, IsRun, with_joined, CoversNext, IsCovered}
+use Rattle.segmented_log.specs.Compacting.{slots_in, IsRun, with_joined, IsCovered}
 use Rattle.segmented_log.proofs.JoinedParts.{whole_slots, left_slots}
 use Rattle.segmented_log.proofs.CompactLemmas.{joining_log, joined_folder, removing_log, removed_folder}
 

@@ -1,12 +1,13 @@
 -- Neighbours that can become one, as they are looked for.
-use Rattle.std.proofs.Common.{◌≡◌, ◌≢◌, ◌⊎◌, ⊎_elim, ℕ, zero, suc, ◌+◌, ◌-◌, ◌<◌, ◌≤◌, ◌^◌, max, List, [], ◌∷◌, ◌++◌, length, take, drop, map, get_or, Option, Some, None}
+use Rattle.std.proofs.Common.{◌≡◌, ◌⊎◌, ⊎_elim, ℕ, zero, suc, ◌+◌, ◌-◌, ◌<◌, ◌≤◌, ◌^◌, List, [], ◌∷◌, ◌++◌, length, take, drop, map, get_or, Some, None}
 use Rattle.std.proofs.Common.{refl, sym, ◌∙◌, ap, subst, arith, length-append}
 use Rattle.std.specs.Prelude.{slice_get}
-use Rattle.std.proofs.lemmas.List.{length-map, length-take-le, take-append-drop, map-append}
+use Rattle.std.proofs.lemmas.List.{length-map, length-take-le, take-append-drop, map-append, drop_at, take_at}
+use Rattle.std.proofs.lemmas.Grind.{flat_map-append}
 use Rattle.store_format.specs.declared.version.DocStoreVersion.TheVariants.{V1}
-use Rattle.segmented_log.specs.Parts.{Part, Sealed, end_of, end_from, parts_of}
+use Rattle.segmented_log.specs.Parts.{Part, Sealed, end_of, end_from}
 use Rattle.segmented_log.specs.Compacting.{slots_in, AreNext, IsRun, with_joined, CoversFirst, IsPassedByFirst, CoversNext, CanBecomeOne, IsCovered, CanFollow, CanJoin, CanJoinFirst, AreApart}
-use Rattle.segmented_log.proofs.PartLemmas.{from_le_end, end_from-push}
+use Rattle.segmented_log.proofs.PartLemmas.{end_from-push}
 use Rattle.segmented_log.proofs.RunOfParts.{one_of}
 
 -- where parts end that follow one another from a number on
@@ -53,6 +54,33 @@ run_at {X} f xs others i count x within is rest few next =
       count_is = length-map (take count others) f ∙ length-take-le count others few;
       next = next;
     }
+
+-- a run as it is taken from the parts
+pub run_taken : (parts : List Part) (place count : ℕ) (r : IsRun parts place count) → take (count + 1) (drop place parts) ≡ r.head ∷ r.run
+run_taken parts place count r =
+    let size : length (r.head ∷ r.run) ≡ count + 1 = omega (arith, r.count_is) in
+    ap (λ (l : List Part). take (count + 1) (drop place l)) r.split
+    ∙ ap (λ (l : List Part). take (count + 1) l) (drop_at r.before (r.head ∷ (r.run ++ r.after)) place r.place_is)
+    ∙ take_at (r.head ∷ r.run) r.after (count + 1) size
+
+-- how many slots it has
+pub few_at : {X : Type 0} (f : X → Part) (xs others : List X) (i count : ℕ) (x : X) → i < length xs → x ≡ get_or xs i x → others ≡ drop (suc i) xs → count ≤ length others
+    → AreNext (end_of (f x)) (map f (take count others)) → length (f x).slots + length (slots_in (map f (take count others))) < 2 ^ 32 → length (slots_in (take (count + 1) (drop i (map f xs)))) < 2 ^ 32
+unfolding run_at
+few_at f xs others i count x within is rest some next few =
+    let taken = run_taken (map f xs) i count (run_at f xs others i count x within is rest some next) in
+    omega (arith, few, ap (λ (l : List Part). length (slots_in l)) taken, length-append (f x).slots (slots_in (map f (take count others))))
+
+-- the slots of parts and one more
+pub slots_more : (parts more : List Part) (p : Part) → more ≡ parts ++ p ∷ [] → length (slots_in more) ≡ length (slots_in parts) + length p.slots
+slots_more parts more p is =
+    omega (
+      arith,
+      ap (λ (l : List Part). length (slots_in l)) is,
+      ap length (flat_map-append (λ (q : Part). q.slots) parts (p ∷ [])),
+      length-append (slots_in parts) (p.slots ++ []),
+      length-append p.slots [],
+    )
 
 -- a thing that covers the first of those after it
 pub covers_at : {X : Type 0} (f : X → Part) (xs others : List X) (i : ℕ) (x : X) → i < length xs → x ≡ get_or xs i x → others ≡ drop (suc i) xs → CoversFirst (f x) (map f others) → CoversNext (map f xs) i

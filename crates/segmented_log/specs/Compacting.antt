@@ -1,8 +1,11 @@
 -- A log whose neighbouring segments are joined.
-use Rattle.std.specs.Prelude.{◌≡◌, ◌≢◌, ◌⊎◌, ℕ, ◌+◌, ◌<◌, ◌≤◌, ◌^◌, List, [], ◌∷◌, ◌++◌, length, slice_get, Some, IsSome}
-use Rattle.std.specs.List.{flat_map}
+use Rattle.std.specs.Prelude.{◌≡◌, ◌≢◌, ◌⊎◌, ℕ, ◌+◌, ◌<◌, ◌≤◌, ◌^◌, List, [], ◌∷◌, ◌++◌, length, take, drop, slice_get, Some, None, IsSome}
+use Rattle.std.specs.List.{Contains, flat_map}
 use Rattle.store_format.specs.declared.version.DocStoreVersion.TheVariants.{V1}
 use Rattle.store_format.specs.Block.{Slot}
+use Rattle.store_format.specs.Slots.{slots}
+use Rattle.store_reader.specs.Reading.{num_docs, store_of}
+use Rattle.store_merge.specs.declared.input.MergeInput.{MergeInput}
 use Rattle.store_folder.specs.Folder.{Look}
 use Rattle.store_folder.specs.Publishing.{part}
 use Rattle.segmented_log.specs.Names.{segment_name}
@@ -12,6 +15,15 @@ use Rattle.segmented_log.specs.Log.{Holds}
 -- the slots of parts, one after the other
 abbrev pub slots_in : List Part → List Slot
 slots_in parts = flat_map (λ p. p.slots) parts
+
+-- All slots of an input are alive, and there is one for each document.
+pub record IsWhole {H : Type 0} (x : MergeInput H) : Type 0 where
+  pub alive : x.alive ≡ None
+  pub counted : num_docs x.reader ≡ length (slots (store_of x.reader))
+
+-- Each slot of the new segments is one of the old.
+abbrev pub BringNoSlots : List Sealed → List Sealed → Type 0
+BringNoSlots old new = (slot : Slot) → Contains (slots_in (parts_of new)) slot → Contains (slots_in (parts_of old)) slot
 
 -- Each part begins where the one before it ends, the first of them at this number.
 abbrev pub AreNext : ℕ → List Part → Type 0
@@ -54,9 +66,11 @@ pub record CoversNext (parts : List Part) (place : ℕ) : Type 0 where
   pub place_is : length before ≡ place
   pub ends : end_of covered ≤ end_of head
 
--- The part at this place and those that follow it can become one, or it covers the next one where none follow it.
+-- The part at this place and those that follow it can become one, for whose slots a store has numbers; or it covers the
+-- next one where none follow it.
 pub record CanBecomeOne (parts : List Part) (place count : ℕ) : Type 0 where
   pub run : 0 < count → IsRun parts place count
+  pub few : 0 < count → length (slots_in (take (count + 1) (drop place parts))) < 2 ^ 32
   pub covers : count ≡ 0 → CoversNext parts place
 
 -- The part at this place has no slot that those before it have not.

@@ -1,5 +1,5 @@
 -- What a folder is as a log, and what a crash may leave of one.
-use Rattle.std.specs.Prelude.{◌≡◌, ◌≢◌, ◌⊎◌, ℕ, ◌<◌, ◌^◌, ◌+◌, ◌-◌, length, Bool, nat_le, if◌then◌else◌, List, [], ◌∷◌, ◌++◌, Option, Some, None, Result, Ok, Err, Vec, slice_get, map}
+use Rattle.std.specs.Prelude.{◌≡◌, ◌≢◌, ◌⊎◌, ℕ, ◌<◌, ◌≤◌, ◌^◌, ◌+◌, ◌-◌, length, Bool, nat_le, if◌then◌else◌, List, [], ◌∷◌, ◌++◌, Option, Some, None, Result, Ok, Err, Vec, slice_get, map}
 use Rattle.std.specs.List.{AllByRecursion, Contains}
 use Rattle.store_folder.specs.Folder.{Look}
 use Rattle.std.specs.declared.alloc.Global.{Global}
@@ -7,8 +7,8 @@ use Rattle.store_format.specs.Block.{Slot, doc, damaged}
 use Rattle.store_format.specs.Slots.{slots}
 use Rattle.store_format.specs.StoreFile.{StoreBlock, IsStore}
 use Rattle.record_log.specs.Tail.{bodies_after, records_from, body_of}
-use Rattle.segmented_log.specs.declared.error.LogError.{LogError}
-use Rattle.segmented_log.specs.declared.error.LogError.TheVariants.{Damaged}
+use Rattle.record_log.specs.declared.error.LogError.{LogError}
+use Rattle.record_log.specs.declared.error.LogError.TheVariants.{Damaged}
 use Rattle.segmented_log.specs.Names.{segment_name, tail_name}
 use Rattle.segmented_log.specs.Parts.{Part, Sealed, log_slots, AreParts}
 
@@ -90,8 +90,15 @@ pub record LogView (F : Type 0) : Type 0 where
   pub slots : List Slot
   -- its segments
   pub segments : List Sealed
+  -- how often reads of their files failed
+  pub read_failures : ℕ
   -- the records that wait for a sync, and how many bytes they take in their batch
   pub pending : List (List ℕ)
   pub batch_bytes : ℕ
   -- whether a call on the folder failed
   pub is_broken : Bool
+
+-- The log is as it was, but for its count of failed reads, which may be higher.
+pub record IsOnlyRead {F : Type 0} (old new : LogView F) : Type 0 where
+  pub same : new ≡ record old { read_failures = new.read_failures }
+  pub count : old.read_failures ≤ new.read_failures

@@ -5,11 +5,12 @@ use Rattle.store_folder.specs.Folder.{Look}
 use Rattle.store_format.specs.Block.{Slot, doc}
 use Rattle.record_log.specs.declared.runs.Call.{Call as Write}
 use Rattle.record_log.specs.declared.runs.Call.TheVariants.{Append as AppendOf, Sync as SyncOf}
+use Rattle.record_log.specs.declared.error.LogError.{LogError}
+use Rattle.record_log.specs.Causes.{IsOfAppends, IsOfSyncs}
 use Rattle.record_log.specs.Runs.{batches_of, pending_after, joined}
-use Rattle.segmented_log.specs.declared.error.LogError.{LogError}
 use Rattle.segmented_log.specs.declared.runs.Call.{Call}
 use Rattle.segmented_log.specs.declared.runs.Call.TheVariants.{Append, Sync, Seal, Compact, DropBefore}
-use Rattle.segmented_log.specs.Causes.{IsOfAppends, IsOfSyncs, IsOfJoins}
+use Rattle.segmented_log.specs.Causes.{IsOfJoins}
 use Rattle.segmented_log.specs.Dropping.{IsRest}
 use Rattle.segmented_log.specs.Log.{IsLog, IsBlank, AddsForged, LogView}
 

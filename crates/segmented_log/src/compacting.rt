@@ -1,21 +1,26 @@
 //! Neighbouring segments that become one.
 
-ghost use Rattle.std.specs.Prelude.{◌≡◌, ◌≢◌, ◌⊎◌, ◌↔◌, false, ◌≤◌, ◌<◌, ◌+◌, ◌^◌, ℕ, List, [], ◌∷◌, length, map, take};
+ghost use Rattle.std.specs.Prelude.{◌≡◌, ◌≢◌, ◌⊎◌, ◌↔◌, false, ◌≤◌, ◌<◌, ◌+◌, ◌^◌, ℕ, List, [], ◌∷◌, length, map, take, drop};
 ghost use Rattle.std.specs.Prelude.{IsTrue, IfOk, IfErr, IfSome, IfNone, OnSome, OnOk, OnErr, IsErrOf};
+ghost use Rattle.std.specs.List.{Contains};
+ghost use Rattle.store_base.specs.Counts.{HasRisen};
 ghost use Rattle.store_folder.specs.Moments.{LeavesOnly};
+ghost use Rattle.store_format.specs.Block.{damaged};
 ghost use Rattle.segmented_log.specs.Parts.{part_of, sealed_of, parts_of, end_of};
 ghost use Rattle.segmented_log.specs.Log.{IsLog};
 ghost use Rattle.segmented_log.specs.Compacting.{AreNext, IsRun, with_joined, IsCovered, CanFollow, AreApart};
 ghost use Rattle.segmented_log.specs.Compacting.{CoversFirst, IsPassedByFirst, CanJoinFirst, CanBecomeOne, IsCompacted};
-ghost use Rattle.segmented_log.specs.Compacting.{ChangesSegments};
-ghost use Rattle.segmented_log.specs.Causes.{IsOfFolders, IsOfJoins};
+ghost use Rattle.segmented_log.specs.Compacting.{slots_in, ChangesSegments, BringNoSlots};
+ghost use Rattle.segmented_log.specs.Opening.{HasSegments};
+ghost use Rattle.segmented_log.specs.Causes.{IsOfJoins, HasTooLong};
+ghost use Rattle.record_log.specs.Causes.{IsFault};
 
 use crate::dropping::remove_segment;
-use crate::error::LogError;
 use crate::joining::join_segments;
 use crate::log::SegmentedLog;
 use crate::segment::Segment;
 use docstore::{DocStoreVersion, FileHandle};
+use record_log::LogError;
 use store_folder::ReadableFolder;
 
 // Neighbours that can be joined: the number where they end, the bytes of their data, and how many records they have.
@@ -59,6 +64,8 @@ fn with_next<H: FileHandle>(run: Run, segment: &Segment<H>, size: u64) -> Option
     ensures some { OnSome result (CanFollow size run.end run.bytes run.records
         (sealed_of segment.now.first segment.now.reader)) }
     ensures end { IfSome result (λ more. more.end ≡ end_of (part_of segment.now.first segment.now.reader)) }
+    ensures records { IfSome result (λ more. more.records
+        ≡ run.records + length (part_of segment.now.first segment.now.reader).slots) }
     ensures none { IfNone result (CanFollow size run.end run.bytes run.records
         (sealed_of segment.now.first segment.now.reader) → ⊥) }
 {
@@ -80,6 +87,8 @@ fn count_next<H: FileHandle>(segment: &Segment<H>, others: &[Segment<H>], size: 
     ensures within { result ≤ length others.now }
     ensures next { AreNext (end_of (part_of segment.now.first segment.now.reader))
         (map (λ s. part_of s.first s.reader) (take result others.now)) }
+    ensures few { 0 < result → length (part_of segment.now.first segment.now.reader).slots
+        + length (slots_in (map (λ s. part_of s.first s.reader) (take result others.now))) < 2 ^ 32 }
     ensures none { result ≡ 0 → CanJoinFirst size (sealed_of segment.now.first segment.now.reader)
         (map (λ s. sealed_of s.first s.reader) others.now) → ⊥ }
 {
@@ -141,6 +150,7 @@ impl<F: ReadableFolder> SegmentedLog<F> {
     fn join(&mut self, place: usize, count: usize) -> Result<(), LogError>
         requires works { self.old.is_broken ≡ false }
         requires run { IsRun (parts_of self.old.segments) place count }
+        requires few { length (slots_in (take (count + 1) (drop place (parts_of self.old.segments)))) < 2 ^ 32 }
         ensures first { self.new.first ≡ self.old.first }
         ensures slots { IsTrue F.honest → self.new.slots ≡ self.old.slots }
         ensures pending { self.new.pending ≡ self.old.pending }
@@ -153,6 +163,11 @@ impl<F: ReadableFolder> SegmentedLog<F> {
             (IsLog self.old.first self.old.slots) }
         ensures files { IsTrue F.honest → ChangesSegments (F.seen self.old.folder) (F.seen self.new.folder) }
         ensures failures { F.failures self.old.folder ≤ F.failures self.new.folder }
+        ensures there { IsTrue F.honest → HasSegments (F.seen self.old.folder) }
+        ensures damaged { IsTrue F.honest → IsErrOf result LogError.Damaged
+            → Contains (slots_in (parts_of self.old.segments)) damaged }
+        ensures full { IsTrue F.honest → IsErrOf result LogError.Full
+            → HasTooLong (slots_in (parts_of self.old.segments)) }
         ensures kind { IfErr result IsOfJoins }
     {
         // A call that fails leaves the log so.
@@ -179,13 +194,16 @@ impl<F: ReadableFolder> SegmentedLog<F> {
         ensures slots { IsTrue F.honest → self.new.slots ≡ self.old.slots }
         ensures pending { self.new.pending ≡ self.old.pending }
         ensures fewer { OnOk result (length self.new.segments + 1 ≡ length self.old.segments) }
+        ensures none_new { BringNoSlots self.old.segments self.new.segments }
         ensures works { OnOk result (self.new.is_broken ≡ false) }
         ensures broken { OnErr result (IsTrue self.new.is_broken) }
         ensures any_moment { IsTrue F.honest → LeavesOnly F.moment F.left_since self.old.folder self.new.folder
             (IsLog self.old.first self.old.slots) }
         ensures files { IsTrue F.honest → ChangesSegments (F.seen self.old.folder) (F.seen self.new.folder) }
         ensures failures { F.failures self.old.folder ≤ F.failures self.new.folder }
-        ensures kind { IfErr result IsOfFolders }
+        ensures failed { IsErrOf result LogError.Failed
+            → HasRisen (F.failures self.old.folder) (F.failures self.new.folder) }
+        ensures kind { IfErr result IsFault }
     {
         self.is_broken = true;
         let first = self.segments[place].first;
@@ -203,6 +221,7 @@ impl<F: ReadableFolder> SegmentedLog<F> {
         ensures slots { IsTrue F.honest → self.new.slots ≡ self.old.slots }
         ensures pending { self.new.pending ≡ self.old.pending }
         ensures fewer { IfOk result (λ more. IsTrue more → length self.new.segments < length self.old.segments) }
+        ensures none_new { IsTrue F.honest → OnOk result (BringNoSlots self.old.segments self.new.segments) }
         ensures compacted { IsTrue F.honest → IfOk result (λ more. more ≡ false
             → IsCompacted self.new.first size self.new.segments (F.seen self.new.folder)) }
         ensures works { OnOk result (self.new.is_broken ≡ false) }
@@ -211,6 +230,13 @@ impl<F: ReadableFolder> SegmentedLog<F> {
             (IsLog self.old.first self.old.slots) }
         ensures files { IsTrue F.honest → ChangesSegments (F.seen self.old.folder) (F.seen self.new.folder) }
         ensures failures { F.failures self.old.folder ≤ F.failures self.new.folder }
+        ensures failed { IsTrue F.honest → IsErrOf result LogError.Failed
+            → HasRisen (F.failures self.old.folder) (F.failures self.new.folder)
+            ⊎ HasSegments (F.seen self.old.folder) }
+        ensures damaged { IsTrue F.honest → IsErrOf result LogError.Damaged
+            → Contains (slots_in (parts_of self.old.segments)) damaged }
+        ensures full { IsTrue F.honest → IsErrOf result LogError.Full
+            → HasTooLong (slots_in (parts_of self.old.segments)) }
         ensures kind { IfErr result IsOfJoins }
     {
         let Some(step) = find_step(&self.segments, size) else {
@@ -233,8 +259,8 @@ impl<F: ReadableFolder> SegmentedLog<F> {
     /// the same. What waits for a sync goes on waiting. The joined segment is made in memory.
     ///
     /// Errors: `Broken`; `Memory`; `Failed` where a call of the folder or a read of a segment failed; `Damaged` where a
-    /// segment of fewer than six blocks has a damaged record; and `Full` where a store has no room for the records. After
-    /// these the log is broken.
+    /// segment of fewer than six blocks has a damaged record; and `Full` where a record of a segment is too long for a
+    /// block of the joined one. After these the log is broken.
     pub fn compact(&mut self, size: u64) -> Result<(), LogError>
         ensures first { self.new.first ≡ self.old.first }
         ensures slots { IsTrue F.honest → self.new.slots ≡ self.old.slots }
@@ -255,6 +281,15 @@ impl<F: ReadableFolder> SegmentedLog<F> {
         ensures err { OnErr result (IsTrue self.new.is_broken) }
         ensures same { IsTrue self.old.is_broken → self.new ≡ self.old }
         ensures failures { F.failures self.old.folder ≤ F.failures self.new.folder }
+
+        // Where no call of the folder failed, there is a segment, whose file was not opened or read.
+        ensures failed { IsTrue F.honest → IsErrOf result LogError.Failed
+            → HasRisen (F.failures self.old.folder) (F.failures self.new.folder)
+            ⊎ HasSegments (F.seen self.old.folder) }
+        ensures damaged { IsTrue F.honest → IsErrOf result LogError.Damaged
+            → Contains (slots_in (parts_of self.old.segments)) damaged }
+        ensures full { IsTrue F.honest → IsErrOf result LogError.Full
+            → HasTooLong (slots_in (parts_of self.old.segments)) }
         ensures kind { IfErr result (λ e. (e ≡ LogError.Broken) ⊎ IsOfJoins e) }
     {
         if self.is_broken() {

@@ -8,13 +8,13 @@ ghost use Rattle.store_folder.specs.Folder.{Elsewhere, FilesElsewhere, LosesFile
 ghost use Rattle.segmented_log.specs.Names.{segment_name};
 ghost use Rattle.segmented_log.specs.Parts.{part_of, first_in};
 ghost use Rattle.segmented_log.specs.Dropping.{CanGo, IsRest, DropsTo, LosesSegment, RemovesOnly, IsDropped};
-ghost use Rattle.segmented_log.specs.Causes.{IsOfFolders};
+ghost use Rattle.record_log.specs.Causes.{IsFault};
 
-use crate::error::LogError;
 use crate::log::SegmentedLog;
 use crate::names::segment_file;
 use crate::segment::Segment;
 use docstore::FileHandle;
+use record_log::LogError;
 use std::alloc::Global;
 use store_folder::{Folder, ReadableFolder};
 
@@ -70,7 +70,7 @@ pub(crate) fn remove_segment<F: Folder>(
         (LosesSegment (F.may_leave folder.old) first) }
     ensures failures { F.failures folder.old ≤ F.failures folder.new }
     ensures failed { IsErrOf result LogError.Failed → HasRisen (F.failures folder.old) (F.failures folder.new) }
-    ensures kind { IfErr result IsOfFolders }
+    ensures kind { IfErr result IsFault }
 {
     let name = segment_file(alloc, first)?;
     folder.remove(name.as_str())?;
@@ -98,7 +98,7 @@ impl<F: ReadableFolder> SegmentedLog<F> {
         ensures failures { F.failures self.old.folder ≤ F.failures self.new.folder }
         ensures failed { IsErrOf result LogError.Failed
             → HasRisen (F.failures self.old.folder) (F.failures self.new.folder) }
-        ensures kind { IfErr result IsOfFolders }
+        ensures kind { IfErr result IsFault }
     {
         let Some(next) = end_of_first(&self.segments, self.first, self.tail_first, number) else {
             return Ok(false);
@@ -138,7 +138,7 @@ impl<F: ReadableFolder> SegmentedLog<F> {
         ensures failures { F.failures self.old.folder ≤ F.failures self.new.folder }
         ensures failed { IsErrOf result LogError.Failed
             → HasRisen (F.failures self.old.folder) (F.failures self.new.folder) }
-        ensures kind { IfErr result (λ e. (e ≡ LogError.Broken) ⊎ IsOfFolders e) }
+        ensures kind { IfErr result (λ e. (e ≡ LogError.Broken) ⊎ IsFault e) }
     {
         if self.is_broken() {
             return Err(LogError::Broken);

@@ -1,26 +1,27 @@
 //! The store of a segment, made of others.
 
-ghost use Rattle.std.specs.Prelude.{◌≡◌, ◌⊎◌, ◌≤◌, ◌++◌, ℕ, List, All, IsTrue, IfOk, IfErr, OnOk, map};
-ghost use Rattle.std.specs.List.{AllByRecursion, flat_map};
+ghost use Rattle.std.specs.Prelude.{◌≡◌, ◌⊎◌, ◌≤◌, ◌<◌, ◌^◌, ◌++◌, ℕ, List, All, IsTrue, IfOk, IfErr, OnOk, IsErrOf, map};
+ghost use Rattle.std.specs.Prelude.{length};
+ghost use Rattle.std.specs.List.{AllByRecursion, Contains, flat_map};
 ghost use Rattle.store_folder.specs.Moments.{ComesFrom, LeavesOnly};
 ghost use Rattle.store_folder.specs.Folder.{Elsewhere, ElsewhereOfBoth, FilesElsewhereOfBoth};
 ghost use Rattle.store_folder.specs.Publishing.{part};
-ghost use Rattle.store_format.specs.Block.{Slot};
+ghost use Rattle.store_format.specs.Block.{Slot, damaged};
 ghost use Rattle.store_merge.specs.Choice.{alive_slots};
-ghost use Rattle.store_merge.specs.Inputs.{HasWholeSet};
 ghost use Rattle.store_merge.specs.Merge.{IsHonest};
 ghost use Rattle.segmented_log.specs.Names.{segment_name};
 ghost use Rattle.segmented_log.specs.Parts.{part_of};
 ghost use Rattle.segmented_log.specs.Log.{IsStoreWith, HasSegment};
 ghost use Rattle.segmented_log.specs.Settled.{AddsSegment};
-ghost use Rattle.segmented_log.specs.Compacting.{slots_in};
-ghost use Rattle.segmented_log.specs.Causes.{IsOfJoins};
+ghost use Rattle.segmented_log.specs.Compacting.{slots_in, IsWhole};
+ghost use Rattle.segmented_log.specs.Causes.{IsOfJoins, IsDamaged, HasTooLong};
+ghost use Rattle.record_log.specs.Causes.{IsFault};
 
-use crate::error::LogError;
 use crate::names::{name_beside, segment_file};
 use crate::sealing::BLOCK_SIZE;
 use crate::segment::{Segment, open_segment, reopen_error};
 use docstore::{Compressor, FileHandle, MemSink, StoreError, StoreWriter, laws};
+use record_log::LogError;
 use std::alloc::Global;
 use store_folder::{ReadableFolder, replace};
 use store_merge::{MergeInput, merge_in_parts};
@@ -30,7 +31,9 @@ const PART_BYTES: usize = 1 << 20;
 
 // Why segments could not be joined.
 fn join_error(error: StoreError) -> LogError
-    ensures { IsOfJoins result }
+    ensures full { result ≡ LogError.Full → (error ≡ StoreError.TooManyDocs) ⊎ (error ≡ StoreError.BlockTooLarge) }
+    ensures damaged { result ≡ LogError.Damaged → IsDamaged error }
+    ensures kind { IsOfJoins result }
 {
     match error {
         // An output in memory fails for lack of memory alone.
@@ -51,15 +54,19 @@ fn open_input<F: ReadableFolder>(
         → HasSegment (F.seen folder.now) (record { first = first; slots = all })
         → IfOk result (λ input. alive_slots input ≡ all) }
     ensures honest { IsTrue F.honest → IfOk result IsHonest }
-    ensures set { IfOk result HasWholeSet }
-    ensures kind { IfErr result IsOfJoins }
+    ensures whole { IfOk result IsWhole }
+    ensures kind { IfErr result IsFault }
 {
     laws::stores_are_apart();
     match open_segment(alloc, folder, first) {
-        Ok(segment) => Ok(MergeInput {
-            reader: segment.reader,
-            alive: None,
-        }),
+        Ok(segment) => {
+            // By its clause there is a slot for each document.
+            segment.reader.num_docs();
+            Ok(MergeInput {
+                reader: segment.reader,
+                alive: None,
+            })
+        }
         Err(error) => Err(reopen_error(error)),
     }
 }
@@ -75,8 +82,8 @@ fn open_inputs<F: ReadableFolder>(
         → IfOk result (λ inputs. flat_map alive_slots inputs.items
         ≡ slots_in (map (λ s. part_of s.first s.reader) segments.now)) }
     ensures honest { IsTrue F.honest → IfOk result (λ inputs. AllByRecursion IsHonest inputs.items) }
-    ensures sets { IfOk result (λ inputs. AllByRecursion HasWholeSet inputs.items) }
-    ensures kind { IfErr result IsOfJoins }
+    ensures whole { IfOk result (λ inputs. AllByRecursion IsWhole inputs.items) }
+    ensures kind { IfErr result IsFault }
 {
     let mut inputs = Vec::new(alloc);
     for segment in segments {
@@ -90,12 +97,18 @@ fn merged_bytes<H: FileHandle>(
     alloc: Global,
     inputs: &mut [MergeInput<H>],
 ) -> Result<Vec<u8>, LogError>
-    requires sets { AllByRecursion HasWholeSet inputs.old }
+    requires whole { AllByRecursion IsWhole inputs.old }
     ensures store { AllByRecursion IsHonest inputs.old
         → IfOk result (λ bytes. IsStoreWith (flat_map alive_slots inputs.old) bytes.items) }
+    ensures damaged { AllByRecursion IsHonest inputs.old → IsErrOf result LogError.Damaged
+        → Contains (flat_map alive_slots inputs.old) damaged }
+    ensures full { AllByRecursion IsHonest inputs.old → length (flat_map alive_slots inputs.old) < 2 ^ 32
+        → IsErrOf result LogError.Full → HasTooLong (flat_map alive_slots inputs.old) }
     ensures kind { IfErr result IsOfJoins }
 {
     laws::written_documents_are_found();
+    laws::ids_are_given_in_order();
+    laws::stacked_slots_are_counted();
     let mut writer = StoreWriter::new(alloc, MemSink::new(alloc), Compressor::None, BLOCK_SIZE);
     if let Err(refusal) = merge_in_parts(alloc, &mut writer, inputs, PART_BYTES) {
         return Err(join_error(refusal.error));
@@ -130,7 +143,7 @@ fn replace_segment<F: ReadableFolder>(
         → LeavesOnly F.moment F.left_since folder.old folder.new
         (AddsSegment (F.may_leave folder.old) (record { first = first; slots = all })) }
     ensures failures { F.failures folder.old ≤ F.failures folder.new }
-    ensures kind { IfErr result IsOfJoins }
+    ensures kind { IfErr result IsFault }
 {
     laws::stores_are_apart();
     let name = segment_file(alloc, first)?;
@@ -172,6 +185,16 @@ pub(crate) fn join_segments<F: ReadableFolder>(
         → LeavesOnly F.moment F.left_since folder.old folder.new (AddsSegment (F.may_leave folder.old)
         (record { first = first; slots = slots_in (map (λ s. part_of s.first s.reader) segments.now) })) }
     ensures failures { F.failures folder.old ≤ F.failures folder.new }
+
+    // A record of these segments is damaged, or no block takes it.
+    ensures damaged { IsTrue F.honest
+        → All (λ s. HasSegment (F.seen folder.old) (part_of s.first s.reader)) segments.now
+        → IsErrOf result LogError.Damaged
+        → Contains (slots_in (map (λ s. part_of s.first s.reader) segments.now)) damaged }
+    ensures full { IsTrue F.honest
+        → All (λ s. HasSegment (F.seen folder.old) (part_of s.first s.reader)) segments.now
+        → length (slots_in (map (λ s. part_of s.first s.reader) segments.now)) < 2 ^ 32
+        → IsErrOf result LogError.Full → HasTooLong (slots_in (map (λ s. part_of s.first s.reader) segments.now)) }
     ensures kind { IfErr result IsOfJoins }
 {
     let mut inputs = open_inputs(alloc, folder, segments)?;

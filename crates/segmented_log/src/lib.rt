@@ -3,7 +3,6 @@
 
 mod compacting;
 mod dropping;
-pub mod error;
 mod joining;
 pub mod laws;
 mod loading;
@@ -20,9 +19,9 @@ mod syncing;
 mod tail;
 mod tail_file;
 
-pub use error::LogError;
 pub use log::{MAX_RECORD, SegmentedLog};
 pub use names::{TAIL, segment_file};
 pub use numbers::segment_number;
+pub use record_log::LogError;
 pub use records::Records;
 pub use runs::{Call, call_all, open_and_call};

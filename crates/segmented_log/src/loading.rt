@@ -14,15 +14,16 @@ ghost use Rattle.segmented_log.specs.Parts.{part_of, tail_end, end_from, ArePart
 ghost use Rattle.segmented_log.specs.Log.{IsLog, IsBlank, KeepsLog};
 ghost use Rattle.segmented_log.specs.Opening.{IsRestarted, IsNoLog, HasFullTail, HasSegments, IsTailOf, IsNoTail};
 ghost use Rattle.segmented_log.specs.Settled.{TailIsKept, IsSettledTail, IsSettledFolder};
-ghost use Rattle.segmented_log.specs.Causes.{IsOfFiles, IsOfOpenings};
+ghost use Rattle.segmented_log.specs.Causes.{IsOfFiles};
+ghost use Rattle.record_log.specs.Causes.{IsOfOpenings};
 
-use crate::error::LogError;
 use crate::log::SegmentedLog;
 use crate::names::TAIL;
 use crate::opening::{end_of_segments, numbers_in, open_segments};
 use crate::segment::Segment;
 use crate::tail::{Tail, begin_tail, repair_tail};
 use docstore::{FileHandle, laws};
+use record_log::LogError;
 use std::alloc::Global;
 use store_folder::ReadableFolder;
 

@@ -2,21 +2,21 @@
 
 ghost use Rattle.std.specs.Prelude.{◌≡◌, ◌⊎◌, ◌↔◌, false, ◌≤◌, ◌<◌, ◌+◌, ◌^◌, ◌++◌, ◌∷◌, [], ℕ, List, length, map};
 ghost use Rattle.std.specs.Prelude.{IfOk, IfErr, OnOk, OnErr, IsErrOf, IsTrue};
+ghost use Rattle.store_base.specs.Counts.{HasRisen};
 ghost use Rattle.store_folder.specs.Folder.{Look};
-ghost use Rattle.segmented_log.specs.Log.{IsLog, slot_at, Gives};
-ghost use Rattle.segmented_log.specs.Causes.{IsOfAppends, IsOfGets};
+ghost use Rattle.segmented_log.specs.Parts.{end_from, parts_of};
+ghost use Rattle.segmented_log.specs.Log.{IsLog, slot_at, Gives, IsOnlyRead};
+ghost use Rattle.segmented_log.specs.Causes.{IsOfReads};
+ghost use Rattle.record_log.specs.Causes.{IsOfAppends};
 
-use crate::error::LogError;
 use crate::reading::{copy_record, get_from};
 use crate::sealing::BLOCK_SIZE;
 use crate::segment::Segment;
-use record_log::batches::{Place, add_record};
+use record_log::LogError;
+use record_log::batches::{MAX_BODY, Place, add_record};
 use std::alloc::Global;
 use std::marker::Model;
 use store_folder::ReadableFolder;
-
-/// How long a batch's body can be: its length and that of its sum are one number of 32 bits.
-const MAX_BODY: usize = (1 << 32) - 1 - 8;
 
 /// How long a record can be, so that a segment's block takes it.
 pub const MAX_RECORD: usize = MAX_BODY - BLOCK_SIZE - 16;
@@ -48,6 +48,7 @@ pub struct SegmentedLog<F: ReadableFolder> {
 impl<F: ReadableFolder> Model for SegmentedLog<F> {
     ghost use Rattle.std.specs.Prelude.{length, map, All, IsTrue};
     ghost use Rattle.std.specs.Bool.{OnFalse};
+    ghost use Rattle.std.specs.List.{sum_by};
     ghost use Rattle.record_log.specs.Tail.{records_in};
     ghost use Rattle.segmented_log.specs.Parts.{part_of, sealed_of, log_slots};
     ghost use Rattle.segmented_log.specs.Log.{LogView};
@@ -60,6 +61,7 @@ impl<F: ReadableFolder> Model for SegmentedLog<F> {
       first = l.first;
       slots = log_slots l.first (map (λ s. part_of s.first s.reader) l.segments.items) l.tail.items;
       segments = map (λ s. sealed_of s.first s.reader) l.segments.items;
+      read_failures = sum_by (λ s. s.reader.file.failures) l.segments.items;
       pending = records_in l.pending.items;
       batch_bytes = length l.pending.items;
       is_broken = l.is_broken;
@@ -157,12 +159,18 @@ impl<F: ReadableFolder> SegmentedLog<F> {
     /// The record of this number, if it was synced.
     ///
     /// Errors: `Broken`; `Memory`; `Failed` where a read of a segment failed; `Damaged` where the segment's block does
-    /// not say where the record lies. The log is as it was.
+    /// not say where the record lies. The log is as it was, but for the count of failed reads.
     pub fn get(&mut self, number: u64) -> Result<Option<Vec<u8>>, LogError>
         ensures found { IsTrue F.honest → Gives (slot_at self.old.first self.old.slots number) result }
-        ensures same { self.new ≡ self.old }
+        ensures same { IsOnlyRead self.old self.new }
         ensures broken { IsErrOf result LogError.Broken ↔ IsTrue self.old.is_broken }
-        ensures kind { IfErr result IsOfGets }
+
+        // A read of a segment failed, and the segments have the number.
+        ensures failed { IsTrue F.honest → IsErrOf result LogError.Failed
+            → HasRisen self.old.read_failures self.new.read_failures }
+        ensures sealed { IsTrue F.honest → IsErrOf result LogError.Failed
+            → number < end_from self.old.first (parts_of self.old.segments) }
+        ensures kind { IfErr result (λ e. (e ≡ LogError.Broken) ⊎ IsOfReads e) }
     {
         if self.is_broken {
             return Err(LogError::Broken);

@@ -1,17 +1,17 @@
 //! Records that are read from segments.
 
-ghost use Rattle.std.specs.Prelude.{◌≡◌, ◌⊎◌, ◌≤◌, ◌<◌, ◌-◌, ◌↔◌, ℕ, length, map, take, All, IsTrue, IfErr, IfOk};
-ghost use Rattle.std.specs.Prelude.{HoldsAt};
-ghost use Rattle.std.specs.Prelude.{slice_get};
+ghost use Rattle.std.specs.Prelude.{◌≡◌, ◌≢◌, ◌≤◌, ◌<◌, ◌-◌, ◌↔◌, ℕ, length, map, take, All, IsTrue, IfErr, IfOk};
+ghost use Rattle.std.specs.Prelude.{HoldsAt, IsErrOf, slice_get};
+ghost use Rattle.std.specs.List.{sum_by};
+ghost use Rattle.store_base.specs.Counts.{HasRisen};
 ghost use Rattle.segmented_log.specs.Parts.{part_of, sealed_of, end_of, end_from, joined, AreInLine};
 ghost use Rattle.segmented_log.specs.Log.{Gives};
 ghost use Rattle.segmented_log.specs.Causes.{IsOfReads, IsDamaged};
 ghost use Rattle.record_log.specs.Place.{content};
 
-use crate::error::LogError;
 use crate::segment::Segment;
 use docstore::{FileHandle, StoreError};
-use record_log::Place;
+use record_log::{LogError, Place};
 use std::alloc::{AllocError, Global};
 
 // Whether a segment ends after this number.
@@ -39,6 +39,7 @@ fn find_segment<H: FileHandle>(segments: &[Segment<H>], number: u64) -> usize
 // Why a record of a segment could not be read.
 fn get_error(error: StoreError) -> LogError
     ensures damaged { result ≡ LogError.Damaged → IsDamaged error }
+    ensures failed { result ≡ LogError.Failed → (error ≢ StoreError.Memory) × (IsDamaged error → ⊥) }
     ensures kind { IsOfReads result }
 {
     match error {
@@ -60,6 +61,10 @@ fn get_in<H: FileHandle>(
     ensures found { IsTrue segment.old.reader.file.honest → segment.old.first ≤ number
         → number < end_of (part_of segment.old.first segment.old.reader)
         → Gives (slice_get (part_of segment.old.first segment.old.reader).slots (number - segment.old.first)) result }
+    ensures count { segment.old.reader.file.failures ≤ segment.new.reader.file.failures }
+    ensures failed { IsTrue segment.old.reader.file.honest → segment.old.first ≤ number
+        → number < end_of (part_of segment.old.first segment.old.reader) → IsErrOf result LogError.Failed
+        → HasRisen segment.old.reader.file.failures segment.new.reader.file.failures }
     ensures kind { IfErr result IsOfReads }
 {
     if number < segment.first || number - segment.first >= u64::from(segment.reader.num_docs()) {
@@ -88,6 +93,13 @@ pub(crate) fn get_from<H: FileHandle>(
         → AreInLine n (map (λ s. part_of s.first s.reader) segments.old.items) → n ≤ number
         → number < end_from n (map (λ s. part_of s.first s.reader) segments.old.items)
         → Gives (slice_get (joined n (map (λ s. part_of s.first s.reader) segments.old.items)) (number - n)) result }
+    ensures count { sum_by (λ s. s.reader.file.failures) segments.old.items
+        ≤ sum_by (λ s. s.reader.file.failures) segments.new.items }
+    ensures failed { (n : ℕ) → All (λ s. IsTrue s.reader.file.honest) segments.old.items
+        → AreInLine n (map (λ s. part_of s.first s.reader) segments.old.items) → n ≤ number
+        → number < end_from n (map (λ s. part_of s.first s.reader) segments.old.items)
+        → IsErrOf result LogError.Failed → HasRisen (sum_by (λ s. s.reader.file.failures) segments.old.items)
+        (sum_by (λ s. s.reader.file.failures) segments.new.items) }
     ensures kind { IfErr result IsOfReads }
 {
     let i = find_segment(segments, number);

@@ -2,12 +2,12 @@
 
 ghost use Rattle.std.specs.Prelude.{◌≡◌, ◌↔◌, false, max, IfOk, IfErr, IsErrOf, IsTrue};
 
-use crate::error::LogError;
 use crate::log::SegmentedLog;
+use record_log::LogError;
 use store_folder::ReadableFolder;
 
 /// The synced records of a log from a number on, each once. A record that can't be read is given as that error, and the
-/// next one follows.
+/// next one follows. The log stays as it was, but for its count of failed reads.
 pub struct Records<'a, F: ReadableFolder> {
     pub(crate) log: &'a mut SegmentedLog<F>,
     pub(crate) next: u64,
@@ -43,9 +43,11 @@ impl<F: ReadableFolder> SegmentedLog<F> {
 }
 
 impl<'a, F: ReadableFolder> Iterator for Records<'a, F> {
-    ghost use Rattle.std.specs.Prelude.{◌≡◌, ◌≤◌, ◌-◌, ◌^◌, false, IsTrue};
+    ghost use Rattle.std.specs.Prelude.{◌≡◌, ◌≤◌, ◌-◌, ◌^◌, false, IsTrue, IfSome, IsErrOf};
     ghost use Rattle.std.specs.Iterator.{at_most};
-    ghost use Rattle.segmented_log.specs.Log.{GivesNext};
+    ghost use Rattle.store_base.specs.Counts.{HasRisen};
+    ghost use Rattle.record_log.specs.declared.error.LogError.TheVariants.{Failed};
+    ghost use Rattle.segmented_log.specs.Log.{GivesNext, IsOnlyRead};
 
     type Item = Result<Vec<u8>, LogError>;
 
@@ -54,7 +56,9 @@ impl<'a, F: ReadableFolder> Iterator for Records<'a, F> {
     ghost remaining = { λ s. at_most (2 ^ 64 - s.next) };
 
     ghost next_gives = { λ s r t. (IsTrue F.honest → GivesNext s.log.now.first s.log.now.slots s.next r t.next)
-        × (t.log.now ≡ s.log.now) × (t.log.ghost_name ≡ s.log.ghost_name) };
+        × (IsTrue F.honest → IfSome r (λ item. IsErrOf item Failed
+        → HasRisen s.log.now.read_failures t.log.now.read_failures))
+        × IsOnlyRead s.log.now t.log.now × (t.log.ghost_name ≡ s.log.ghost_name) };
 
     fn next(&mut self) -> Option<Result<Vec<u8>, LogError>> {
         if self.next >= self.log.end() {

@@ -6,12 +6,12 @@ ghost use Rattle.store_folder.specs.Moments.{LeavesOnly};
 ghost use Rattle.store_format.specs.Block.{Slot};
 ghost use Rattle.segmented_log.specs.Log.{IsLog, IsBlank};
 ghost use Rattle.segmented_log.specs.Opening.{IsRestarted};
-ghost use Rattle.segmented_log.specs.Causes.{IsOfOpenings};
+ghost use Rattle.record_log.specs.Causes.{IsOfOpenings};
 ghost use Rattle.segmented_log.specs.Runs.{pending_by, dropped_by, Drops, Makes, HasBeginning, KeepsAndAdds};
 ghost use Rattle.segmented_log.specs.Runs.{HasMadeFirst, IsOfCalls};
 
-use crate::error::LogError;
 use crate::log::SegmentedLog;
+use record_log::LogError;
 use std::alloc::Global;
 use store_folder::ReadableFolder;
 

@@ -9,9 +9,8 @@ ghost use Rattle.store_published.specs.Filling.{AddsDocuments};
 ghost use Rattle.segmented_log.specs.Log.{IsStoreWith};
 ghost use Rattle.segmented_log.specs.Causes.{IsOfSeals, HasNoRoom};
 
-use crate::error::LogError;
 use docstore::{Compressor, MemSink, StoreError, StoreWriter, TerminatingWrite, laws};
-use record_log::Place;
+use record_log::{LogError, Place};
 use std::alloc::Global;
 use store_published::store_document;
 

@@ -12,13 +12,13 @@ ghost use Rattle.segmented_log.specs.Parts.{part_of};
 ghost use Rattle.segmented_log.specs.Log.{HasSegment};
 ghost use Rattle.segmented_log.specs.Settled.{part_at, AddsSegment};
 ghost use Rattle.segmented_log.specs.Opening.{IsNoSegment};
-ghost use Rattle.segmented_log.specs.Causes.{IsOfFiles, IsOfSeals, IsOfJoins, HasNoRoom};
+ghost use Rattle.segmented_log.specs.Causes.{IsOfFiles, IsOfSeals, HasNoRoom};
+ghost use Rattle.record_log.specs.Causes.{IsFault};
 
-use crate::error::LogError;
 use crate::names::{name_beside, segment_file};
 use crate::sealing::segment_bytes;
 use docstore::{FileHandle, FileSlice, StoreError, StoreReader, laws};
-use record_log::Place;
+use record_log::{LogError, Place};
 use std::alloc::Global;
 use store_folder::{Folder, ReadableFolder, replace};
 
@@ -101,8 +101,7 @@ pub(crate) fn publish_segment<F: Folder>(
 /// Why a segment that the folder has could not be opened.
 pub(crate) fn reopen_error(error: LogError) -> LogError
     ensures full { result ≡ LogError.Full → ⊥ }
-    ensures seals { IsOfSeals result }
-    ensures joins { IsOfJoins result }
+    ensures kind { IsFault result }
 {
     match error {
         LogError::Memory => LogError::Memory,

@@ -7,14 +7,14 @@ ghost use Rattle.store_format.specs.Block.{doc};
 ghost use Rattle.segmented_log.specs.Log.{IsLog, KeepsOrAdds};
 ghost use Rattle.store_folder.specs.Folder.{Elsewhere};
 ghost use Rattle.segmented_log.specs.Names.{tail_name};
-ghost use Rattle.segmented_log.specs.Causes.{IsOfFolders, IsOfSeals, IsOfSyncs, HasNewSegment, HasNoRoomForLast};
+ghost use Rattle.segmented_log.specs.Causes.{IsOfSeals, HasNewSegment, HasNoRoomForLast};
+ghost use Rattle.record_log.specs.Causes.{IsFault, IsOfSyncs};
 
-use crate::error::LogError;
 use crate::log::SegmentedLog;
 use crate::segment::add_segment;
 use crate::tail_file::{replace_tail, write_batch};
 use record_log::batches::{BATCH_HEADER, place_records};
-use record_log::new_tail;
+use record_log::{LogError, new_tail};
 use store_folder::ReadableFolder;
 
 impl<F: ReadableFolder> SegmentedLog<F> {
@@ -34,7 +34,7 @@ impl<F: ReadableFolder> SegmentedLog<F> {
         ensures failures { F.failures self.old.folder ≤ F.failures self.new.folder }
         ensures failed { IsErrOf result LogError.Failed
             → HasRisen (F.failures self.old.folder) (F.failures self.new.folder) }
-        ensures kind { IfErr result IsOfFolders }
+        ensures kind { IfErr result IsFault }
     {
         // A call that fails leaves the log so.
         self.is_broken = true;
@@ -99,7 +99,7 @@ impl<F: ReadableFolder> SegmentedLog<F> {
         ensures failures { F.failures self.old.folder ≤ F.failures self.new.folder }
         ensures failed { IsErrOf result LogError.Failed
             → HasRisen (F.failures self.old.folder) (F.failures self.new.folder) }
-        ensures kind { IfErr result IsOfFolders }
+        ensures kind { IfErr result IsFault }
     {
         let end = self.tail_first + self.places.len() as u64;
         if self.sealed != end || self.places.is_empty() {

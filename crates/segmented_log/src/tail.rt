@@ -12,13 +12,13 @@ ghost use Rattle.segmented_log.specs.Names.{tail_name};
 ghost use Rattle.segmented_log.specs.Log.{KeepsLog};
 ghost use Rattle.segmented_log.specs.Opening.{IsRestarted, IsTailOf};
 ghost use Rattle.segmented_log.specs.Settled.{TailIsKept};
-ghost use Rattle.segmented_log.specs.Causes.{IsOfFolders, IsOfFiles};
+ghost use Rattle.segmented_log.specs.Causes.{IsOfFiles};
+ghost use Rattle.record_log.specs.Causes.{IsFault};
 
-use crate::error::LogError;
 use crate::tail_file::replace_tail;
 use record_log::batches::find_records;
 use record_log::tail::first_number;
-use record_log::{Place, new_tail};
+use record_log::{LogError, Place, new_tail};
 use std::alloc::Global;
 use store_folder::Folder;
 
@@ -97,7 +97,7 @@ pub(crate) fn begin_tail<F: Folder>(alloc: Global, folder: &mut F) -> Result<Tai
     ensures empty { IfOk result (λ t. IsTailOf None t.bytes.items) }
     ensures failures { F.failures folder.old ≤ F.failures folder.new }
     ensures failed { IsErrOf result LogError.Failed → HasRisen (F.failures folder.old) (F.failures folder.new) }
-    ensures kind { IfErr result IsOfFolders }
+    ensures kind { IfErr result IsFault }
 {
     let bytes = new_tail(alloc, 0)?;
     replace_tail(folder, &bytes)?;

@@ -9,10 +9,10 @@ ghost use Rattle.store_folder.specs.Publishing.{part, IsOldOrWhole};
 ghost use Rattle.record_log.specs.Tail.{summed, sum_of};
 ghost use Rattle.segmented_log.specs.Names.{tail_name};
 ghost use Rattle.segmented_log.specs.Settled.{TailIsKept, GrowsTail};
-ghost use Rattle.segmented_log.specs.Causes.{IsOfFolders};
+ghost use Rattle.record_log.specs.Causes.{IsFault};
 
-use crate::error::LogError;
 use crate::names::{TAIL, TAIL_PART};
+use record_log::LogError;
 use record_log::batches::open_batch;
 use std::alloc::Global;
 use store_folder::{Folder, replace};
@@ -40,7 +40,7 @@ pub(crate) fn write_batch<F: Folder>(
         (GrowsTail (F.may_leave folder.old) tail.now) }
     ensures failures { F.failures folder.old ≤ F.failures folder.new }
     ensures failed { IsErrOf result LogError.Failed → HasRisen (F.failures folder.old) (F.failures folder.new) }
-    ensures kind { IfErr result IsOfFolders }
+    ensures kind { IfErr result IsFault }
 {
     let batch = open_batch(alloc, body)?;
     folder.append(TAIL, &batch)?;
@@ -60,7 +60,7 @@ pub(crate) fn replace_tail<F: Folder>(folder: &mut F, bytes: &[u8]) -> Result<()
         (IsOldOrWhole (F.may_leave folder.old) (tail_name ++ part) tail_name (Some bytes.now)) }
     ensures failures { F.failures folder.old ≤ F.failures folder.new }
     ensures failed { IsErrOf result LogError.Failed → HasRisen (F.failures folder.old) (F.failures folder.new) }
-    ensures kind { IfErr result IsOfFolders }
+    ensures kind { IfErr result IsFault }
 {
     replace(folder, TAIL_PART, TAIL, bytes)?;
     Ok(())

@@ -163,6 +163,7 @@ impl fmt::Display for FailureCause {
             FailureCause::BusyLog => f.write_str("the log is being written by another"),
             FailureCause::Log(LogError::NoLog) => f.write_str("the log's files are broken"),
             FailureCause::Log(LogError::Damaged) => f.write_str("a record is damaged"),
+            FailureCause::Log(LogError::Failed) => f.write_str("the folder failed"),
             FailureCause::Log(error) => write!(f, "{error}"),
             FailureCause::NoRecord { number, first, end } if first == end => {
                 write!(f, "no record {number}; the log has none")

@@ -75,7 +75,7 @@ fn check_tail(rt: &HostRuntime, folder: &str) -> Result<bool, FailureCause> {
     let bytes = fs::read(rt, path.as_str())?;
     let view = match TailView::new(alloc, &bytes) {
         Ok(view) => view,
-        Err(record_log::LogError::NoLog) => {
+        Err(LogError::NoLog) => {
             to_output(println!(rt; "{path}: broken: not a tail: its first bytes are others"))?;
             return Ok(false);
         }

@@ -1,8 +1,26 @@
-use Rattle.std.proofs.Common.{◌≡◌, ◌+◌, ◌++◌, ◌∷◌, [], map, take, get_or, refl, sym, ◌∙◌, ap, subst, arith}
+use Rattle.std.proofs.Common.{◌≡◌, ℕ, ◌<◌, ◌++◌, List, ◌∷◌, [], length, map, take, get_or, sym, ◌∙◌, ap, subst, arith}
 use Rattle.std.proofs.lemmas.List.{map_more}
-use Rattle.segmented_log.specs.Parts.{part_of, end_of}
-use Rattle.segmented_log.proofs.StepLemmas.{end_after, next_more, end_more}
+use Rattle.segmented_log.specs.Parts.{Sealed, part_of, sealed_of, end_of}
+use Rattle.segmented_log.specs.Compacting.{CanFollow, CanJoin, CanJoinFirst}
+use Rattle.segmented_log.proofs.StepLemmas.{next_more, end_more, slots_more}
 use Rattle.segmented_log.proofs.compacting.count_next.Goals as goal
+
+-- the first of the others can't be joined
+first_joined : {X : Type 0} (f : X → Sealed) (size : ℕ) (a : Sealed) (xs : List X) (i : ℕ) (x : X) → i ≡ 0 → i < length xs → x ≡ get_or xs i x → CanJoinFirst size a (map f xs) → CanJoin size a (f x)
+first_joined f size a [] i x none within is can = absurd can
+first_joined f size a (y ∷ ys) i x none within is can = subst (λ z. CanJoin size a (f z)) (sym (is ∙ ap (λ (n : ℕ). get_or (y ∷ ys) n x) none)) can
+
+pub returns-in-None-clause-none : goal.returns-in-None-clause-none
+returns-in-None-clause-none g c = λ none can.
+    let a = sealed_of c.args.segment.now.first c.args.segment.now.reader in
+    let x = c.index-others-i.result in
+    let run = c.loop-i.run in
+    let joins = first_joined (λ s. sealed_of s.first s.reader) c.args.size a c.args.others.now c.loop-i.i x none c.loop-i-test.true c.index-others-i.is can in
+    let begun = c.loop-i.invariant.begun none in
+    c.in-None.ensures.none
+    (subst (λ (n : ℕ). CanFollow c.args.size n run.bytes run.records (sealed_of x.first x.reader)) (sym begun.0)
+    (subst (λ (n : ℕ). CanFollow c.args.size (end_of a.part) n run.records (sealed_of x.first x.reader)) (sym begun.1)
+    (subst (λ (n : ℕ). CanFollow c.args.size (end_of a.part) a.bytes n (sealed_of x.first x.reader)) (sym begun.2) joins.1)))
 
 pub loop-i-preserved : goal.loop-i-preserved
 loop-i-preserved g c =
@@ -19,4 +37,9 @@ loop-i-preserved g c =
       end = c.in-Some-with_next.ensures.end ∙ sym (end_more (end_of first) parts _ p more_is);
       begun = λ none. absurd (omega (arith, none));
       newer = before.newer;
+      records = omega (arith, c.in-Some-with_next.ensures.records, before.records, slots_more parts _ p more_is);
+      few = λ some. omega (arith, c.in-Some-with_next.ensures.records, c.in-Some-with_next.ensures.some.few);
     }
+
+pub returns-in-None-clause-few : goal.returns-in-None-clause-few
+returns-in-None-clause-few g c = λ some. omega (arith, c.loop-i.invariant.records, c.loop-i.invariant.few some)

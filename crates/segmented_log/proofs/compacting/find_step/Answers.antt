@@ -1,8 +1,7 @@
-use Rattle.std.proofs.Common.{◌≡◌, ◌+◌, ◌-◌, ◌<◌, ◌≤◌, length, map, take, drop, suc, get_or, refl, sym, ◌∙◌, ap, subst, arith}
-use Rattle.std.proofs.lemmas.List.{take_rest, length-map, length-drop}
-use Rattle.segmented_log.specs.Parts.{part_of, sealed_of, end_of}
-use Rattle.segmented_log.specs.Compacting.{AreNext, CoversFirst, IsPassedByFirst, CanJoinFirst}
-use Rattle.segmented_log.proofs.StepLemmas.{run_at, covers_at, apart_more, all_apart}
+use Rattle.std.proofs.Common.{◌≡◌, ◌+◌, ◌-◌, ◌≤◌, length, map, take, drop, suc, refl, ◌∙◌, ap, arith}
+use Rattle.std.proofs.lemmas.List.{take_rest, length-map}
+use Rattle.segmented_log.specs.Parts.{part_of, sealed_of}
+use Rattle.segmented_log.proofs.StepLemmas.{run_at, few_at, covers_at, apart_more, all_apart}
 use Rattle.segmented_log.proofs.compacting.find_step.Goals as goal
 
 pub returns-then-covers_next-clause-some : goal.returns-then-covers_next-clause-some
@@ -14,6 +13,7 @@ returns-then-covers_next-clause-some g c =
     let rest = take_rest segments (i + 1) ∙ ap (λ n. drop n segments) next in
     record {
       run = λ some. absurd (omega (arith, some));
+      few = λ some. absurd (omega (arith, some));
       covers = λ none. covers_at (λ s. part_of s.first s.reader) segments (take (length segments - (i + 1)) (drop (i + 1) segments)) i x c.loop-first-test.true c.index-segments-first.is rest (c.covers_next.ensures.yes c.if-covers_next.true);
     }
 
@@ -27,6 +27,8 @@ returns-then-count-gt0-clause-some g c =
     record {
       run = λ some. run_at (λ s. part_of s.first s.reader) segments (take (length segments - (i + 1)) (drop (i + 1) segments)) i c.count_next-count.result x c.loop-first-test.true c.index-segments-first.is rest c.count_next-count.ensures.within
           c.count_next-count.ensures.next;
+      few = λ some. few_at (λ s. part_of s.first s.reader) segments (take (length segments - (i + 1)) (drop (i + 1) segments)) i c.count_next-count.result x c.loop-first-test.true c.index-segments-first.is rest c.count_next-count.ensures.within
+          c.count_next-count.ensures.next (c.count_next-count.ensures.few some);
       covers = λ none. absurd (omega (arith, none, c.if-count-gt0.true));
     }
 

@@ -1,12 +1,10 @@
-use Rattle.std.proofs.Common.{◌≡◌, ◌+◌, ◌++◌, ◌∷◌, [], map, take, refl, sym, ◌∙◌, ap, subst}
-use Rattle.std.specs.List.{AllByRecursion, flat_map}
+use Rattle.std.proofs.Common.{◌++◌, ◌∷◌, [], map, take, sym, ◌∙◌, ap, subst}
 use Rattle.std.proofs.lemmas.List.{map_more}
 use Rattle.store_merge.specs.Choice.{alive_slots}
-use Rattle.store_merge.specs.Inputs.{HasWholeSet}
 use Rattle.store_merge.specs.Merge.{IsHonest}
 use Rattle.segmented_log.specs.Parts.{part_of}
 use Rattle.segmented_log.specs.Log.{HasSegment}
-use Rattle.segmented_log.specs.Compacting.{slots_in}
+use Rattle.segmented_log.specs.Compacting.{IsWhole}
 use Rattle.segmented_log.proofs.JoinLemmas.{flat_push, all_push}
 use Rattle.segmented_log.proofs.joining.open_inputs.Goals as goal
 
@@ -28,5 +26,5 @@ loop-segment-preserved g c =
           ∙ (λ j. c.loop-segment.invariant.0 h all j ++ c.in_ok-open_input.ensures.slots h (part_of s.first s.reader).slots here j)
           ∙ sym (flat_push (λ p. p.slots) (map (λ y. part_of y.first y.reader) (take i segments)) _ (part_of s.first s.reader) more),
       λ h. all_push IsHonest old new input items (c.loop-segment.invariant.1 h) (c.in_ok-open_input.ensures.honest h),
-      all_push HasWholeSet old new input items c.loop-segment.invariant.2 c.in_ok-open_input.ensures.set,
+      all_push IsWhole old new input items c.loop-segment.invariant.2 c.in_ok-open_input.ensures.whole,
     )

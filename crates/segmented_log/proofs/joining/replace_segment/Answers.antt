@@ -1,4 +1,4 @@
-use Rattle.std.proofs.Common.{◌≡◌, ◌++◌, Some, sym, ◌∙◌, ap, subst}
+use Rattle.std.proofs.Common.{◌≡◌, ◌++◌, Some, ◌∙◌, ap, subst}
 use Rattle.store_folder.specs.Publishing.{part}
 use Rattle.store_folder.proofs.Steps.{weaker}
 use Rattle.segmented_log.specs.Parts.{part_of}

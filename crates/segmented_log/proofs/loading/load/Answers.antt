@@ -1,4 +1,4 @@
-use Rattle.std.proofs.Common.{rules, ◌≡◌, inr, ◌<◌, [], length, true, ◌==◌, arith, map, refl, sym, ◌∙◌, ap, subst, string_bytes}
+use Rattle.std.proofs.Common.{rules, ◌≡◌, inr, ◌<◌, [], length, ◌==◌, arith, map, refl, sym, ◌∙◌, ap, subst, string_bytes}
 use Rattle.std.specs.Prelude.{All, IsTrue, IsErrOf}
 use Rattle.std.specs.List.{Contains}
 use Rattle.std.proofs.lemmas.List.{length-map}
@@ -8,7 +8,7 @@ use Rattle.segmented_log.specs.Parts.{part_of}
 use Rattle.segmented_log.specs.Log.{HasSegment}
 use Rattle.segmented_log.specs.Opening.{AreNumbersIn}
 use Rattle.segmented_log.specs.Settled.{TailIsKept}
-use Rattle.segmented_log.specs.declared.error.LogError.TheVariants.{Failed, Full, NoLog}
+use Rattle.record_log.specs.declared.error.LogError.TheVariants.{Failed, Full, NoLog}
 use Rattle.segmented_log.proofs.OpeningLemmas.{keeps_same}
 use Rattle.segmented_log.proofs.LoadLemmas.{loaded_outcomes, firsts_of}
 use Rattle.segmented_log.proofs.NoLogLemmas.{no_store, some_segment, no_tail, not_in_line, full_tail}

@@ -1,10 +1,13 @@
-use Rattle.std.proofs.Common.{◌≡◌, refl, sym, ◌∙◌, ap, subst, arith}
-use Rattle.std.specs.Prelude.{IsTrue}
+use Rattle.std.proofs.Common.{rules, inl, inr, ⊎_elim, ◌≡◌, refl, sym, ◌∙◌, subst, arith}
+use Rattle.std.specs.Prelude.{IsTrue, IsErrOf}
+use Rattle.store_base.proofs.ListLemmas.{risen_later}
+use Rattle.store_format.specs.Block.{doc, damaged}
+use Rattle.record_log.specs.declared.error.LogError.TheVariants.{Failed, Full, Damaged}
 use Rattle.store_folder.specs.Moments.{LeavesOnly}
 use Rattle.store_folder.proofs.Steps.{started, weaker, joined}
 use Rattle.segmented_log.specs.Log.{IsLog}
 use Rattle.segmented_log.specs.Compacting.{ChangesSegments}
-use Rattle.segmented_log.proofs.CompactLemmas.{changes_none, changes_more}
+use Rattle.segmented_log.proofs.CompactLemmas.{changes_none, changes_more, changes_has}
 use Rattle.segmented_log.proofs.log.SegmentedLog.compact.Goals.{After-compact_next}
 use Rattle.segmented_log.proofs.log.SegmentedLog.compact.Goals as goal
 
@@ -17,6 +20,7 @@ loop-init g c =
       first = refl;
       slots = λ h. refl;
       pending = refl;
+      none_new = λ h slot has. has;
       files = λ h. changes_none (F.seen log.folder);
       any_moment = λ h.
           started F.moment F.left_since log.folder _ (λ l left. c.is_broken.ensures.durable h c.if-is_broken.false l (g.met.F.Folder.only_now log.folder l left));
@@ -68,6 +72,7 @@ loop-preserved g c =
       first = c.compact_next.ensures.first ∙ before.first;
       slots = λ h. slots_now g here h;
       pending = c.compact_next.ensures.pending ∙ before.pending;
+      none_new = λ h slot has. before.none_new h slot (c.in_ok-compact_next.ensures.none_new h slot has);
       files = λ h. files_now g here h;
       any_moment = λ h. moments_now g here h;
       failures = omega (arith, before.failures, c.compact_next.ensures.failures);
@@ -81,3 +86,25 @@ returns-clause-files g c = λ h. files_now g (goal.at.returns-clause-files g c).
 
 pub returns-clause-any_moment : goal.returns-clause-any_moment
 returns-clause-any_moment g c = λ h works. moments_now g (goal.at.returns-clause-any_moment g c).After-compact_next h
+
+-- ---- why a step failed
+
+pub returns-in_err-compact_next-clause-failed : goal.returns-in_err-compact_next-clause-failed
+returns-in_err-compact_next-clause-failed g c = λ h is.
+    let F = g.F.Folder in
+    let refused : IsErrOf c.compact_next.result Failed = search rules in
+    ⊎_elim
+    (λ risen. inl (risen_later _ _ _ c.loop.invariant.failures risen))
+    (λ has. inr (changes_has (F.seen c.args.self.now.folder) (F.seen c.loop.self.folder) (c.loop.invariant.files h) has))
+    (c.compact_next.ensures.failed h refused)
+
+pub returns-in_err-compact_next-clause-damaged : goal.returns-in_err-compact_next-clause-damaged
+returns-in_err-compact_next-clause-damaged g c = λ h is.
+    let refused : IsErrOf c.compact_next.result Damaged = search rules in
+    c.loop.invariant.none_new h damaged (c.compact_next.ensures.damaged h refused)
+
+pub returns-in_err-compact_next-clause-full : goal.returns-in_err-compact_next-clause-full
+returns-in_err-compact_next-clause-full g c = λ h is.
+    let refused : IsErrOf c.compact_next.result Full = search rules in
+    let long = c.compact_next.ensures.full h refused in
+    (long.0, c.loop.invariant.none_new h (doc long.0) long.1, long.2)

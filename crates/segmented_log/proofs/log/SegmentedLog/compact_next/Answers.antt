@@ -1,16 +1,20 @@
-use Rattle.std.proofs.Common.{◌≡◌, ◌+◌, ◌<◌, List, length, map, refl, sym, ◌∙◌, ap, subst, arith}
-use Rattle.std.specs.Prelude.{IsTrue}
+use Rattle.std.proofs.Common.{rules, inl, inr, ◌≡◌, ◌<◌, List, length, map, refl, sym, ◌∙◌, ap, subst, arith}
+use Rattle.std.specs.Prelude.{IsTrue, IsErrOf}
+use Rattle.std.specs.List.{Contains}
 use Rattle.std.proofs.lemmas.Bool.{OnFalse_at}
 use Rattle.std.proofs.lemmas.List.{length-map}
 use Rattle.store_folder.specs.Moments.{LeavesOnly}
 use Rattle.store_folder.proofs.Steps.{weaker, joined}
-use Rattle.record_log.specs.Tail.{first_of}
+use Rattle.record_log.specs.declared.error.LogError.TheVariants.{Failed, Full, Damaged}
+use Rattle.record_log.specs.Causes.{IsFault}
 use Rattle.segmented_log.specs.Parts.{Sealed, part_of, sealed_of, parts_of, AreParts}
 use Rattle.segmented_log.specs.Log.{Holds, IsLog}
-use Rattle.segmented_log.specs.Compacting.{IsRun, CoversNext, CanBecomeOne, IsCovered, AreApart, IsCompacted, ChangesSegments}
+use Rattle.segmented_log.specs.Compacting.{slots_in, CoversNext, CanBecomeOne, AreApart, IsCompacted}
 use Rattle.segmented_log.proofs.SyncLemmas.{log_stays}
 use Rattle.segmented_log.proofs.CompactLemmas.{changes_none, changes_more}
 use Rattle.segmented_log.proofs.RunOfParts.{view_parts}
+use Rattle.segmented_log.proofs.CauseLemmas.{never}
+use Rattle.segmented_log.proofs.SlotLemmas.{in_joined}
 use Rattle.segmented_log.proofs.StepLemmas.{step_within, next_covered, joined_covers}
 use Rattle.segmented_log.proofs.log.SegmentedLog.compact_next.Goals.{In-Some, After-join}
 use Rattle.segmented_log.proofs.log.SegmentedLog.compact_next.Goals as goal
@@ -118,3 +122,49 @@ pub returns-clause-files : goal.returns-clause-files
 returns-clause-files g c = λ h.
     let F = g.F.Folder in
     changes_more (F.seen c.args.self.now.folder) (F.seen c.join.new.self.folder) _ (c.join.ensures.files h) (c.remove_covered-2.ensures.files h)
+
+-- ---- which slots the segments have, and why a step fails
+
+pub returns-in_default-clause-none_new : goal.returns-in_default-clause-none_new
+returns-in_default-clause-none_new g c = λ h slot has. has
+
+pub returns-clause-none_new : goal.returns-clause-none_new
+returns-clause-none_new g c = λ h slot has.
+    let s = step_is g (goal.at.returns-clause-none_new g c).In-Some in
+    let r = s.run (omega arith) in
+    in_joined (parts_of c.args.self.now.segments) c.in-Some.step.first c.in-Some.step.count r slot
+    (subst (λ l. Contains (slots_in l) slot) (c.in_ok-join.ensures.joined h r) (c.remove_covered-2.ensures.none_new slot has))
+
+pub join-requires-clause-few : goal.join-requires-clause-few
+join-requires-clause-few g c = (step_is g (goal.at.join-requires-clause-few g c).In-Some).few (omega arith)
+
+pub returns-in_err-join-clause-failed : goal.returns-in_err-join-clause-failed
+returns-in_err-join-clause-failed g c = λ h is. inr (c.join.ensures.there h)
+
+pub returns-in_err-remove_covered-clause-failed : goal.returns-in_err-remove_covered-clause-failed
+returns-in_err-remove_covered-clause-failed g c = λ h is.
+    let refused : IsErrOf c.remove_covered.result Failed = search rules in
+    inl (c.remove_covered.ensures.failed refused)
+
+pub returns-in_err-remove_covered-clause-damaged : goal.returns-in_err-remove_covered-clause-damaged
+returns-in_err-remove_covered-clause-damaged g c = λ h is.
+    let refused : IsErrOf c.remove_covered.result Damaged = search rules in
+    absurd (never IsFault Damaged (λ of. of) c.remove_covered.result c.remove_covered.ensures.kind refused)
+
+pub returns-in_err-remove_covered-clause-full : goal.returns-in_err-remove_covered-clause-full
+returns-in_err-remove_covered-clause-full g c = λ h is.
+    let refused : IsErrOf c.remove_covered.result Full = search rules in
+    absurd (never IsFault Full (λ of. of) c.remove_covered.result c.remove_covered.ensures.kind refused)
+
+pub returns-in_err-remove_covered-2-clause-failed : goal.returns-in_err-remove_covered-2-clause-failed
+returns-in_err-remove_covered-2-clause-failed g c = λ h is. inr (c.join.ensures.there h)
+
+pub returns-in_err-remove_covered-2-clause-damaged : goal.returns-in_err-remove_covered-2-clause-damaged
+returns-in_err-remove_covered-2-clause-damaged g c = λ h is.
+    let refused : IsErrOf c.remove_covered-2.result Damaged = search rules in
+    absurd (never IsFault Damaged (λ of. of) c.remove_covered-2.result c.remove_covered-2.ensures.kind refused)
+
+pub returns-in_err-remove_covered-2-clause-full : goal.returns-in_err-remove_covered-2-clause-full
+returns-in_err-remove_covered-2-clause-full g c = λ h is.
+    let refused : IsErrOf c.remove_covered-2.result Full = search rules in
+    absurd (never IsFault Full (λ of. of) c.remove_covered-2.result c.remove_covered-2.ensures.kind refused)

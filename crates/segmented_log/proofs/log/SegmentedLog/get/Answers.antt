@@ -1,10 +1,13 @@
-use Rattle.std.proofs.Common.{◌≡◌, ◌≤◌, ◌<◌, ◌-◌, map, get_or, Some, None, sym, ◌∙◌, ap, subst, arith}
+use Rattle.std.proofs.Common.{◌≡◌, ◌≤◌, ◌<◌, ◌-◌, map, get_or, Some, None, refl, sym, ◌∙◌, ap, subst, arith}
 use Rattle.std.proofs.lemmas.Bool.{OnFalse_at, false≢true}
 use Rattle.store_format.specs.Block.{doc}
-use Rattle.segmented_log.specs.Parts.{part_of, tail_end, end_from}
+use Rattle.segmented_log.specs.Parts.{part_of, sealed_of, parts_of, tail_end, end_from}
 use Rattle.record_log.specs.Place.{content}
 use Rattle.segmented_log.specs.Log.{slot_at, Gives}
-use Rattle.segmented_log.proofs.StoreLemmas.{never_broken_read, if_gets}
+use Rattle.record_log.specs.declared.error.LogError.TheVariants.{Broken}
+use Rattle.segmented_log.specs.Causes.{IsOfReads}
+use Rattle.segmented_log.proofs.CauseLemmas.{never}
+use Rattle.segmented_log.proofs.RunOfParts.{view_parts}
 use Rattle.segmented_log.proofs.SyncLemmas.{tail_is_there}
 use Rattle.segmented_log.proofs.ReadLemmas.{slot_after, slot_sealed, slot_read}
 use Rattle.segmented_log.proofs.log.SegmentedLog.get.Goals as goal
@@ -23,12 +26,18 @@ returns-then-number-self-2-clause-found g c = λ h.
 
 pub returns-then-number-self-2-clause-broken : goal.returns-then-number-self-2-clause-broken
 returns-then-number-self-2-clause-broken g c = (
-  λ is. absurd (never_broken_read c.get_from.result c.get_from.ensures.kind is),
+  λ is. absurd (never IsOfReads Broken (λ of. of) c.get_from.result c.get_from.ensures.kind is),
   λ t. absurd (false≢true (sym c.if-self.false ∙ ap (λ v. v.is_broken) c.self.view_is ∙ t)),
 )
 
-pub returns-then-number-self-2-clause-kind : goal.returns-then-number-self-2-clause-kind
-returns-then-number-self-2-clause-kind g c = if_gets c.get_from.result c.get_from.ensures.kind
+pub returns-then-number-self-2-clause-sealed : goal.returns-then-number-self-2-clause-sealed
+returns-then-number-self-2-clause-sealed g c = λ h is.
+    let log = c.self.inside in
+    let known = OnFalse_at c.if-self.false c.self.invariant in
+    let f = (known.1 h).0 in
+    let same = view_parts (λ s. sealed_of s.first s.reader) (λ s. part_of s.first s.reader) (λ s. refl) log.segments.items in
+    subst (λ v. c.args.number < end_from v.first (parts_of v.segments)) c.self.view_is
+    (subst (λ l. c.args.number < end_from log.first l) (sym same) (omega (arith, f.sealed_is)))
 
 pub returns-then-index-len-clause-found : goal.returns-then-index-len-clause-found
 returns-then-index-len-clause-found g c = λ h.

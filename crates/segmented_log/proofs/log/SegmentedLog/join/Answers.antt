@@ -1,19 +1,24 @@
-use Rattle.std.proofs.Common.{◌≡◌, ◌+◌, ◌-◌, ◌<◌, ◌++◌, List, length, map, take, drop, set, refl, sym, ◌∙◌, ap, subst, arith}
-use Rattle.std.specs.Prelude.{All, IsTrue, IsSome}
+use Rattle.std.proofs.Common.{rules, ◌^◌, ◌≡◌, ◌+◌, ◌-◌, ◌<◌, ◌++◌, length, map, take, drop, set, refl, sym, ◌∙◌, ap, subst, arith}
+use Rattle.std.specs.Prelude.{All, IsTrue, IsSome, IsErrOf}
 use Rattle.std.proofs.lemmas.Bool.{OnFalse_at}
-use Rattle.std.proofs.lemmas.List.Elements.{All-take, All-drop, All-set}
-use Rattle.std.specs.List.{AllByRecursion}
+use Rattle.std.proofs.lemmas.List.Elements.{All-set}
+use Rattle.std.specs.List.{Contains}
 use Rattle.store_folder.specs.Moments.{LeavesOnly, ComesFrom}
 use Rattle.store_folder.specs.Folder.{ElsewhereOfBoth, FilesElsewhereOfBoth}
 use Rattle.store_folder.specs.Publishing.{part}
 use Rattle.store_folder.proofs.Steps.{weaker}
+use Rattle.store_format.specs.Block.{Slot, doc, damaged}
+use Rattle.record_log.specs.declared.error.LogError.TheVariants.{Full, Damaged}
 use Rattle.segmented_log.specs.Names.{segment_name}
 use Rattle.segmented_log.specs.Parts.{Part, part_of, sealed_of, parts_of, log_slots}
 use Rattle.segmented_log.specs.Log.{HasSegment, Holds, IsLog}
 use Rattle.segmented_log.specs.Settled.{AddsSegment, IsSettledFolder}
 use Rattle.segmented_log.specs.Compacting.{IsRun, slots_in, with_joined, ChangesSegments}
+use Rattle.segmented_log.specs.Opening.{HasSegments}
 use Rattle.segmented_log.proofs.CompactLemmas.{changes_replaced, segment_there}
-use Rattle.segmented_log.proofs.RunOfParts.{one_of, run_moved, moved_joined, view_parts, run_within, parts_there, head_is, run_part, run_set, run_log, run_same, run_folder}
+use Rattle.segmented_log.proofs.SlotLemmas.{in_part}
+use Rattle.segmented_log.proofs.StepLemmas.{run_taken}
+use Rattle.segmented_log.proofs.RunOfParts.{one_of, run_moved, moved_joined, view_parts, run_within, parts_there, head_is, run_part, run_slots, run_set, run_log, run_same, run_folder}
 use Rattle.segmented_log.proofs.log.SegmentedLog.join.Goals.{After-join_segments}
 use Rattle.segmented_log.proofs.log.SegmentedLog.join.Goals as goal
 
@@ -99,16 +104,53 @@ moments_now g c h =
     (λ l adds. run_log log.first segments log.tail.items c.args.place c.args.count r f.parts (F.may_leave log.folder) (λ d left. f.on_disk.outcomes d left) l
     (subst (λ p. AddsSegment (F.may_leave log.folder) p l) (part_is g c r) adds)) (c.join_segments.ensures.any_moment h (there g c h)))
 
+-- the folder has the first of them
+head_there : (g : _) (c : After-join_segments g) → IsTrue g.F.Folder.honest → IsSome (g.F.Folder.seen c.self.inside.folder (segment_name (run_is g c c.requires.run).head.first))
+head_there g c h =
+    let F = g.F.Folder in
+    let log = c.self.inside in
+    let f = ((OnFalse_at (ap (λ v. v.is_broken) c.self.view_is ∙ c.requires.works) c.self.invariant).1 h).0 in
+    let r = run_is g c c.requires.run in
+    let held = f.on_disk.outcomes (F.seen log.folder) (g.met.F.Folder.seen_may_be_left log.folder h) in
+    segment_there r.before r.head (r.run ++ r.after) log.tail.items (F.seen log.folder) (subst (λ l. Holds l log.tail.items (F.seen log.folder)) r.split held)
+
+has_segments : (g : _) (c : After-join_segments g) → IsTrue g.F.Folder.honest → HasSegments (g.F.Folder.seen c.args.self.now.folder)
+has_segments g c h = subst (λ w. HasSegments (g.F.Folder.seen w.folder)) c.self.view_is ((run_is g c c.requires.run).head.first, head_there g c h)
+
+-- a slot of those that are joined is one of the log's segments
+old_slots : (g : _) (c : After-join_segments g) (slot : Slot) → Contains (slots_in (map (λ s. part_of s.first s.reader) (take (c.args.place + c.args.count + 1 - c.args.place) (drop c.args.place c.deref.result.now)))) slot
+    → Contains (slots_in (parts_of c.args.self.now.segments)) slot
+old_slots g c slot has =
+    let items = c.self.inside.segments.items in
+    let same = ap (λ w. parts_of w.segments) (sym c.self.view_is) ∙ view_parts (λ s. sealed_of s.first s.reader) (λ s. part_of s.first s.reader) (λ s. refl) items in
+    let n = c.args.place + c.args.count + 1 - c.args.place in
+    subst (λ l. Contains (slots_in l) slot) (sym same)
+    (in_part (λ s. part_of s.first s.reader) slot c.args.place n items (subst (λ l. Contains (slots_in (map (λ s. part_of s.first s.reader) (take n (drop c.args.place l)))) slot) c.deref.ensures.value has))
+
+-- a store has numbers for them
+few_slots : (g : _) (c : After-join_segments g) → length (slots_in (map (λ s. part_of s.first s.reader) (take (c.args.place + c.args.count + 1 - c.args.place) (drop c.args.place c.deref.result.now)))) < 2 ^ 32
+few_slots g c =
+    let items = c.self.inside.segments.items in
+    let same = ap (λ w. parts_of w.segments) (sym c.self.view_is) ∙ view_parts (λ s. sealed_of s.first s.reader) (λ s. part_of s.first s.reader) (λ s. refl) items in
+    let n = c.args.place + c.args.count + 1 - c.args.place in
+    let r = run_is g c c.requires.run in
+    let few = subst (λ l. length (slots_in (take (c.args.count + 1) (drop c.args.place l))) < 2 ^ 32) same c.requires.few in
+    omega (
+      arith,
+      few,
+      ap (λ l. length (slots_in l)) (run_taken (map (λ s. part_of s.first s.reader) items) c.args.place c.args.count r),
+      ap length (run_slots (λ s. part_of s.first s.reader) items c.args.place c.args.count r n (omega arith)),
+      ap (λ l. length (slots_in (map (λ s. part_of s.first s.reader) (take n (drop c.args.place l))))) c.deref.ensures.value,
+    )
+
 files_now : (g : _) (c : After-join_segments g) → IsTrue g.F.Folder.honest → ChangesSegments (g.F.Folder.seen c.args.self.now.folder) (g.F.Folder.seen c.join_segments.new.folder)
 files_now g c h =
     let F = g.F.Folder in
     let log = c.self.inside in
     let f = ((OnFalse_at (ap (λ v. v.is_broken) c.self.view_is ∙ c.requires.works) c.self.invariant).1 h).0 in
     let r = run_is g c c.requires.run in
-    let held = f.on_disk.outcomes (F.seen log.folder) (g.met.F.Folder.seen_may_be_left log.folder h) in
-    let some = segment_there r.before r.head (r.run ++ r.after) log.tail.items (F.seen log.folder) (subst (λ l. Holds l log.tail.items (F.seen log.folder)) r.split held) in
     subst (λ w. ChangesSegments (F.seen w.folder) (F.seen c.join_segments.new.folder)) c.self.view_is
-    (changes_replaced c.index.result.now.first (F.seen log.folder) (F.seen c.join_segments.new.folder) (subst (λ n. IsSome (F.seen log.folder (segment_name n))) (sym (first_is g c r)) some)
+    (changes_replaced c.index.result.now.first (F.seen log.folder) (F.seen c.join_segments.new.folder) (subst (λ n. IsSome (F.seen log.folder (segment_name n))) (sym (first_is g c r)) (head_there g c h))
     (c.join_segments.ensures.elsewhere h))
 
 pub returns-in_err-joined-clause-any_moment : goal.returns-in_err-joined-clause-any_moment
@@ -116,6 +158,25 @@ returns-in_err-joined-clause-any_moment g c = λ h. moments_now g (goal.at.retur
 
 pub returns-in_err-joined-clause-files : goal.returns-in_err-joined-clause-files
 returns-in_err-joined-clause-files g c = λ h. files_now g (goal.at.returns-in_err-joined-clause-files g c).After-join_segments h
+
+pub returns-in_err-joined-clause-there : goal.returns-in_err-joined-clause-there
+returns-in_err-joined-clause-there g c = λ h. has_segments g (goal.at.returns-in_err-joined-clause-there g c).After-join_segments h
+
+pub returns-clause-there : goal.returns-clause-there
+returns-clause-there g c = λ h. has_segments g (goal.at.returns-clause-there g c).After-join_segments h
+
+pub returns-in_err-joined-clause-damaged : goal.returns-in_err-joined-clause-damaged
+returns-in_err-joined-clause-damaged g c = λ h is.
+    let here = (goal.at.returns-in_err-joined-clause-damaged g c).After-join_segments in
+    let refused : IsErrOf c.join_segments.result Damaged = search rules in
+    old_slots g here damaged (c.join_segments.ensures.damaged h (there g here h) refused)
+
+pub returns-in_err-joined-clause-full : goal.returns-in_err-joined-clause-full
+returns-in_err-joined-clause-full g c = λ h is.
+    let here = (goal.at.returns-in_err-joined-clause-full g c).After-join_segments in
+    let refused : IsErrOf c.join_segments.result Full = search rules in
+    let long = c.join_segments.ensures.full h (there g here h) (few_slots g here) refused in
+    (long.0, old_slots g here (doc long.0) long.1, long.2)
 
 pub returns-clause-any_moment : goal.returns-clause-any_moment
 returns-clause-any_moment g c = λ h. moments_now g (goal.at.returns-clause-any_moment g c).After-join_segments h

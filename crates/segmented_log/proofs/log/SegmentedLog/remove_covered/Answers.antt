@@ -1,11 +1,11 @@
-use Rattle.std.proofs.Common.{rules, ◌≡◌, ◌<◌, ◌+◌, ◌++◌, length, take, drop, suc, map, refl, sym, ◌∙◌, ap, subst, arith}
-use Rattle.std.specs.Prelude.{All, IsTrue, IsSome, None}
+use Rattle.std.proofs.Common.{◌≡◌, ◌<◌, ◌+◌, ◌++◌, length, take, drop, suc, map, refl, sym, ◌∙◌, ap, subst, arith}
+use Rattle.std.specs.Prelude.{IsTrue, IsSome, None}
 use Rattle.std.proofs.lemmas.Bool.{OnFalse_at}
 use Rattle.std.proofs.lemmas.List.{length-map}
 use Rattle.std.proofs.lemmas.List.Elements.{All-take, All-drop, All-append, All-same}
-use Rattle.std.specs.List.{remove}
+use Rattle.std.specs.List.{Contains, remove}
 use Rattle.store_folder.specs.Moments.{LeavesOnly}
-use Rattle.store_folder.specs.Folder.{LosesFile, FilesElsewhere, Elsewhere}
+use Rattle.store_folder.specs.Folder.{LosesFile, FilesElsewhere}
 use Rattle.store_folder.specs.Moments.{ComesFrom}
 use Rattle.store_folder.proofs.Steps.{weaker}
 use Rattle.segmented_log.specs.Names.{segment_name}
@@ -13,9 +13,10 @@ use Rattle.segmented_log.specs.Parts.{Part, part_of, sealed_of, parts_of, log_sl
 use Rattle.segmented_log.specs.Log.{Holds, IsLog}
 use Rattle.segmented_log.specs.Settled.{IsSettledFolder}
 use Rattle.segmented_log.specs.Dropping.{LosesSegment}
-use Rattle.segmented_log.specs.Compacting.{IsCovered, ChangesSegments}
+use Rattle.segmented_log.specs.Compacting.{slots_in, IsCovered, ChangesSegments}
 use Rattle.segmented_log.proofs.CompactLemmas.{changes_removed, segment_there}
 use Rattle.segmented_log.proofs.RunOfParts.{covered_moved, view_parts, covered_is, covered_left, without, covered_same, covered_log, covered_folder}
+use Rattle.segmented_log.proofs.SlotLemmas.{in_left}
 use Rattle.segmented_log.proofs.log.SegmentedLog.remove_covered.Goals as goal
 
 pub returns-in_err-remove_segment-clause-any_moment : goal.returns-in_err-remove_segment-clause-any_moment
@@ -106,6 +107,19 @@ returns-clause-slots g c = λ h.
     let left : map (λ s. part_of s.first s.reader) c.remove.new.self.items ≡ without v = ap (λ l. map (λ s. part_of s.first s.reader) l) items ∙ covered_left (λ s. part_of s.first s.reader) log.segments.items log.first c.args.place v in
     ap (λ l. log_slots log.first l log.tail.items) left
     ∙ covered_same log.first segments log.tail.items c.args.place v f.parts ∙ ap (λ w. w.slots) c.self.view_is
+
+pub returns-in_err-remove_segment-clause-none_new : goal.returns-in_err-remove_segment-clause-none_new
+returns-in_err-remove_segment-clause-none_new g c = λ slot has. subst (λ v. Contains (slots_in (parts_of v.segments)) slot) c.self.view_is has
+
+pub returns-clause-none_new : goal.returns-clause-none_new
+returns-clause-none_new g c = λ slot has.
+    let items = c.self.inside.segments.items in
+    let next : c.args.place + 1 ≡ suc c.args.place = omega arith in
+    let left : c.remove.new.self.items ≡ take c.args.place items ++ drop (suc c.args.place) items = c.remove.ensures.by_index.2 ∙ ap (λ n. take c.args.place items ++ drop n items) next in
+    let now = view_parts (λ s. sealed_of s.first s.reader) (λ s. part_of s.first s.reader) (λ s. refl) c.remove.new.self.items ∙ ap (λ l. map (λ s. part_of s.first s.reader) l) left in
+    let was = view_parts (λ s. sealed_of s.first s.reader) (λ s. part_of s.first s.reader) (λ s. refl) items in
+    subst (λ v. Contains (slots_in (parts_of v.segments)) slot) c.self.view_is
+    (subst (λ l. Contains (slots_in l) slot) (sym was) (in_left (λ s. part_of s.first s.reader) slot c.args.place items (subst (λ l. Contains (slots_in l) slot) now has)))
 
 pub invariant_of-self-2 : goal.invariant_of-self-2
 invariant_of-self-2 g c = (

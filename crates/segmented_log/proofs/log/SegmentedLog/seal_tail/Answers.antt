@@ -3,8 +3,10 @@ use Rattle.std.proofs.lemmas.Result.{on_ok_weaker}
 use Rattle.store_folder.specs.Moments.{LeavesOnly}
 use Rattle.store_folder.proofs.Steps.{joined}
 use Rattle.store_base.proofs.ListLemmas.{risen_later}
+use Rattle.record_log.specs.declared.error.LogError.TheVariants.{Full}
+use Rattle.record_log.specs.Causes.{IsFault}
 use Rattle.segmented_log.specs.Log.{IsLog}
-use Rattle.segmented_log.proofs.CauseLemmas.{if_seals, never_full}
+use Rattle.segmented_log.proofs.CauseLemmas.{if_seals, never}
 use Rattle.segmented_log.proofs.log.SegmentedLog.seal_tail.Goals as goal
 
 pub returns-clause-any_moment : goal.returns-clause-any_moment
@@ -25,7 +27,7 @@ pub returns-clause-failed : goal.returns-clause-failed
 returns-clause-failed g c = λ h is. inl (risen_later _ _ _ c.publish_unsealed.ensures.failures (c.empty_tail.ensures.failed is))
 
 pub returns-clause-full : goal.returns-clause-full
-returns-clause-full g c = λ h is. absurd (never_full c.empty_tail.result c.empty_tail.ensures.kind is)
+returns-clause-full g c = λ h is. absurd (never IsFault Full (λ of. of) c.empty_tail.result c.empty_tail.ensures.kind is)
 
 pub returns-clause-kind : goal.returns-clause-kind
 returns-clause-kind g c = if_seals c.empty_tail.result c.empty_tail.ensures.kind

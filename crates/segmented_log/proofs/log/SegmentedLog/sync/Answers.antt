@@ -5,12 +5,13 @@ use Rattle.std.proofs.lemmas.Result.{on_ok_weaker}
 use Rattle.store_folder.proofs.Steps.{joined, weaker}
 use Rattle.store_format.specs.Block.{doc}
 use Rattle.store_base.proofs.ListLemmas.{risen_later}
-use Rattle.segmented_log.specs.declared.error.LogError.TheVariants.{Failed, Full}
+use Rattle.record_log.specs.declared.error.LogError.TheVariants.{Failed, Full}
+use Rattle.record_log.specs.Causes.{IsFault}
 use Rattle.segmented_log.specs.Names.{segment_name}
 use Rattle.segmented_log.specs.Causes.{HasNoRoomForLast}
 use Rattle.segmented_log.specs.Log.{IsLog, KeepsOrAdds}
 use Rattle.segmented_log.proofs.NameLemmas.{segment_no_tail}
-use Rattle.segmented_log.proofs.CauseLemmas.{never_full}
+use Rattle.segmented_log.proofs.CauseLemmas.{never}
 use Rattle.segmented_log.proofs.SyncLemmas.{nothing_pending, always_ok}
 use Rattle.segmented_log.proofs.log.SegmentedLog.sync.Goals as goal
 
@@ -52,7 +53,7 @@ returns-in_err-write_pending-clause-failed g c = λ h is.
 pub returns-in_err-write_pending-clause-full : goal.returns-in_err-write_pending-clause-full
 returns-in_err-write_pending-clause-full g c = λ h is.
     let full : IsErrOf c.write_pending.result Full = search rules in
-    absurd (never_full c.write_pending.result c.write_pending.ensures.kind full)
+    absurd (never IsFault Full (λ of. of) c.write_pending.result c.write_pending.ensures.kind full)
 
 pub returns-clause-failed : goal.returns-clause-failed
 returns-clause-failed g c = λ h is.
