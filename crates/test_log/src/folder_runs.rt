@@ -1,7 +1,8 @@
 //! Lists of calls on logs in folders that crash, from restart to restart, beside a plain list.
 
 use crate::crash::Dice;
-use crate::torn_logs::{Log, SEAL_SIZE, crashed, has};
+use crate::torn_drops::has_from;
+use crate::torn_logs::{Log, SEAL_SIZE, crashed};
 use crate::watched::Watched;
 use segmented_log::{Call, call_all, open_and_call};
 use std::alloc::{AllocError, Global};
@@ -16,14 +17,18 @@ const CALLS: usize = 8;
 const CRASHES: usize = 2;
 
 // A run of processes: the records that were found or appended, how many of them there were at the opening and at each
-// sync since, and how many crashes left some of the batches.
+// sync since, the number of the first at the opening and the one that drops may make it at most, how many crashes left
+// some of the batches, and how many left a log without some of its first records.
 #[derive(Drop)]
 struct Run {
     alloc: Global,
     dice: Dice,
     records: Vec<Vec<u8>>,
     ends: Vec<usize>,
+    first: u64,
+    limit: u64,
     partial: usize,
+    dropped: usize,
 }
 
 // Opens a folder's log and makes calls.
@@ -43,14 +48,24 @@ impl Run {
         Ok(record)
     }
 
+    // A number to drop before. No drop takes a record that is synced after it.
+    fn number(&mut self) -> u64 {
+        let number = self.records.len().saturating_sub(self.dice.roll(4)) as u64;
+        let end = self.ends.last().copied().unwrap_or(0) as u64;
+        self.limit = self.limit.max(number.min(end));
+        number
+    }
+
     // The next call, noted beside the log.
     fn call(&mut self) -> Result<Call, AllocError> {
-        match self.dice.roll(7) {
-            0 => Ok(Call::Seal),
+        match self.dice.roll(10) {
+            0 | 5 => Ok(Call::Seal),
             1 | 2 => {
                 self.ends.push(self.records.len())?;
                 Ok(Call::Sync)
             }
+            3 => Ok(Call::Compact(self.dice.roll(400) as u64)),
+            4 => Ok(Call::DropBefore(self.number())),
             _ => {
                 let record = self.record()?;
                 self.records.push(record.to_vec(self.alloc)?)?;
@@ -67,10 +82,16 @@ impl Run {
         Ok(calls)
     }
 
-    // How many records the log has, if they are those up to a sync, this one or a later one.
+    // The number where the log ends, if it has just the records up to a sync, this one or a later one, and of the first
+    // it lacks only those that may be dropped.
     fn found(&self, log: &mut Log, sync: usize) -> Option<usize> {
+        let first = log.first();
+        if first < self.first || first > self.limit {
+            return None;
+        }
         for end in self.ends.iter().skip(sync) {
-            if has(log, &self.records, *end) {
+            let all = self.records.get(..*end)?;
+            if has_from(log, all, first) {
                 return Some(*end);
             }
         }
@@ -84,6 +105,9 @@ impl Run {
         let found = self.found(&mut log, sync);
         if found > self.ends.first().copied() && found < self.ends.last().copied() {
             self.partial = self.partial.saturating_add(1);
+        }
+        if log.first() > self.first {
+            self.dropped = self.dropped.saturating_add(1);
         }
         Ok(found.is_some())
     }
@@ -122,6 +146,8 @@ impl Run {
         self.records.truncate(found);
         self.ends.clear();
         self.ends.push(found)?;
+        self.first = log.first();
+        self.limit = self.first;
         Ok(Some(log.into_folder()))
     }
 
@@ -145,14 +171,18 @@ impl Run {
     }
 }
 
-// Runs processes, each on what a crash of the one before it left. How many crashes left some of the batches.
-fn play(alloc: Global, seed: u64) -> Result<Option<usize>, Fail> {
+// Runs processes, each on what a crash of the one before it left. How many crashes left some of the batches, and how
+// many a log without some of its first records.
+fn play(alloc: Global, seed: u64) -> Result<Option<(usize, usize)>, Fail> {
     let mut run = Run {
         alloc,
         dice: Dice::new(seed),
         records: Vec::new(alloc),
         ends: Vec::new(alloc),
+        first: 0,
+        limit: 0,
         partial: 0,
+        dropped: 0,
     };
     run.ends.push(0)?;
     let mut folder = Watched::new(alloc);
@@ -162,16 +192,16 @@ fn play(alloc: Global, seed: u64) -> Result<Option<usize>, Fail> {
             None => return Ok(None),
         }
     }
-    Ok(Some(run.partial))
+    Ok(Some((run.partial, run.dropped)))
 }
 
 #[test]
 fn processes_that_crash_leave_whole_batches(rt: HostRuntime) -> Result<(), Fail> {
     for seed in 0..2 {
-        let partial = play(rt.alloc(), seed)?;
+        let left = play(rt.alloc(), seed)?;
         assert!(rt;
-            partial.is_some_and(|partial| partial > 0),
-            "{partial:?} {seed}"
+            left.is_some_and(|(partial, dropped)| partial > 0 && dropped > 0),
+            "{left:?} {seed}"
         );
     }
     Ok(())

@@ -76,8 +76,8 @@ pub fn is_record(log: &mut Log, number: usize, expected: Option<&Vec<u8>>) -> bo
     }
 }
 
-/// Whether the log has just the first of these records, this many.
-pub fn has(log: &mut Log, records: &[Vec<u8>], count: usize) -> bool {
+// Whether the log has just the first of these records, this many.
+fn has(log: &mut Log, records: &[Vec<u8>], count: usize) -> bool {
     if log.first() != 0 || log.len() != count as u64 {
         return false;
     }
