@@ -3,9 +3,20 @@
 use docstore::{Compressor, MemSink, StoreError, StoreWriter};
 use std::alloc::Global;
 use std::test::Fail;
-use store_merge::merge;
+use store_merge::{MergeError, merge};
 use test_support::making::{closed, is_found, opened_bytes, written};
 use test_support::merge_inputs::{inputs, six_blocks};
+
+/// The file of a writer after a merge that ended well.
+pub fn file_of(
+    writer: StoreWriter<MemSink>,
+    merged: Result<(), MergeError>,
+) -> Result<Vec<u8>, StoreError> {
+    match merged {
+        Ok(()) => Ok(closed(writer)?.into_bytes()),
+        Err(refusal) => Err(refusal.error),
+    }
+}
 
 // The file of a merge of these files' stores, each without the documents that are deleted in it.
 fn merged(alloc: Global, files: &[(&[u8], &[u32])]) -> Result<Vec<u8>, StoreError> {
@@ -13,10 +24,7 @@ fn merged(alloc: Global, files: &[(&[u8], &[u32])]) -> Result<Vec<u8>, StoreErro
     let mut writer = StoreWriter::new(alloc, MemSink::new(alloc), Compressor::None, 16384);
     let merged = merge(alloc, &mut writer, &mut inputs);
     drop(inputs);
-    match merged {
-        Ok(()) => Ok(closed(writer)?.into_bytes()),
-        Err(refusal) => Err(refusal.error),
-    }
+    file_of(writer, merged)
 }
 
 #[test]

@@ -1,5 +1,6 @@
 //! Stores stacked a part of their data at a time, alone and by a merge.
 
+use crate::merging::file_of;
 use docstore::{Compressor, MemSink, StoreError, StoreWriter};
 use std::alloc::Global;
 use std::test::Fail;
@@ -44,10 +45,7 @@ fn merged_in_parts(alloc: Global, files: &[(&[u8], &[u32])]) -> Result<Vec<u8>, 
     let mut writer = StoreWriter::new(alloc, MemSink::new(alloc), Compressor::None, 16384);
     let merged = merge_in_parts(alloc, &mut writer, &mut inputs, 18);
     drop(inputs);
-    match merged {
-        Ok(()) => Ok(closed(writer)?.into_bytes()),
-        Err(refusal) => Err(refusal.error),
-    }
+    file_of(writer, merged)
 }
 
 #[test]
