@@ -1,6 +1,7 @@
 //! The store of a segment, made of others.
 
-ghost use Rattle.std.specs.Prelude.{◌≡◌, ◌⊎◌, ◌≤◌, ◌<◌, ◌^◌, ◌++◌, ℕ, List, All, IsTrue, IfOk, IfErr, OnOk, IsErrOf, map};
+ghost use Rattle.std.specs.Prelude.{◌≡◌, ◌⊎◌, ◌≤◌, ◌<◌, ◌^◌, ◌++◌, ℕ};
+ghost use Rattle.std.specs.Prelude.{List, All, IsTrue, IfOk, IfErr, OnOk, IsErrOf, map};
 ghost use Rattle.std.specs.Prelude.{length};
 ghost use Rattle.std.specs.List.{AllByRecursion, Contains, flat_map};
 ghost use Rattle.store_folder.specs.Moments.{ComesFrom, LeavesOnly};
