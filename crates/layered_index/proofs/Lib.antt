@@ -6,6 +6,7 @@ pub mod IndexLemmas
 pub mod LayerLemmas
 pub mod GrowthLemmas
 pub mod BlockReadingLemmas
+pub mod FrontLemmas
 pub mod StepLemmas
 pub mod SkipLemmas
 pub mod DeserializeLemmas

@@ -10,40 +10,33 @@ use Rattle.layered_index.specs.declared.fault.ReadFault.{ReadFault}
 use Rattle.layered_index.specs.declared.fault.ReadFault.TheVariants.{Malformed, OutOfMemory}
 use Rattle.layered_index.specs.IndexReading.{numbers_at, texts_at, ends_at, split_at}
 use Rattle.layered_index.specs.Refusal.{Fails}
+use Rattle.layered_index.proofs.FrontLemmas.{with_front, regroup}
 
 -- ---- numbers
 
--- what was read before, and what is still read
-abbrev pub with_numbers : List ℕ → Option (List ℕ × List ℕ) → Option (List ℕ × List ℕ)
-with_numbers front read = read >>= λ x. Some (front ++ x.0, x.1)
-
-regroup : (front : List ℕ) (n : ℕ) (read : Option (List ℕ × List ℕ)) → with_numbers front (read >>= λ x. Some (n ∷ x.0, x.1)) ≡ with_numbers (front ++ n ∷ []) read
-regroup front n (Some x) = ap (λ (ns : List ℕ). Some (ns, x.1)) (simp append_assoc)
-regroup front n None = refl
-
 pub number_goes_on : (front : List ℕ) (count i : ℕ) (bytes : List ℕ) (n : ℕ) (after : List ℕ) (total : Option (List ℕ × List ℕ)) → i < count → number_below (2 ^ 64) bytes ≡ Some (n, after)
-    → with_numbers front (numbers_at (count - i) bytes) ≡ total → with_numbers (front ++ n ∷ []) (numbers_at (count - (i + 1)) after) ≡ total
+    → with_front front (numbers_at (count - i) bytes) ≡ total → with_front (front ++ n ∷ []) (numbers_at (count - (i + 1)) after) ≡ total
 unfolding numbers_at
 number_goes_on front count i bytes n after total lt h so_far =
     let k : count - i ≡ suc (count - (i + 1)) = omega arith in
-    let one : with_numbers front (numbers_at (count - i) bytes) ≡ with_numbers (front ++ n ∷ []) (numbers_at (count - (i + 1)) after) =
+    let one : with_front front (numbers_at (count - i) bytes) ≡ with_front (front ++ n ∷ []) (numbers_at (count - (i + 1)) after) =
     rw (k, h) (regroup front n (numbers_at (count - (i + 1)) after)) in
     sym one ∙ so_far
 
 pub number_ends : (front : List ℕ) (count i : ℕ) (bytes : List ℕ) (total : Option (List ℕ × List ℕ)) → i < count → number_below (2 ^ 64) bytes ≡ None
-    → with_numbers front (numbers_at (count - i) bytes) ≡ total → total ≡ None
+    → with_front front (numbers_at (count - i) bytes) ≡ total → total ≡ None
 unfolding numbers_at
 number_ends front count i bytes total lt h so_far =
     let k : count - i ≡ suc (count - (i + 1)) = omega arith in
-    let one : with_numbers front (numbers_at (count - i) bytes) ≡ None = rw (k, h) refl in
+    let one : with_front front (numbers_at (count - i) bytes) ≡ None = rw (k, h) refl in
     sym so_far ∙ one
 
-pub numbers_done : (front : List ℕ) (count i : ℕ) (bytes : List ℕ) (total : Option (List ℕ × List ℕ)) → count ≤ i → with_numbers front (numbers_at (count - i) bytes) ≡ total
+pub numbers_done : (front : List ℕ) (count i : ℕ) (bytes : List ℕ) (total : Option (List ℕ × List ℕ)) → count ≤ i → with_front front (numbers_at (count - i) bytes) ≡ total
     → total ≡ Some (front, bytes)
 unfolding numbers_at
 numbers_done front count i bytes total le so_far =
     let k : count - i ≡ 0 = omega arith in
-    let one : with_numbers front (numbers_at (count - i) bytes) ≡ Some (front, bytes) = rw k (ap (λ (ns : List ℕ). Some (ns, bytes)) (append-nil front)) in
+    let one : with_front front (numbers_at (count - i) bytes) ≡ Some (front, bytes) = rw k (ap (λ (ns : List ℕ). Some (ns, bytes)) (append-nil front)) in
     sym so_far ∙ one
 
 -- ---- texts

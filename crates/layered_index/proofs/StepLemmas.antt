@@ -1,17 +1,9 @@
 -- Reading checkpoints one after the other, as a loop does.
-use Rattle.std.proofs.Common.{◌≡◌, ℕ, suc, ◌-◌, ◌+◌, ◌≤◌, ◌<◌, List, [], ◌∷◌, ◌++◌, Option, Some, None, refl, sym, ap, ◌∙◌, append_assoc, arith}
+use Rattle.std.proofs.Common.{◌≡◌, ℕ, suc, ◌-◌, ◌+◌, ◌≤◌, ◌<◌, List, [], ◌∷◌, ◌++◌, Option, Some, None, refl, sym, ap, ◌∙◌, arith}
 use Rattle.std.proofs.lemmas.List.{append-nil}
-use Rattle.store_base.specs.VInt.{◌>>=◌}
 use Rattle.layered_index.specs.declared.checkpoint.Checkpoint.{Checkpoint}
 use Rattle.layered_index.specs.BlockReading.{step_at, steps_at}
-
--- what was read before, and what is still read
-abbrev pub with_front : List Checkpoint → Option (List Checkpoint × List ℕ) → Option (List Checkpoint × List ℕ)
-with_front front read = read >>= λ x. Some (front ++ x.0, x.1)
-
-regroup : (front : List Checkpoint) (c : Checkpoint) (read : Option (List Checkpoint × List ℕ)) → with_front front (read >>= λ x. Some (c ∷ x.0, x.1)) ≡ with_front (front ++ c ∷ []) read
-regroup front c (Some x) = ap (λ (cs : List Checkpoint). Some (cs, x.1)) (simp append_assoc)
-regroup front c None = refl
+use Rattle.layered_index.proofs.FrontLemmas.{with_front, regroup}
 
 pub goes_on : (front : List Checkpoint) (count i doc byte : ℕ) (bytes : List ℕ) (c : Checkpoint) (after : List ℕ) (total : Option (List Checkpoint × List ℕ)) → i < count
     → step_at doc byte bytes ≡ Some (c, after)

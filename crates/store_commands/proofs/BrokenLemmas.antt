@@ -10,7 +10,7 @@ use Rattle.store_format.specs.declared.footer.DocStoreFooter.{DocStoreFooter}
 use Rattle.store_format.specs.Extraction.{ExtractsFooter, Says, SaysFrom}
 use Rattle.store_commands.specs.declared.broken_part.BrokenPart.{BrokenPart}
 use Rattle.store_commands.specs.BrokenParts.{BreaksBefore, BreaksFile}
-use Rattle.store_commands.specs.FileReads.{IsFileReadAtMost}
+use Rattle.layered_index.specs.IndexHeads.{ReadsAtMost}
 
 record IsSaid (file mid : Part) (footer : DocStoreFooter) : Type 0 where
   says : Says (slice_range file.content (length file.content - 28) (length file.content)) (Ok footer)
@@ -45,9 +45,9 @@ has_footer file mid footer h = (elim (nat_lt (length file.content) 28) as (λ b.
 ]) refl
 
 -- what the read of a footer leaves of a file
-pub footer_read : (file mid : Part) (r : Result DocStoreFooter StoreError) → ExtractsFooter file r mid → IsFileReadAtMost 1 28 file mid
-footer_read file mid r h = (elim (nat_lt (length file.content) 28) as (λ b. nat_lt (length file.content) 28 ≡ b → IsFileReadAtMost 1 28 file mid) [
-  | true ↦ λ t. subst (IsFileReadAtMost 1 28 file) (sym (h.short (ltb-true _ _ t)).1)
+pub footer_read : (file mid : Part) (r : Result DocStoreFooter StoreError) → ExtractsFooter file r mid → ReadsAtMost 1 28 file mid
+footer_read file mid r h = (elim (nat_lt (length file.content) 28) as (λ b. nat_lt (length file.content) 28 ≡ b → ReadsAtMost 1 28 file mid) [
+  | true ↦ λ t. subst (ReadsAtMost 1 28 file) (sym (h.short (ltb-true _ _ t)).1)
       (record { content = refl; honest = refl; reads = omega arith; asked = omega arith; failures = omega arith })
   | false ↦ λ t.
       let le = ltb-false _ _ t in let once = (h.long le).1.once in
@@ -65,23 +65,3 @@ footer_steady file mid r h = (elim (nat_lt (length file.content) 28) as (λ b. n
     by (Ok bytes) (inl bad) says = absurd cc
     by (Err e) (inl is) says = inl (cc)
     by came (inr same) says = inr same
-
--- two reads after each other
-pub read_twice : (a b n m : ℕ) (old mid new : Part) → IsFileReadAtMost a n old mid → IsFileReadAtMost b m mid new → IsFileReadAtMost (a + b) (n + m) old new
-read_twice a b n m old mid new p q = record {
-  content = q.content ∙ p.content;
-  honest = q.honest ∙ p.honest;
-  reads = omega (arith, p.reads, q.reads);
-  asked = omega (arith, p.asked, q.asked);
-  failures = omega (arith, p.failures, q.failures);
-}
-
--- and so at most as often, and for no more bytes
-pub read_most : (a b n m : ℕ) (old new : Part) → a ≤ b → n ≤ m → IsFileReadAtMost a n old new → IsFileReadAtMost b m old new
-read_most a b n m old new times bytes p = record {
-  content = p.content;
-  honest = p.honest;
-  reads = omega (arith, p.reads);
-  asked = omega (arith, p.asked);
-  failures = p.failures;
-}

@@ -4,7 +4,6 @@ pub mod BrokenParts
 pub mod Checks
 pub mod Damaged
 pub mod Documents
-pub mod FileReads
 pub mod Giving
 pub mod IdRanges
 pub mod Laws

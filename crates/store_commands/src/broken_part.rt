@@ -2,7 +2,7 @@
 
 ghost use Rattle.std.specs.Prelude.{◌≡◌, ◌≢◌, ◌≤◌, ◌-◌, ◌⊎◌, Ok, Err, IsTrue, IfOk, IfErr, IsErrOf, length};
 ghost use Rattle.store_commands.specs.BrokenParts.{BreaksBefore, BreaksFile, IsOfFooter};
-ghost use Rattle.store_commands.specs.FileReads.{IsFileReadAtMost};
+ghost use Rattle.layered_index.specs.IndexHeads.{ReadsAtMost};
 
 use crate::store_part::part_of;
 use docstore::{
@@ -60,7 +60,7 @@ fn part_before<H: FileHandle>(
     ensures breaks { IsTrue file.old.honest → IfOk result (BreaksBefore file.old.content footer.now) }
     ensures causes { IfErr result (λ e. (e ≡ StoreError.Read) ⊎ (e ≡ StoreError.Memory)) }
     ensures steady { IsErrOf result StoreError.Read ⊎ (file.new.failures ≡ file.old.failures) }
-    ensures kept { IsFileReadAtMost 1 (length file.old.content - 28) file.old file.new }
+    ensures kept { ReadsAtMost 1 (length file.old.content - 28) file.old file.new }
 {
     let end = file.len() - FOOTER_LEN;
     let part = part_of(alloc, file, footer.offset, end)?;
@@ -84,7 +84,7 @@ fn part_before_footer<H: FileHandle>(
 ) -> Result<BrokenPart, StoreError>
     ensures breaks { IsTrue file.old.honest → IfOk result (BreaksFile file.old.content) }
     ensures steady { IsErrOf result StoreError.Read ⊎ (file.new.failures ≡ file.old.failures) }
-    ensures kept { IsFileReadAtMost 2 (length file.old.content) file.old file.new }
+    ensures kept { ReadsAtMost 2 (length file.old.content) file.old file.new }
 {
     let footer = read_footer(file, alloc)?;
     part_before(alloc, &footer, file)
@@ -105,7 +105,7 @@ pub fn broken_part<H: FileHandle>(
     ensures memory { error ≡ StoreError.Memory → result ≡ Err StoreError.Memory }
     ensures no_read { error ≢ StoreError.BadIndex → file.new ≡ file.old }
     ensures steady { IsErrOf result StoreError.Read ⊎ (file.new.failures ≡ file.old.failures) }
-    ensures kept { IsFileReadAtMost 2 (length file.old.content) file.old file.new }
+    ensures kept { ReadsAtMost 2 (length file.old.content) file.old file.new }
 {
     match error {
         StoreError::Read | StoreError::Memory => Err(error),

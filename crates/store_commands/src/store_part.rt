@@ -2,7 +2,7 @@
 
 ghost use Rattle.std.specs.Prelude.{◌≡◌, ◌≢◌, ◌<◌, ◌≤◌, ◌-◌, ◌^◌, ◌⊎◌, ℕ, Err, IfOk, IfErr, IsErrOf};
 ghost use Rattle.std.specs.Prelude.{MatchOption, length};
-ghost use Rattle.store_commands.specs.FileReads.{IsFileReadAtMost};
+ghost use Rattle.layered_index.specs.IndexHeads.{ReadsAtMost};
 ghost use Rattle.store_format.specs.FileReading.{Comes};
 ghost use Rattle.store_commands.specs.Tails.{IsNoRange, tail_of, IsCutOff, RefusesTail};
 ghost use Rattle.store_commands.specs.Tails.{HasLooked, FailsLook, IsStoreIn};
@@ -28,7 +28,7 @@ pub fn part_of<H: FileHandle>(
         → (result ≡ Err StoreError.Read) × (file.new ≡ file.old) }
     ensures causes { IfErr result (λ e. (e ≡ StoreError.Read) ⊎ (e ≡ StoreError.Memory)) }
     ensures steady { IsErrOf result StoreError.Read ⊎ (file.new.failures ≡ file.old.failures) }
-    ensures kept { IsFileReadAtMost 1 (end - start) file.old file.new }
+    ensures kept { ReadsAtMost 1 (end - start) file.old file.new }
 {
     if start > end || end > file.len() {
         return Err(StoreError::Read);

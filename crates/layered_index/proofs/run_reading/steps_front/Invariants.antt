@@ -1,6 +1,6 @@
 use Rattle.std.proofs.Common.{◌≡◌, ◌-◌}
 use Rattle.layered_index.specs.BlockReading.{steps_at}
-use Rattle.layered_index.proofs.StepLemmas.{with_front}
+use Rattle.layered_index.proofs.FrontLemmas.{with_front}
 use Rattle.layered_index.proofs.run_reading.steps_front.Given as goal
 
 abbrev pub invariant-loop : goal.invariant-loop
