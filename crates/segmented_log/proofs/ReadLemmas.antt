@@ -75,6 +75,15 @@ found_at f xs i number n x within is before now line le =
     let found = slot_found n (map f xs) i number (f x) line le (omega (arith, within, length-map xs f)) passed (subst (λ (p : Part). number < end_of p) (sym here) now) in
     subst (λ (p : Part). (p.first ≤ number) × (slice_get (joined n (map f xs)) (number - n) ≡ slice_get p.slots (number - p.first))) here found
 
+-- the same for one that a search found in a list that is the same
+pub held_at : {X : Type 0} (f : X → Part) (xs seen : List X) (i number n : ℕ) (x : X) → seen ≡ xs → i < length xs → x ≡ get_or xs i x → All (λ y. end_of (f y) ≤ number) (take i seen)
+    → number < end_of (f (get_or seen i x)) → AreInLine n (map f xs) → n ≤ number
+    → (number < end_of (f x)) × ((f x).first ≤ number) × (slice_get (joined n (map f xs)) (number - n) ≡ slice_get (f x).slots (number - (f x).first))
+held_at {X} f xs seen i number n x same within is before found line le =
+    let passed = subst (λ (ys : List X). All (λ y. end_of (f y) ≤ number) (take i ys)) same before in
+    let ends : number < end_of (f x) = subst (λ (y : X). number < end_of (f y)) (sym is) (subst (λ (ys : List X). number < end_of (f (get_or ys i x))) same found) in
+    (ends, found_at f xs i number n x within is passed ends line le)
+
 -- a thing is replaced that stands for the same
 pub same_map : {X Y : Type 0} (f : X → Y) (xs : List X) (i : ℕ) (new old : X) → i < length xs → old ≡ get_or xs i old → f new ≡ f old → map f (set xs i new) ≡ map f xs
 same_map {X} {Y} f xs i new old within is same =

@@ -22,7 +22,7 @@ use crate::block_slices::BlockSlices;
 use crate::document_reading::read_bytes;
 use crate::opening::{footer_of, index_range};
 use crate::slice_documents::SliceDocuments;
-use layered_index::{IndexSlice, LayerCursor, Steps};
+use layered_index::{Checkpoint, IndexSlice, LayerCursor, Steps};
 use std::alloc::Global;
 use std::marker::Model;
 use std::ops::Range;
@@ -115,6 +115,29 @@ impl<'a> StoreSlice<'a> {
         let Some(checkpoint) = self.index.seek_counted(doc_id, steps)? else {
             return Err(StoreError::InvalidArgument(doc_id));
         };
+        self.found_block(doc_id, checkpoint)
+    }
+
+    // The block of the checkpoint that the index gives for a document. It returns `BadIndex` where the documents or the
+    // bytes of that checkpoint can't be the block's.
+    #[inline(always)]
+    fn found_block(
+        &self,
+        doc_id: DocId,
+        checkpoint: Checkpoint,
+    ) -> Result<BlockSlice<'a>, StoreError>
+        requires has { doc_id < checkpoint.doc_range.end }
+        requires order { checkpoint.byte_range.start ≤ checkpoint.byte_range.end }
+        ensures block { (s : IsSomeStore self.now) → first_past (checkpoints_of s.blocks) doc_id ≡ Some checkpoint
+            → IsOkAnd result (λ b. (id : ℕ) → b.first ≤ id → id < b.end
+            → IsBlockSlice self.now s id b.first b.end b.start b.bytes.now) }
+        ensures has { IfOk result (λ b. (b.first ≤ doc_id) × (doc_id < b.end)) }
+        ensures docs_end { IfOk result (λ b. b.end ≡ checkpoint.doc_range.end) }
+        ensures part { IfOk result (λ b. b.bytes.now ≡ slice_range self.now b.start (b.start + length b.bytes.now)) }
+        ensures within { IfOk result (λ b. b.start + length b.bytes.now ≤ length self.now) }
+        ensures fits { IfOk result (λ b. b.start + length b.bytes.now < 2 ^ 64) }
+        ensures refused { IfErr result (λ e. e ≡ StoreError.BadIndex) }
+    {
         let docs = checkpoint.doc_range;
         let bytes = checkpoint.byte_range;
         if doc_id < docs.start || self.data_len < bytes.end {
@@ -254,18 +277,8 @@ impl<'a> StoreSlice<'a> {
         let Some((checkpoint, checkpoints)) = self.index.seek_on(doc_id)? else {
             return Err(StoreError::InvalidArgument(doc_id));
         };
-        let docs = checkpoint.doc_range;
-        let bytes = checkpoint.byte_range;
-        if docs.start > doc_id || bytes.end > self.data_len {
-            return Err(StoreError::BadIndex);
-        }
-        let block = BlockSlice {
-            first: docs.start,
-            end: docs.end,
-            start: bytes.start,
-            bytes: part(self.file, bytes.start, bytes.end),
-        };
-        let blocks = BlockSlices::new(self.file, self.data_len, docs.end, checkpoints);
+        let block = self.found_block(doc_id, checkpoint)?;
+        let blocks = BlockSlices::new(self.file, self.data_len, block.end, checkpoints);
         Ok((block, blocks))
     }
 

@@ -4,7 +4,7 @@ use Rattle.segmented_log.specs.Parts.{part_of, sealed_of, end_of}
 use Rattle.segmented_log.specs.Log.{Gives}
 use Rattle.std.proofs.lemmas.List.{take_all}
 use Rattle.std.proofs.lemmas.List.Elements.{All-map}
-use Rattle.segmented_log.proofs.ReadLemmas.{found_at, same_map, slot_somewhere, risen_of_all}
+use Rattle.segmented_log.proofs.ReadLemmas.{held_at, same_map, slot_somewhere, risen_of_all}
 use Rattle.segmented_log.proofs.reading.get_from.Goals as goal
 
 pub returns-clause-parts : goal.returns-clause-parts
@@ -21,16 +21,12 @@ pub returns-clause-found : goal.returns-clause-found
 returns-clause-found g c = λ n honest line le below.
     let i = c.find_segment-i.result in
     let segments = c.args.segments.now.items in
-    let number = c.args.number in
     let x = c.index_mut-segment.result.now in
     let is : x ≡ get_or segments i x = c.index_mut-segment.ensures.value in
-    let within : i < length segments = omega arith in
-    let before = subst (λ l. All (λ s. end_of (part_of s.first s.reader) ≤ number) (take i l)) c.deref.ensures.value c.find_segment-i.ensures.before in
-    let ends : number < end_of (part_of x.first x.reader) = subst (λ y. number < end_of (part_of y.first y.reader)) (sym is)
-    (subst (λ l. number < end_of (part_of (get_or l i x).first (get_or l i x).reader)) c.deref.ensures.value (c.find_segment-i.ensures.found (omega arith) x)) in
-    let at = found_at (λ s. part_of s.first s.reader) segments i number n x within is before ends line le in
-    let true_file = subst (λ y. IsTrue y.reader.file.honest) (sym is) (honest i x within) in
-    subst (λ o. Gives o c.get_in.result) (sym at.1) (c.get_in.ensures.found true_file at.0 ends)
+    let held = held_at (λ s. part_of s.first s.reader) segments _ i c.args.number n x c.deref.ensures.value (omega arith) is c.find_segment-i.ensures.before
+    (c.find_segment-i.ensures.found (omega arith) x) line le in
+    let true_file = subst (λ y. IsTrue y.reader.file.honest) (sym is) (honest i x (omega arith)) in
+    subst (λ o. Gives o c.get_in.result) (sym held.1.1) (c.get_in.ensures.found true_file held.1.0 held.0)
 
 pub returns-then-i-len-clause-failed : goal.returns-then-i-len-clause-failed
 returns-then-i-len-clause-failed g c = λ n honest line le below is.
@@ -46,13 +42,9 @@ pub returns-clause-failed : goal.returns-clause-failed
 returns-clause-failed g c = λ n honest line le below refused.
     let i = c.find_segment-i.result in
     let segments = c.args.segments.now.items in
-    let number = c.args.number in
     let x = c.index_mut-segment.result.now in
     let is : x ≡ get_or segments i x = c.index_mut-segment.ensures.value in
-    let within : i < length segments = omega arith in
-    let before = subst (λ l. All (λ s. end_of (part_of s.first s.reader) ≤ number) (take i l)) c.deref.ensures.value c.find_segment-i.ensures.before in
-    let ends : number < end_of (part_of x.first x.reader) = subst (λ y. number < end_of (part_of y.first y.reader)) (sym is)
-    (subst (λ l. number < end_of (part_of (get_or l i x).first (get_or l i x).reader)) c.deref.ensures.value (c.find_segment-i.ensures.found (omega arith) x)) in
-    let at = found_at (λ s. part_of s.first s.reader) segments i number n x within is before ends line le in
-    let true_file = subst (λ y. IsTrue y.reader.file.honest) (sym is) (honest i x within) in
-    risen_of_all (λ s. s.reader.file.failures) segments i c.get_in.new.segment x within is (c.get_in.ensures.failed true_file at.0 ends refused)
+    let held = held_at (λ s. part_of s.first s.reader) segments _ i c.args.number n x c.deref.ensures.value (omega arith) is c.find_segment-i.ensures.before
+    (c.find_segment-i.ensures.found (omega arith) x) line le in
+    let true_file = subst (λ y. IsTrue y.reader.file.honest) (sym is) (honest i x (omega arith)) in
+    risen_of_all (λ s. s.reader.file.failures) segments i c.get_in.new.segment x (omega arith) is (c.get_in.ensures.failed true_file held.1.0 held.0 refused)
