@@ -44,16 +44,6 @@ has_footer file mid footer h = (elim (nat_lt (length file.content) 28) as (λ b.
   | false ↦ λ t. let le = ltb-false _ _ t in let long = h.long le in omega (arith, ap length long.1.once.content)
 ]) refl
 
--- what the read of a footer leaves of a file
-pub footer_read : (file mid : Part) (r : Result DocStoreFooter StoreError) → ExtractsFooter file r mid → ReadsAtMost 1 28 file mid
-footer_read file mid r h = (elim (nat_lt (length file.content) 28) as (λ b. nat_lt (length file.content) 28 ≡ b → ReadsAtMost 1 28 file mid) [
-  | true ↦ λ t. subst (ReadsAtMost 1 28 file) (sym (h.short (ltb-true _ _ t)).1)
-      (record { content = refl; honest = refl; reads = omega arith; asked = omega arith; failures = omega arith })
-  | false ↦ λ t.
-      let le = ltb-false _ _ t in let once = (h.long le).1.once in
-      record { content = once.content; honest = once.honest; reads = omega (arith, once.reads); asked = omega (arith, once.asked); failures = once.failures }
-]) refl
-
 -- a footer that isn't read: only a failed read is counted
 pub footer_steady : (file mid : Part) (r : Result DocStoreFooter StoreError) → ExtractsFooter file r mid → (r ≡ Err Read) ⊎ (mid.failures ≡ file.failures)
 footer_steady file mid r h = (elim (nat_lt (length file.content) 28) as (λ b. nat_lt (length file.content) 28 ≡ b → (r ≡ Err Read) ⊎ (mid.failures ≡ file.failures)) [
