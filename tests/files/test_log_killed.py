@@ -47,11 +47,11 @@ class Killed(ProgramCase):
         start = self.ends[count - 1] if count else 0
         self.write("input", self.text[start:self.ends[count + MORE - 1]])
 
-    def append_until(self, count, seen):
+    def append_until(self, count, seen, *words):
         """Appends records after this many, ends that once this many numbers were seen, and returns how many records had
         theirs printed."""
         self.input_from(count)
-        with subprocess.Popen([self.program.path, *self.WORDS, "input"], cwd=self.folder,
+        with subprocess.Popen([self.program.path, *self.WORDS, *words, "input"], cwd=self.folder,
                               stdout=subprocess.PIPE) as writing:
             printed = b"".join(writing.stdout.readline() for _ in range(seen))
             writing.kill()
@@ -61,13 +61,20 @@ class Killed(ProgramCase):
         return count + len(numbers)
 
     def test_no_acknowledged_record_is_lost(self):
+        self.kill_at(MOMENTS)
+
+    def test_no_acknowledged_record_is_lost_with_two_syncs(self):
+        self.kill_at(MOMENTS // 4, "--two-syncs")
+
+    def kill_at(self, moments, *words):
+        """Appends with these words too, and kills the process at that many moments."""
         count = killed_in_the_midst = segments = 0
-        for moment in range(MOMENTS):
+        for moment in range(moments):
             if moment % MOMENTS_A_LOG == 0:
                 segments += self.segment_count()
                 shutil.rmtree(self.folder / "events", ignore_errors=True)
                 count = 0
-            acknowledged = self.append_until(count, moment * MORE // MOMENTS)
+            acknowledged = self.append_until(count, moment * MORE // moments, *words)
             # A kill before the beginning leaves no log.
             text = self.records() if (self.folder / "events" / "tail.log").exists() else b""
             found = text.count(b"\n")
@@ -77,8 +84,8 @@ class Killed(ProgramCase):
             self.assertLessEqual(found, acknowledged + 1, f"records from nowhere, at moment {moment}")
             killed_in_the_midst += count < found < count + MORE
             count = found
-        self.assertGreater(killed_in_the_midst, MOMENTS // 10, "most kills came before or after the records")
-        self.assertGreater(segments, MOMENTS, "few segments")
+        self.assertGreater(killed_in_the_midst, moments // 10, "most kills came before or after the records")
+        self.assertGreater(segments, moments, "few segments")
         self.program.gives("log", "append", "events")
         self.program.gives("log", "verify", "-q", "events")
 

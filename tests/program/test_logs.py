@@ -100,6 +100,22 @@ class Segments(LogCase):
         self.assertTrue(numbers(200).startswith(text))
         self.assertEqual(names[1], "%020d.store" % len(self.cat(f"events/{names[0]}").splitlines()))
 
+    def test_two_syncs_leave_the_files_of_one(self):
+        words = ("--sync", "every", "--seal-size", "500")
+        self.append(numbers(200), *words)
+        files = self.files()
+        shutil.rmtree(self.folder / "events")
+        self.append(numbers(200), *words, "--two-syncs")
+        self.assertEqual(self.files(), files)
+
+    def test_a_tail_that_is_replaced_is_sealed_past_a_mebibyte(self):
+        for words, sealed in ((), False), (("--two-syncs",), True):
+            with self.subTest(words):
+                shutil.rmtree(self.folder / "events", ignore_errors=True)
+                self.append(numbers(200_000), *words)
+                self.assertEqual(FIRST in self.files(), sealed)
+                self.assertEqual(self.records(), numbers(200_000))
+
     def test_a_segment_is_what_pack_writes(self):
         self.append(numbers(5000))
         self.program.gives("log", "seal", "events")

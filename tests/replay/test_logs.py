@@ -137,6 +137,13 @@ class Logs(ProgramCase):
         self.assertGreater(len([path for path in self.log.iterdir() if path.suffix == ".store"]), 1)
         self.check_syncs(replay, calls, 0)
 
+    def test_the_tail_is_replaced_by_each_sync(self):
+        self.program.gives("log", "append", self.log, input=numbers(2))
+        new = self.write("new.txt", numbers(8, 3))
+        words = ("--sync", "every", "--number", "--two-syncs", "--seal-size", "60")
+        replay, calls = self.check(2, numbers(8), "log", "append", self.log, new, *words)
+        self.check_syncs(replay, calls, 0)
+
     def test_a_log_is_sealed(self):
         self.program.gives("log", "append", self.log, input=numbers(5))
         replay, calls = self.check(5, numbers(5), "log", "seal", self.log)

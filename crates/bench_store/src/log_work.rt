@@ -4,7 +4,7 @@ use crate::documents::Documents;
 use crate::measure::{Run, Workload};
 use anyhow::{Result, bail};
 use docstore::DocId;
-use segmented_log::SegmentedLog;
+use segmented_log::{Commit, SegmentedLog};
 use std::fs;
 use std::rt::Clock;
 use std::time::Instant;
@@ -24,7 +24,7 @@ type Log = SegmentedLog<LockedFolder<HostRuntime>>;
 // Opens the log of the folder, or begins one.
 fn open(rt: &HostRuntime) -> Result<Log> {
     let folder = LockedFolder::create(rt.alloc(), rt.clone()?, PATH)?;
-    match SegmentedLog::open(rt.alloc(), folder, SEAL_SIZE) {
+    match SegmentedLog::open(rt.alloc(), folder, SEAL_SIZE, Commit::OneSync) {
         Ok(log) => Ok(log),
         Err((error, _)) => Err(error.into()),
     }

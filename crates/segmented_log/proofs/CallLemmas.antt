@@ -3,6 +3,7 @@ use Rattle.std.proofs.Common.{◌≡◌, inl, inr, ⊎_elim, ◌⊎◌, ℕ, ◌
 use Rattle.std.proofs.lemmas.List.{append-nil}
 use Rattle.store_folder.specs.Folder.{Look}
 use Rattle.store_format.specs.Block.{Slot, doc}
+use Rattle.record_log.specs.declared.tail.Commit.{Commit}
 use Rattle.record_log.specs.declared.error.LogError.{LogError}
 use Rattle.record_log.specs.declared.error.LogError.TheVariants.{Memory, Failed, Full, BatchFull, TooLong, Broken, NoLog, Damaged}
 use Rattle.segmented_log.specs.declared.runs.Call.{Call}
@@ -41,11 +42,11 @@ makes_dropped pending first number new_first kept rest one =
     })
 
 -- a batch that is written
-pub has_or_adds : (first : ℕ) (kept : List Slot) (pending : Records) (c : Look) → KeepsOrAdds first kept pending c → HasBeginning first kept pending (Sync ∷ []) c
-has_or_adds first kept pending c keeps =
-    ⊎_elim (λ same. has_itself first kept pending (Sync ∷ []) c same)
+pub has_or_adds : (commit : Commit) (first : ℕ) (kept : List Slot) (pending : Records) (c : Look) → KeepsOrAdds commit first kept pending c → HasBeginning commit first kept pending (Sync ∷ []) c
+has_or_adds commit first kept pending c keeps =
+    ⊎_elim (λ same. has_itself commit first kept pending (Sync ∷ []) c same)
     (λ others. ⊎_elim
-    (λ more. let both : HasBeginning first kept pending (Sync ∷ []) c = record {
+    (λ more. let both : HasBeginning commit first kept pending (Sync ∷ []) c = record {
       made = Sync ∷ [];
       others = [];
       all = refl;
@@ -54,7 +55,7 @@ has_or_adds first kept pending c keeps =
       makes = makes_synced pending first first kept (kept ++ map doc pending) refl refl;
       log = inl more;
     } in both)
-    (λ forged. let after : HasBeginning first kept pending (Sync ∷ []) c = record {
+    (λ forged. let after : HasBeginning commit first kept pending (Sync ∷ []) c = record {
       made = [];
       others = Sync ∷ [];
       all = refl;
@@ -67,8 +68,8 @@ has_or_adds first kept pending c keeps =
     keeps
 
 -- segments that are removed
-pub has_dropped : (first number : ℕ) (kept : List Slot) (pending : Records) (c : Look) → DropsTo first kept number c → HasBeginning first kept pending (DropBefore number ∷ []) c
-has_dropped first number kept pending c drops = record {
+pub has_dropped : (commit : Commit) (first number : ℕ) (kept : List Slot) (pending : Records) (c : Look) → DropsTo first kept number c → HasBeginning commit first kept pending (DropBefore number ∷ []) c
+has_dropped commit first number kept pending c drops = record {
   made = DropBefore number ∷ [];
   others = [];
   all = refl;

@@ -1,28 +1,29 @@
 -- What processes leave of a log, one after another.
 use Rattle.std.proofs.Common.{◌≡◌, ◌≤◌, inl, inr, ⊎_elim, ℕ, ◌+◌, max, List, [], ◌∷◌, ◌++◌, length, map, refl, sym, ◌∙◌, ap, subst, arith, append_assoc}
-use Rattle.std.proofs.lemmas.List.{map-append}
+use Rattle.std.proofs.lemmas.List.{append-nil, map-append}
 use Rattle.store_folder.specs.Folder.{Look}
 use Rattle.store_format.specs.Block.{Slot, doc}
+use Rattle.record_log.specs.declared.tail.Commit.TheVariants.{OneSync, TwoSyncs}
 use Rattle.record_log.specs.Runs.{joined}
 use Rattle.record_log.specs.Tail.{records_from}
 use Rattle.segmented_log.specs.declared.runs.Call.{Call}
 use Rattle.segmented_log.specs.Log.{IsLog, IsBlank}
 use Rattle.segmented_log.specs.Dropping.{IsRest, DropsTo}
 use Rattle.segmented_log.specs.Runs.{batches_by, pending_by, slots_of, dropped_by}
-use Rattle.segmented_log.specs.Laws.{Process, IsLeftOf, IsLeftByAll, HaveAllOf, slots_by, dropped_in}
+use Rattle.segmented_log.specs.Laws.{Process, IsLeftOf, IsLeftByAll, MayFollow, HaveAllOf, slots_by, dropped_in}
 use Rattle.segmented_log.specs.Laws.{OpeningsAreOfProcesses, CallsAreOfProcesses, CrashesLoseNothing, CrashesLoseNothingOfNewLogs}
 use Rattle.segmented_log.proofs.DropLemmas.{drops_none}
 use Rattle.segmented_log.proofs.RestLemmas.{rest_more, rest_grows, rest_after, rest_ends, drops_more}
 use Rattle.segmented_log.proofs.RunLemmas.{Records, batches_by-append, slots_of-append, dropped_by-more, makes_none, makes_more}
 
 pub openings_are_of_processes : OpeningsAreOfProcesses
-openings_are_of_processes calls old new keeps = record {
+openings_are_of_processes commit calls old new keeps = record {
   same = λ first kept log. record { number = first; slots = kept; makes = makes_none [] first kept; beginning = keeps.same first kept log };
   begun = λ blank. ⊎_elim (λ none. inl (none, refl)) (λ has. inr (record { number = 0; slots = []; makes = makes_none [] 0 []; beginning = has })) (keeps.begun blank);
 }
 
 pub calls_are_of_processes : CallsAreOfProcesses
-calls_are_of_processes made others old new number slots found has = record {
+calls_are_of_processes commit made others old new number slots found has = record {
   same = λ first kept log. record { number = number; slots = slots; makes = found.same first kept log; beginning = has };
   begun = λ blank. inr (record { number = number; slots = slots; makes = found.begun blank; beginning = has });
 }
@@ -56,12 +57,21 @@ module _ (process : Process) (first : ℕ) (kept : List Slot) (c : Look) (left :
       (makes_more [] (pending_by [] process.made) process.made has.made first left.number has.new_first kept left.slots has.rest left.makes refl has.makes))
       begun_less
 
-  more_after : (more : Records) × DropsTo first (kept ++ slots_by process more) (dropped_in (first + length kept) process) c
+  -- the batches of its next calls, the first of which were made
+  next_batches : batches_by (pending_by [] process.made) process.others ≡ after ++ batches_by (pending_by (pending_by [] process.made) left.beginning.made) left.beginning.others
+  next_batches =
+      ap (λ (l : List Call). batches_by (pending_by [] process.made) l) left.beginning.all
+      ∙ batches_by-append (pending_by [] process.made) left.beginning.made left.beginning.others
+
+  may_follow : (forged more : Records) → more ≡ joined after ++ forged → (process.commit ≡ TwoSyncs → forged ≡ []) → MayFollow process more
+  may_follow forged more is none = record { written = after; others = _; all = next_batches; forged = forged; more_is = is; none = none }
+
+  more_after : (more : Records) × MayFollow process more × DropsTo first (kept ++ slots_by process more) (dropped_in (first + length kept) process) c
   more_after =
       let has = left.beginning in
       let dropped = dropped_in (first + length kept) process in
       ⊎_elim {A = IsLog has.new_first has.rest c}
-      (λ log. (joined after, record { new_first = has.new_first; rest = has.rest; is_rest = rest_left; log = log }))
+      (λ log. (joined after, may_follow [] (joined after) (sym (append-nil (joined after))) (λ two. refl), record { new_first = has.new_first; rest = has.rest; is_rest = rest_left; log = log }))
       (λ ends.
       let forged = records_from ends.forged.bytes in
       let acknowledged = slots_of (batches_by [] process.made) in
@@ -69,6 +79,7 @@ module _ (process : Process) (first : ℕ) (kept : List Slot) (c : Look) (left :
       append_assoc kept (slots_by process (joined after)) (map doc forged)
       ∙ ap (λ (l : List Slot). kept ++ l) (append_assoc acknowledged (map doc (joined after)) (map doc forged) ∙ ap (λ (l : List Slot). acknowledged ++ l) (sym (map-append doc (joined after) forged))) in (
         joined after ++ forged,
+        may_follow forged (joined after ++ forged) refl (λ two. absurd (let both = sym ends.forged.one_sync ∙ two in cc)),
         record {
           new_first = has.new_first;
           rest = has.rest ++ map doc forged;
@@ -87,14 +98,15 @@ goes_on : (processes : List Process) (old new : Look) (first low : ℕ) (all : L
 goes_on [] old new first low all drops same = (0, all, (refl, refl), subst (λ (c : Look). DropsTo first all (max low 0) c) (sym same) (drops_more first low (max low 0) all old drops (omega arith)))
 goes_on (process ∷ later) old new first low all drops by =
     let found = more_after process drops.new_first drops.rest by.0 (by.1.same drops.new_first drops.rest drops.log) in
+    let left = found.2 in
     let ends : drops.new_first + length drops.rest ≡ first + length all = rest_ends first low drops.new_first all drops.rest drops.is_rest in
     let dropped = dropped_in (first + length all) process in
     let slots = slots_by process found.0 in
-    let is_rest : IsRest first (all ++ slots) (max low dropped) found.1.new_first found.1.rest =
-    rest_after first drops.new_first found.1.new_first low dropped all drops.rest slots found.1.rest drops.is_rest
-    (subst (λ (n : ℕ). IsRest drops.new_first (drops.rest ++ slots) (dropped_in n process) found.1.new_first found.1.rest) ends found.1.is_rest) in
-    let rest = goes_on later by.0 new first (max low dropped) (all ++ slots) (record { new_first = found.1.new_first; rest = found.1.rest; is_rest = is_rest; log = found.1.log }) by.2 in
-    (max dropped rest.0, rest.1, (found.0, rest.0, refl, rest.2), drops_more first (max (max low dropped) rest.0) (max low (max dropped rest.0)) rest.1 new rest.3 (omega arith))
+    let is_rest : IsRest first (all ++ slots) (max low dropped) left.new_first left.rest =
+    rest_after first drops.new_first left.new_first low dropped all drops.rest slots left.rest drops.is_rest
+    (subst (λ (n : ℕ). IsRest drops.new_first (drops.rest ++ slots) (dropped_in n process) left.new_first left.rest) ends left.is_rest) in
+    let rest = goes_on later by.0 new first (max low dropped) (all ++ slots) (record { new_first = left.new_first; rest = left.rest; is_rest = is_rest; log = left.log }) by.2 in
+    (max dropped rest.0, rest.1, (found.0, rest.0, found.1, refl, rest.2), drops_more first (max (max low dropped) rest.0) (max low (max dropped rest.0)) rest.1 new rest.3 (omega arith))
 
 pub crashes_lose_nothing : CrashesLoseNothing
 crashes_lose_nothing processes old new first kept log by =
@@ -110,12 +122,12 @@ new_logs_lose_nothing (process ∷ later) old new blank by =
     let dropped = dropped_in 0 process in (
       max dropped rest.0,
       rest.1,
-      ([], rest.0, refl, subst (λ (calls : List Call). HaveAllOf 0 later (slots_of (batches_by [] calls) ++ []) rest.0 rest.1) (sym none.1) rest.2),
+      ([], rest.0, record { written = []; others = _; all = refl; forged = []; more_is = refl; none = λ two. refl }, refl, subst (λ (calls : List Call). HaveAllOf 0 later (slots_of (batches_by [] calls) ++ []) rest.0 rest.1) (sym none.1) rest.2),
       ⊎_elim (λ drops. inl (drops_more 0 rest.0 (max dropped rest.0) rest.1 new drops (omega arith))) (λ still. inr still) rest.3,
     ))
     (λ has.
     let found = more_after process 0 [] by.0 has in
     let dropped = dropped_in 0 process in
-    let rest = goes_on later by.0 new 0 dropped (slots_by process found.0) found.1 by.2 in
-    (max dropped rest.0, rest.1, (found.0, rest.0, refl, rest.2), inl rest.3))
+    let rest = goes_on later by.0 new 0 dropped (slots_by process found.0) found.2 by.2 in
+    (max dropped rest.0, rest.1, (found.0, rest.0, found.1, refl, rest.2), inl rest.3))
     (by.1.begun blank)

@@ -82,7 +82,8 @@ pub held_at : {X : Type 0} (f : X → Part) (xs seen : List X) (i number n : ℕ
 held_at {X} f xs seen i number n x same within is before found line le =
     let passed = subst (λ (ys : List X). All (λ y. end_of (f y) ≤ number) (take i ys)) same before in
     let ends : number < end_of (f x) = subst (λ (y : X). number < end_of (f y)) (sym is) (subst (λ (ys : List X). number < end_of (f (get_or ys i x))) same found) in
-    (ends, found_at f xs i number n x within is passed ends line le)
+    let at = found_at f xs i number n x within is passed ends line le in
+    (ends, at.0, at.1)
 
 -- a thing is replaced that stands for the same
 pub same_map : {X Y : Type 0} (f : X → Y) (xs : List X) (i : ℕ) (new old : X) → i < length xs → old ≡ get_or xs i old → f new ≡ f old → map f (set xs i new) ≡ map f xs

@@ -9,6 +9,7 @@ use Rattle.store_folder.specs.Folder.{Look}
 use Rattle.store_format.specs.Block.{Slot, doc}
 use Rattle.record_log.specs.declared.runs.Call.{Call as Write}
 use Rattle.record_log.specs.declared.runs.Call.TheVariants.{Append as AppendOf, Sync as SyncOf}
+use Rattle.record_log.specs.declared.tail.Commit.{Commit}
 use Rattle.record_log.specs.Runs.{batches_of, pending_after, joined}
 use Rattle.record_log.proofs.RunLemmas.{batches_of-append, pending_after-append}
 use Rattle.record_log.specs.declared.error.LogError.{LogError}
@@ -123,8 +124,8 @@ makes_from calls waits pending other first last slots kept few same_waits same s
 -- ---- what a crash leaves meanwhile
 
 -- a log that is as it was
-pub has_itself : (first : ℕ) (kept : List Slot) (pending : Records) (calls : List Call) (c : Look) → IsLog first kept c → HasBeginning first kept pending calls c
-has_itself first kept pending calls c log = record {
+pub has_itself : (commit : Commit) (first : ℕ) (kept : List Slot) (pending : Records) (calls : List Call) (c : Look) → IsLog first kept c → HasBeginning commit first kept pending calls c
+has_itself commit first kept pending calls c log = record {
   made = [];
   others = calls;
   all = refl;
@@ -135,9 +136,9 @@ has_itself first kept pending calls c log = record {
 }
 
 -- forged batches after calls after calls
-forged_later : (first : ℕ) (rest : List Slot) (pending waits : Records) (a made others more : List Call) (c : Look) → waits ≡ pending_by pending a
-    → EndsInForged first rest (batches_by (pending_by waits made) others) c → EndsInForged first rest (batches_by (pending_by pending (a ++ made)) (others ++ more)) c
-forged_later first rest pending waits a made others more c same ends =
+forged_later : (commit : Commit) (first : ℕ) (rest : List Slot) (pending waits : Records) (a made others more : List Call) (c : Look) → waits ≡ pending_by pending a
+    → EndsInForged commit first rest (batches_by (pending_by waits made) others) c → EndsInForged commit first rest (batches_by (pending_by pending (a ++ made)) (others ++ more)) c
+forged_later commit first rest pending waits a made others more c same ends =
     let here = pending_by waits made in
     let is : pending_by pending (a ++ made) ≡ here = pending_by-append pending a made ∙ ap (λ (p : Records). pending_by p made) (sym same) in
     record {
@@ -151,9 +152,9 @@ forged_later first rest pending waits a made others more c same ends =
     }
 
 -- a beginning of some calls after others is one of all of them
-pub begins_later : (pending waits : Records) (a b more : List Call) (first mid : ℕ) (kept some : List Slot) (c : Look) → Makes a pending first kept mid some
-    → waits ≡ pending_by pending a → HasBeginning mid some waits b c → HasBeginning first kept pending (a ++ (b ++ more)) c
-begins_later pending waits a b more first mid kept some c one same has = record {
+pub begins_later : (commit : Commit) (pending waits : Records) (a b more : List Call) (first mid : ℕ) (kept some : List Slot) (c : Look) → Makes a pending first kept mid some
+    → waits ≡ pending_by pending a → HasBeginning commit mid some waits b c → HasBeginning commit first kept pending (a ++ (b ++ more)) c
+begins_later commit pending waits a b more first mid kept some c one same has = record {
   made = a ++ has.made;
   others = has.others ++ more;
   all =
@@ -163,21 +164,22 @@ begins_later pending waits a b more first mid kept some c one same has = record 
   new_first = has.new_first;
   rest = has.rest;
   makes = makes_more pending waits a has.made first mid has.new_first kept some has.rest one same has.makes;
-  log = ⊎_elim (λ log. inl log) (λ ends. inr (forged_later has.new_first has.rest pending waits a has.made has.others more c same ends)) has.log;
+  log = ⊎_elim (λ log. inl log) (λ ends. inr (forged_later commit has.new_first has.rest pending waits a has.made has.others more c same ends)) has.log;
 }
 
 -- the same, of a log that is called by its numbers, slots and records
-pub begins_from : (first other : ℕ) (kept slots : List Slot) (pending waits : Records) (calls : List Call) (c : Look) → other ≡ first → slots ≡ kept → waits ≡ pending
-    → HasBeginning other slots waits calls c → HasBeginning first kept pending calls c
-begins_from first other kept slots pending waits calls c same same_slots same_waits has =
-    subst (λ (p : Records). HasBeginning first kept p calls c) same_waits
-    (subst (λ (n : ℕ). HasBeginning n kept waits calls c) same (subst (λ (l : List Slot). HasBeginning other l waits calls c) same_slots has))
+pub begins_from : (commit by : Commit) (first other : ℕ) (kept slots : List Slot) (pending waits : Records) (calls : List Call) (c : Look) → by ≡ commit → other ≡ first → slots ≡ kept → waits ≡ pending
+    → HasBeginning by other slots waits calls c → HasBeginning commit first kept pending calls c
+begins_from commit by first other kept slots pending waits calls c same_commit same same_slots same_waits has =
+    subst (λ (k : Commit). HasBeginning k first kept pending calls c) same_commit
+    (subst (λ (p : Records). HasBeginning by first kept p calls c) same_waits
+    (subst (λ (n : ℕ). HasBeginning by n kept waits calls c) same (subst (λ (l : List Slot). HasBeginning by other l waits calls c) same_slots has)))
 
 -- what an opening leaves
-pub keeps_and_adds : (calls : List Call) (old c : Look) → KeepsLog old c → KeepsAndAdds calls old c
-keeps_and_adds calls old c keeps = record {
-  same = λ first kept log. has_itself first kept [] calls c (keeps.same first kept log);
-  begun = λ blank. ⊎_elim (λ none. inl none) (λ log. inr (has_itself 0 [] [] calls c log)) (keeps.begun blank);
+pub keeps_and_adds : (commit : Commit) (calls : List Call) (old c : Look) → KeepsLog old c → KeepsAndAdds commit calls old c
+keeps_and_adds commit calls old c keeps = record {
+  same = λ first kept log. has_itself commit first kept [] calls c (keeps.same first kept log);
+  begun = λ blank. ⊎_elim (λ none. inl none) (λ log. inr (has_itself commit 0 [] [] calls c log)) (keeps.begun blank);
 }
 
 -- one call more, of these
@@ -209,10 +211,11 @@ module _ (calls : List Call) (i : ℕ) (item : Call) (within : i < length calls)
           (makes_more pending waits (take i calls) (item ∷ []) first mid last kept some few so_far waits_is makes)
 
       -- what a crash in the next call leaves is a beginning of all of them
-      pub begins_all : (c : Look) → HasBeginning mid some waits (item ∷ []) c → HasBeginning first kept pending calls c
-      begins_all c has =
-          subst (λ (l : List Call). HasBeginning first kept pending l c) (sym whole)
-          (begins_later pending waits (take i calls) (item ∷ []) (drop (i + 1) calls) first mid kept some c so_far waits_is has)
+      pub begins_all : (commit by : Commit) → by ≡ commit → (c : Look) → HasBeginning by mid some waits (item ∷ []) c → HasBeginning commit first kept pending calls c
+      begins_all commit by same c has =
+          subst (λ (k : Commit). HasBeginning k first kept pending calls c) same
+          (subst (λ (l : List Call). HasBeginning by first kept pending l c) (sym whole)
+          (begins_later by pending waits (take i calls) (item ∷ []) (drop (i + 1) calls) first mid kept some c so_far waits_is has))
 
       -- how far the next call drops
       pub reaches_all : (last : ℕ) → last ≤ max mid (dropped_by (mid + length some) waits (item ∷ [])) → last ≤ max first (dropped_by (first + length kept) pending calls)

@@ -70,7 +70,7 @@ module _ (sealed tail_first next : ℕ) (tail body new : List ℕ) (places : Lis
 
   -- the folder's segments stay
   pub folder_batch : (first : ℕ) (segments : List Part) (old_hold new_hold : List ℕ → List ℕ → Type 0) (before after : Look → Type 0) (old_entry new_entry : List ℕ → Type 0)
-      → IsSettledFolder old_hold before old_entry first sealed segments tail → TailIsKept new_hold after new_entry (tail ++ 1 ∷ summed body) → ComesFrom (Elsewhere tail_name) before after
+      → IsSettledFolder old_hold before old_entry first sealed segments tail → TailIsKept new_hold after new_entry (tail ++ 1 ∷ summed body) → ComesFrom (ElsewhereOfBoth (tail_name ++ part) tail_name) before after
       → IsSettledFolder new_hold after new_entry first sealed segments new
   folder_batch first segments old_hold new_hold before after old_entry new_entry f kept follows =
       let kept_new = subst (λ (l : List ℕ). TailIsKept new_hold after new_entry l) (sym new_is) kept in
@@ -78,9 +78,7 @@ module _ (sealed tail_first next : ℕ) (tail body new : List ℕ) (places : Lis
         parts = more_parts first segments tail f.parts new (records_in body) (subst (λ (l : List ℕ). IsTail l) (sym new_is) (grown_tail tail (1 ∷ summed body) s.whole s.is_tail)) batch_first batch_records;
         sealed_is = f.sealed_is;
         on_disk = record {
-          outcomes = λ c left.
-              let from = follows c left in
-              other_tail segments tail new from.0 c (f.on_disk.outcomes from.0 from.1) (λ k. from.2 (segment_name k) (segment_no_tail k)) (kept_new.outcomes c left);
+          outcomes = replaced_outcomes segments tail new before after f.on_disk.outcomes follows kept_new.outcomes;
           tail_kept = kept_new;
         };
       }

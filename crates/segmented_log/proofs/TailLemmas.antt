@@ -1,20 +1,23 @@
 -- A tail with bytes after its own.
-use Rattle.std.proofs.Common.{◌≡◌, ◌≢◌, ◌⊎◌, inl, inr, ℕ, List, [], ◌∷◌, ◌++◌, length, take, map, refl, sym, ◌∙◌, ap, subst, arith, length-append, Some}
+use Rattle.std.proofs.Common.{◌≡◌, ◌≢◌, ◌<◌, ◌+◌, ◌^◌, ◌⊎◌, inl, inr, ⊎_elim, ℕ, List, [], ◌∷◌, ◌++◌, length, take, map, refl, sym, ◌∙◌, ap, subst, arith, length-append, Some}
 use Rattle.std.proofs.lemmas.List.{append-nil, take_all, take-append-le}
 use Rattle.std.proofs.lemmas.List.Concat.{flat_map-append}
 use Rattle.std.specs.List.{flat_map}
 use Rattle.store_folder.specs.Folder.{Look}
 use Rattle.store_format.specs.Block.{Slot, doc}
 use Rattle.record_log.specs.Log.{IsWholeRecords}
-use Rattle.record_log.specs.Tail.{records_in, records_of, records_from, first_of, bodies_of, bodies_after, IsTail, IsWholeTo}
+use Rattle.record_log.specs.declared.tail.Commit.{Commit}
+use Rattle.record_log.specs.declared.tail.Commit.TheVariants.{OneSync, TwoSyncs}
+use Rattle.record_log.specs.Tail.{sum_of, summed, records_in, records_of, records_from, first_of, bodies_of, bodies_after, IsTail, IsWholeTo}
 use Rattle.store_folder.proofs.NamesLemmas.{decided}
+use Rattle.record_log.proofs.Bodies.{summed_is, bodies_summed}
 use Rattle.record_log.proofs.Logs.{first_same}
 use Rattle.segmented_log.specs.Names.{segment_name, tail_name}
 use Rattle.segmented_log.specs.Parts.{Part, log_slots, AreParts}
 use Rattle.segmented_log.specs.Log.{Holds, IsLog, IsForged, KeepsOrAdds}
-use Rattle.segmented_log.specs.Settled.{GrowsTail}
+use Rattle.segmented_log.specs.Settled.{GrowsTail, PutsBatch}
 use Rattle.segmented_log.proofs.PartLemmas.{more_parts, more_slots}
-use Rattle.segmented_log.proofs.NameLemmas.{segment_no_tail}
+use Rattle.segmented_log.proofs.NameLemmas.{segment_no_tail, segment_no_tail_beside}
 use Rattle.segmented_log.proofs.HoldLemmas.{other_tail}
 
 module _ (tail after : List ℕ) (whole : IsWholeTo (length tail) tail) where
@@ -46,21 +49,21 @@ cases_of body (other ∷ []) = elim (decided other body) [
 cases_of body (other ∷ next ∷ more) = inr (inr ((λ e. cc e), (λ e. cc e)))
 
 module _ (first : ℕ) (segments : List Part) (tail body : List ℕ) (parts : AreParts first segments tail) (whole : IsWholeTo (length tail) tail) (records : IsWholeRecords body) where
-  grown_log : (c old : Look) (after : List ℕ) → Holds segments tail old → ((n : List ℕ) → n ≢ tail_name → c n ≡ old n)
+  grown_log : (c old : Look) (after : List ℕ) → Holds segments tail old → ((k : ℕ) → c (segment_name k) ≡ old (segment_name k))
       → c tail_name ≡ Some (tail ++ after)
       → IsLog first (log_slots first segments tail ++ map doc (records_from after)) c
-  grown_log c old after held elsewhere is = record {
+  grown_log c old after held names is = record {
     segments = segments;
     tail = tail ++ after;
     parts = more_parts first segments tail parts (tail ++ after) (records_from after) (grown_tail tail after whole parts.is_tail) (grown_first tail after whole) (grown_records tail after whole);
     slots_are = sym (more_slots first segments tail parts (tail ++ after) (records_from after) (grown_first tail after whole) (grown_records tail after whole));
-    holds = other_tail segments tail (tail ++ after) old c held (λ k. elsewhere (segment_name k) (segment_no_tail k)) is;
+    holds = other_tail segments tail (tail ++ after) old c held names is;
   }
 
-  pub keeps_or_adds : (before : Look → Type 0) → ((c : Look) → before c → Holds segments tail c) → (c : Look) → GrowsTail before tail c
-      → KeepsOrAdds first (log_slots first segments tail) (records_in body) c
-  keeps_or_adds before held c grown =
-      let log = grown_log c grown.old grown.after (held grown.old grown.was) grown.elsewhere grown.tail_is in
+  keeps_or_grows : (before : Look → Type 0) → ((c : Look) → before c → Holds segments tail c) → (c : Look) → GrowsTail before tail c
+      → KeepsOrAdds OneSync first (log_slots first segments tail) (records_in body) c
+  keeps_or_grows before held c grown =
+      let log = grown_log c grown.old grown.after (held grown.old grown.was) (λ k. grown.elsewhere (segment_name k) (segment_no_tail k)) grown.tail_is in
       let slots = log_slots first segments tail in
       let after = grown.after in
       elim (cases_of body (bodies_after 0 after)) [
@@ -74,8 +77,32 @@ module _ (first : ℕ) (segments : List Part) (tail body : List ℕ) (parts : Ar
             inr (inl (subst (λ (l : List Slot). IsLog first l c) more log))
         | inr (inr others) ↦
             inr (inr (record {
+              one_sync = refl;
               bytes = after;
               forged = subst (λ (b : List ℕ). IsForged b after) records.encoded (record { some = others.0; other = others.1 });
               log = log;
             }))
       ]
+
+  -- a crash leaves the log as it was, or with the whole batch; or, with one sync, forged ones
+  pub keeps_or_adds : (commit : Commit) → 8 + length body < 2 ^ 32 → sum_of body < 2 ^ 64 → (before : Look → Type 0) → ((c : Look) → before c → Holds segments tail c) → (c : Look)
+      → PutsBatch commit before tail (1 ∷ summed body) c → KeepsOrAdds commit first (log_slots first segments tail) (records_in body) c
+  keeps_or_adds OneSync small fits before held c grown = keeps_or_grows before held c grown
+  keeps_or_adds TwoSyncs small fits before held c o =
+      let was = held o.old o.was in
+      let names = λ (k : ℕ). o.elsewhere (segment_name k) (segment_no_tail_beside k) (segment_no_tail k) in
+      let slots = log_slots first segments tail in
+      let batch = 1 ∷ summed body in
+      let bodies : bodies_after 0 batch ≡ body ∷ [] =
+      ap (λ (l : List ℕ). bodies_after 0 (1 ∷ l)) (sym (append-nil (summed body))) ∙ bodies_summed (summed body) body (summed_is body small fits) [] in
+      let more : slots ++ map doc (records_from batch) ≡ slots ++ map doc (records_in body) =
+      ap (λ (l : List (List ℕ)). slots ++ map doc (flat_map records_in l)) bodies ∙ ap (λ (l : List (List ℕ)). slots ++ map doc l) (append-nil (records_in body)) in
+      ⊎_elim
+      (λ same. let kept : IsLog first slots c = record {
+        segments = segments;
+        tail = tail;
+        parts = parts;
+        slots_are = refl;
+        holds = other_tail segments tail tail o.old c was names (same ∙ was.tail_is);
+      } in inl kept)
+      (λ is. inr (inl (subst (λ (l : List Slot). IsLog first l c) more (grown_log c o.old batch was names is)))) o.at_name

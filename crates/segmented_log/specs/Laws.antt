@@ -2,6 +2,9 @@
 use Rattle.std.specs.Prelude.{◌≡◌, ◌⊎◌, ℕ, ◌+◌, max, List, [], ◌∷◌, ◌++◌, length, map}
 use Rattle.store_folder.specs.Folder.{Look}
 use Rattle.store_format.specs.Block.{Slot, doc}
+use Rattle.record_log.specs.declared.tail.Commit.{Commit}
+use Rattle.record_log.specs.declared.tail.Commit.TheVariants.{TwoSyncs}
+use Rattle.record_log.specs.Runs.{joined}
 use Rattle.segmented_log.specs.declared.runs.Call.{Call}
 use Rattle.segmented_log.specs.Log.{IsLog, IsBlank}
 use Rattle.segmented_log.specs.Dropping.{DropsTo}
@@ -22,8 +25,10 @@ OnlyDropsRemove = (calls : List Call) (pending : List (List ℕ)) (first : ℕ) 
     → (Drops calls → ⊥) → Makes calls pending first kept new_first rest
     → (new_first ≡ first) × (rest ≡ kept ++ slots_of (batches_by pending calls))
 
--- a process, from its opening of a log to a crash: the calls that returned Ok, and those that it was to make next
+-- a process, from its opening of a log to a crash: how it commits, the calls that returned Ok, and those that it was to make
+-- next
 pub record Process : Type 0 where
+  pub commit : Commit
   pub made : List Call
   pub others : List Call
 
@@ -33,7 +38,7 @@ pub record IsLeftOf (process : Process) (first : ℕ) (kept : List Slot) (c : Lo
   pub number : ℕ
   pub slots : List Slot
   pub makes : Makes process.made [] first kept number slots
-  pub beginning : HasBeginning number slots (pending_by [] process.made) process.others c
+  pub beginning : HasBeginning process.commit number slots (pending_by [] process.made) process.others c
 
 -- What the crash of a process leaves of the folder that it opened, whatever log that was. A blank folder is so, if no call
 -- returned Ok, or it is what the process leaves of a log without slots, whose first number is 0.
@@ -49,19 +54,29 @@ pub record IsFoundWith (made : List Call) (old : Look) (number : ℕ) (slots : L
 
 -- What a crash leaves while a log is opened and called is what such a process leaves; no call has returned Ok yet.
 abbrev pub OpeningsAreOfProcesses : Type 0
-OpeningsAreOfProcesses = (calls : List Call) (old new : Look)
-    → KeepsAndAdds calls old new → IsLeftBy (record { made = []; others = calls }) old new
+OpeningsAreOfProcesses = (commit : Commit) (calls : List Call) (old new : Look)
+    → KeepsAndAdds commit calls old new → IsLeftBy (record { commit = commit; made = []; others = calls }) old new
 
 -- So is what a crash leaves while further calls are made to the log that was opened.
 abbrev pub CallsAreOfProcesses : Type 0
-CallsAreOfProcesses = (made others : List Call) (old new : Look) (number : ℕ) (slots : List Slot)
-    → IsFoundWith made old number slots → HasBeginning number slots (pending_by [] made) others new
-    → IsLeftBy (record { made = made; others = others }) old new
+CallsAreOfProcesses = (commit : Commit) (made others : List Call) (old new : Look) (number : ℕ) (slots : List Slot)
+    → IsFoundWith made old number slots → HasBeginning commit number slots (pending_by [] made) others new
+    → IsLeftBy (record { commit = commit; made = made; others = others }) old new
 
 -- What processes leave, one after another: each opens what the crash of the one before it left.
 abbrev pub IsLeftByAll : List Process → Look → Look → Type 0
 IsLeftByAll [] old new = new ≡ old
 IsLeftByAll (process ∷ later) old new = (left : Look) × IsLeftBy process old left × IsLeftByAll later left new
+
+-- The records of a process whose sync had not returned can be these: those of the first batches of its next calls, and then
+-- maybe forged ones, but none if it commits with two syncs.
+pub record MayFollow (process : Process) (more : List (List ℕ)) : Type 0 where
+  pub written : List (List (List ℕ))
+  pub others : List (List (List ℕ))
+  pub all : batches_by (pending_by [] process.made) process.others ≡ written ++ others
+  pub forged : List (List ℕ)
+  pub more_is : more ≡ joined written ++ forged
+  pub none : process.commit ≡ TwoSyncs → forged ≡ []
 
 -- the slots of a process: its acknowledged records, and then these, whose sync had not returned
 abbrev pub slots_by : Process → List (List ℕ) → List Slot
@@ -75,7 +90,7 @@ dropped_in next process = dropped_by next [] (process.made ++ process.others)
 -- some whose sync had not returned. From `number` on no process drops one.
 abbrev pub HaveAllOf : ℕ → List Process → List Slot → ℕ → List Slot → Type 0
 HaveAllOf first [] kept number all = (number ≡ 0) × (all ≡ kept)
-HaveAllOf first (process ∷ later) kept number all = (more : List (List ℕ)) × (n : ℕ)
+HaveAllOf first (process ∷ later) kept number all = (more : List (List ℕ)) × (n : ℕ) × MayFollow process more
     × (number ≡ max (dropped_in (first + length kept) process) n) × HaveAllOf first later (kept ++ slots_by process more) n all
 
 -- Over any number of crashes a log keeps its slots and all acknowledged records, in order, under their numbers, but those

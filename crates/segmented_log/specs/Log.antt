@@ -7,6 +7,8 @@ use Rattle.store_format.specs.Block.{Slot, doc, damaged}
 use Rattle.store_format.specs.Slots.{slots}
 use Rattle.store_format.specs.StoreFile.{StoreBlock, IsStore}
 use Rattle.record_log.specs.Tail.{bodies_after, records_from, body_of}
+use Rattle.record_log.specs.declared.tail.Commit.{Commit}
+use Rattle.record_log.specs.declared.tail.Commit.TheVariants.{OneSync}
 use Rattle.record_log.specs.declared.error.LogError.{LogError}
 use Rattle.record_log.specs.declared.error.LogError.TheVariants.{Damaged}
 use Rattle.segmented_log.specs.Names.{segment_name, tail_name}
@@ -54,15 +56,17 @@ pub record IsForged (body bytes : List ℕ) : Type 0 where
   pub other : bodies_after 0 bytes ≢ body ∷ []
 
 -- The folder is the log of these slots, and then of the records of forged batches, where one batch of these records was
--- being written.
-pub record AddsForged (first : ℕ) (all : List Slot) (added : List (List ℕ)) (c : Look) : Type 0 where
+-- being written with one sync.
+pub record AddsForged (commit : Commit) (first : ℕ) (all : List Slot) (added : List (List ℕ)) (c : Look) : Type 0 where
+  pub one_sync : commit ≡ OneSync
   pub bytes : List ℕ
   pub forged : IsForged (body_of added) bytes
   pub log : IsLog first (all ++ map doc (records_from bytes)) c
 
--- The folder is the log of these slots, maybe with all of these records after them; or with forged batches.
-abbrev pub KeepsOrAdds : ℕ → List Slot → List (List ℕ) → Look → Type 0
-KeepsOrAdds first all added c = IsLog first all c ⊎ (IsLog first (all ++ map doc added) c ⊎ AddsForged first all added c)
+-- The folder is the log of these slots, maybe with all of these records after them; or, with one sync a batch, with forged
+-- batches.
+abbrev pub KeepsOrAdds : Commit → ℕ → List Slot → List (List ℕ) → Look → Type 0
+KeepsOrAdds commit first all added c = IsLog first all c ⊎ (IsLog first (all ++ map doc added) c ⊎ AddsForged commit first all added c)
 
 -- the slot of this number, in a log the first of whose slots has that number
 abbrev pub slot_at : ℕ → List Slot → ℕ → Option Slot
@@ -92,7 +96,8 @@ pub record LogView (F : Type 0) : Type 0 where
   pub segments : List Sealed
   -- how often reads of their files failed
   pub read_failures : ℕ
-  -- the records that wait for a sync, and how many bytes they take in their batch
+  -- how a sync puts them on the disk, the records that wait for one, and how many bytes they take in their batch
+  pub commit : Commit
   pub pending : List (List ℕ)
   pub batch_bytes : ℕ
   -- whether a call on the folder failed

@@ -5,6 +5,7 @@ use Rattle.store_folder.specs.Folder.{Look}
 use Rattle.store_format.specs.Block.{Slot, doc}
 use Rattle.record_log.specs.declared.runs.Call.{Call as Write}
 use Rattle.record_log.specs.declared.runs.Call.TheVariants.{Append as AppendOf, Sync as SyncOf}
+use Rattle.record_log.specs.declared.tail.Commit.{Commit}
 use Rattle.record_log.specs.declared.error.LogError.{LogError}
 use Rattle.record_log.specs.Causes.{IsOfAppends, IsOfSyncs}
 use Rattle.record_log.specs.Runs.{batches_of, pending_after, joined}
@@ -59,28 +60,28 @@ abbrev pub Makes : List Call → List (List ℕ) → ℕ → List Slot → ℕ �
 Makes calls pending first kept new_first rest = IsRest first (kept ++ slots_of (batches_by pending calls)) (dropped_by (first + length kept) pending calls) new_first rest
 
 -- The folder is the log of these slots, and then of forged batches, where the first of these batches was being written.
-pub record EndsInForged (first : ℕ) (kept : List Slot) (batches : List (List (List ℕ))) (c : Look) : Type 0 where
+pub record EndsInForged (commit : Commit) (first : ℕ) (kept : List Slot) (batches : List (List (List ℕ))) (c : Look) : Type 0 where
   pub batch : List (List ℕ)
   pub others : List (List (List ℕ))
   pub next : batches ≡ batch ∷ others
-  pub forged : AddsForged first kept batch c
+  pub forged : AddsForged commit first kept batch c
 
 -- The folder is the log that the first of these calls make: no batch is skipped and none is there in part. Where the batch
--- after these was being written, forged batches may stand in its place.
-pub record HasBeginning (first : ℕ) (kept : List Slot) (pending : List (List ℕ)) (calls : List Call) (c : Look) : Type 0 where
+-- after these was being written with one sync, forged batches may stand in its place.
+pub record HasBeginning (commit : Commit) (first : ℕ) (kept : List Slot) (pending : List (List ℕ)) (calls : List Call) (c : Look) : Type 0 where
   pub made : List Call
   pub others : List Call
   pub all : calls ≡ made ++ others
   pub new_first : ℕ
   pub rest : List Slot
   pub makes : Makes made pending first kept new_first rest
-  pub log : IsLog new_first rest c ⊎ EndsInForged new_first rest (batches_by (pending_by pending made) others) c
+  pub log : IsLog new_first rest c ⊎ EndsInForged commit new_first rest (batches_by (pending_by pending made) others) c
 
 -- Whatever log the first folder is, the second is what the first of these calls make of it. Where the first one is blank,
 -- the second is so, or is what they make of a log without slots, whose first number is 0.
-pub record KeepsAndAdds (calls : List Call) (old new : Look) : Type 0 where
-  pub same : (first : ℕ) (kept : List Slot) → IsLog first kept old → HasBeginning first kept [] calls new
-  pub begun : IsBlank old → IsBlank new ⊎ HasBeginning 0 [] [] calls new
+pub record KeepsAndAdds (commit : Commit) (calls : List Call) (old new : Look) : Type 0 where
+  pub same : (first : ℕ) (kept : List Slot) → IsLog first kept old → HasBeginning commit first kept [] calls new
+  pub begun : IsBlank old → IsBlank new ⊎ HasBeginning commit 0 [] [] calls new
 
 -- The first of these calls were made, and no other: the log has what they make of it.
 pub record HasMadeFirst {F : Type 0} (calls : List Call) (old new : LogView F) : Type 0 where

@@ -1,9 +1,11 @@
 -- What a log knows of its folder while no call has failed.
 use Rattle.std.specs.Prelude.{◌≡◌, ◌⊎◌, ℕ, ◌+◌, ◌<◌, ◌≤◌, ◌^◌, List, ◌++◌, length, map, Some, All}
 use Rattle.store_folder.specs.Folder.{Look, Elsewhere, ElsewhereOfBoth, Keeps}
-use Rattle.store_folder.specs.Publishing.{part}
+use Rattle.store_folder.specs.Publishing.{part, IsOldOrWhole}
 use Rattle.store_format.specs.Block.{doc}
 use Rattle.record_log.specs.declared.batches.Place.{Place}
+use Rattle.record_log.specs.declared.tail.Commit.{Commit}
+use Rattle.record_log.specs.declared.tail.Commit.TheVariants.{OneSync, TwoSyncs}
 use Rattle.record_log.specs.Place.{contents, EndsBy}
 use Rattle.record_log.specs.Log.{IsWholeRecords}
 use Rattle.record_log.specs.Tail.{records_in, records_of, first_of, IsTail, IsWholeTo}
@@ -25,6 +27,12 @@ pub record GrowsTail (before : Look → Type 0) (tail : List ℕ) (c : Look) : T
   pub elsewhere : Elsewhere tail_name old c
   pub after : List ℕ
   pub tail_is : c tail_name ≡ Some (tail ++ after)
+
+-- What a crash leaves while a batch is put after those of the tail: with one sync, maybe any bytes after the tail's own; with
+-- two, the tail or the one with the batch.
+abbrev pub PutsBatch : Commit → (Look → Type 0) → List ℕ → List ℕ → Look → Type 0
+PutsBatch OneSync before tail batch c = GrowsTail before tail c
+PutsBatch TwoSyncs before tail batch c = IsOldOrWhole before (tail_name ++ part) tail_name (Some (tail ++ batch)) c
 
 -- the part of a tail's records at these places
 abbrev pub part_at : ℕ → List ℕ → List Place → Part

@@ -153,6 +153,7 @@ impl<F: ReadableFolder> SegmentedLog<F> {
         requires run { IsRun (parts_of self.old.segments) place count }
         requires few { length (slots_in (take (count + 1) (drop place (parts_of self.old.segments)))) < 2 ^ 32 }
         ensures first { self.new.first ≡ self.old.first }
+        ensures commit { self.new.commit ≡ self.old.commit }
         ensures slots { IsTrue F.honest → self.new.slots ≡ self.old.slots }
         ensures pending { self.new.pending ≡ self.old.pending }
         ensures joined { IsTrue F.honest → OnOk result ((r : IsRun (parts_of self.old.segments) place count)
@@ -192,6 +193,7 @@ impl<F: ReadableFolder> SegmentedLog<F> {
         requires within { place < length self.old.segments }
         requires covered { IsTrue F.honest → IsCovered self.old.first (parts_of self.old.segments) place }
         ensures first { self.new.first ≡ self.old.first }
+        ensures commit { self.new.commit ≡ self.old.commit }
         ensures slots { IsTrue F.honest → self.new.slots ≡ self.old.slots }
         ensures pending { self.new.pending ≡ self.old.pending }
         ensures fewer { OnOk result (length self.new.segments + 1 ≡ length self.old.segments) }
@@ -219,6 +221,7 @@ impl<F: ReadableFolder> SegmentedLog<F> {
     fn compact_next(&mut self, size: u64) -> Result<bool, LogError>
         requires works { self.old.is_broken ≡ false }
         ensures first { self.new.first ≡ self.old.first }
+        ensures commit { self.new.commit ≡ self.old.commit }
         ensures slots { IsTrue F.honest → self.new.slots ≡ self.old.slots }
         ensures pending { self.new.pending ≡ self.old.pending }
         ensures fewer { IfOk result (λ more. IsTrue more → length self.new.segments < length self.old.segments) }
@@ -264,6 +267,7 @@ impl<F: ReadableFolder> SegmentedLog<F> {
     /// block of the joined one. After these the log is broken.
     pub fn compact(&mut self, size: u64) -> Result<(), LogError>
         ensures first { self.new.first ≡ self.old.first }
+        ensures commit { self.new.commit ≡ self.old.commit }
         ensures slots { IsTrue F.honest → self.new.slots ≡ self.old.slots }
         ensures pending { self.new.pending ≡ self.old.pending }
         ensures works { OnOk result (self.new.is_broken ≡ false) }

@@ -84,6 +84,7 @@ impl<F: ReadableFolder> SegmentedLog<F> {
         requires works { self.old.is_broken ≡ false }
         ensures rest { IsTrue F.honest
             → IsRest self.old.first self.old.slots number self.new.first self.new.slots }
+        ensures commit { self.new.commit ≡ self.old.commit }
         ensures pending { self.new.pending ≡ self.old.pending }
         ensures works { OnOk result (self.new.is_broken ≡ false) }
         ensures broken { OnErr result (IsTrue self.new.is_broken) }
@@ -120,6 +121,7 @@ impl<F: ReadableFolder> SegmentedLog<F> {
     pub fn drop_before(&mut self, number: u64) -> Result<(), LogError>
         ensures rest { IsTrue F.honest
             → IsRest self.old.first self.old.slots number self.new.first self.new.slots }
+        ensures commit { self.new.commit ≡ self.old.commit }
         ensures pending { self.new.pending ≡ self.old.pending }
         ensures works { OnOk result (self.new.is_broken ≡ false) }
 

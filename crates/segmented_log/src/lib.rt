@@ -22,6 +22,6 @@ mod tail_file;
 pub use log::{MAX_RECORD, SegmentedLog};
 pub use names::{TAIL, segment_file};
 pub use numbers::segment_number;
-pub use record_log::LogError;
+pub use record_log::{Commit, LogError};
 pub use records::Records;
 pub use runs::{Call, call_all, open_and_call};

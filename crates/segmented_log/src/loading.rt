@@ -23,7 +23,7 @@ use crate::opening::{end_of_segments, numbers_in, open_segments};
 use crate::segment::Segment;
 use crate::tail::{Tail, begin_tail, repair_tail};
 use docstore::{FileHandle, laws};
-use record_log::LogError;
+use record_log::{Commit, LogError};
 use std::alloc::Global;
 use store_folder::ReadableFolder;
 
@@ -145,17 +145,23 @@ impl<F: ReadableFolder> SegmentedLog<F> {
     /// of a log. A torn end of the tail is cut off. A crash during it leaves the same log. A tail that grows past the
     /// seal size, in bytes, is sealed by `sync`.
     ///
+    /// With `Commit::OneSync` a sync appends to the tail. With `Commit::TwoSyncs` it replaces the tail by one that has
+    /// the records too, so a crash leaves all of them or none, whatever their sum is; as it then writes the whole tail,
+    /// the seal size should be small. The files are the same.
+    ///
     /// Errors hand the folder back: `NoLog` where its files are no log, `Full` where the numbers of the tail's records
     /// pass the greatest u64, `Memory` and `Failed`.
     pub fn open(
         alloc: Global,
         folder: F,
         seal_size: usize,
+        commit: Commit,
     ) -> Result<SegmentedLog<F>, (LogError, F)>
         // After a restart, what a look sees is what is on the disk.
         requires { IsTrue F.honest → IsRestarted (F.seen folder) (F.may_hold folder) (F.may_leave folder)
             (F.entry_kept folder) }
         ensures works { IfOk result (λ log. log.is_broken ≡ false) }
+        ensures commit { IfOk result (λ log. log.commit ≡ commit) }
         ensures none_pending { IfOk result (λ log. log.pending ≡ []) }
 
         // It finds exactly the log that was there, or begins one.
@@ -197,6 +203,7 @@ impl<F: ReadableFolder> SegmentedLog<F> {
                 Ok(SegmentedLog {
                     alloc,
                     folder,
+                    commit,
                     seal_size,
                     first,
                     sealed,

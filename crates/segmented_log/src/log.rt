@@ -12,8 +12,8 @@ ghost use Rattle.record_log.specs.Causes.{IsOfAppends};
 use crate::reading::{copy_record, get_from};
 use crate::sealing::BLOCK_SIZE;
 use crate::segment::Segment;
-use record_log::LogError;
 use record_log::batches::{MAX_BODY, Place, add_record};
+use record_log::{Commit, LogError};
 use std::alloc::Global;
 use std::marker::Model;
 use store_folder::ReadableFolder;
@@ -28,7 +28,8 @@ pub const MAX_RECORD: usize = MAX_BODY - BLOCK_SIZE - 16;
 pub struct SegmentedLog<F: ReadableFolder> {
     pub(crate) alloc: Global,
     pub(crate) folder: F,
-    // The length in bytes past which a tail is sealed.
+    // How a sync puts a batch on the disk, and the length in bytes past which a tail is sealed.
+    pub(crate) commit: Commit,
     pub(crate) seal_size: usize,
     // The numbers of the log's first record, of the first that no segment has, and of the tail's first.
     pub(crate) first: u64,
@@ -44,7 +45,8 @@ pub struct SegmentedLog<F: ReadableFolder> {
     pub(crate) is_broken: bool,
 }
 
-/// Clauses see the folder, the records, the segments, what waits for a sync, and whether a call on the folder failed.
+/// Clauses see the folder, the records, the segments, how it commits, what waits for a sync, and whether a call on the
+/// folder failed.
 impl<F: ReadableFolder> Model for SegmentedLog<F> {
     ghost use Rattle.std.specs.Prelude.{length, map, All, IsTrue};
     ghost use Rattle.std.specs.Bool.{OnFalse};
@@ -62,6 +64,7 @@ impl<F: ReadableFolder> Model for SegmentedLog<F> {
       slots = log_slots l.first (map (λ s. part_of s.first s.reader) l.segments.items) l.tail.items;
       segments = map (λ s. sealed_of s.first s.reader) l.segments.items;
       read_failures = sum_by (λ s. s.reader.file.failures) l.segments.items;
+      commit = l.commit;
       pending = records_in l.pending.items;
       batch_bytes = length l.pending.items;
       is_broken = l.is_broken;
@@ -85,6 +88,7 @@ impl<F: ReadableFolder> SegmentedLog<F> {
         ensures pending { OnOk result (self.new.pending ≡ self.old.pending ++ bytes.now ∷ []) }
         ensures number { IsTrue F.honest → IfOk result (λ n. n ≡ self.old.first + length self.old.slots
             + length self.old.pending) }
+        ensures commit { self.new.commit ≡ self.old.commit }
         ensures works { self.new.is_broken ≡ self.old.is_broken }
 
         ensures broken { IsErrOf result LogError.Broken ↔ IsTrue self.old.is_broken }

@@ -11,7 +11,7 @@ ghost use Rattle.segmented_log.specs.Runs.{pending_by, dropped_by, Drops, Makes,
 ghost use Rattle.segmented_log.specs.Runs.{HasMadeFirst, IsOfCalls};
 
 use crate::log::SegmentedLog;
-use record_log::LogError;
+use record_log::{Commit, LogError};
 use std::alloc::Global;
 use store_folder::ReadableFolder;
 
@@ -30,6 +30,7 @@ fn make_call<F: ReadableFolder>(log: &mut SegmentedLog<F>, call: &Call) -> Resul
     requires { log.old.is_broken ≡ false }
 
     ensures works { OnOk result (log.new.is_broken ≡ false) }
+    ensures commit { log.new.commit ≡ log.old.commit }
     ensures first { (Drops (call.now ∷ []) → ⊥) → log.new.first ≡ log.old.first }
     ensures grows { IsTrue F.honest → log.old.first ≤ log.new.first }
     ensures reaches { IsTrue F.honest → log.new.first ≤ max log.old.first
@@ -38,7 +39,7 @@ fn make_call<F: ReadableFolder>(log: &mut SegmentedLog<F>, call: &Call) -> Resul
         (Makes (call.now ∷ []) log.old.pending log.old.first log.old.slots log.new.first log.new.slots) }
     ensures pending { OnOk result (log.new.pending ≡ pending_by log.old.pending (call.now ∷ [])) }
     ensures any_moment { IsTrue F.honest → LeavesOnly F.moment F.left_since log.old.folder log.new.folder
-        (HasBeginning log.old.first log.old.slots log.old.pending (call.now ∷ [])) }
+        (HasBeginning log.old.commit log.old.first log.old.slots log.old.pending (call.now ∷ [])) }
     ensures broken { IsErrOf result LogError.Broken → ⊥ }
     ensures err { OnErr result (IsTrue log.new.is_broken ⊎ (log.new ≡ log.old)) }
     ensures failures { F.failures log.old.folder ≤ F.failures log.new.folder }
@@ -71,6 +72,7 @@ pub fn call_all<F: ReadableFolder>(
     calls: &[Call],
 ) -> Result<(), LogError>
     ensures works { OnOk result (log.new.is_broken ≡ false) }
+    ensures commit { log.new.commit ≡ log.old.commit }
     ensures acknowledged { IsTrue F.honest → OnOk result
         (Makes calls.now log.old.pending log.old.first log.old.slots log.new.first log.new.slots) }
     ensures pending { OnOk result (log.new.pending ≡ pending_by log.old.pending calls.now) }
@@ -84,7 +86,7 @@ pub fn call_all<F: ReadableFolder>(
     // A crash at any moment, also if a call fails.
     ensures any_moment { IsTrue F.honest → log.old.is_broken ≡ false
         → LeavesOnly F.moment F.left_since log.old.folder log.new.folder
-        (HasBeginning log.old.first log.old.slots log.old.pending calls.now) }
+        (HasBeginning log.old.commit log.old.first log.old.slots log.old.pending calls.now) }
     ensures broken { IsErrOf result LogError.Broken ↔ IsTrue log.old.is_broken }
     ensures err { IsTrue F.honest → OnErr result (IsTrue log.new.is_broken
         ⊎ HasMadeFirst calls.now log.old log.new) }
@@ -111,6 +113,7 @@ pub fn open_and_call<F: ReadableFolder>(
     alloc: Global,
     folder: F,
     seal_size: usize,
+    commit: Commit,
     calls: &[Call],
 ) -> Result<SegmentedLog<F>, (LogError, F)>
     // After a restart, what a look sees is what is on the disk.
@@ -118,18 +121,19 @@ pub fn open_and_call<F: ReadableFolder>(
         (F.entry_kept folder) }
 
     ensures works { IfOk result (λ log. log.is_broken ≡ false) }
+    ensures commit { IfOk result (λ log. log.commit ≡ commit) }
     ensures acknowledged { IsTrue F.honest → IfOk result (λ log. (first : ℕ) (kept : List Slot)
         → IsLog first kept (F.seen folder) → Makes calls.now [] first kept log.first log.slots) }
     ensures begun { IsTrue F.honest → IfOk result (λ log. IsBlank (F.seen folder)
         → Makes calls.now [] 0 [] log.first log.slots) }
     ensures pending { IfOk result (λ log. log.pending ≡ pending_by [] calls.now) }
     ensures any_moment { IsTrue F.honest → IfOk result (λ log. LeavesOnly F.moment F.left_since folder log.folder
-        (KeepsAndAdds calls.now (F.seen folder))) }
+        (KeepsAndAdds commit calls.now (F.seen folder))) }
     ensures any_moment_err { IsTrue F.honest → IfErr result (λ e. LeavesOnly F.moment F.left_since folder e.1
-        (KeepsAndAdds calls.now (F.seen folder))) }
+        (KeepsAndAdds commit calls.now (F.seen folder))) }
     ensures kind { IfErr result (λ e. IsOfOpenings e.0 ⊎ IsOfCalls calls.now e.0) }
 {
-    let mut log = match SegmentedLog::open(alloc, folder, seal_size) {
+    let mut log = match SegmentedLog::open(alloc, folder, seal_size, commit) {
         Ok(log) => log,
         Err(refusal) => return Err(refusal),
     };

@@ -5,7 +5,8 @@ ghost use Rattle.store_base.specs.Counts.{HasRisen};
 ghost use Rattle.store_folder.specs.Moments.{LeavesOnly};
 ghost use Rattle.store_format.specs.Block.{doc};
 ghost use Rattle.segmented_log.specs.Log.{IsLog, KeepsOrAdds};
-ghost use Rattle.store_folder.specs.Folder.{Elsewhere};
+ghost use Rattle.store_folder.specs.Folder.{ElsewhereOfBoth};
+ghost use Rattle.store_folder.specs.Publishing.{part};
 ghost use Rattle.segmented_log.specs.Names.{tail_name};
 ghost use Rattle.segmented_log.specs.Causes.{IsOfSeals, HasNewSegment, HasNoRoomForLast};
 ghost use Rattle.record_log.specs.Causes.{IsFault, IsOfSyncs};
@@ -13,7 +14,7 @@ ghost use Rattle.record_log.specs.Causes.{IsFault, IsOfSyncs};
 use crate::log::SegmentedLog;
 use crate::segment::add_segment;
 use crate::tail_file::{replace_tail, write_batch};
-use record_log::batches::{BATCH_HEADER, place_records};
+use record_log::batches::{BATCH_HEADER, open_batch, place_records};
 use record_log::{LogError, new_tail};
 use store_folder::ReadableFolder;
 
@@ -22,15 +23,17 @@ impl<F: ReadableFolder> SegmentedLog<F> {
     fn write_pending(&mut self) -> Result<(), LogError>
         requires works { self.old.is_broken ≡ false }
         ensures first { self.new.first ≡ self.old.first }
+        ensures commit { self.new.commit ≡ self.old.commit }
         ensures acknowledged { IsTrue F.honest
             → OnOk result (self.new.slots ≡ self.old.slots ++ map doc self.old.pending) }
         ensures none_pending { OnOk result (self.new.pending ≡ []) }
         ensures works { OnOk result (self.new.is_broken ≡ false) }
         ensures broken { OnErr result (IsTrue self.new.is_broken) }
         ensures elsewhere { IsTrue F.honest
-            → OnOk result (Elsewhere tail_name (F.seen self.old.folder) (F.seen self.new.folder)) }
+            → OnOk result (ElsewhereOfBoth (tail_name ++ part) tail_name
+            (F.seen self.old.folder) (F.seen self.new.folder)) }
         ensures any_moment { IsTrue F.honest → LeavesOnly F.moment F.left_since self.old.folder self.new.folder
-            (KeepsOrAdds self.old.first self.old.slots self.old.pending) }
+            (KeepsOrAdds self.old.commit self.old.first self.old.slots self.old.pending) }
         ensures failures { F.failures self.old.folder ≤ F.failures self.new.folder }
         ensures failed { IsErrOf result LogError.Failed
             → HasRisen (F.failures self.old.folder) (F.failures self.new.folder) }
@@ -43,7 +46,14 @@ impl<F: ReadableFolder> SegmentedLog<F> {
             self.tail.len() + BATCH_HEADER,
             &mut self.places,
         )?;
-        let batch = write_batch(self.alloc, &mut self.folder, &self.tail, &self.pending)?;
+        let batch = open_batch(self.alloc, &self.pending)?;
+        write_batch(
+            self.alloc,
+            &mut self.folder,
+            self.commit,
+            &self.tail,
+            &batch,
+        )?;
         self.tail.extend_from_slice(&batch)?;
         self.pending.clear();
         self.is_broken = false;
@@ -54,6 +64,7 @@ impl<F: ReadableFolder> SegmentedLog<F> {
     fn publish_unsealed(&mut self) -> Result<(), LogError>
         requires works { self.old.is_broken ≡ false }
         ensures first { self.new.first ≡ self.old.first }
+        ensures commit { self.new.commit ≡ self.old.commit }
         ensures slots { IsTrue F.honest → OnOk result (self.new.slots ≡ self.old.slots) }
         ensures pending { self.new.pending ≡ self.old.pending }
         ensures works { OnOk result (self.new.is_broken ≡ false) }
@@ -90,6 +101,7 @@ impl<F: ReadableFolder> SegmentedLog<F> {
     fn empty_tail(&mut self) -> Result<(), LogError>
         requires works { self.old.is_broken ≡ false }
         ensures first { self.new.first ≡ self.old.first }
+        ensures commit { self.new.commit ≡ self.old.commit }
         ensures slots { IsTrue F.honest → OnOk result (self.new.slots ≡ self.old.slots) }
         ensures pending { self.new.pending ≡ self.old.pending }
         ensures works { OnOk result (self.new.is_broken ≡ false) }
@@ -122,6 +134,7 @@ impl<F: ReadableFolder> SegmentedLog<F> {
     /// is broken.
     pub fn seal(&mut self) -> Result<(), LogError>
         ensures first { self.new.first ≡ self.old.first }
+        ensures commit { self.new.commit ≡ self.old.commit }
         ensures slots { IsTrue F.honest → OnOk result (self.new.slots ≡ self.old.slots) }
         ensures pending { self.new.pending ≡ self.old.pending }
         ensures works { OnOk result (self.new.is_broken ≡ false) }
@@ -151,6 +164,7 @@ impl<F: ReadableFolder> SegmentedLog<F> {
     fn seal_large(&mut self) -> Result<(), LogError>
         requires works { self.old.is_broken ≡ false }
         ensures first { self.new.first ≡ self.old.first }
+        ensures commit { self.new.commit ≡ self.old.commit }
         ensures slots { IsTrue F.honest → OnOk result (self.new.slots ≡ self.old.slots) }
         ensures pending { self.new.pending ≡ self.old.pending }
         ensures works { OnOk result (self.new.is_broken ≡ false) }
@@ -174,6 +188,7 @@ impl<F: ReadableFolder> SegmentedLog<F> {
     fn seal_tail(&mut self) -> Result<(), LogError>
         requires works { self.old.is_broken ≡ false }
         ensures first { self.new.first ≡ self.old.first }
+        ensures commit { self.new.commit ≡ self.old.commit }
         ensures slots { IsTrue F.honest → OnOk result (self.new.slots ≡ self.old.slots) }
         ensures pending { self.new.pending ≡ self.old.pending }
         ensures works { OnOk result (self.new.is_broken ≡ false) }
@@ -198,16 +213,17 @@ impl<F: ReadableFolder> SegmentedLog<F> {
     /// is broken.
     pub fn sync(&mut self) -> Result<(), LogError>
         ensures first { self.new.first ≡ self.old.first }
+        ensures commit { self.new.commit ≡ self.old.commit }
         ensures acknowledged { IsTrue F.honest
             → OnOk result (self.new.slots ≡ self.old.slots ++ map doc self.old.pending) }
         ensures none_pending { OnOk result (self.new.pending ≡ []) }
         ensures works { OnOk result (self.new.is_broken ≡ false) }
 
-        // A crash at any moment leaves the records from before, with all pending ones or with none, or with forged
-        // batches.
+        // A crash at any moment leaves the records from before, with all pending ones or with none, or, with one sync,
+        // with forged batches.
         ensures any_moment { IsTrue F.honest → self.old.is_broken ≡ false
             → LeavesOnly F.moment F.left_since self.old.folder self.new.folder
-            (KeepsOrAdds self.old.first self.old.slots self.old.pending) }
+            (KeepsOrAdds self.old.commit self.old.first self.old.slots self.old.pending) }
         ensures broken { IsErrOf result LogError.Broken ↔ IsTrue self.old.is_broken }
         ensures err { OnErr result (IsTrue self.new.is_broken) }
         ensures same { IsTrue self.old.is_broken → self.new ≡ self.old }

@@ -1,36 +1,25 @@
 //! The tail of a log, as a file of its folder.
 
-ghost use Rattle.std.specs.Prelude.{◌≡◌, ◌≤◌, ◌<◌, ◌+◌, ◌^◌, ◌++◌, ◌∷◌, length, IsTrue, IfOk, IfErr, OnOk, IsErrOf};
-ghost use Rattle.std.specs.Prelude.{Some};
+ghost use Rattle.std.specs.Prelude.{◌≡◌, ◌≤◌, ◌++◌, IsTrue, IfErr, OnOk, OnErr, IsErrOf, Some};
 ghost use Rattle.store_base.specs.Counts.{HasRisen};
 ghost use Rattle.store_folder.specs.Moments.{ComesFrom, LeavesOnly};
 ghost use Rattle.store_folder.specs.Folder.{Elsewhere, ElsewhereOfBoth};
 ghost use Rattle.store_folder.specs.Publishing.{part, IsOldOrWhole};
-ghost use Rattle.record_log.specs.Tail.{summed, sum_of};
 ghost use Rattle.segmented_log.specs.Names.{tail_name};
-ghost use Rattle.segmented_log.specs.Settled.{TailIsKept, GrowsTail};
+ghost use Rattle.segmented_log.specs.Settled.{TailIsKept, GrowsTail, PutsBatch};
 ghost use Rattle.record_log.specs.Causes.{IsFault};
 
 use crate::names::{TAIL, TAIL_PART};
-use record_log::LogError;
-use record_log::batches::open_batch;
+use record_log::{Commit, LogError};
 use std::alloc::Global;
 use store_folder::{Folder, replace};
 
-/// Puts a batch after those of the tail, and returns its bytes.
-pub(crate) fn write_batch<F: Folder>(
-    alloc: Global,
-    folder: &mut F,
-    tail: &[u8],
-    body: &[u8],
-) -> Result<Vec<u8>, LogError>
-    requires small { 8 + length body.now < 2 ^ 32 }
+// Appends a batch to the tail, with one sync.
+fn append_batch<F: Folder>(folder: &mut F, tail: &[u8], batch: &[u8]) -> Result<(), LogError>
     requires kept { IsTrue F.honest
         → TailIsKept (F.may_hold folder.old) (F.may_leave folder.old) (F.entry_kept folder.old) tail.now }
-    ensures batch { IfOk result (λ batch. batch.items ≡ 1 ∷ summed body.now) }
-    ensures fits { OnOk result (sum_of body.now < 2 ^ 64) }
     ensures kept { IsTrue F.honest → OnOk result (TailIsKept (F.may_hold folder.new) (F.may_leave folder.new)
-        (F.entry_kept folder.new) (tail.now ++ (1 ∷ summed body.now))) }
+        (F.entry_kept folder.new) (tail.now ++ batch.now)) }
     ensures elsewhere { IsTrue F.honest → OnOk result (Elsewhere tail_name (F.seen folder.old) (F.seen folder.new)) }
     ensures crash { IsTrue F.honest
         → ComesFrom (Elsewhere tail_name) (F.may_leave folder.old) (F.may_leave folder.new) }
@@ -39,19 +28,75 @@ pub(crate) fn write_batch<F: Folder>(
     ensures any_moment { IsTrue F.honest → LeavesOnly F.moment F.left_since folder.old folder.new
         (GrowsTail (F.may_leave folder.old) tail.now) }
     ensures failures { F.failures folder.old ≤ F.failures folder.new }
+    ensures failed { OnErr result (HasRisen (F.failures folder.old) (F.failures folder.new)) }
+    ensures kind { IfErr result IsFault }
+{
+    folder.append(TAIL, batch)?;
+    folder.sync_file(TAIL)?;
+    Ok(())
+}
+
+// Replaces the tail by one that has the batch too, with two syncs: of the new file, and of the folder.
+fn replace_with_batch<F: Folder>(
+    alloc: Global,
+    folder: &mut F,
+    tail: &[u8],
+    batch: &[u8],
+) -> Result<(), LogError>
+    ensures kept { IsTrue F.honest → OnOk result (TailIsKept (F.may_hold folder.new) (F.may_leave folder.new)
+        (F.entry_kept folder.new) (tail.now ++ batch.now)) }
+    ensures elsewhere { IsTrue F.honest
+        → ElsewhereOfBoth (tail_name ++ part) tail_name (F.seen folder.old) (F.seen folder.new) }
+    ensures crash { IsTrue F.honest → ComesFrom (ElsewhereOfBoth (tail_name ++ part) tail_name)
+        (F.may_leave folder.old) (F.may_leave folder.new) }
+
+    // A crash at any moment leaves the old tail or the new one.
+    ensures any_moment { IsTrue F.honest → LeavesOnly F.moment F.left_since folder.old folder.new
+        (IsOldOrWhole (F.may_leave folder.old) (tail_name ++ part) tail_name (Some (tail.now ++ batch.now))) }
+    ensures failures { F.failures folder.old ≤ F.failures folder.new }
     ensures failed { IsErrOf result LogError.Failed → HasRisen (F.failures folder.old) (F.failures folder.new) }
     ensures kind { IfErr result IsFault }
 {
-    let batch = open_batch(alloc, body)?;
-    folder.append(TAIL, &batch)?;
-    folder.sync_file(TAIL)?;
-    Ok(batch)
+    let mut whole = Vec::with_capacity(alloc, tail.len() + batch.len())?;
+    whole.extend_from_slice(tail)?;
+    whole.extend_from_slice(batch)?;
+    replace_tail(folder, &whole)
+}
+
+/// Puts a batch after those of the tail.
+pub(crate) fn write_batch<F: Folder>(
+    alloc: Global,
+    folder: &mut F,
+    commit: Commit,
+    tail: &[u8],
+    batch: &[u8],
+) -> Result<(), LogError>
+    requires kept { IsTrue F.honest
+        → TailIsKept (F.may_hold folder.old) (F.may_leave folder.old) (F.entry_kept folder.old) tail.now }
+    ensures kept { IsTrue F.honest → OnOk result (TailIsKept (F.may_hold folder.new) (F.may_leave folder.new)
+        (F.entry_kept folder.new) (tail.now ++ batch.now)) }
+    ensures elsewhere { IsTrue F.honest → OnOk result
+        (ElsewhereOfBoth (tail_name ++ part) tail_name (F.seen folder.old) (F.seen folder.new)) }
+    ensures crash { IsTrue F.honest → ComesFrom (ElsewhereOfBoth (tail_name ++ part) tail_name)
+        (F.may_leave folder.old) (F.may_leave folder.new) }
+    ensures any_moment { IsTrue F.honest → LeavesOnly F.moment F.left_since folder.old folder.new
+        (PutsBatch commit (F.may_leave folder.old) tail.now batch.now) }
+    ensures failures { F.failures folder.old ≤ F.failures folder.new }
+    ensures failed { IsErrOf result LogError.Failed → HasRisen (F.failures folder.old) (F.failures folder.new) }
+    ensures kind { IfErr result IsFault }
+{
+    match commit {
+        Commit::OneSync => append_batch(folder, tail, batch),
+        Commit::TwoSyncs => replace_with_batch(alloc, folder, tail, batch),
+    }
 }
 
 /// Replaces the tail by a file of these bytes, or makes it.
 pub(crate) fn replace_tail<F: Folder>(folder: &mut F, bytes: &[u8]) -> Result<(), LogError>
     ensures kept { IsTrue F.honest → OnOk result
         (TailIsKept (F.may_hold folder.new) (F.may_leave folder.new) (F.entry_kept folder.new) bytes.now) }
+    ensures elsewhere { IsTrue F.honest
+        → ElsewhereOfBoth (tail_name ++ part) tail_name (F.seen folder.old) (F.seen folder.new) }
     ensures crash { IsTrue F.honest → ComesFrom (ElsewhereOfBoth (tail_name ++ part) tail_name)
         (F.may_leave folder.old) (F.may_leave folder.new) }
 

@@ -4,7 +4,7 @@ use crate::crash::Dice;
 use crate::torn_drops::has_from;
 use crate::torn_logs::{Log, SEAL_SIZE, crashed};
 use crate::watched::Watched;
-use segmented_log::{Call, call_all, open_and_call};
+use segmented_log::{Call, Commit, call_all, open_and_call};
 use std::alloc::{AllocError, Global};
 use std::test::Fail;
 use torn_folder::Event;
@@ -32,14 +32,22 @@ struct Run {
 }
 
 // Opens a folder's log and makes calls.
-fn called(alloc: Global, folder: Watched, calls: &[Call]) -> Result<Log, Fail> {
-    match open_and_call(alloc, folder, SEAL_SIZE, calls) {
+fn called(alloc: Global, folder: Watched, commit: Commit, calls: &[Call]) -> Result<Log, Fail> {
+    match open_and_call(alloc, folder, SEAL_SIZE, commit, calls) {
         Ok(log) => Ok(log),
         Err(_) => Err(std::io::Error::from(std::io::ErrorKind::Other))?,
     }
 }
 
 impl Run {
+    // How a process commits.
+    fn commit(&mut self) -> Commit {
+        match self.dice.roll(2) {
+            0 => Commit::OneSync,
+            _ => Commit::TwoSyncs,
+        }
+    }
+
     fn record(&mut self) -> Result<Vec<u8>, AllocError> {
         let mut record = Vec::new(self.alloc);
         for _ in 0..self.dice.roll(20) {
@@ -101,7 +109,7 @@ impl Run {
     // Whether a crash after this many calls of the folder leaves the records up to a sync, this one or a later one.
     fn survives(&mut self, events: &[Event], count: usize, sync: usize) -> Result<bool, Fail> {
         let folder = crashed(self.alloc, events, count, &mut self.dice)?;
-        let mut log = called(self.alloc, folder, &[])?;
+        let mut log = called(self.alloc, folder, Commit::OneSync, &[])?;
         let found = self.found(&mut log, sync);
         if found > self.ends.first().copied() && found < self.ends.last().copied() {
             self.partial = self.partial.saturating_add(1);
@@ -139,7 +147,7 @@ impl Run {
     ) -> Result<Option<Watched>, Fail> {
         let count = from.saturating_add(self.dice.roll(to.saturating_sub(from)));
         let folder = crashed(self.alloc, events, count, &mut self.dice)?;
-        let mut log = called(self.alloc, folder, &[])?;
+        let mut log = called(self.alloc, folder, Commit::OneSync, &[])?;
         let Some(found) = self.found(&mut log, 0) else {
             return Ok(None);
         };
@@ -154,8 +162,9 @@ impl Run {
     // A process, of which every crash is played. The folder that one of them left, if each left what it may.
     fn process(&mut self, folder: Watched) -> Result<Option<Watched>, Fail> {
         let from = folder.events().len();
+        let commit = self.commit();
         let calls = self.calls()?;
-        let mut log = called(self.alloc, folder, &calls)?;
+        let mut log = called(self.alloc, folder, commit, &calls)?;
         let more = self.calls()?;
         let done = call_all(&mut log, &more).is_ok();
         let folder = log.into_folder();

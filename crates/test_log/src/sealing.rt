@@ -1,7 +1,7 @@
 //! When records go from the tail of a log to a segment.
 
 use record_log::TailView;
-use segmented_log::{LogError, SegmentedLog, TAIL, segment_number};
+use segmented_log::{Commit, LogError, SegmentedLog, TAIL, segment_number};
 use std::alloc::Global;
 use std::test::Fail;
 use store_folder::{MemFolder, ReadableFolder};
@@ -41,7 +41,7 @@ fn fill(log: &mut SegmentedLog<MemFolder>, times: usize) -> Result<(), LogError>
 
 // The files of a log that is sealed past this size, after this many syncs, and maybe a seal.
 fn written(alloc: Global, seal_size: usize, times: usize, seals: bool) -> Result<Files, Fail> {
-    let mut log = match SegmentedLog::open(alloc, MemFolder::new(alloc), seal_size) {
+    let mut log = match SegmentedLog::open(alloc, MemFolder::new(alloc), seal_size, Commit::OneSync) {
         Ok(log) => log,
         Err((error, _)) => return Err(error.into()),
     };

@@ -1,6 +1,6 @@
 //! A segmented log in a folder in memory: appended, synced, sealed by its size, read, and opened again.
 
-use segmented_log::SegmentedLog;
+use segmented_log::{Commit, SegmentedLog};
 use std::alloc::{AllocError, Global};
 use std::test::Fail;
 use store_folder::MemFolder;
@@ -62,12 +62,12 @@ fn has(alloc: Global, log: &mut SegmentedLog<MemFolder>, count: usize) -> Result
 // Whether a log has its records, and has them again once it is opened again.
 fn is_kept(alloc: Global) -> Result<bool, AllocError> {
     let folder = MemFolder::new(alloc);
-    let Ok(mut log) = SegmentedLog::open(alloc, folder, 100) else {
+    let Ok(mut log) = SegmentedLog::open(alloc, folder, 100, Commit::OneSync) else {
         return Ok(false);
     };
     let filled = fill(alloc, &mut log, 0, RECORDS)?;
     let found = has(alloc, &mut log, RECORDS)?;
-    let Ok(mut again) = SegmentedLog::open(alloc, log.into_folder(), 1000) else {
+    let Ok(mut again) = SegmentedLog::open(alloc, log.into_folder(), 1000, Commit::TwoSyncs) else {
         return Ok(false);
     };
     Ok(filled && found && has(alloc, &mut again, RECORDS)?)

@@ -3,7 +3,7 @@
 use crate::crash::Dice;
 use crate::torn_logs::{Log, crashed, is_record};
 use crate::watched::Watched;
-use segmented_log::{LogError, SegmentedLog};
+use segmented_log::{Commit, LogError, SegmentedLog};
 use std::alloc::Global;
 use std::io;
 use std::test::Fail;
@@ -40,7 +40,7 @@ pub fn done(outcome: Result<(), LogError>) -> io::Result<()> {
 
 /// A log that is sealed by `seal` alone.
 pub fn opened(alloc: Global, folder: Watched) -> io::Result<Log> {
-    match SegmentedLog::open(alloc, folder, 100_000) {
+    match SegmentedLog::open(alloc, folder, 100_000, Commit::OneSync) {
         Ok(log) => Ok(log),
         Err(_) => Err(io::ErrorKind::Other.into()),
     }

@@ -3,7 +3,7 @@
 use crate::crash::Dice;
 use crate::torn_files::{Disk, LeftFile};
 use crate::watched::Watched;
-use segmented_log::SegmentedLog;
+use segmented_log::{Commit, SegmentedLog};
 use std::alloc::{AllocError, Global};
 use std::test::Fail;
 use store_folder::Folder;
@@ -18,7 +18,7 @@ const CRASHES: usize = 4;
 
 pub type Log = SegmentedLog<Watched>;
 
-// How many crashes left a batch out, how many left it whole, and how many logs were repaired.
+// How many crashes left a batch out, how many left it whole, and how many logs with records were repaired.
 #[derive(Drop)]
 struct Tally {
     without: usize,
@@ -30,14 +30,15 @@ struct Tally {
 #[derive(Drop)]
 struct Run {
     alloc: Global,
+    commit: Commit,
     dice: Dice,
     records: Vec<Vec<u8>>,
     acknowledged: usize,
     tally: Tally,
 }
 
-fn opened(alloc: Global, folder: Watched) -> Result<Log, Fail> {
-    match SegmentedLog::open(alloc, folder, SEAL_SIZE) {
+fn opened(alloc: Global, folder: Watched, commit: Commit) -> Result<Log, Fail> {
+    match SegmentedLog::open(alloc, folder, SEAL_SIZE, commit) {
         Ok(log) => Ok(log),
         Err(_) => Err(std::io::Error::from(std::io::ErrorKind::Other))?,
     }
@@ -110,18 +111,18 @@ impl Run {
     fn survives(&mut self, events: &[Event], count: usize) -> Result<bool, Fail> {
         let folder = crashed(self.alloc, events, count, &mut self.dice)?;
         let restart = folder.events().len();
-        let mut log = opened(self.alloc, folder)?;
+        let mut log = opened(self.alloc, folder, self.commit)?;
         let Some(found) = self.note(&mut log) else {
             return Ok(false);
         };
         let folder = log.into_folder();
         let end = folder.events().len();
-        if end > restart {
+        if end > restart && self.acknowledged > 0 {
             self.tally.repaired = self.tally.repaired.saturating_add(1);
         }
         for calls in restart..end {
             let again = crashed(self.alloc, folder.events(), calls, &mut self.dice)?;
-            let mut log = opened(self.alloc, again)?;
+            let mut log = opened(self.alloc, again, self.commit)?;
             if !has(&mut log, &self.records, found) {
                 return Ok(false);
             }
@@ -159,7 +160,7 @@ impl Run {
     // Writes a batch or seals, and then plays the crashes.
     fn step(&mut self, folder: Watched, seals: bool) -> Result<Option<Watched>, Fail> {
         let from = folder.events().len();
-        let mut log = opened(self.alloc, folder)?;
+        let mut log = opened(self.alloc, folder, self.commit)?;
         let done = if seals {
             log.seal().is_ok()
         } else {
@@ -179,9 +180,10 @@ impl Run {
 }
 
 // Plays a script of batches and seals, with a crash at each moment.
-fn play(alloc: Global, seed: u64) -> Result<Option<Tally>, Fail> {
+fn play(alloc: Global, commit: Commit, seed: u64) -> Result<Option<Tally>, Fail> {
     let mut run = Run {
         alloc,
+        commit,
         dice: Dice::new(seed),
         records: Vec::new(alloc),
         acknowledged: 0,
@@ -206,11 +208,25 @@ fn a_crash_at_any_call_leaves_the_log_with_the_batch_or_without(
     rt: HostRuntime,
 ) -> Result<(), Fail> {
     for seed in 0..4 {
-        let Some(tally) = play(rt.alloc(), seed)? else {
+        let Some(tally) = play(rt.alloc(), Commit::OneSync, seed)? else {
             panic!(rt; "a crash left another log: seed {seed}");
         };
         assert!(rt;
             tally.without > 0 && tally.whole > 0 && tally.repaired > 0,
+            "{seed}"
+        );
+    }
+    Ok(())
+}
+
+#[test]
+fn a_crash_leaves_no_torn_tail_where_a_batch_takes_two_syncs(rt: HostRuntime) -> Result<(), Fail> {
+    for seed in 0..4 {
+        let Some(tally) = play(rt.alloc(), Commit::TwoSyncs, seed)? else {
+            panic!(rt; "a crash left another log: seed {seed}");
+        };
+        assert!(rt;
+            tally.without > 0 && tally.whole > 0 && tally.repaired == 0,
             "{seed}"
         );
     }

@@ -6,12 +6,14 @@ use crate::document_output::standard_output;
 use crate::failure::{Failure, with_file};
 use crate::input_files::{files_from, inputs, names_of, split_names, total_bytes};
 use crate::log::log_folder::SystemCause;
+use crate::log::opened_log::TailOptions;
 use crate::log::places::open_or_begin;
 use crate::log::records::Appending;
 use crate::log::sync_policy::{SyncPolicy, policy_of, sync};
 use crate::progress::Progress;
 use clap::{Arg, ArgMatches, Command};
 use document_framing::Framing;
+use segmented_log::Commit;
 use std::alloc::{AllocError, Global};
 
 const EXAMPLE: &str = "\
@@ -24,15 +26,35 @@ Examples:
   tail -f app.log | zevkhadun log append events     the records that come, as they come
   zevkhadun log append --number --sync every events     the number of each record, once it is on the disk";
 
+// The sizes past which a tail is sealed if the words name none: one to which batches are appended, and one that is
+// written anew with each batch.
+const SEAL_SIZE: usize = 1 << 26;
+
+const SMALL_SEAL_SIZE: usize = 1 << 20;
+
+const TWO_SYNCS_HELP: &str = "\
+Put each batch on the disk with two syncs: a tail that has it too is written beside the old one, and renamed
+A crash leaves no torn batch, so no bytes can be taken for records that were not appended
+Each sync writes the whole tail, so keep '--seal-size' small";
+
 // The size past which a tail is sealed.
 fn seal_size<'a>(alloc: Global) -> Arg<'a> {
     option(
         alloc,
         "seal-size",
         "BYTES",
-        "Put the tail's records into a segment once the tail exceeds BYTES; suffixes K, M, G",
+        "Put the tail's records into a segment once it exceeds BYTES (64M, or 1M with '--two-syncs'); suffixes K, M, G",
     )
-    .default_value("64M")
+}
+
+// How a sync puts a batch on the disk.
+fn two_syncs<'a>(alloc: Global) -> Arg<'a> {
+    flag(
+        alloc,
+        "two-syncs",
+        "Put each batch on the disk with two syncs, so that a crash leaves no torn one",
+    )
+    .long_help(TWO_SYNCS_HELP)
 }
 
 /// The words of `log append`.
@@ -52,6 +74,7 @@ pub fn command<'a>(alloc: Global) -> Result<Command<'a>, AllocError> {
         ),
         arguments::framing(alloc),
         seal_size(alloc),
+        two_syncs(alloc),
         arguments::quiet(alloc),
     ]?;
     Command::new(alloc, "append")
@@ -60,10 +83,19 @@ pub fn command<'a>(alloc: Global) -> Result<Command<'a>, AllocError> {
         .args(args)
 }
 
-// The size past which a tail is sealed, in bytes.
-fn seal_size_of(alloc: Global, matches: &ArgMatches<'_>) -> Result<usize, Failure> {
-    let size = word(alloc, matches, "seal-size")?;
-    parse_size(size).ok_or_else(|| wrong_words(alloc, "invalid seal size", size))
+// How the words say that the tail is written.
+fn tail_options_of(alloc: Global, matches: &ArgMatches<'_>) -> Result<TailOptions, Failure> {
+    let (commit, default_size) = match matches.get_flag("two-syncs") {
+        true => (Commit::TwoSyncs, SMALL_SEAL_SIZE),
+        false => (Commit::OneSync, SEAL_SIZE),
+    };
+    let seal_size = match matches.get_str("seal-size") {
+        Some(size) => {
+            parse_size(size).ok_or_else(|| wrong_words(alloc, "invalid seal size", size))?
+        }
+        None => default_size,
+    };
+    Ok(TailOptions { commit, seal_size })
 }
 
 // How records are appended, by the words.
@@ -71,7 +103,7 @@ fn seal_size_of(alloc: Global, matches: &ArgMatches<'_>) -> Result<usize, Failur
 struct AppendOptions {
     policy: SyncPolicy,
     framing: Framing,
-    seal_size: usize,
+    tail: TailOptions,
     prints_numbers: bool,
     is_quiet: bool,
 }
@@ -81,7 +113,7 @@ fn options_of(alloc: Global, matches: &ArgMatches<'_>) -> Result<AppendOptions, 
     Ok(AppendOptions {
         policy: policy_of(alloc, matches)?,
         framing: framing_of(alloc, matches)?,
-        seal_size: seal_size_of(alloc, matches)?,
+        tail: tail_options_of(alloc, matches)?,
         prints_numbers: matches.get_flag("number"),
         is_quiet: matches.get_flag("quiet"),
     })
@@ -100,7 +132,7 @@ fn appending_of<'a>(
         true => Some(with_file(alloc, path, standard_output(rt))?),
         false => None,
     };
-    let opened = open_or_begin(rt, path, cause, options.seal_size);
+    let opened = open_or_begin(rt, path, cause, options.tail);
     Ok(Appending {
         rt,
         path,

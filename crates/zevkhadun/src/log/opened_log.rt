@@ -4,8 +4,15 @@ ghost use Rattle.std.specs.Prelude.{◌≡◌, ◌≤◌, false, IfOk};
 
 use crate::failure::FailureCause;
 use crate::log::log_folder::{LogFolder, SystemCause};
-use segmented_log::{LogError, Records, SegmentedLog};
+use segmented_log::{Commit, LogError, Records, SegmentedLog};
 use std::alloc::Global;
+
+/// How the tail of a log is written: how a sync puts records on the disk, and the size in bytes past which it is sealed.
+#[derive(Clone, Copy)]
+pub struct TailOptions {
+    pub commit: Commit,
+    pub seal_size: usize,
+}
 
 /// A log that is open.
 #[derive(Drop)]
@@ -28,9 +35,9 @@ impl<'a> OpenedLog<'a> {
         alloc: Global,
         folder: LogFolder<'a, HostRuntime>,
         cause: &'a SystemCause,
-        seal_size: usize,
+        tail: TailOptions,
     ) -> Result<OpenedLog<'a>, FailureCause> {
-        match SegmentedLog::open(alloc, folder, seal_size) {
+        match SegmentedLog::open(alloc, folder, tail.seal_size, tail.commit) {
             Ok(log) => Ok(OpenedLog { log, cause }),
             Err((error, folder)) => {
                 drop(folder);

@@ -2,15 +2,18 @@
 
 use crate::failure::FailureCause;
 use crate::log::log_folder::{LogFolder, SystemCause};
-use crate::log::opened_log::OpenedLog;
-use segmented_log::TAIL;
+use crate::log::opened_log::{OpenedLog, TailOptions};
+use segmented_log::{Commit, TAIL};
 use std::alloc::Global;
 use std::io::ErrorKind;
 use std::{fs, io};
 use store_files::{CreateError, LockedFolder};
 
-// A log that only reads seals nothing.
-const NEVER: usize = usize::MAX;
+// The tail of a log to which nothing is appended: it is not sealed for its size.
+const NOT_APPENDED: TailOptions = TailOptions {
+    commit: Commit::OneSync,
+    seal_size: usize::MAX,
+};
 
 // How often an opening is tried: a writer may seal the log meanwhile.
 const TRIES: usize = 1000;
@@ -86,11 +89,11 @@ fn open_locked<'a>(
     path: &'a str,
     writer: LockedFolder<HostRuntime>,
     cause: &'a SystemCause,
-    seal_size: usize,
+    tail: TailOptions,
 ) -> Result<OpenedLog<'a>, FailureCause> {
     let before = tail_bytes(rt, path)?.unwrap_or(0);
     let folder = LogFolder::of_writer(rt, path, writer, cause);
-    let log = OpenedLog::open(rt.alloc(), folder, cause, seal_size)?;
+    let log = OpenedLog::open(rt.alloc(), folder, cause, tail)?;
     let cut = before.saturating_sub(tail_bytes(rt, path)?.unwrap_or(0));
     if cut > 0 {
         let _ = eprintln!(rt;
@@ -105,11 +108,11 @@ pub fn open_or_begin<'a>(
     rt: &'a HostRuntime,
     path: &'a str,
     cause: &'a SystemCause,
-    seal_size: usize,
+    tail: TailOptions,
 ) -> Result<OpenedLog<'a>, FailureCause> {
     check_place(rt, path)?;
     let writer = locked(LockedFolder::create(rt.alloc(), *rt, path))?;
-    open_locked(rt, path, writer, cause, seal_size)
+    open_locked(rt, path, writer, cause, tail)
 }
 
 /// Opens a log that is there, to write it.
@@ -120,7 +123,7 @@ pub fn open_to_write<'a>(
 ) -> Result<OpenedLog<'a>, FailureCause> {
     check_log(rt, path)?;
     let writer = locked(LockedFolder::open(rt.alloc(), *rt, path))?;
-    open_locked(rt, path, writer, cause, NEVER)
+    open_locked(rt, path, writer, cause, NOT_APPENDED)
 }
 
 /// Opens a log that is there, to read it. Nothing is changed, and a writer may go on.
@@ -134,7 +137,7 @@ pub fn open_to_read<'a>(
         let Some(folder) = LogFolder::of_reader(rt, path, cause)? else {
             continue;
         };
-        match OpenedLog::open(rt.alloc(), folder, cause, NEVER) {
+        match OpenedLog::open(rt.alloc(), folder, cause, NOT_APPENDED) {
             // A segment may be gone since it was listed.
             Err(FailureCause::System(error)) if error.kind() == ErrorKind::NotFound => {}
             opened => return opened,

@@ -26,7 +26,7 @@ returns-clause-found g c = λ n honest line le below.
     let held = held_at (λ s. part_of s.first s.reader) segments _ i c.args.number n x c.deref.ensures.value (omega arith) is c.find_segment-i.ensures.before
     (c.find_segment-i.ensures.found (omega arith) x) line le in
     let true_file = subst (λ y. IsTrue y.reader.file.honest) (sym is) (honest i x (omega arith)) in
-    subst (λ o. Gives o c.get_in.result) (sym held.1.1) (c.get_in.ensures.found true_file held.1.0 held.0)
+    subst (λ o. Gives o c.get_in.result) (sym held.2) (c.get_in.ensures.found true_file held.1 held.0)
 
 pub returns-then-i-len-clause-failed : goal.returns-then-i-len-clause-failed
 returns-then-i-len-clause-failed g c = λ n honest line le below is.
@@ -47,4 +47,4 @@ returns-clause-failed g c = λ n honest line le below refused.
     let held = held_at (λ s. part_of s.first s.reader) segments _ i c.args.number n x c.deref.ensures.value (omega arith) is c.find_segment-i.ensures.before
     (c.find_segment-i.ensures.found (omega arith) x) line le in
     let true_file = subst (λ y. IsTrue y.reader.file.honest) (sym is) (honest i x (omega arith)) in
-    risen_of_all (λ s. s.reader.file.failures) segments i c.get_in.new.segment x (omega arith) is (c.get_in.ensures.failed true_file held.1.0 held.0 refused)
+    risen_of_all (λ s. s.reader.file.failures) segments i c.get_in.new.segment x (omega arith) is (c.get_in.ensures.failed true_file held.1 held.0 refused)

@@ -9,20 +9,24 @@ use Rattle.segmented_log.proofs.runs.call_all.Goals as goal
 
 -- what a crash leaves up to the end of one call more
 leaves : (g : _) (c : After-make_call g) → IsTrue g.F.Folder.honest → LeavesOnly g.F.Folder.moment g.F.Folder.left_since c.args.log.now.folder c.make_call.new.log.folder
-    (HasBeginning c.args.log.now.first c.args.log.now.slots c.args.log.now.pending c.args.calls.now)
+    (HasBeginning c.args.log.now.commit c.args.log.now.first c.args.log.now.slots c.args.log.now.pending c.args.calls.now)
 leaves g c h =
     let F = g.F.Folder in
     let old = c.args.log.now in
     let mid = c.loop-next.log in
     let new = c.make_call.new.log in
     let before = c.loop-next.invariant in
-    joined F.moment F.left_since old.folder mid.folder new.folder (HasBeginning old.first old.slots old.pending c.args.calls.now) (before.any_moment h)
+    joined F.moment F.left_since old.folder mid.folder new.folder (HasBeginning old.commit old.first old.slots old.pending c.args.calls.now) (before.any_moment h)
     (weaker F.moment F.left_since mid.folder new.folder _ _
-    (λ l has. begins_all c.args.calls.now c.loop-next.next-index c.next-item.result (omega arith) c.next-item.is old.pending mid.pending old.first mid.first old.slots mid.slots before.pending (before.makes h) l has)
+    (λ l has. begins_all c.args.calls.now c.loop-next.next-index c.next-item.result (omega arith) c.next-item.is old.pending mid.pending old.first mid.first old.slots mid.slots before.pending (before.makes h)
+    old.commit mid.commit before.commit l has)
     (c.make_call.ensures.any_moment h))
 
 pub returns-in_err-make_call-clause-any_moment : goal.returns-in_err-make_call-clause-any_moment
 returns-in_err-make_call-clause-any_moment g c = λ h works. leaves g (goal.at.returns-in_err-make_call-clause-any_moment g c).After-make_call h
+
+pub returns-in_err-make_call-clause-commit : goal.returns-in_err-make_call-clause-commit
+returns-in_err-make_call-clause-commit g c = c.make_call.ensures.commit ∙ c.loop-next.invariant.commit
 
 pub returns-in_err-make_call-clause-first : goal.returns-in_err-make_call-clause-first
 returns-in_err-make_call-clause-first g c = λ none.
@@ -67,6 +71,7 @@ loop-next-preserved g c =
     let after = c.in_ok-make_call.ensures in
     record {
       works = after.works;
+      commit = after.commit ∙ before.commit;
       first = λ none. after.first (λ drops. none (drops_item calls i item (omega arith) c.next-item.is drops)) ∙ before.first none;
       makes = λ h.
           makes_item calls i item (omega arith) c.next-item.is old.pending mid.pending old.first mid.first old.slots mid.slots before.pending (before.makes h) new.first new.slots (after.slots h);
@@ -81,11 +86,12 @@ loop-next-init g c =
     let old = c.args.log.now in
     record {
       works = sym c.is_broken.ensures.value ∙ c.if-is_broken.false;
+      commit = refl;
       first = λ none. refl;
       makes = λ h. makes_none old.pending old.first old.slots;
       pending = refl;
       any_moment = λ h.
-          started F.moment F.left_since old.folder (HasBeginning old.first old.slots old.pending c.args.calls.now)
-          (λ l left. has_itself old.first old.slots old.pending c.args.calls.now l (c.is_broken.ensures.durable h c.if-is_broken.false l (g.met.F.Folder.only_now old.folder l left)));
+          started F.moment F.left_since old.folder (HasBeginning old.commit old.first old.slots old.pending c.args.calls.now)
+          (λ l left. has_itself old.commit old.first old.slots old.pending c.args.calls.now l (c.is_broken.ensures.durable h c.if-is_broken.false l (g.met.F.Folder.only_now old.folder l left)));
       failures = omega arith;
     }

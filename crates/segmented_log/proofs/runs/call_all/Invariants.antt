@@ -10,9 +10,10 @@ invariant-loop-next g l = let old = l.fn.log in
     let F = g.F.Folder in
     record {
       works : l.log.is_broken ≡ false;
+      commit : l.log.commit ≡ old.commit;
       first : (Drops l.calls → ⊥) → l.log.first ≡ old.first;
       makes : IsTrue F.honest → Makes calls old.pending old.first old.slots l.log.first l.log.slots;
       pending : l.log.pending ≡ pending_by old.pending calls;
-      any_moment : IsTrue F.honest → LeavesOnly F.moment F.left_since old.folder l.log.folder (HasBeginning old.first old.slots old.pending l.calls);
+      any_moment : IsTrue F.honest → LeavesOnly F.moment F.left_since old.folder l.log.folder (HasBeginning old.commit old.first old.slots old.pending l.calls);
       failures : F.failures old.folder ≤ F.failures l.log.folder;
     }

@@ -15,41 +15,41 @@ returns-in-Sync-clause-any_moment g c = λ h.
     let F = g.F.Folder in
     let old = c.args.log.now in
     let new = c.sync.new.self in
-    subst (λ (x : Call). LeavesOnly F.moment F.left_since old.folder new.folder (HasBeginning old.first old.slots old.pending (x ∷ []))) (sym c.in-Sync.is)
-    (weaker F.moment F.left_since old.folder new.folder _ _ (λ l keeps. has_or_adds old.first old.slots old.pending l keeps) (c.sync.ensures.any_moment h c.requires))
+    subst (λ (x : Call). LeavesOnly F.moment F.left_since old.folder new.folder (HasBeginning old.commit old.first old.slots old.pending (x ∷ []))) (sym c.in-Sync.is)
+    (weaker F.moment F.left_since old.folder new.folder _ _ (λ l keeps. has_or_adds old.commit old.first old.slots old.pending l keeps) (c.sync.ensures.any_moment h c.requires))
 
 pub returns-in-Seal-clause-any_moment : goal.returns-in-Seal-clause-any_moment
 returns-in-Seal-clause-any_moment g c = λ h.
     let F = g.F.Folder in
     let old = c.args.log.now in
     let new = c.seal.new.self in
-    weaker F.moment F.left_since old.folder new.folder _ _ (λ l log. has_itself old.first old.slots old.pending (c.args.call.now ∷ []) l log) (c.seal.ensures.any_moment h c.requires)
+    weaker F.moment F.left_since old.folder new.folder _ _ (λ l log. has_itself old.commit old.first old.slots old.pending (c.args.call.now ∷ []) l log) (c.seal.ensures.any_moment h c.requires)
 
 pub returns-in-Compact-clause-any_moment : goal.returns-in-Compact-clause-any_moment
 returns-in-Compact-clause-any_moment g c = λ h.
     let F = g.F.Folder in
     let old = c.args.log.now in
     let new = c.compact.new.self in
-    weaker F.moment F.left_since old.folder new.folder _ _ (λ l log. has_itself old.first old.slots old.pending (c.args.call.now ∷ []) l log) (c.compact.ensures.any_moment h c.requires)
+    weaker F.moment F.left_since old.folder new.folder _ _ (λ l log. has_itself old.commit old.first old.slots old.pending (c.args.call.now ∷ []) l log) (c.compact.ensures.any_moment h c.requires)
 
 pub returns-in-DropBefore-clause-any_moment : goal.returns-in-DropBefore-clause-any_moment
 returns-in-DropBefore-clause-any_moment g c = λ h.
     let F = g.F.Folder in
     let old = c.args.log.now in
     let new = c.drop_before.new.self in
-    subst (λ (x : Call). LeavesOnly F.moment F.left_since old.folder new.folder (HasBeginning old.first old.slots old.pending (x ∷ []))) (sym c.in-DropBefore.is)
-    (weaker F.moment F.left_since old.folder new.folder _ _ (λ l drops. has_dropped old.first c.in-DropBefore.number old.slots old.pending l drops) (c.drop_before.ensures.any_moment h c.requires))
+    subst (λ (x : Call). LeavesOnly F.moment F.left_since old.folder new.folder (HasBeginning old.commit old.first old.slots old.pending (x ∷ []))) (sym c.in-DropBefore.is)
+    (weaker F.moment F.left_since old.folder new.folder _ _ (λ l drops. has_dropped old.commit old.first c.in-DropBefore.number old.slots old.pending l drops) (c.drop_before.ensures.any_moment h c.requires))
 
 -- an append writes nothing
 leaves : (g : _) (c : After-append g) → IsTrue g.F.Folder.honest → LeavesOnly g.F.Folder.moment g.F.Folder.left_since c.args.log.now.folder c.append.new.self.folder
-    (HasBeginning c.args.log.now.first c.args.log.now.slots c.args.log.now.pending (c.args.call.now ∷ []))
+    (HasBeginning c.args.log.now.commit c.args.log.now.first c.args.log.now.slots c.args.log.now.pending (c.args.call.now ∷ []))
 leaves g c h =
     let F = g.F.Folder in
     let old = c.args.log.now in
     let calls = c.args.call.now ∷ [] in
-    subst (λ d. LeavesOnly F.moment F.left_since old.folder d (HasBeginning old.first old.slots old.pending calls)) (sym c.append.ensures.folder)
-    (started F.moment F.left_since old.folder (HasBeginning old.first old.slots old.pending calls)
-    (λ l left. has_itself old.first old.slots old.pending calls l (c.is_broken.ensures.durable h c.if-is_broken.false l (g.met.F.Folder.only_now old.folder l left))))
+    subst (λ d. LeavesOnly F.moment F.left_since old.folder d (HasBeginning old.commit old.first old.slots old.pending calls)) (sym c.append.ensures.folder)
+    (started F.moment F.left_since old.folder (HasBeginning old.commit old.first old.slots old.pending calls)
+    (λ l left. has_itself old.commit old.first old.slots old.pending calls l (c.is_broken.ensures.durable h c.if-is_broken.false l (g.met.F.Folder.only_now old.folder l left))))
 
 pub returns-in_err-append-in-Append-clause-any_moment : goal.returns-in_err-append-in-Append-clause-any_moment
 returns-in_err-append-in-Append-clause-any_moment g c = leaves g (goal.at.returns-in_err-append-in-Append-clause-any_moment g c).After-append

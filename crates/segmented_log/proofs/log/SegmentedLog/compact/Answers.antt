@@ -17,6 +17,7 @@ loop-init g c =
     let log = c.args.self.now in
     record {
       works = sym c.is_broken.ensures.value ∙ c.if-is_broken.false;
+      commit = refl;
       first = refl;
       slots = λ h. refl;
       pending = refl;
@@ -69,6 +70,7 @@ loop-preserved g c =
     let before = c.loop.invariant in
     record {
       works = c.in_ok-compact_next.ensures.works;
+      commit = c.compact_next.ensures.commit ∙ before.commit;
       first = c.compact_next.ensures.first ∙ before.first;
       slots = λ h. slots_now g here h;
       pending = c.compact_next.ensures.pending ∙ before.pending;

@@ -11,6 +11,7 @@ invariant-loop g l = let F = g.F.Folder in
     let old = l.fn.self in
     record {
       works : l.self.is_broken ≡ false;
+      commit : l.self.commit ≡ old.commit;
       first : l.self.first ≡ old.first;
       slots : IsTrue F.honest → l.self.slots ≡ old.slots;
       pending : l.self.pending ≡ old.pending;

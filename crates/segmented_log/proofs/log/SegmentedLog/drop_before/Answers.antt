@@ -14,6 +14,7 @@ loop-init g c =
     let number = c.args.number in
     record {
       works = sym c.is_broken.ensures.value ∙ c.if-is_broken.false;
+      commit = refl;
       rest = λ h. rest_itself log.first number log.slots;
       pending = refl;
       files = λ h n. inl refl;
@@ -66,6 +67,7 @@ loop-preserved g c =
     let old = c.args.self.now in
     record {
       works = c.in_ok-drop_first.ensures.works;
+      commit = c.drop_first.ensures.commit ∙ before.commit;
       rest = λ h. rest_now g here h;
       pending = c.drop_first.ensures.pending ∙ before.pending;
       files = λ h.

@@ -10,6 +10,7 @@ invariant-loop g l = let F = g.F.Folder in
     let old = l.fn.self in
     record {
       works : l.self.is_broken ≡ false;
+      commit : l.self.commit ≡ old.commit;
       rest : IsTrue F.honest → IsRest old.first old.slots l.number l.self.first l.self.slots;
       pending : l.self.pending ≡ old.pending;
       files : IsTrue F.honest → RemovesOnly l.number (F.seen old.folder) (F.seen l.self.folder);

@@ -10,7 +10,7 @@ use Rattle.record_log.specs.Causes.{IsFault}
 use Rattle.segmented_log.specs.Names.{segment_name}
 use Rattle.segmented_log.specs.Causes.{HasNoRoomForLast}
 use Rattle.segmented_log.specs.Log.{IsLog, KeepsOrAdds}
-use Rattle.segmented_log.proofs.NameLemmas.{segment_no_tail}
+use Rattle.segmented_log.proofs.NameLemmas.{segment_no_tail, segment_no_tail_beside}
 use Rattle.segmented_log.proofs.CauseLemmas.{never}
 use Rattle.segmented_log.proofs.SyncLemmas.{nothing_pending, always_ok}
 use Rattle.segmented_log.proofs.log.SegmentedLog.sync.Goals as goal
@@ -33,7 +33,7 @@ returns-clause-any_moment g c = λ h works.
     let old = c.args.self.now in
     let mid = c.write_pending.new.self in
     let new = c.seal_large-2.new.self in
-    joined F.moment F.left_since old.folder mid.folder new.folder (KeepsOrAdds old.first old.slots old.pending) (c.write_pending.ensures.any_moment h)
+    joined F.moment F.left_since old.folder mid.folder new.folder (KeepsOrAdds old.commit old.first old.slots old.pending) (c.write_pending.ensures.any_moment h)
     (weaker F.moment F.left_since mid.folder new.folder _ _
     (λ l log. inr (inl (subst (λ n. IsLog n (old.slots ++ map doc old.pending) l) c.write_pending.ensures.first (subst (λ a. IsLog mid.first a l) (c.in_ok-write_pending.ensures.acknowledged h) log))))
     (c.seal_large-2.ensures.any_moment h))
@@ -58,7 +58,7 @@ returns-in_err-write_pending-clause-full g c = λ h is.
 pub returns-clause-failed : goal.returns-clause-failed
 returns-clause-failed g c = λ h is.
     ⊎_elim (λ risen. inl (risen_later _ _ _ c.write_pending.ensures.failures risen))
-    (λ new. inr (new.0, sym (c.in_ok-write_pending.ensures.elsewhere h (segment_name new.0) (segment_no_tail new.0)) ∙ new.1, new.2))
+    (λ new. inr (new.0, sym (c.in_ok-write_pending.ensures.elsewhere h (segment_name new.0) (segment_no_tail_beside new.0) (segment_no_tail new.0)) ∙ new.1, new.2))
     (c.seal_large-2.ensures.failed h is)
 
 pub returns-clause-full : goal.returns-clause-full
