@@ -6,7 +6,6 @@ use Rattle.std.specs.Prelude.{slice_range, nat_lt, IfSome}
 use Rattle.std.specs.Option.{option_or}
 use Rattle.std.specs.List.{flat_map, AllByRecursion}
 use Rattle.store_base.proofs.ListLemmas.{range_at}
-use Rattle.store_base.specs.ReadingLemmas.{some_is}
 use Rattle.layered_index.specs.declared.checkpoint.Checkpoint.{Checkpoint}
 use Rattle.layered_index.specs.Checkpoint.{checkpoint, docs_end, bytes_end, IsInLineFrom, IsInLine, checkpoint_block, first_past}
 use Rattle.layered_index.specs.Layers.{groups, layer_text, docs_start, pointers, layer_above}

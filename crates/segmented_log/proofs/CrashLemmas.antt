@@ -3,7 +3,7 @@ use Rattle.std.proofs.Common.{◌≡◌, ◌≤◌, inl, inr, ⊎_elim, ℕ, ◌
 use Rattle.std.proofs.lemmas.List.{append-nil, map-append}
 use Rattle.store_folder.specs.Folder.{Look}
 use Rattle.store_format.specs.Block.{Slot, doc}
-use Rattle.record_log.specs.declared.tail.Commit.TheVariants.{OneSync, TwoSyncs}
+use Rattle.record_log.specs.declared.tail.Commit.TheVariants.{TwoSyncs}
 use Rattle.record_log.specs.Runs.{joined}
 use Rattle.record_log.specs.Tail.{records_from}
 use Rattle.segmented_log.specs.declared.runs.Call.{Call}

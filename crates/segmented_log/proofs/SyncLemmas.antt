@@ -6,7 +6,7 @@ use Rattle.std.specs.Bool.{OnFalse}
 use Rattle.std.proofs.lemmas.Bool.{OnFalse_from}
 use Rattle.std.proofs.lemmas.List.{append-nil, take_all, length-map, nil_from_length}
 use Rattle.store_folder.specs.Moments.{ComesFrom, LeavesOnly}
-use Rattle.store_folder.specs.Folder.{Look, Elsewhere, ElsewhereOfBoth}
+use Rattle.store_folder.specs.Folder.{Look, ElsewhereOfBoth}
 use Rattle.store_folder.specs.Publishing.{part}
 use Rattle.store_folder.proofs.Steps.{started}
 use Rattle.store_format.specs.Block.{doc}
@@ -18,12 +18,10 @@ use Rattle.record_log.proofs.Bodies.{length-summed}
 use Rattle.record_log.proofs.Scans.{ends_later}
 use Rattle.record_log.proofs.Tails.{once_file, once_bodies, once_at_rest}
 use Rattle.record_log.proofs.Logs.{records_more, contents_more, places_more, nothing_whole}
-use Rattle.segmented_log.specs.Names.{segment_name, tail_name}
+use Rattle.segmented_log.specs.Names.{tail_name}
 use Rattle.segmented_log.specs.Parts.{Part, tail_end, end_from, log_slots, AreParts}
 use Rattle.segmented_log.specs.Log.{IsLog}
 use Rattle.segmented_log.specs.Settled.{TailIsKept, IsSettledTail, IsSettledFolder}
-use Rattle.segmented_log.proofs.NameLemmas.{segment_no_tail}
-use Rattle.segmented_log.proofs.HoldLemmas.{other_tail}
 use Rattle.std.proofs.lemmas.List.Elements.{All-nil}
 use Rattle.segmented_log.proofs.PartLemmas.{more_parts, more_slots, emptied_parts}
 use Rattle.segmented_log.proofs.SealLemmas.{replaced_outcomes}

@@ -1,5 +1,5 @@
 -- What a footer that was read tells of a file.
-use Rattle.std.proofs.Common.{◌≡◌, ◌⊎◌, inl, inr, ℕ, ◌+◌, ◌-◌, ◌≤◌, arith, true, false, List, length, refl, sym, ap, ◌∙◌, subst}
+use Rattle.std.proofs.Common.{◌≡◌, ◌⊎◌, inl, inr, ℕ, ◌-◌, ◌≤◌, arith, true, false, List, length, refl, sym, ap, subst}
 use Rattle.std.specs.Prelude.{IsTrue, IfOk, Result, Ok, Err, slice_range, nat_lt}
 use Rattle.std.proofs.lemmas.Bool.{ltb-true, ltb-false}
 use Rattle.std.proofs.lemmas.Result.{IfOk-weaker}
@@ -10,7 +10,6 @@ use Rattle.store_format.specs.declared.footer.DocStoreFooter.{DocStoreFooter}
 use Rattle.store_format.specs.Extraction.{ExtractsFooter, Says, SaysFrom}
 use Rattle.store_commands.specs.declared.broken_part.BrokenPart.{BrokenPart}
 use Rattle.store_commands.specs.BrokenParts.{BreaksBefore, BreaksFile}
-use Rattle.layered_index.specs.IndexHeads.{ReadsAtMost}
 
 record IsSaid (file mid : Part) (footer : DocStoreFooter) : Type 0 where
   says : Says (slice_range file.content (length file.content - 28) (length file.content)) (Ok footer)

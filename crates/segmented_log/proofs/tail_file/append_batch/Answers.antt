@@ -1,7 +1,7 @@
-use Rattle.std.proofs.Common.{◌++◌, ◌∙◌, subst, sym, refl}
+use Rattle.std.proofs.Common.{◌∙◌, subst, sym, refl}
 use Rattle.std.specs.Prelude.{IsSome, IsTrue}
 use Rattle.store_folder.specs.Moments.{LeavesOnly}
-use Rattle.segmented_log.specs.Settled.{TailIsKept, GrowsTail}
+use Rattle.segmented_log.specs.Settled.{GrowsTail}
 use Rattle.segmented_log.proofs.GrowLemmas.{grown_kept, run_appended, run_synced}
 use Rattle.segmented_log.proofs.tail_file.append_batch.Goals.{After-sync_file}
 use Rattle.segmented_log.proofs.tail_file.append_batch.Goals as goal

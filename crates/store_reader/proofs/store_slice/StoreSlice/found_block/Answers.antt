@@ -1,4 +1,4 @@
-use Rattle.std.proofs.Common.{ℕ, ◌≡◌, List, sym, ap, ◌∙◌, arith}
+use Rattle.std.proofs.Common.{ℕ, List, sym, ap, ◌∙◌, arith}
 use Rattle.std.specs.Prelude.{slice_range}
 use Rattle.store_reader.proofs.StoreSliceLemmas.{seen_parts, block_fits, block_stored}
 use Rattle.store_reader.proofs.store_slice.StoreSlice.found_block.Goals as goal
