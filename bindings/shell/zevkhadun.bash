@@ -84,7 +84,7 @@ _zevkhadun() {
                 'log cat 0 '*) files=yes ;;
                 'log get '*' -'*) words='--number --json --framing -h --help' ;;
                 'log get 0 '*) files=yes ;;
-                'log append '*' -'*) words='--files-from --sync --number --framing --seal-size -q --quiet -h --help' ;;
+                'log append '*' -'*) words='--files-from --sync --number --framing --seal-size --two-syncs -q --quiet -h --help' ;;
                 'log append 0 '*) files=yes ;;
                 'log append '*) files=yes ;;
                 'log '*' -'*) words='-h --help' ;;

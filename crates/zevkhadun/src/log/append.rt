@@ -27,7 +27,7 @@ Examples:
   zevkhadun log append --number --sync every events     the number of each record, once it is on the disk";
 
 // The sizes past which a tail is sealed if the words name none: one to which batches are appended, and one that is
-// written anew with each batch.
+// replaced at each sync.
 const SEAL_SIZE: usize = 1 << 26;
 
 const SMALL_SEAL_SIZE: usize = 1 << 20;
