@@ -1,6 +1,6 @@
 //! The tail of a log, as a file of its folder.
 
-ghost use Rattle.std.specs.Prelude.{◌≡◌, ◌≤◌, ◌++◌, IsTrue, IfErr, OnOk, OnErr, IsErrOf, Some};
+ghost use Rattle.std.specs.Prelude.{◌≡◌, ◌≤◌, ◌++◌, ℕ, List, IsTrue, IfErr, OnOk, OnErr, IsErrOf, Some};
 ghost use Rattle.store_base.specs.Counts.{HasRisen};
 ghost use Rattle.store_folder.specs.Moments.{ComesFrom, LeavesOnly};
 ghost use Rattle.store_folder.specs.Folder.{Elsewhere, ElsewhereOfBoth};
@@ -15,18 +15,20 @@ use std::alloc::Global;
 use store_folder::{Folder, replace};
 
 // Appends a batch to the tail, with one sync.
-fn append_batch<F: Folder>(folder: &mut F, tail: &[u8], batch: &[u8]) -> Result<(), LogError>
-    requires kept { IsTrue F.honest
-        → TailIsKept (F.may_hold folder.old) (F.may_leave folder.old) (F.entry_kept folder.old) tail.now }
-    ensures kept { IsTrue F.honest → OnOk result (TailIsKept (F.may_hold folder.new) (F.may_leave folder.new)
-        (F.entry_kept folder.new) (tail.now ++ batch.now)) }
+fn append_batch<F: Folder>(folder: &mut F, batch: &[u8]) -> Result<(), LogError>
+    requires { IsTrue F.honest → (tail : List ℕ)
+        × TailIsKept (F.may_hold folder.old) (F.may_leave folder.old) (F.entry_kept folder.old) tail }
+    ensures kept { IsTrue F.honest → OnOk result ((tail : List ℕ)
+        → TailIsKept (F.may_hold folder.old) (F.may_leave folder.old) (F.entry_kept folder.old) tail
+        → TailIsKept (F.may_hold folder.new) (F.may_leave folder.new) (F.entry_kept folder.new) (tail ++ batch.now)) }
     ensures elsewhere { IsTrue F.honest → OnOk result (Elsewhere tail_name (F.seen folder.old) (F.seen folder.new)) }
     ensures crash { IsTrue F.honest
         → ComesFrom (Elsewhere tail_name) (F.may_leave folder.old) (F.may_leave folder.new) }
 
-    // A crash at any moment leaves what was there, and maybe any bytes after it.
-    ensures any_moment { IsTrue F.honest → LeavesOnly F.moment F.left_since folder.old folder.new
-        (GrowsTail (F.may_leave folder.old) tail.now) }
+    // A crash at any moment leaves what was there, and maybe any bytes after the tail.
+    ensures any_moment { IsTrue F.honest → (tail : List ℕ)
+        → TailIsKept (F.may_hold folder.old) (F.may_leave folder.old) (F.entry_kept folder.old) tail
+        → LeavesOnly F.moment F.left_since folder.old folder.new (GrowsTail (F.may_leave folder.old) tail) }
     ensures failures { F.failures folder.old ≤ F.failures folder.new }
     ensures failed { OnErr result (HasRisen (F.failures folder.old) (F.failures folder.new)) }
     ensures kind { IfErr result IsFault }
@@ -86,7 +88,7 @@ pub(crate) fn write_batch<F: Folder>(
     ensures kind { IfErr result IsFault }
 {
     match commit {
-        Commit::OneSync => append_batch(folder, tail, batch),
+        Commit::OneSync => append_batch(folder, batch),
         Commit::TwoSyncs => replace_with_batch(alloc, folder, tail, batch),
     }
 }
