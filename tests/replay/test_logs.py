@@ -142,7 +142,11 @@ class Logs(ProgramCase):
         new = self.write("new.txt", numbers(8, 3))
         words = ("--sync", "every", "--number", "--two-syncs", "--seal-size", "60")
         replay, calls = self.check(2, numbers(8), "log", "append", self.log, new, *words)
-        self.check_syncs(replay, calls, 0)
+        # Without the last sync of a seal a crash may bring the old tail back, whose records the segment has, too; the
+        # next batch syncs the folder again.
+        sealed = len(list(self.log.glob("*.store")))
+        self.assertGreater(sealed, 1)
+        self.check_syncs(replay, calls, sealed)
 
     def test_a_log_is_sealed(self):
         self.program.gives("log", "append", self.log, input=numbers(5))
