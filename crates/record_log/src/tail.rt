@@ -22,8 +22,9 @@ pub enum Commit {
     /// With one sync: the batch and its open gate are written together. A crash during it may leave bytes that are
     /// taken for another batch, if their 64-bit sum fits by chance. Batches that were acknowledged are never lost.
     OneSync,
-    /// With two syncs: the batch is written after a closed gate, which is opened once the batch is on the disk. A crash
-    /// leaves the batch or none, whatever the sum is.
+    /// With two syncs: the batch counts only once it is on the disk. A log over one file writes it after a closed gate,
+    /// and then opens the gate; a log in a folder replaces its tail. A crash leaves the batch or none, whatever the sum
+    /// is.
     TwoSyncs,
 }
 
