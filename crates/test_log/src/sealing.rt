@@ -41,7 +41,12 @@ fn fill(log: &mut SegmentedLog<MemFolder>, times: usize) -> Result<(), LogError>
 
 // The files of a log that is sealed past this size, after this many syncs, and maybe a seal.
 fn written(alloc: Global, seal_size: usize, times: usize, seals: bool) -> Result<Files, Fail> {
-    let mut log = match SegmentedLog::open(alloc, MemFolder::new(alloc), seal_size, Commit::OneSync) {
+    let mut log = match SegmentedLog::open(
+        alloc,
+        MemFolder::new(alloc),
+        seal_size,
+        Commit::OneSync,
+    ) {
         Ok(log) => log,
         Err((error, _)) => return Err(error.into()),
     };

@@ -131,6 +131,6 @@ invariant_of-self-2 g c = (
         All-same (λ s. IsTrue s.reader.file.honest) c.remove.new.self.items (take place log.segments.items ++ drop (suc place) log.segments.items)
             (items_left g (goal.at.invariant_of-self-2 g c).After-remove)
             (All-append (λ s. IsTrue s.reader.file.honest) (take place log.segments.items) (drop (suc place) log.segments.items)
-            (All-take (λ s. IsTrue s.reader.file.honest) place log.segments.items honest) (All-drop (λ s. IsTrue s.reader.file.honest) (suc place) log.segments.items honest))
+            (All-take (λ s. IsTrue s.reader.file.honest) place log.segments.items honest) (All-drop (λ s. IsTrue s.reader.file.honest) (suc place) log.segments.items honest)),
       ),
 )
