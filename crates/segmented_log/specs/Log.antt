@@ -96,8 +96,9 @@ pub record LogView (F : Type 0) : Type 0 where
   pub segments : List Sealed
   -- how often reads of their files failed
   pub read_failures : ℕ
-  -- how a sync puts them on the disk, the records that wait for one, and how many bytes they take in their batch
+  -- how a sync puts records on the disk
   pub commit : Commit
+  -- the records that wait for a sync, and how many bytes they take in their batch
   pub pending : List (List ℕ)
   pub batch_bytes : ℕ
   -- whether a call on the folder failed

@@ -59,7 +59,8 @@ Compacts calls = (size : ℕ) × Contains calls (Compact size)
 abbrev pub Makes : List Call → List (List ℕ) → ℕ → List Slot → ℕ → List Slot → Type 0
 Makes calls pending first kept new_first rest = IsRest first (kept ++ slots_of (batches_by pending calls)) (dropped_by (first + length kept) pending calls) new_first rest
 
--- The folder is the log of these slots, and then of forged batches, where the first of these batches was being written.
+-- The folder is the log of these slots, and then of forged batches, where the first of these batches was being written with
+-- one sync.
 pub record EndsInForged (commit : Commit) (first : ℕ) (kept : List Slot) (batches : List (List (List ℕ))) (c : Look) : Type 0 where
   pub batch : List (List ℕ)
   pub others : List (List (List ℕ))
