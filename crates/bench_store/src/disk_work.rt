@@ -1,9 +1,8 @@
 //! Workloads over a store in a file of the current folder.
 use crate::checks::hash_as_version_2;
-use crate::documents::Documents;
 use crate::measure::{Run, Workload};
 use crate::store_work::{get_all, iterate_all};
-use crate::stores::write_store;
+use crate::stores::StorePlan;
 use anyhow::Result;
 use docstore::{DocId, FileSlice, StoreReader};
 use std::rt::Clock;
@@ -53,29 +52,24 @@ impl<'a> Workload for IterateDisk<'a> {
 #[derive(Drop)]
 pub struct WriteDisk<'a> {
     pub rt: &'a HostRuntime,
-    pub documents: Documents,
-    pub count: usize,
-    pub block_size: usize,
+    pub plan: StorePlan,
 }
 
-/// Writes the file, of this many documents.
-pub fn write_disk(
-    rt: &HostRuntime,
-    documents: &Documents,
-    count: usize,
-    block_size: usize,
-) -> Result<()> {
+/// Writes the file.
+pub fn write_disk(rt: &HostRuntime, plan: &StorePlan) -> Result<()> {
     let output = DiskSink::create(rt.alloc(), rt.clone()?, PATH)?;
-    write_store(rt.alloc(), output, documents, count, block_size)?;
+    plan.write(rt.alloc(), output)?;
     Ok(())
 }
 
 impl<'a> Workload for WriteDisk<'a> {
     fn run<C: Clock>(&mut self, clock: &C) -> Result<Run> {
         let start = Instant::now(clock)?;
-        write_disk(self.rt, &self.documents, self.count, self.block_size)?;
+        write_disk(self.rt, &self.plan)?;
         let time = start.elapsed(clock)?;
-        let check = hash_as_version_2(&load(self.rt, PATH)?);
-        Ok(Run::of_documents(time, self.count, self.documents.len(), check))
+        Ok(
+            self.plan
+                .run(time, hash_as_version_2(&load(self.rt, PATH)?)),
+        )
     }
 }

@@ -15,6 +15,7 @@ mod index_work;
 mod log_work;
 mod measure;
 mod plans;
+mod shapes;
 mod store_work;
 mod stores;
 mod view_work;

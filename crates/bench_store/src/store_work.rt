@@ -1,8 +1,7 @@
 //! Workloads over whole stores.
 use crate::checks::{Slots, hash_as_version_2};
-use crate::documents::Documents;
 use crate::measure::{Run, Workload};
-use crate::stores::{open_store, write_store};
+use crate::stores::{StorePlan, open_store};
 use anyhow::Result;
 use docstore::{
     AliveBitSet, Compressor, DocId, FileHandle, MemFile, MemSink, OwnedBytes, StoreError,
@@ -16,25 +15,15 @@ use std::time::Instant;
 #[derive(Drop)]
 pub struct Write {
     pub alloc: Global,
-    pub documents: Documents,
-    pub count: usize,
-    pub block_size: usize,
+    pub plan: StorePlan,
 }
 
 impl Workload for Write {
     fn run<C: Clock>(&mut self, clock: &C) -> Result<Run> {
         let start = Instant::now(clock)?;
-        let output = MemSink::new(self.alloc);
-        let output = write_store(
-            self.alloc,
-            output,
-            &self.documents,
-            self.count,
-            self.block_size,
-        )?;
+        let output = self.plan.write(self.alloc, MemSink::new(self.alloc))?;
         let time = start.elapsed(clock)?;
-        let check = hash_as_version_2(output.as_slice());
-        Ok(Run::of_documents(time, self.count, self.documents.len(), check))
+        Ok(self.plan.run(time, hash_as_version_2(output.as_slice())))
     }
 }
 

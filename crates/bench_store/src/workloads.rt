@@ -9,13 +9,14 @@ use crate::ids::{Order, deleted, ids};
 use crate::index_work::{Build, OpenIndex, Seek, Walk};
 use crate::log_work::{AppendLog, GetLog, OpenLog, make_log, remove_log};
 use crate::measure::{Measure, Report, Workload, perform};
+use crate::shapes::{ReaderShape, StoreShape};
 use crate::store_work::{Get, Iterate, Open, Source, Stack, Write};
-use crate::stores::write_store;
+use crate::stores::StorePlan;
 use crate::view_work::{GetView, IterateView, OpenView};
 use anyhow::{Result, bail};
 use docstore::{DocId, MemSink, OwnedBytes};
 use std::alloc::Global;
-use std::fs;
+use std::{fmt, fs};
 
 /// Where workloads are printed, and in which form.
 #[derive(Drop)]
@@ -30,6 +31,26 @@ fn documents_of(alloc: Global, length: u64) -> Result<Documents> {
     match Documents::of_length(alloc, length as usize)? {
         Some(documents) => Ok(documents),
         None => bail!("l is not below the pool's length: {length}"),
+    }
+}
+
+// How many documents a store has that is read, where no number is given.
+const STORED: u64 = 1_000_000;
+
+// The shape of a store that has this many documents where no number is given.
+fn store_shape(numbers: &Numbers, documents: u64) -> StoreShape {
+    StoreShape {
+        documents: numbers.documents(documents),
+        length: numbers.length(),
+        block_size: numbers.block_size(),
+    }
+}
+
+// The shape of a store that is read.
+fn reader_shape(numbers: &Numbers) -> ReaderShape {
+    ReaderShape {
+        store: store_shape(numbers, STORED),
+        capacity: numbers.capacity(),
     }
 }
 
@@ -95,59 +116,58 @@ impl<'a> Bench<'a> {
         perform(self.rt, name, workload, how)
     }
 
-    // A store of this many documents, and how it is opened.
-    fn source(&self, documents: u64, capacity: u64, numbers: &Numbers) -> Result<Source> {
-        let alloc = self.alloc;
-        let pool = documents_of(alloc, numbers.length())?;
-        let block_size = numbers.block_size() as usize;
-        let output = MemSink::new(alloc);
-        let output = write_store(alloc, output, &pool, documents as usize, block_size)?;
+    // The store of a shape.
+    fn plan(&self, shape: StoreShape) -> Result<StorePlan> {
+        Ok(StorePlan {
+            documents: documents_of(self.alloc, shape.length)?,
+            count: shape.documents as usize,
+            block_size: shape.block_size as usize,
+        })
+    }
+
+    // The file of a store of this shape.
+    fn file(&self, shape: StoreShape) -> Result<OwnedBytes> {
+        let output = self
+            .plan(shape)?
+            .write(self.alloc, MemSink::new(self.alloc))?;
+        Ok(OwnedBytes::new(self.alloc, output.into_bytes())?)
+    }
+
+    // A store of this shape, and how it is opened.
+    fn source(&self, shape: ReaderShape) -> Result<Source> {
         Ok(Source {
-            alloc,
-            file: OwnedBytes::new(alloc, output.into_bytes())?,
-            capacity: capacity as usize,
+            alloc: self.alloc,
+            file: self.file(shape.store)?,
+            capacity: shape.capacity as usize,
         })
     }
 
     fn write(&self, numbers: &Numbers) -> Result<()> {
-        let count = numbers.documents(200_000);
-        let length = numbers.length();
-        let block_size = numbers.block_size();
-        let name = format!(in self.alloc; "write/n={count}/l={length}/bs={block_size}")?;
+        let shape = store_shape(numbers, 200_000);
+        let name = format!(in self.alloc; "write/{shape}")?;
         let mut work = Write {
             alloc: self.alloc,
-            documents: documents_of(self.alloc, length)?,
-            count: count as usize,
-            block_size: block_size as usize,
+            plan: self.plan(shape)?,
         };
         self.measure(name.as_str(), numbers, &mut work)
     }
 
     fn open(&self, numbers: &Numbers) -> Result<()> {
-        let count = numbers.documents(1_000_000);
+        let shape = reader_shape(numbers);
         let times = numbers.questions(2000);
-        let shape = self.shape_of_reader(count, numbers)?;
         let name = format!(in self.alloc; "open/{shape}/q={times}")?;
         let mut work = Open {
-            source: self.source(count, numbers.capacity(), numbers)?,
+            source: self.source(shape)?,
             times,
         };
         self.measure(name.as_str(), numbers, &mut work)
     }
 
-    // What names say of an opened store.
-    fn shape_of_reader(&self, count: u64, numbers: &Numbers) -> Result<String> {
-        let length = numbers.length();
-        let block_size = numbers.block_size();
-        let capacity = numbers.capacity();
-        Ok(format!(in self.alloc; "n={count}/l={length}/bs={block_size}/cap={capacity}")?)
-    }
-
     // The name of a workload that gets documents of a store of this shape, and the ids that it asks for.
-    fn name_and_ids(
+    fn name_and_ids<S: fmt::Display>(
         &self,
         kind: &str,
-        shape: &str,
+        shape: &S,
         order: Order,
         count: u64,
         numbers: &Numbers,
@@ -162,55 +182,41 @@ impl<'a> Bench<'a> {
     }
 
     fn get(&self, kind: &str, order: Order, numbers: &Numbers) -> Result<()> {
-        let count = numbers.documents(1_000_000);
-        let shape = self.shape_of_reader(count, numbers)?;
-        let (name, ids) = self.name_and_ids(kind, shape.as_str(), order, count, numbers)?;
+        let shape = reader_shape(numbers);
+        let (name, ids) = self.name_and_ids(kind, &shape, order, shape.store.documents, numbers)?;
         let mut work = Get {
-            source: self.source(count, numbers.capacity(), numbers)?,
+            source: self.source(shape)?,
             ids,
         };
         self.measure(name.as_str(), numbers, &mut work)
     }
 
-    // The file of a store of this many documents, and what names say of it.
-    fn file(&self, documents: u64, numbers: &Numbers) -> Result<(OwnedBytes, String)> {
-        let length = numbers.length();
-        let block_size = numbers.block_size();
-        let shape = format!(in self.alloc; "n={documents}/l={length}/bs={block_size}")?;
-        Ok((self.source(documents, 0, numbers)?.file, shape))
-    }
-
     fn open_view(&self, numbers: &Numbers) -> Result<()> {
-        let times = numbers.questions(2000);
-        let (file, shape) = self.file(numbers.documents(1_000_000), numbers)?;
-        let name = format!(in self.alloc; "view_open/{shape}/q={times}")?;
         let alloc = self.alloc;
+        let shape = store_shape(numbers, STORED);
+        let times = numbers.questions(2000);
+        let name = format!(in alloc; "view_open/{shape}/q={times}")?;
+        let file = self.file(shape)?;
         let mut work = OpenView { alloc, file, times };
         self.measure(name.as_str(), numbers, &mut work)
     }
 
     fn get_view(&self, kind: &str, order: Order, numbers: &Numbers) -> Result<()> {
         let alloc = self.alloc;
-        let count = numbers.documents(1_000_000);
-        let (file, shape) = self.file(count, numbers)?;
-        let (name, ids) = self.name_and_ids(kind, shape.as_str(), order, count, numbers)?;
+        let shape = store_shape(numbers, STORED);
+        let (name, ids) = self.name_and_ids(kind, &shape, order, shape.documents, numbers)?;
+        let file = self.file(shape)?;
         let mut work = GetView { alloc, file, ids };
         self.measure(name.as_str(), numbers, &mut work)
     }
 
     fn iterate_view(&self, numbers: &Numbers) -> Result<()> {
-        let (file, shape) = self.file(numbers.documents(1_000_000), numbers)?;
-        let name = format!(in self.alloc; "view_iter/{shape}")?;
         let alloc = self.alloc;
+        let shape = store_shape(numbers, STORED);
+        let name = format!(in alloc; "view_iter/{shape}")?;
+        let file = self.file(shape)?;
         let mut work = IterateView { alloc, file };
         self.measure(name.as_str(), numbers, &mut work)
-    }
-
-    // Writes the file of this many documents, which is read from disk.
-    fn make_file(&self, documents: u64, numbers: &Numbers) -> Result<()> {
-        let pool = documents_of(self.alloc, numbers.length())?;
-        let block_size = numbers.block_size() as usize;
-        write_disk(self.rt, &pool, documents as usize, block_size)
     }
 
     // The same for one that works on the file, which is removed after it.
@@ -221,40 +227,34 @@ impl<'a> Bench<'a> {
     }
 
     fn write_disk(&self, numbers: &Numbers) -> Result<()> {
-        let count = numbers.documents(200_000);
-        let length = numbers.length();
-        let block_size = numbers.block_size();
-        let name = format!(in self.alloc; "disk_write/n={count}/l={length}/bs={block_size}")?;
+        let shape = store_shape(numbers, 200_000);
+        let name = format!(in self.alloc; "disk_write/{shape}")?;
         let mut work = WriteDisk {
             rt: self.rt,
-            documents: documents_of(self.alloc, length)?,
-            count: count as usize,
-            block_size: block_size as usize,
+            plan: self.plan(shape)?,
         };
         self.measure_disk(name.as_str(), numbers, &mut work)
     }
 
     fn get_disk(&self, kind: &str, order: Order, numbers: &Numbers) -> Result<()> {
-        let count = numbers.documents(1_000_000);
-        let shape = self.shape_of_reader(count, numbers)?;
-        let (name, ids) = self.name_and_ids(kind, shape.as_str(), order, count, numbers)?;
-        self.make_file(count, numbers)?;
+        let shape = reader_shape(numbers);
+        let (name, ids) = self.name_and_ids(kind, &shape, order, shape.store.documents, numbers)?;
+        write_disk(self.rt, &self.plan(shape.store)?)?;
         let mut work = GetDisk {
             rt: self.rt,
-            capacity: numbers.capacity() as usize,
+            capacity: shape.capacity as usize,
             ids,
         };
         self.measure_disk(name.as_str(), numbers, &mut work)
     }
 
     fn iterate_disk(&self, numbers: &Numbers) -> Result<()> {
-        let count = numbers.documents(1_000_000);
-        let shape = self.shape_of_reader(count, numbers)?;
+        let shape = reader_shape(numbers);
         let name = format!(in self.alloc; "disk_iter/{shape}")?;
-        self.make_file(count, numbers)?;
+        write_disk(self.rt, &self.plan(shape.store)?)?;
         let mut work = IterateDisk {
             rt: self.rt,
-            capacity: numbers.capacity() as usize,
+            capacity: shape.capacity as usize,
         };
         self.measure_disk(name.as_str(), numbers, &mut work)
     }
@@ -294,7 +294,7 @@ impl<'a> Bench<'a> {
     fn get_log(&self, kind: &str, order: Order, numbers: &Numbers) -> Result<()> {
         let count = numbers.documents(20_000);
         let shape = self.made_log(count, numbers)?;
-        let (name, ids) = self.name_and_ids(kind, shape.as_str(), order, count, numbers)?;
+        let (name, ids) = self.name_and_ids(kind, &shape, order, count, numbers)?;
         let rt = self.rt;
         let mut work = GetLog { rt, numbers: ids };
         self.measure(name.as_str(), numbers, &mut work)?;
@@ -302,27 +302,28 @@ impl<'a> Bench<'a> {
     }
 
     fn iterate(&self, kind: &str, with_deleted: bool, numbers: &Numbers) -> Result<()> {
-        let count = numbers.documents(1_000_000);
-        let shape = self.shape_of_reader(count, numbers)?;
+        let shape = reader_shape(numbers);
         let name = format!(in self.alloc; "{kind}/{shape}")?;
-        let from = if with_deleted { count } else { 0 };
+        let from = if with_deleted {
+            shape.store.documents
+        } else {
+            0
+        };
         let mut work = Iterate {
-            source: self.source(count, numbers.capacity(), numbers)?,
+            source: self.source(shape)?,
             deleted: deleted(self.alloc, from)?,
         };
         self.measure(name.as_str(), numbers, &mut work)
     }
 
     fn stack(&self, numbers: &Numbers) -> Result<()> {
-        let count = numbers.documents(1000);
+        let store = store_shape(numbers, 1000);
         let times = numbers.stores();
-        let length = numbers.length();
-        let block_size = numbers.block_size();
-        let name = format!(in self.alloc; "stack/k={times}/n={count}/l={length}/bs={block_size}")?;
+        let name = format!(in self.alloc; "stack/k={times}/{store}")?;
         let mut work = Stack {
-            source: self.source(count, 0, numbers)?,
+            source: self.source(ReaderShape { store, capacity: 0 })?,
             times,
-            block_size: block_size as usize,
+            block_size: store.block_size as usize,
         };
         self.measure(name.as_str(), numbers, &mut work)
     }

@@ -22,6 +22,7 @@ use crate::log::SegmentedLog;
 use crate::segment::Segment;
 use docstore::{DocStoreVersion, FileHandle};
 use record_log::LogError;
+use std::mem;
 use store_folder::ReadableFolder;
 
 // Neighbours that can be joined: the number where they end, the bytes of their data, and how many records they have.
@@ -182,7 +183,7 @@ impl<F: ReadableFolder> SegmentedLog<F> {
             first,
             &self.segments[place..end],
         )?;
-        self.segments[place] = joined;
+        drop(mem::replace(&mut self.segments[place], joined));
         self.is_broken = false;
         Ok(())
     }
@@ -211,7 +212,7 @@ impl<F: ReadableFolder> SegmentedLog<F> {
         self.is_broken = true;
         let first = self.segments[place].first;
         remove_segment(self.alloc, &mut self.folder, first)?;
-        let _ = self.segments.remove(place);
+        drop(self.segments.remove(place));
         self.is_broken = false;
         Ok(())
     }

@@ -107,7 +107,7 @@ impl<F: ReadableFolder> SegmentedLog<F> {
         // A call that fails leaves the log so.
         self.is_broken = true;
         remove_segment(self.alloc, &mut self.folder, self.first)?;
-        let _ = self.segments.remove(0);
+        drop(self.segments.remove(0));
         self.first = next;
         self.is_broken = false;
         Ok(true)

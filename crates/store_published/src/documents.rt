@@ -1,7 +1,7 @@
 //! Documents that fill a store.
 
-ghost use Rattle.std.specs.Prelude.{◌≡◌, ◌≤◌, ◌+◌, ◌-◌, ◌^◌, [], ◌∷◌, length, OnOk, IsErrOf};
-ghost use Rattle.docstore.specs.Writer.{num_docs};
+ghost use Rattle.std.specs.Prelude.{◌≡◌, ◌≤◌, ◌+◌, ◌-◌, ◌^◌, [], ◌∷◌, length, OnOk, IfErr, IsErrOf};
+ghost use Rattle.docstore.specs.Writer.{num_docs, AfterRefusal};
 ghost use Rattle.store_published.specs.Filling.{AddsDocuments};
 
 use crate::filling::Filling;
@@ -11,7 +11,7 @@ use docstore::{StoreError, StoreWriter, TerminatingWrite, laws};
 ///
 /// # Errors
 ///
-/// Those of `StoreWriter::store_bytes`.
+/// Those of `StoreWriter::store_bytes`, which leave the writer as that call does.
 #[inline(always)]
 pub fn store_document<W: TerminatingWrite>(
     writer: &mut StoreWriter<W>,
@@ -22,6 +22,7 @@ pub fn store_document<W: TerminatingWrite>(
     ensures too_many { IsErrOf result StoreError.TooManyDocs → num_docs writer.old ≡ 2 ^ 32 - 1 }
     ensures too_large { IsErrOf result StoreError.BlockTooLarge
         → 2 ^ 32 ≤ writer.old.block_size + length document.now + 8 }
+    ensures err { IfErr result (AfterRefusal writer.old writer.new) }
 {
     laws::documents_are_taken_in_order();
     writer.store_bytes(document)

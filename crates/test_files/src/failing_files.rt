@@ -6,15 +6,32 @@ use std::fs::{File, Files, Metadata, OpenFile, OpenOptions, Permissions, TryLock
 use std::io;
 use std::io::{Read, Seek, SeekFrom, Write};
 use std::path::PathBuf;
+use std::test::Fail;
 use store_files::LockFile;
 
 /// The system's files. Of the calls that open, lock, cut, write, sync or rename the one of this number fails; the
 /// first is number 1.
 #[derive(Drop)]
 pub struct FailingFiles<'a> {
-    pub rt: HostRuntime,
-    pub calls: &'a Cell<u32>,
-    pub failing_call: u32,
+    rt: HostRuntime,
+    calls: &'a Cell<u32>,
+    failing_call: u32,
+}
+
+impl<'a> FailingFiles<'a> {
+    /// The system's files, which count the calls in `calls`, and of which the call of this number fails. None has the
+    /// number 0.
+    pub fn new(
+        rt: &HostRuntime,
+        calls: &'a Cell<u32>,
+        failing_call: u32,
+    ) -> Result<FailingFiles<'a>, Fail> {
+        Ok(FailingFiles {
+            rt: rt.clone()?,
+            calls,
+            failing_call,
+        })
+    }
 }
 
 /// An open file of those.

@@ -215,11 +215,7 @@ fn names_that_lead_elsewhere_are_refused(rt: HostRuntime) -> Result<(), Fail> {
 
 // Replaces a file where the call of the system of this number fails. Returns how it ended.
 fn replaced(rt: &HostRuntime, calls: &Cell<u32>, failing_call: u32) -> Result<bool, Fail> {
-    let files = FailingFiles {
-        rt: rt.clone()?,
-        calls,
-        failing_call,
-    };
+    let files = FailingFiles::new(rt, calls, failing_call)?;
     let Ok(mut folder) = LockedFolder::open(rt.alloc(), files, "test_files_fails") else {
         return Ok(false);
     };
@@ -252,11 +248,7 @@ fn each_failing_call_leaves_the_old_file_or_the_new_one(rt: HostRuntime) -> Resu
 
 // Makes a folder where the call of the system of this number fails. Returns whether it was opened.
 fn is_made(rt: &HostRuntime, calls: &Cell<u32>, failing_call: u32) -> Result<bool, Fail> {
-    let files = FailingFiles {
-        rt: rt.clone()?,
-        calls,
-        failing_call,
-    };
+    let files = FailingFiles::new(rt, calls, failing_call)?;
     Ok(LockedFolder::create(rt.alloc(), files, "test_files_made/log").is_ok())
 }
 

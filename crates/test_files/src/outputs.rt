@@ -98,11 +98,7 @@ fn write_failing(
     calls: &Cell<u32>,
     failing_call: u32,
 ) -> Result<End, Fail> {
-    let files = FailingFiles {
-        rt: rt.clone()?,
-        calls,
-        failing_call,
-    };
+    let files = FailingFiles::new(rt, calls, failing_call)?;
     match DiskSink::create(rt.alloc(), files, path) {
         Ok(mut sink) => Ok(ended(&mut sink)),
         Err(_) => Ok(End::NotBegun),
@@ -142,11 +138,7 @@ fn each_failing_call_leaves_the_old_file_or_the_whole_one(rt: HostRuntime) -> Re
 // Why an output can't be begun where the call of this number fails.
 fn refusal(rt: &HostRuntime, path: &str, failing_call: u32) -> Result<String, Fail> {
     let calls = Cell::new(0);
-    let files = FailingFiles {
-        rt: rt.clone()?,
-        calls: &calls,
-        failing_call,
-    };
+    let files = FailingFiles::new(rt, &calls, failing_call)?;
     match DiskSink::create(rt.alloc(), files, path) {
         Ok(_) => Ok(String::new(rt.alloc())),
         Err(error) => Ok(format!(in rt.alloc(); "{error}")?),
@@ -179,11 +171,7 @@ where
 // Whether the system says so where the call of this number fails.
 fn is_said(rt: &HostRuntime, path: &str, failing_call: u32, reason: &str) -> Result<bool, Fail> {
     let calls = Cell::new(0);
-    let files = FailingFiles {
-        rt: rt.clone()?,
-        calls: &calls,
-        failing_call,
-    };
+    let files = FailingFiles::new(rt, &calls, failing_call)?;
     let mut sink = DiskSink::create(rt.alloc(), files, path)?;
     ended(&mut sink);
     said(rt.alloc(), &sink, reason)

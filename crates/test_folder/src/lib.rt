@@ -6,6 +6,8 @@ mod failing;
 #[cfg(test)]
 mod failing_folder;
 #[cfg(test)]
+mod outputs;
+#[cfg(test)]
 mod publishing;
 #[cfg(test)]
 mod reading;
@@ -14,10 +16,11 @@ mod stores;
 
 #[cfg(test)]
 mod tests {
+    use crate::outputs::begun;
     use std::alloc::Global;
     use std::test::Fail;
     use store_base::TerminatingWrite;
-    use store_folder::{Folder, MemFolder, Publication, ReadableFolder, publish, replace};
+    use store_folder::{Folder, MemFolder, ReadableFolder, publish, replace};
     use torn_folder::TornFolder;
 
     // A folder with one file.
@@ -50,9 +53,7 @@ mod tests {
     fn a_file_that_a_crash_left_beside_is_taken_over(rt: HostRuntime) -> Result<(), Fail> {
         let alloc = rt.alloc();
         let folder = with_file(alloc, "a.part", b"torn")?;
-        let Ok(mut output) = Publication::create(alloc, folder, "a") else {
-            panic!(rt; "not begun");
-        };
+        let mut output = begun(alloc, folder, "a")?;
         output.write_all(b"whole")?;
         output.terminate()?;
         let folder = output.into_folder();
@@ -65,9 +66,7 @@ mod tests {
     fn an_output_takes_its_name_at_the_end(rt: HostRuntime) -> Result<(), Fail> {
         let alloc = rt.alloc();
         let folder = with_file(alloc, "a", b"old")?;
-        let Ok(mut output) = Publication::create(alloc, folder, "a") else {
-            panic!(rt; "not begun");
-        };
+        let mut output = begun(alloc, folder, "a")?;
         output.write_all(b"ne")?;
         output.write_all(b"w")?;
         assert!(rt; holds(alloc, output.folder(), "a", b"old")?);
@@ -94,9 +93,7 @@ mod tests {
     #[test]
     fn an_output_ends_in_a_folder_that_tears(rt: HostRuntime) -> Result<(), Fail> {
         let alloc = rt.alloc();
-        let Ok(mut output) = Publication::create(alloc, TornFolder::new(alloc), "a") else {
-            panic!(rt; "not begun");
-        };
+        let mut output = begun(alloc, TornFolder::new(alloc), "a")?;
         output.write_all(b"new")?;
         output.terminate()?;
         assert!(rt; output.write_all(b"more").is_err());

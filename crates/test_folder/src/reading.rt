@@ -50,14 +50,16 @@ fn has_no_other<F: ReadableFolder>(alloc: Global, folder: &F) -> Result<bool, Fa
     Ok(is_refused && folder.read(alloc, "c")?.is_none() && folder.read(alloc, "b.part")?.is_none())
 }
 
+// Fills a folder. Returns whether it is listed and read as it was filled.
+fn is_listed_and_read<F: ReadableFolder>(alloc: Global, folder: &mut F) -> Result<bool, Fail> {
+    fill(folder)?;
+    Ok(has_two_names(alloc, folder)? && has_bytes(alloc, folder)? && has_no_other(alloc, folder)?)
+}
+
 #[test]
 fn a_folder_that_keeps_everything_is_listed_and_read(rt: HostRuntime) -> Result<(), Fail> {
     let alloc = rt.alloc();
-    let mut folder = MemFolder::new(alloc);
-    fill(&mut folder)?;
-    assert!(rt; has_two_names(alloc, &folder)?);
-    assert!(rt; has_bytes(alloc, &folder)?);
-    assert!(rt; has_no_other(alloc, &folder)?);
+    assert!(rt; is_listed_and_read(alloc, &mut MemFolder::new(alloc))?);
     Ok(())
 }
 
@@ -65,10 +67,7 @@ fn a_folder_that_keeps_everything_is_listed_and_read(rt: HostRuntime) -> Result<
 fn a_folder_that_tears_is_listed_and_read(rt: HostRuntime) -> Result<(), Fail> {
     let alloc = rt.alloc();
     let mut folder = TornFolder::new(alloc);
-    fill(&mut folder)?;
-    assert!(rt; has_two_names(alloc, &folder)?);
-    assert!(rt; has_bytes(alloc, &folder)?);
-    assert!(rt; has_no_other(alloc, &folder)?);
+    assert!(rt; is_listed_and_read(alloc, &mut folder)?);
     assert_eq!(rt; folder.events().len(), 9);
     assert!(rt; matches!(folder.events()[8], Event::FolderSynced));
     Ok(())

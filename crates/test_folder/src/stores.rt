@@ -1,11 +1,12 @@
 //! Stores that are published in folders in memory.
 
+use crate::outputs::begun;
 use docstore::{
     Compressor, MemFile, MemSink, RecordDocument, Schema, StoreCommand, StoreWriter, write_store,
 };
 use std::alloc::Global;
 use std::test::Fail;
-use store_folder::{Folder, MemFolder, Publication, ReadableFolder};
+use store_folder::{Folder, MemFolder, ReadableFolder};
 use store_published::{close_published, write_published};
 use torn_folder::TornFolder;
 
@@ -36,9 +37,7 @@ pub fn file(alloc: Global) -> Result<Vec<u8>, Fail> {
 
 // Writes those in a folder.
 fn written_in<F: Folder>(alloc: Global, folder: F) -> Result<F, Fail> {
-    let Ok(output) = Publication::create(alloc, folder, "a.store") else {
-        return Err(std::io::Error::from(std::io::ErrorKind::Other))?;
-    };
+    let output = begun(alloc, folder, "a.store")?;
     let mut commands = commands(alloc)?;
     match write_published(alloc, output, 16384, &Schema::with_fields(1), &mut commands) {
         Ok(stored) => Ok(stored.folder),
@@ -58,9 +57,7 @@ fn a_list_of_calls_is_published(rt: HostRuntime) -> Result<(), Fail> {
 
 // Closes a writer of those in a folder.
 fn closed_in<F: Folder>(alloc: Global, folder: F) -> Result<F, Fail> {
-    let Ok(output) = Publication::create(alloc, folder, "a.store") else {
-        return Err(std::io::Error::from(std::io::ErrorKind::Other))?;
-    };
+    let output = begun(alloc, folder, "a.store")?;
     let mut writer = StoreWriter::new(alloc, output, Compressor::None, 16384);
     let is_stored = writer.store_bytes(b"x").is_ok() && writer.store_bytes(b"abc").is_ok();
     match close_published(writer) {

@@ -166,7 +166,20 @@ fn summarize(appending: &Appending<'_>, from: u64) {
     };
 }
 
-// Appends the records of these files, or of the standard input where none are named, to the log at a path.
+// Appends the records of these files, or of the standard input where none are named, and says how many there were.
+fn append_all(appending: &mut Appending<'_>, paths: Option<&[&str]>) -> Result<(), Failure> {
+    let from = appending.log.end();
+    let appended = appending.append_inputs(paths);
+    appending.progress.end();
+    appended?;
+    summarize(appending, from);
+    match appending.output_failure.take() {
+        Some(failure) => Err(failure),
+        None => Ok(()),
+    }
+}
+
+// Appends them to the log at a path.
 fn append<'a>(
     rt: &'a HostRuntime,
     path: &'a str,
@@ -176,15 +189,7 @@ fn append<'a>(
 ) -> Result<(), Failure> {
     let total = paths.and_then(|paths| total_bytes(rt, paths));
     let mut appending = appending_of(rt, path, options, cause, total)?;
-    let from = appending.log.end();
-    let appended = appending.append_inputs(paths);
-    appending.progress.end();
-    appended?;
-    summarize(&appending, from);
-    match appending.output_failure.take() {
-        Some(failure) => Err(failure),
-        None => Ok(()),
-    }
+    append_all(&mut appending, paths)
 }
 
 /// Appends the records.

@@ -1,9 +1,10 @@
 //! `log cat`: prints all records in order.
 
 use crate::arguments::{self, option};
-use crate::document_output::{self, DocumentForm, form_of, standard_output};
+use crate::document_output::{self, DocumentForm, DocumentOutput, form_of, standard_output};
 use crate::failure::{Failure, FailureCause, to_output, with_file};
 use crate::log::log_folder::SystemCause;
+use crate::log::opened_log::OpenedLog;
 use crate::log::places::open_to_read;
 use clap::{Arg, ArgMatches, Command, value_parser};
 use segmented_log::LogError;
@@ -44,12 +45,14 @@ pub fn command<'a>(alloc: Global) -> Result<Command<'a>, AllocError> {
         .args(args)
 }
 
-// Prints the records from a number on.
-fn print(rt: &HostRuntime, path: &str, form: DocumentForm, from: u64) -> Result<(), FailureCause> {
-    let alloc = rt.alloc();
-    let cause = SystemCause::new();
-    let mut log = open_to_read(rt, path, &cause)?;
-    let mut output = standard_output(rt)?;
+// Prints the records of an opened log from a number on.
+fn print_records(
+    alloc: Global,
+    log: &mut OpenedLog<'_>,
+    output: &mut DocumentOutput<'_>,
+    form: DocumentForm,
+    from: u64,
+) -> Result<(), FailureCause> {
     let mut number = from.max(log.first());
     for record in log.iter_from(from)? {
         let record = match record {
@@ -57,10 +60,18 @@ fn print(rt: &HostRuntime, path: &str, form: DocumentForm, from: u64) -> Result<
             Err(LogError::Damaged) => return Err(FailureCause::DamagedRecord(number)),
             Err(error) => return Err(FailureCause::Log(error)),
         };
-        form.write(alloc, &mut output, number, &record)?;
+        form.write(alloc, output, number, &record)?;
         number = number.saturating_add(1);
     }
     to_output(output.flush())
+}
+
+// Prints the records of the log at a path from a number on.
+fn print(rt: &HostRuntime, path: &str, form: DocumentForm, from: u64) -> Result<(), FailureCause> {
+    let cause = SystemCause::new();
+    let mut log = open_to_read(rt, path, &cause)?;
+    let mut output = standard_output(rt)?;
+    print_records(rt.alloc(), &mut log, &mut output, form, from)
 }
 
 /// Prints the records.

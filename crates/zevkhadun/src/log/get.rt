@@ -60,8 +60,11 @@ impl<'a> Printer<'a> {
         Ok(())
     }
 
-    // Prints the records of the range that each word names, which all are ranges.
-    fn print_all(&mut self, words: &[&str]) -> Result<(), FailureCause> {
+    // Prints the records of the range that each word names, or of those in the standard input.
+    fn print_words(&mut self, rt: &HostRuntime, words: &[&str]) -> Result<(), FailureCause> {
+        if is_listed(words) {
+            return print_listed(rt, self);
+        }
         for word in words {
             self.print_word(word)?;
         }
@@ -80,8 +83,16 @@ impl<'a> NumberPrinter for Printer<'a> {
     }
 }
 
-// Fails if a word is not a range.
+// Whether the numbers are in the standard input.
+fn is_listed(words: &[&str]) -> bool {
+    matches!(words, ["-"])
+}
+
+// Fails if a word is not a range, unless the numbers are in the standard input.
 fn check_words(alloc: Global, words: &[&str]) -> Result<(), FailureCause> {
+    if is_listed(words) {
+        return Ok(());
+    }
     for word in words {
         let _range = NumberRange::parse(alloc, word)?;
     }
@@ -96,10 +107,7 @@ fn print(
     words: &[&str],
 ) -> Result<(), FailureCause> {
     let alloc = rt.alloc();
-    let is_listed = matches!(words, ["-"]);
-    if !is_listed {
-        check_words(alloc, words)?;
-    }
+    check_words(alloc, words)?;
     let cause = SystemCause::new();
     let mut printer = Printer {
         alloc,
@@ -107,10 +115,7 @@ fn print(
         output: standard_output(rt)?,
         form,
     };
-    if !is_listed {
-        return printer.print_all(words);
-    }
-    print_listed(rt, &mut printer)
+    printer.print_words(rt, words)
 }
 
 /// Prints the records.

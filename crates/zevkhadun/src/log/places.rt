@@ -43,16 +43,17 @@ pub fn check_log(rt: &HostRuntime, path: &str) -> Result<(), FailureCause> {
     Err(FailureCause::NotLog)
 }
 
-// Whether a crash during the beginning of a log may have left a file of this name.
-fn is_left_beside(name: &str) -> bool {
-    name == "lock" || name.ends_with(".part")
+// Whether a crash during the beginning of a log may have left this file.
+fn is_left_beside(entry: io::Result<fs::DirEntry>) -> io::Result<bool> {
+    let entry = entry?;
+    let name = entry.file_name();
+    Ok(name == "lock" || name.ends_with(".part"))
 }
 
 // Whether a folder has no files, but for those that a crash may have left.
 fn is_blank(rt: &HostRuntime, path: &str) -> io::Result<bool> {
     for entry in fs::read_dir(rt, path)? {
-        let entry = entry?;
-        if !is_left_beside(entry.file_name()) {
+        if !is_left_beside(entry)? {
             return Ok(false);
         }
     }
@@ -126,6 +127,22 @@ pub fn open_to_write<'a>(
     open_locked(rt, path, writer, cause, NOT_APPENDED)
 }
 
+// Opens a log to read it. None where a writer changed it meanwhile: a segment may be gone since it was listed.
+fn try_to_read<'a>(
+    rt: &'a HostRuntime,
+    path: &'a str,
+    cause: &'a SystemCause,
+) -> Result<Option<OpenedLog<'a>>, FailureCause> {
+    let Some(folder) = LogFolder::of_reader(rt, path, cause)? else {
+        return Ok(None);
+    };
+    match OpenedLog::open(rt.alloc(), folder, cause, NOT_APPENDED) {
+        Ok(log) => Ok(Some(log)),
+        Err(FailureCause::System(error)) if error.kind() == ErrorKind::NotFound => Ok(None),
+        Err(cause) => Err(cause),
+    }
+}
+
 /// Opens a log that is there, to read it. Nothing is changed, and a writer may go on.
 pub fn open_to_read<'a>(
     rt: &'a HostRuntime,
@@ -134,14 +151,16 @@ pub fn open_to_read<'a>(
 ) -> Result<OpenedLog<'a>, FailureCause> {
     check_log(rt, path)?;
     for _ in 0..TRIES {
-        let Some(folder) = LogFolder::of_reader(rt, path, cause)? else {
-            continue;
-        };
-        match OpenedLog::open(rt.alloc(), folder, cause, NOT_APPENDED) {
-            // A segment may be gone since it was listed.
-            Err(FailureCause::System(error)) if error.kind() == ErrorKind::NotFound => {}
-            opened => return opened,
+        if let Some(log) = try_to_read(rt, path, cause)? {
+            return Ok(log);
         }
     }
     Err(FailureCause::BusyLog)
+}
+
+/// The number of the first record of the log at a path, and the number after its last record on the disk.
+pub fn record_numbers(rt: &HostRuntime, path: &str) -> Result<(u64, u64), FailureCause> {
+    let cause = SystemCause::new();
+    let log = open_to_read(rt, path, &cause)?;
+    Ok((log.first(), log.end()))
 }

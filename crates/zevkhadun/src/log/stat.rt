@@ -3,8 +3,7 @@
 use crate::arguments;
 use crate::failure::{Failure, FailureCause, to_output};
 use crate::findings::Findings;
-use crate::log::log_folder::SystemCause;
-use crate::log::places::{file_in, open_to_read, tail_bytes};
+use crate::log::places::{file_in, record_numbers, tail_bytes};
 use crate::log::segments::segment_numbers;
 use clap::{ArgMatches, Command};
 use segmented_log::segment_file;
@@ -54,12 +53,11 @@ fn bytes_of_segments(rt: &HostRuntime, path: &str, segments: &[u64]) -> Result<u
 impl LogNumbers {
     // Of the log at a path.
     fn of(rt: &HostRuntime, path: &str) -> Result<LogNumbers, FailureCause> {
-        let cause = SystemCause::new();
-        let log = open_to_read(rt, path, &cause)?;
+        let (first, next) = record_numbers(rt, path)?;
         let segments = segment_numbers(rt, path)?;
         Ok(LogNumbers {
-            first: log.first(),
-            next: log.end(),
+            first,
+            next,
             segments: segments.len(),
             segment_bytes: bytes_of_segments(rt, path, &segments)?,
             tail_bytes: tail_bytes(rt, path)?.unwrap_or(0),

@@ -3,8 +3,7 @@
 use crate::arguments::{self, flag};
 use crate::failure::{Failure, FailureCause, to_output};
 use crate::findings::Findings;
-use crate::log::log_folder::SystemCause;
-use crate::log::places::{check_log, file_in, open_to_read};
+use crate::log::places::{check_log, file_in, record_numbers};
 use crate::log::segments::segment_numbers;
 use crate::status::Status;
 use crate::store_file::StorePath;
@@ -100,12 +99,11 @@ fn print_whole(
     segments: usize,
     is_quiet: bool,
 ) -> Result<(), FailureCause> {
-    let cause = SystemCause::new();
-    let log = open_to_read(rt, path, &cause)?;
+    let (first, next) = record_numbers(rt, path)?;
     if is_quiet {
         return Ok(());
     }
-    let records = log.end().saturating_sub(log.first());
+    let records = next.saturating_sub(first);
     let record = if records == 1 { "record" } else { "records" };
     let segment = if segments == 1 { "segment" } else { "segments" };
     to_output(println!(rt;

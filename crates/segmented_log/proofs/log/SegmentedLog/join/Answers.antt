@@ -188,9 +188,9 @@ pub returns-clause-joined : goal.returns-clause-joined
 returns-clause-joined g c = λ h run.
     let here = (goal.at.returns-clause-joined g c).After-join_segments in
     let items = c.self.inside.segments.items in
-    let y = c.in_ok-joined.joined in
+    let y = c.replace.new.dest in
     let r = run_is g here run in
-    let is : part_of y.first y.reader ≡ one_of r = c.in_ok-joined.ensures.segment h (there g here h) ∙ part_is g here r in
+    let is : part_of y.first y.reader ≡ one_of r = ap (λ s. part_of s.first s.reader) c.replace.ensures.after ∙ c.in_ok-joined.ensures.segment h (there g here h) ∙ part_is g here r in
     view_parts (λ s. sealed_of s.first s.reader) (λ s. part_of s.first s.reader) (λ s. refl) (set items c.args.place y)
     ∙ run_set (λ s. part_of s.first s.reader) items c.args.place c.args.count r y is ∙ run_joined g here run
 
@@ -200,9 +200,9 @@ returns-clause-slots g c = λ h.
     let log = c.self.inside in
     let f = ((OnFalse_at (ap (λ v. v.is_broken) c.self.view_is ∙ c.requires.works) c.self.invariant).1 h).0 in
     let segments = map (λ s. part_of s.first s.reader) log.segments.items in
-    let y = c.in_ok-joined.joined in
+    let y = c.replace.new.dest in
     let r = run_is g here c.requires.run in
-    let is : part_of y.first y.reader ≡ one_of r = c.in_ok-joined.ensures.segment h (there g here h) ∙ part_is g here r in
+    let is : part_of y.first y.reader ≡ one_of r = ap (λ s. part_of s.first s.reader) c.replace.ensures.after ∙ c.in_ok-joined.ensures.segment h (there g here h) ∙ part_is g here r in
     ap (λ l. log_slots log.first l log.tail.items) (run_set (λ s. part_of s.first s.reader) log.segments.items c.args.place c.args.count r y is)
     ∙ run_same log.first segments log.tail.items c.args.place c.args.count r f.parts ∙ ap (λ w. w.slots) c.self.view_is
 
@@ -217,10 +217,10 @@ invariant_of-self-2 g c = (
       let kept = (OnFalse_at (ap (λ v. v.is_broken) c.self.view_is ∙ c.requires.works) c.self.invariant).1 h in
       let f = kept.0 in
       let segments = map (λ s. part_of s.first s.reader) log.segments.items in
-      let y = c.in_ok-joined.joined in
+      let y = c.replace.new.dest in
       let r = run_is g here c.requires.run in
       let name_is = first_is g here r in
-      let is : part_of y.first y.reader ≡ one_of r = c.in_ok-joined.ensures.segment h (there g here h) ∙ part_is g here r in
+      let is : part_of y.first y.reader ≡ one_of r = ap (λ s. part_of s.first s.reader) c.replace.ensures.after ∙ c.in_ok-joined.ensures.segment h (there g here h) ∙ part_is g here r in
       let left = run_set (λ s. part_of s.first s.reader) log.segments.items c.args.place c.args.count r y is in (
         subst (λ l. IsSettledFolder (F.may_hold new) (F.may_leave new) (F.entry_kept new) log.first log.sealed l log.tail.items) (sym left)
             (run_folder log.first segments log.tail.items c.args.place c.args.count r f.parts log.sealed
@@ -229,6 +229,6 @@ invariant_of-self-2 g c = (
             (c.in_ok-joined.ensures.kept h)
             (subst (λ n. ComesFrom (ElsewhereOfBoth (segment_name n ++ part) (segment_name n)) (F.may_leave log.folder) (F.may_leave new)) name_is (c.join_segments.ensures.crash h))
             (subst (λ p. (d : _) → F.may_leave new d → HasSegment d p) (part_is g here r) (c.in_ok-joined.ensures.published h (there g here h)))),
-        All-set (λ s. IsTrue s.reader.file.honest) log.segments.items c.args.place y (c.in_ok-joined.ensures.honest h) kept.1,
+        All-set (λ s. IsTrue s.reader.file.honest) log.segments.items c.args.place y (subst (λ s. IsTrue s.reader.file.honest) (sym c.replace.ensures.after) (c.in_ok-joined.ensures.honest h)) kept.1,
       ),
 )
