@@ -1,4 +1,4 @@
-//! What happens where a read or a write fails, or bytes lie?
+//! What happens where a read or a write fails, bytes lie, or a stream gives a byte at a time?
 #![tactic(auto)]
 
 #[cfg(test)]
@@ -7,6 +7,8 @@ mod lies;
 mod merges;
 #[cfg(test)]
 mod reads;
+#[cfg(test)]
+mod scripts;
 #[cfg(test)]
 mod seeking;
 #[cfg(test)]

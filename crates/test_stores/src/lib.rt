@@ -1,10 +1,16 @@
-//! Does a store give back what was written, and are its own numbers right?
+//! Does a store give back what was written, are its own numbers right, and is it stacked, merged and exported whole?
 #![tactic(auto)]
 
 #[cfg(test)]
 mod describing;
 #[cfg(test)]
+mod exporting;
+#[cfg(test)]
 mod lists;
+#[cfg(test)]
+mod merging;
+#[cfg(test)]
+mod parts;
 #[cfg(test)]
 mod records;
 #[cfg(test)]
