@@ -14,6 +14,10 @@ MORE = 1000
 MOMENTS = 200
 # After this many moments a new log is begun, since each segment of a log is an open file.
 MOMENTS_A_LOG = 20
+# How often all moments of a command are tried, until kills came before its end and after it.
+ROUNDS = 5
+# A process that is killed gets less of a busy machine than the one that kills it, which then isn't late.
+SLOWED = ("nice", "-n", "19")
 # A file system in memory, where there is one: the system keeps what a killed process wrote, and syncs cost nothing.
 MEMORY = Path("/dev/shm")
 
@@ -51,7 +55,7 @@ class Killed(ProgramCase):
         """Appends records after this many, ends that once this many numbers were seen, and returns how many records had
         theirs printed."""
         self.input_from(count)
-        with subprocess.Popen([self.program.path, *self.WORDS, *words, "input"], cwd=self.folder,
+        with subprocess.Popen([*SLOWED, self.program.path, *self.WORDS, *words, "input"], cwd=self.folder,
                               stdout=subprocess.PIPE) as writing:
             printed = b"".join(writing.stdout.readline() for _ in range(seen))
             writing.kill()
@@ -97,11 +101,18 @@ class Killed(ProgramCase):
 
     def killed(self, command, seconds):
         """Ends a command on the log after a time, and returns how many segments are left."""
-        writing = subprocess.Popen([self.program.path, "log", command, "events"], cwd=self.folder)
+        writing = subprocess.Popen([*SLOWED, self.program.path, "log", command, "events"], cwd=self.folder)
         time.sleep(seconds)
         writing.kill()
         writing.wait()
         return self.segment_count()
+
+    def moments(self, is_enough):
+        """Forty parts of the time that a command takes, and again while that isn't enough."""
+        for _ in range(ROUNDS):
+            yield from (moment / 40 for moment in range(40))
+            if is_enough():
+                return
 
     def begin_log(self):
         """Begins a log with a tail of 5000 records."""
@@ -114,9 +125,9 @@ class Killed(ProgramCase):
         self.begin_log()
         whole = self.seconds_of("seal")
         left = set()
-        for moment in range(40):
+        for moment in self.moments(lambda: left == {0, 1}):
             self.begin_log()
-            left.add(self.killed("seal", whole * 3 * moment / 40))
+            left.add(self.killed("seal", whole * 3 * moment))
             self.assertEqual(self.records(), text, f"at moment {moment}")
         self.assertEqual(left, {0, 1}, "every kill came before or after the seal")
 
@@ -127,10 +138,10 @@ class Killed(ProgramCase):
         shutil.copytree(self.folder / "events", self.folder / "whole")
         whole = self.seconds_of("compact")
         left = set()
-        for moment in range(40):
+        for moment in self.moments(lambda: len(left) > 2):
             shutil.rmtree(self.folder / "events")
             shutil.copytree(self.folder / "whole", self.folder / "events")
-            left.add(self.killed("compact", whole * 2 * moment / 40))
+            left.add(self.killed("compact", whole * 2 * moment))
             self.assertEqual(self.records(), text, f"at moment {moment}")
             self.program.gives("log", "verify", "-q", "events")
         self.assertGreater(len(left), 2, "every kill came before or after the compaction")
