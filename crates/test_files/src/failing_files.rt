@@ -19,8 +19,8 @@ pub struct FailingFiles<'a> {
 }
 
 impl<'a> FailingFiles<'a> {
-    /// The system's files, which count the calls in `calls`, and of which the call of this number fails. None has the
-    /// number 0.
+    /// The system's files. Their calls are counted in `calls`, and the call of this number fails. With number 0 no call
+    /// fails, since the first is number 1.
     pub fn new(
         rt: &HostRuntime,
         calls: &'a Cell<u32>,
