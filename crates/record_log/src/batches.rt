@@ -156,15 +156,24 @@ fn add_summed(bytes: &mut Vec<u8>, body: &[u8]) -> Result<(), AllocError>
     Ok(())
 }
 
+/// Puts a batch with its open gate after other bytes.
+pub fn add_batch(bytes: &mut Vec<u8>, body: &[u8]) -> Result<(), AllocError>
+    requires { 8 + length body.now < 2 ^ 32 }
+    ensures added { OnOk result (bytes.new.items ≡ bytes.old.items ++ 1 ∷ summed body.now) }
+    ensures fits { OnOk result (sum_of body.now < 2 ^ 64) }
+{
+    bytes.push(1)?;
+    add_summed(bytes, body)
+}
+
 /// A batch with its open gate.
-pub fn open_batch(alloc: Global, body: &[u8]) -> Result<Vec<u8>, AllocError>
+pub(crate) fn open_batch(alloc: Global, body: &[u8]) -> Result<Vec<u8>, AllocError>
     requires { 8 + length body.now < 2 ^ 32 }
     ensures bytes { IfOk result (λ batch. batch.items ≡ 1 ∷ summed body.now) }
     ensures fits { OnOk result (sum_of body.now < 2 ^ 64) }
 {
     let mut batch = Vec::with_capacity(alloc, BATCH_HEADER + body.len())?;
-    batch.push(1)?;
-    add_summed(&mut batch, body)?;
+    add_batch(&mut batch, body)?;
     Ok(batch)
 }
 

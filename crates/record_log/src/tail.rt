@@ -46,7 +46,7 @@ pub fn first_number(bytes: &[u8]) -> Option<u64>
 /// The bytes of a tail of no records, the first of which will have this number.
 pub fn new_tail(alloc: Global, first: u64) -> Result<Vec<u8>, AllocError>
     ensures { IfOk result (λ tail. IsTail tail.items × (first_of tail.items ≡ first) × (bodies_of tail.items ≡ [])
-        × IsWholeTo (length tail.items) tail.items) }
+        × IsWholeTo (length tail.items) tail.items × (length tail.items ≡ 16)) }
 {
     let mut tail = Vec::with_capacity(alloc, HEADER)?;
     tail.extend_from_slice(&MAGIC)?;

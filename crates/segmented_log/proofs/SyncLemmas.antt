@@ -1,9 +1,10 @@
 -- A log after a batch was put after those of its tail.
-use Rattle.std.proofs.Common.{◌≡◌, ℕ, ◌+◌, ◌<◌, ◌≤◌, ◌^◌, List, [], ◌∷◌, ◌++◌, length, take, map, refl, sym, ◌∙◌, ap, subst, arith, length-append}
+use Rattle.std.proofs.Common.{◌≡◌, ℕ, ◌+◌, ◌<◌, ◌≤◌, ◌^◌, List, [], ◌∷◌, ◌++◌, length, take, drop, map, refl, sym, ◌∙◌, ap, subst, arith, length-append}
 use Rattle.std.specs.Prelude.{All, Bool, true, ◌==◌, Result, Ok, Err, OnOk}
 use Rattle.std.proofs.lemmas.Bool.Decides.{nat_tests}
 use Rattle.std.specs.Bool.{OnFalse}
 use Rattle.std.proofs.lemmas.Bool.{OnFalse_from}
+use Rattle.std.proofs.Math.Seq.{take-append_seam, drop-append_seam}
 use Rattle.std.proofs.lemmas.List.{append-nil, take_all, length-map, nil_from_length}
 use Rattle.store_folder.specs.Moments.{ComesFrom, LeavesOnly}
 use Rattle.store_folder.specs.Folder.{Look, ElsewhereOfBoth}
@@ -30,6 +31,13 @@ use Rattle.segmented_log.proofs.ReadLemmas.{slots_end}
 
 at_rest : (tail : List ℕ) → IsWholeTo (length tail) tail → IsAtRest OneSync (length tail) tail
 at_rest tail whole = record { whole = whole; ends = sym (take_all (length tail) tail (omega arith)) ∙ sym (append-nil (take (length tail) tail)) }
+
+-- a list that was put together, before and after the seam
+pub seam_front : (whole front back : List ℕ) (n : ℕ) → whole ≡ front ++ back → n ≡ length front → take n whole ≡ front
+seam_front whole front back n is at = ap (λ (k : ℕ). take k whole) at ∙ ap (λ (l : List ℕ). take (length front) l) is ∙ take-append_seam front back
+
+pub seam_back : (whole front back : List ℕ) (n : ℕ) → whole ≡ front ++ back → n ≡ length front → drop n whole ≡ back
+seam_back whole front back n is at = ap (λ (k : ℕ). drop k whole) at ∙ ap (λ (l : List ℕ). drop (length front) l) is ∙ drop-append_seam front back
 
 pub new_size : (tail body new : List ℕ) → new ≡ tail ++ 1 ∷ summed body → length new ≡ length tail + 13 + length body
 new_size tail body new new_is = omega (arith, ap length new_is, length-append tail (1 ∷ summed body), length-summed body)

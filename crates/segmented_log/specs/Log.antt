@@ -96,8 +96,12 @@ pub record LogView (F : Type 0) : Type 0 where
   pub segments : List Sealed
   -- how often reads of their files failed
   pub read_failures : ℕ
-  -- how a sync puts records on the disk
+  -- how a sync puts records on the disk, and the length in bytes past which it seals the tail
   pub commit : Commit
+  pub seal_size : ℕ
+  -- the length of the tail in bytes, and how many of its records no segment has
+  pub tail_bytes : ℕ
+  pub unsealed : ℕ
   -- the records that wait for a sync, and how many bytes they take in their batch
   pub pending : List (List ℕ)
   pub batch_bytes : ℕ

@@ -155,6 +155,8 @@ impl<F: ReadableFolder> SegmentedLog<F> {
         requires few { length (slots_in (take (count + 1) (drop place (parts_of self.old.segments)))) < 2 ^ 32 }
         ensures first { self.new.first ≡ self.old.first }
         ensures commit { self.new.commit ≡ self.old.commit }
+        ensures tail { self.new.tail_bytes ≡ self.old.tail_bytes }
+        ensures seal_size { self.new.seal_size ≡ self.old.seal_size }
         ensures slots { IsTrue F.honest → self.new.slots ≡ self.old.slots }
         ensures pending { self.new.pending ≡ self.old.pending }
         ensures joined { IsTrue F.honest → OnOk result ((r : IsRun (parts_of self.old.segments) place count)
@@ -195,6 +197,8 @@ impl<F: ReadableFolder> SegmentedLog<F> {
         requires covered { IsTrue F.honest → IsCovered self.old.first (parts_of self.old.segments) place }
         ensures first { self.new.first ≡ self.old.first }
         ensures commit { self.new.commit ≡ self.old.commit }
+        ensures tail { self.new.tail_bytes ≡ self.old.tail_bytes }
+        ensures seal_size { self.new.seal_size ≡ self.old.seal_size }
         ensures slots { IsTrue F.honest → self.new.slots ≡ self.old.slots }
         ensures pending { self.new.pending ≡ self.old.pending }
         ensures fewer { OnOk result (length self.new.segments + 1 ≡ length self.old.segments) }
@@ -223,6 +227,8 @@ impl<F: ReadableFolder> SegmentedLog<F> {
         requires works { self.old.is_broken ≡ false }
         ensures first { self.new.first ≡ self.old.first }
         ensures commit { self.new.commit ≡ self.old.commit }
+        ensures tail { self.new.tail_bytes ≡ self.old.tail_bytes }
+        ensures seal_size { self.new.seal_size ≡ self.old.seal_size }
         ensures slots { IsTrue F.honest → self.new.slots ≡ self.old.slots }
         ensures pending { self.new.pending ≡ self.old.pending }
         ensures fewer { IfOk result (λ more. IsTrue more → length self.new.segments < length self.old.segments) }
@@ -269,6 +275,8 @@ impl<F: ReadableFolder> SegmentedLog<F> {
     pub fn compact(&mut self, size: u64) -> Result<(), LogError>
         ensures first { self.new.first ≡ self.old.first }
         ensures commit { self.new.commit ≡ self.old.commit }
+        ensures tail { self.new.tail_bytes ≡ self.old.tail_bytes }
+        ensures seal_size { self.new.seal_size ≡ self.old.seal_size }
         ensures slots { IsTrue F.honest → self.new.slots ≡ self.old.slots }
         ensures pending { self.new.pending ≡ self.old.pending }
         ensures works { OnOk result (self.new.is_broken ≡ false) }

@@ -85,6 +85,8 @@ impl<F: ReadableFolder> SegmentedLog<F> {
         ensures rest { IsTrue F.honest
             → IsRest self.old.first self.old.slots number self.new.first self.new.slots }
         ensures commit { self.new.commit ≡ self.old.commit }
+        ensures tail { self.new.tail_bytes ≡ self.old.tail_bytes }
+        ensures seal_size { self.new.seal_size ≡ self.old.seal_size }
         ensures pending { self.new.pending ≡ self.old.pending }
         ensures works { OnOk result (self.new.is_broken ≡ false) }
         ensures broken { OnErr result (IsTrue self.new.is_broken) }
@@ -122,6 +124,8 @@ impl<F: ReadableFolder> SegmentedLog<F> {
         ensures rest { IsTrue F.honest
             → IsRest self.old.first self.old.slots number self.new.first self.new.slots }
         ensures commit { self.new.commit ≡ self.old.commit }
+        ensures tail { self.new.tail_bytes ≡ self.old.tail_bytes }
+        ensures seal_size { self.new.seal_size ≡ self.old.seal_size }
         ensures pending { self.new.pending ≡ self.old.pending }
         ensures works { OnOk result (self.new.is_broken ≡ false) }
 

@@ -162,6 +162,7 @@ impl<F: ReadableFolder> SegmentedLog<F> {
             (F.entry_kept folder) }
         ensures works { IfOk result (λ log. log.is_broken ≡ false) }
         ensures commit { IfOk result (λ log. log.commit ≡ commit) }
+        ensures seal_size { IfOk result (λ log. log.seal_size ≡ seal_size) }
         ensures none_pending { IfOk result (λ log. log.pending ≡ []) }
 
         // It finds exactly the log that was there, or begins one.

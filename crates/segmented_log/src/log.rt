@@ -45,10 +45,10 @@ pub struct SegmentedLog<F: ReadableFolder> {
     pub(crate) is_broken: bool,
 }
 
-/// Clauses see the folder, the records, the segments, how it commits, what waits for a sync, and whether a call on the
-/// folder failed.
+/// Clauses see the folder, the records, the segments, how it commits, how long its tail is and may be, what waits for a
+/// sync, and whether a call on the folder failed.
 impl<F: ReadableFolder> Model for SegmentedLog<F> {
-    ghost use Rattle.std.specs.Prelude.{length, map, All, IsTrue};
+    ghost use Rattle.std.specs.Prelude.{◌+◌, ◌-◌, length, map, All, IsTrue};
     ghost use Rattle.std.specs.Bool.{OnFalse};
     ghost use Rattle.std.specs.List.{sum_by};
     ghost use Rattle.record_log.specs.Tail.{records_in};
@@ -65,6 +65,9 @@ impl<F: ReadableFolder> Model for SegmentedLog<F> {
       segments = map (λ s. sealed_of s.first s.reader) l.segments.items;
       read_failures = sum_by (λ s. s.reader.file.failures) l.segments.items;
       commit = l.commit;
+      seal_size = l.seal_size;
+      tail_bytes = length l.tail.items;
+      unsealed = l.tail_first + length l.places.items - l.sealed;
       pending = records_in l.pending.items;
       batch_bytes = length l.pending.items;
       is_broken = l.is_broken;
@@ -89,6 +92,8 @@ impl<F: ReadableFolder> SegmentedLog<F> {
         ensures number { IsTrue F.honest → IfOk result (λ n. n ≡ self.old.first + length self.old.slots
             + length self.old.pending) }
         ensures commit { self.new.commit ≡ self.old.commit }
+        ensures tail { self.new.tail_bytes ≡ self.old.tail_bytes }
+        ensures seal_size { self.new.seal_size ≡ self.old.seal_size }
         ensures works { self.new.is_broken ≡ self.old.is_broken }
 
         ensures broken { IsErrOf result LogError.Broken ↔ IsTrue self.old.is_broken }

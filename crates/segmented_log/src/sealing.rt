@@ -17,6 +17,12 @@ use store_published::store_document;
 /// The block size of a segment.
 pub const BLOCK_SIZE: usize = 16384;
 
+// Room for a store of a tail of this length: a record has four bytes beside its own in both, and a block of 16 KiB adds
+// some ten for its count and its checkpoint.
+fn room_for(tail_len: usize) -> usize {
+    tail_len.saturating_add(tail_len / 1024 + 256)
+}
+
 // Why a log could not be sealed whose records a store does not take.
 fn store_error(error: StoreError) -> LogError
     ensures full { result ≡ LogError.Full → (error ≡ StoreError.TooManyDocs) ⊎ (error ≡ StoreError.BlockTooLarge) }
@@ -63,7 +69,8 @@ pub(crate) fn segment_bytes(
 {
     laws::written_documents_are_found();
     laws::ids_are_given_in_order();
-    let mut writer = StoreWriter::new(alloc, MemSink::new(alloc), Compressor::None, BLOCK_SIZE);
+    let output = MemSink::with_capacity(alloc, room_for(tail.len()))?;
+    let mut writer = StoreWriter::new(alloc, output, Compressor::None, BLOCK_SIZE);
     if let Err(error) = store_records(&mut writer, tail, places) {
         return Err(store_error(error));
     }

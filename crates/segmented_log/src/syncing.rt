@@ -1,6 +1,6 @@
 //! How a log writes what waits, and seals its tail.
 
-ghost use Rattle.std.specs.Prelude.{◌≡◌, ◌⊎◌, ◌↔◌, false, ◌≤◌, ◌++◌, [], map, IfErr, OnOk, OnErr, IsErrOf, IsTrue};
+ghost use Rattle.std.specs.Prelude.{◌≡◌, ◌⊎◌, ◌↔◌, false, ◌≤◌, ◌+◌, ◌++◌, [], map, IfErr, OnOk, OnErr, IsErrOf, IsTrue};
 ghost use Rattle.store_base.specs.Counts.{HasRisen};
 ghost use Rattle.store_folder.specs.Moments.{LeavesOnly};
 ghost use Rattle.store_format.specs.Block.{doc};
@@ -14,7 +14,7 @@ ghost use Rattle.record_log.specs.Causes.{IsFault, IsOfSyncs};
 use crate::log::SegmentedLog;
 use crate::segment::add_segment;
 use crate::tail_file::{replace_tail, write_batch};
-use record_log::batches::{BATCH_HEADER, open_batch, place_records};
+use record_log::batches::{BATCH_HEADER, HEADER, add_batch, place_records};
 use record_log::{LogError, new_tail};
 use store_folder::ReadableFolder;
 
@@ -24,6 +24,9 @@ impl<F: ReadableFolder> SegmentedLog<F> {
         requires works { self.old.is_broken ≡ false }
         ensures first { self.new.first ≡ self.old.first }
         ensures commit { self.new.commit ≡ self.old.commit }
+        ensures seal_size { self.new.seal_size ≡ self.old.seal_size }
+        ensures tail { OnOk result (self.new.tail_bytes ≡ self.old.tail_bytes + 13 + self.old.batch_bytes) }
+        ensures segments { self.new.segments ≡ self.old.segments }
         ensures acknowledged { IsTrue F.honest
             → OnOk result (self.new.slots ≡ self.old.slots ++ map doc self.old.pending) }
         ensures none_pending { OnOk result (self.new.pending ≡ []) }
@@ -41,20 +44,10 @@ impl<F: ReadableFolder> SegmentedLog<F> {
     {
         // A call that fails leaves the log so.
         self.is_broken = true;
-        place_records(
-            &self.pending,
-            self.tail.len() + BATCH_HEADER,
-            &mut self.places,
-        )?;
-        let batch = open_batch(self.alloc, &self.pending)?;
-        write_batch(
-            self.alloc,
-            &mut self.folder,
-            self.commit,
-            &self.tail,
-            &batch,
-        )?;
-        self.tail.extend_from_slice(&batch)?;
+        let end = self.tail.len();
+        place_records(&self.pending, end + BATCH_HEADER, &mut self.places)?;
+        add_batch(&mut self.tail, &self.pending)?;
+        write_batch(&mut self.folder, self.commit, &self.tail, end)?;
         self.pending.clear();
         self.is_broken = false;
         Ok(())
@@ -65,6 +58,9 @@ impl<F: ReadableFolder> SegmentedLog<F> {
         requires works { self.old.is_broken ≡ false }
         ensures first { self.new.first ≡ self.old.first }
         ensures commit { self.new.commit ≡ self.old.commit }
+        ensures seal_size { self.new.seal_size ≡ self.old.seal_size }
+        ensures tail { self.new.tail_bytes ≡ self.old.tail_bytes }
+        ensures sealed { OnOk result (self.new.unsealed ≡ 0) }
         ensures slots { IsTrue F.honest → OnOk result (self.new.slots ≡ self.old.slots) }
         ensures pending { self.new.pending ≡ self.old.pending }
         ensures works { OnOk result (self.new.is_broken ≡ false) }
@@ -100,8 +96,11 @@ impl<F: ReadableFolder> SegmentedLog<F> {
     // Replaces a tail whose records all are in segments by an empty one.
     fn empty_tail(&mut self) -> Result<(), LogError>
         requires works { self.old.is_broken ≡ false }
+        requires sealed { self.old.unsealed ≡ 0 }
         ensures first { self.new.first ≡ self.old.first }
         ensures commit { self.new.commit ≡ self.old.commit }
+        ensures seal_size { self.new.seal_size ≡ self.old.seal_size }
+        ensures tail { OnOk result (self.new.tail_bytes ≡ 16) }
         ensures slots { IsTrue F.honest → OnOk result (self.new.slots ≡ self.old.slots) }
         ensures pending { self.new.pending ≡ self.old.pending }
         ensures works { OnOk result (self.new.is_broken ≡ false) }
@@ -113,14 +112,16 @@ impl<F: ReadableFolder> SegmentedLog<F> {
             → HasRisen (F.failures self.old.folder) (F.failures self.new.folder) }
         ensures kind { IfErr result IsFault }
     {
-        let end = self.tail_first + self.places.len() as u64;
-        if self.sealed != end || self.places.is_empty() {
+        if self.tail.len() == HEADER {
             return Ok(());
         }
+        let end = self.tail_first + self.places.len() as u64;
         self.is_broken = true;
         let tail = new_tail(self.alloc, end)?;
         replace_tail(&mut self.folder, &tail)?;
-        self.tail = tail;
+        // The new tail grows in the memory of the old one.
+        self.tail.clear();
+        self.tail.extend_from_slice(&tail)?;
         self.tail_first = end;
         self.places.clear();
         self.is_broken = false;
@@ -135,6 +136,11 @@ impl<F: ReadableFolder> SegmentedLog<F> {
     pub fn seal(&mut self) -> Result<(), LogError>
         ensures first { self.new.first ≡ self.old.first }
         ensures commit { self.new.commit ≡ self.old.commit }
+        ensures seal_size { self.new.seal_size ≡ self.old.seal_size }
+
+        // The tail then has its header alone.
+        ensures tail { OnOk result (self.new.tail_bytes ≡ 16) }
+
         ensures slots { IsTrue F.honest → OnOk result (self.new.slots ≡ self.old.slots) }
         ensures pending { self.new.pending ≡ self.old.pending }
         ensures works { OnOk result (self.new.is_broken ≡ false) }
@@ -165,6 +171,9 @@ impl<F: ReadableFolder> SegmentedLog<F> {
         requires works { self.old.is_broken ≡ false }
         ensures first { self.new.first ≡ self.old.first }
         ensures commit { self.new.commit ≡ self.old.commit }
+        ensures seal_size { self.new.seal_size ≡ self.old.seal_size }
+        ensures tail { OnOk result ((self.new.tail_bytes ≤ self.old.seal_size) ⊎ (self.new.tail_bytes ≡ 16)) }
+        ensures unsealed { self.old.tail_bytes ≤ self.old.seal_size → self.new.segments ≡ self.old.segments }
         ensures slots { IsTrue F.honest → OnOk result (self.new.slots ≡ self.old.slots) }
         ensures pending { self.new.pending ≡ self.old.pending }
         ensures works { OnOk result (self.new.is_broken ≡ false) }
@@ -189,6 +198,8 @@ impl<F: ReadableFolder> SegmentedLog<F> {
         requires works { self.old.is_broken ≡ false }
         ensures first { self.new.first ≡ self.old.first }
         ensures commit { self.new.commit ≡ self.old.commit }
+        ensures seal_size { self.new.seal_size ≡ self.old.seal_size }
+        ensures tail { OnOk result (self.new.tail_bytes ≡ 16) }
         ensures slots { IsTrue F.honest → OnOk result (self.new.slots ≡ self.old.slots) }
         ensures pending { self.new.pending ≡ self.old.pending }
         ensures works { OnOk result (self.new.is_broken ≡ false) }
@@ -214,6 +225,13 @@ impl<F: ReadableFolder> SegmentedLog<F> {
     pub fn sync(&mut self) -> Result<(), LogError>
         ensures first { self.new.first ≡ self.old.first }
         ensures commit { self.new.commit ≡ self.old.commit }
+        ensures seal_size { self.new.seal_size ≡ self.old.seal_size }
+
+        // The tail is then no longer than the seal size, or has its header alone. Without need it is not sealed.
+        ensures tail { OnOk result ((self.new.tail_bytes ≤ self.old.seal_size) ⊎ (self.new.tail_bytes ≡ 16)) }
+        ensures unsealed { self.old.tail_bytes + 13 + self.old.batch_bytes ≤ self.old.seal_size
+            → self.new.segments ≡ self.old.segments }
+
         ensures acknowledged { IsTrue F.honest
             → OnOk result (self.new.slots ≡ self.old.slots ++ map doc self.old.pending) }
         ensures none_pending { OnOk result (self.new.pending ≡ []) }

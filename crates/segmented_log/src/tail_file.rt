@@ -1,6 +1,7 @@
 //! The tail of a log, as a file of its folder.
 
-ghost use Rattle.std.specs.Prelude.{◌≡◌, ◌≤◌, ◌++◌, ℕ, List, IsTrue, IfErr, OnOk, OnErr, IsErrOf, Some};
+ghost use Rattle.std.specs.Prelude.{◌≡◌, ◌≤◌, ◌++◌, ℕ, List, length, take, drop, IsTrue, IfErr, OnOk, OnErr, IsErrOf};
+ghost use Rattle.std.specs.Prelude.{Some};
 ghost use Rattle.store_base.specs.Counts.{HasRisen};
 ghost use Rattle.store_folder.specs.Moments.{ComesFrom, LeavesOnly};
 ghost use Rattle.store_folder.specs.Folder.{Elsewhere, ElsewhereOfBoth};
@@ -11,7 +12,6 @@ ghost use Rattle.record_log.specs.Causes.{IsFault};
 
 use crate::names::{TAIL, TAIL_PART};
 use record_log::{Commit, LogError};
-use std::alloc::Global;
 use store_folder::{Folder, replace};
 
 // Appends a batch to the tail, with one sync.
@@ -38,58 +38,32 @@ fn append_batch<F: Folder>(folder: &mut F, batch: &[u8]) -> Result<(), LogError>
     Ok(())
 }
 
-// Replaces the tail by one that has the batch too, with two syncs: of the new file, and of the folder.
-fn replace_with_batch<F: Folder>(
-    alloc: Global,
-    folder: &mut F,
-    tail: &[u8],
-    batch: &[u8],
-) -> Result<(), LogError>
-    ensures kept { IsTrue F.honest → OnOk result (TailIsKept (F.may_hold folder.new) (F.may_leave folder.new)
-        (F.entry_kept folder.new) (tail.now ++ batch.now)) }
-    ensures elsewhere { IsTrue F.honest
-        → ElsewhereOfBoth (tail_name ++ part) tail_name (F.seen folder.old) (F.seen folder.new) }
-    ensures crash { IsTrue F.honest → ComesFrom (ElsewhereOfBoth (tail_name ++ part) tail_name)
-        (F.may_leave folder.old) (F.may_leave folder.new) }
-
-    // A crash at any moment leaves the old tail or the new one.
-    ensures any_moment { IsTrue F.honest → LeavesOnly F.moment F.left_since folder.old folder.new
-        (IsOldOrWhole (F.may_leave folder.old) (tail_name ++ part) tail_name (Some (tail.now ++ batch.now))) }
-    ensures failures { F.failures folder.old ≤ F.failures folder.new }
-    ensures failed { IsErrOf result LogError.Failed → HasRisen (F.failures folder.old) (F.failures folder.new) }
-    ensures kind { IfErr result IsFault }
-{
-    let mut whole = Vec::with_capacity(alloc, tail.len() + batch.len())?;
-    whole.extend_from_slice(tail)?;
-    whole.extend_from_slice(batch)?;
-    replace_tail(folder, &whole)
-}
-
-/// Puts a batch after those of the tail.
+/// Puts on the disk the batch that this tail has at its end, after the bytes that are on the disk: with one sync, after
+/// them; with two, as a new tail, with a sync of the new file and one of the folder.
 pub(crate) fn write_batch<F: Folder>(
-    alloc: Global,
     folder: &mut F,
     commit: Commit,
     tail: &[u8],
-    batch: &[u8],
+    end: usize,
 ) -> Result<(), LogError>
+    requires within { end ≤ length tail.now }
     requires kept { IsTrue F.honest
-        → TailIsKept (F.may_hold folder.old) (F.may_leave folder.old) (F.entry_kept folder.old) tail.now }
+        → TailIsKept (F.may_hold folder.old) (F.may_leave folder.old) (F.entry_kept folder.old) (take end tail.now) }
     ensures kept { IsTrue F.honest → OnOk result (TailIsKept (F.may_hold folder.new) (F.may_leave folder.new)
-        (F.entry_kept folder.new) (tail.now ++ batch.now)) }
+        (F.entry_kept folder.new) tail.now) }
     ensures elsewhere { IsTrue F.honest → OnOk result
         (ElsewhereOfBoth (tail_name ++ part) tail_name (F.seen folder.old) (F.seen folder.new)) }
     ensures crash { IsTrue F.honest → ComesFrom (ElsewhereOfBoth (tail_name ++ part) tail_name)
         (F.may_leave folder.old) (F.may_leave folder.new) }
     ensures any_moment { IsTrue F.honest → LeavesOnly F.moment F.left_since folder.old folder.new
-        (PutsBatch commit (F.may_leave folder.old) tail.now batch.now) }
+        (PutsBatch commit (F.may_leave folder.old) (take end tail.now) (drop end tail.now)) }
     ensures failures { F.failures folder.old ≤ F.failures folder.new }
     ensures failed { IsErrOf result LogError.Failed → HasRisen (F.failures folder.old) (F.failures folder.new) }
     ensures kind { IfErr result IsFault }
 {
     match commit {
-        Commit::OneSync => append_batch(folder, batch),
-        Commit::TwoSyncs => replace_with_batch(alloc, folder, tail, batch),
+        Commit::OneSync => append_batch(folder, &tail[end..]),
+        Commit::TwoSyncs => replace_tail(folder, tail),
     }
 }
 

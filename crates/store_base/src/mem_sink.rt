@@ -1,12 +1,12 @@
 //! An output in memory.
 
-ghost use Rattle.std.specs.Prelude.{◌≡◌, ◌++◌, ◌≤◌, [], is_ok, IsOk, OnOk, OnErr};
+ghost use Rattle.std.specs.Prelude.{◌≡◌, ◌++◌, ◌≤◌, [], is_ok, IsOk, IfOk, OnOk, OnErr};
 ghost use Rattle.store_base.specs.Counts.{HasRisen};
 ghost use Rattle.store_base.specs.Outputs.{never_terminated, terminated_once};
 
 use crate::counting_writer::TerminatingWrite;
 use crate::fault::WriteFault;
-use std::alloc::Global;
+use std::alloc::{AllocError, Global};
 use std::marker::Model;
 
 /// An output in memory. A growth that is refused is its one failure, and leaves what was written.
@@ -44,6 +44,20 @@ impl MemSink {
             ended_at: None,
             failures: 0,
         }
+    }
+
+    /// Nothing written, with room for this many bytes before it takes more memory.
+    pub fn with_capacity(alloc: Global, capacity: usize) -> Result<MemSink, AllocError>
+        ensures content { IfOk result (λ s. s.content ≡ []) }
+        ensures termination { IfOk result (λ s. s.termination ≡ never_terminated) }
+        ensures failures { IfOk result (λ s. s.failures ≡ 0) }
+    {
+        Ok(MemSink {
+            bytes: Vec::with_capacity(alloc, capacity)?,
+            ends: 0,
+            ended_at: None,
+            failures: 0,
+        })
     }
 
     /// What was written.

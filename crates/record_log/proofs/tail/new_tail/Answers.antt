@@ -19,4 +19,5 @@ returns c =
       ap (λ (l : List ℕ). from_le_bytes w64 (take 8 (drop 8 l))) is ∙ from_le_bytes-to_le_bytes_8 c.args.first c.ranges.first.fits,
       new_bodies tail size,
       new_whole tail size,
+      size,
     )

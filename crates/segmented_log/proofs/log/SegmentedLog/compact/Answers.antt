@@ -18,6 +18,8 @@ loop-init g c =
     record {
       works = sym c.is_broken.ensures.value ∙ c.if-is_broken.false;
       commit = refl;
+      tail = refl;
+      seal_size = refl;
       first = refl;
       slots = λ h. refl;
       pending = refl;
@@ -71,6 +73,8 @@ loop-preserved g c =
     record {
       works = c.in_ok-compact_next.ensures.works;
       commit = c.compact_next.ensures.commit ∙ before.commit;
+      tail = c.compact_next.ensures.tail ∙ before.tail;
+      seal_size = c.compact_next.ensures.seal_size ∙ before.seal_size;
       first = c.compact_next.ensures.first ∙ before.first;
       slots = λ h. slots_now g here h;
       pending = c.compact_next.ensures.pending ∙ before.pending;

@@ -12,6 +12,8 @@ invariant-loop g l = let F = g.F.Folder in
     record {
       works : l.self.is_broken ≡ false;
       commit : l.self.commit ≡ old.commit;
+      tail : l.self.tail_bytes ≡ old.tail_bytes;
+      seal_size : l.self.seal_size ≡ old.seal_size;
       first : l.self.first ≡ old.first;
       slots : IsTrue F.honest → l.self.slots ≡ old.slots;
       pending : l.self.pending ≡ old.pending;

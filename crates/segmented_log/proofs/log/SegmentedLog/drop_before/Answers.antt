@@ -15,6 +15,8 @@ loop-init g c =
     record {
       works = sym c.is_broken.ensures.value ∙ c.if-is_broken.false;
       commit = refl;
+      tail = refl;
+      seal_size = refl;
       rest = λ h. rest_itself log.first number log.slots;
       pending = refl;
       files = λ h n. inl refl;
@@ -68,6 +70,8 @@ loop-preserved g c =
     record {
       works = c.in_ok-drop_first.ensures.works;
       commit = c.drop_first.ensures.commit ∙ before.commit;
+      tail = c.drop_first.ensures.tail ∙ before.tail;
+      seal_size = c.drop_first.ensures.seal_size ∙ before.seal_size;
       rest = λ h. rest_now g here h;
       pending = c.drop_first.ensures.pending ∙ before.pending;
       files = λ h.

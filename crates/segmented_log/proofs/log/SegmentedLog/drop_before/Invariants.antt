@@ -11,6 +11,8 @@ invariant-loop g l = let F = g.F.Folder in
     record {
       works : l.self.is_broken ≡ false;
       commit : l.self.commit ≡ old.commit;
+      tail : l.self.tail_bytes ≡ old.tail_bytes;
+      seal_size : l.self.seal_size ≡ old.seal_size;
       rest : IsTrue F.honest → IsRest old.first old.slots l.number l.self.first l.self.slots;
       pending : l.self.pending ≡ old.pending;
       files : IsTrue F.honest → RemovesOnly l.number (F.seen old.folder) (F.seen l.self.folder);

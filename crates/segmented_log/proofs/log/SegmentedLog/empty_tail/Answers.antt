@@ -1,4 +1,4 @@
-use Rattle.std.proofs.Common.{◌≡◌, [], ◌+◌, ◌++◌, length, map, Some, ◌∙◌, ap, subst, arith}
+use Rattle.std.proofs.Common.{◌≡◌, [], ◌+◌, ◌++◌, length, map, Some, sym, ◌∙◌, ap, subst, arith}
 use Rattle.std.specs.Prelude.{All, IsTrue}
 use Rattle.std.proofs.lemmas.Bool.{OnFalse_at}
 use Rattle.std.specs.List.{flat_map}
@@ -7,13 +7,13 @@ use Rattle.store_folder.proofs.Steps.{weaker}
 use Rattle.store_folder.specs.Publishing.{part, IsOldOrWhole}
 use Rattle.record_log.specs.Tail.{records_in, records_of}
 use Rattle.segmented_log.specs.Names.{tail_name}
-use Rattle.segmented_log.specs.Parts.{part_of, tail_end, end_from}
+use Rattle.segmented_log.specs.Parts.{part_of, tail_end, end_from, log_slots}
 use Rattle.segmented_log.specs.Log.{IsLog}
 use Rattle.segmented_log.specs.Settled.{TailIsKept, IsSettledTail, IsSettledFolder}
 use Rattle.segmented_log.proofs.SyncLemmas.{log_stays, begins_there, all_sealed, settled_empty, folder_empty}
 use Rattle.segmented_log.proofs.PartLemmas.{emptied_slots}
 use Rattle.segmented_log.proofs.SealLemmas.{replaced_log}
-use Rattle.segmented_log.proofs.log.SegmentedLog.empty_tail.Goals.{After-deref}
+use Rattle.segmented_log.proofs.log.SegmentedLog.empty_tail.Goals.{After-deref, In_ok-extend_from_slice}
 use Rattle.segmented_log.proofs.log.SegmentedLog.empty_tail.Goals as goal
 
 pub returns-in_err-tail-clause-any_moment : goal.returns-in_err-tail-clause-any_moment
@@ -29,11 +29,12 @@ known_is : (g : _) (c : After-deref g) → IsSettledTail c.self.inside.sealed c.
     × All (λ x. IsTrue x.reader.file.honest) c.self.inside.segments.items)
 known_is g c = OnFalse_at (ap (λ v. v.is_broken) c.self.view_is ∙ c.requires.works) c.self.invariant
 
-end_is : (g : _) (c : After-deref g) → c.self.inside.tail_first + c.len.result ≡ c.self.inside.tail_first + length c.self.inside.places.items
+end_is : (g : _) (c : After-deref g) → c.self.inside.tail_first + c.len-2.result ≡ c.self.inside.tail_first + length c.self.inside.places.items
 end_is g c = omega arith
 
-sealed_is : (g : _) (c : After-deref g) → c.self.inside.sealed ≡ c.self.inside.tail_first + c.len.result
-sealed_is g c = omega arith
+-- no record is left that no segment has
+sealed_is : (g : _) (c : After-deref g) → c.self.inside.sealed ≡ c.self.inside.tail_first + c.len-2.result
+sealed_is g c = omega (arith, (known_is g c).0.high, end_is g c, ap (λ v. v.unsealed) c.self.view_is ∙ c.requires.sealed)
 
 none_is : (g : _) (c : After-deref g) → records_of c.in_ok-tail.tail.items ≡ []
 none_is g c = ap (λ b. flat_map records_in b) c.in_ok-tail.ensures.2
@@ -67,14 +68,27 @@ pub returns-in_err-replace_tail-clause-any_moment : goal.returns-in_err-replace_
 returns-in_err-replace_tail-clause-any_moment g c = λ h.
     same_log g (goal.at.returns-in_err-replace_tail-clause-any_moment g c).After-deref c.replace_tail.new.folder h (c.replace_tail.ensures.any_moment h)
 
+pub returns-in_err-extend_from_slice-clause-any_moment : goal.returns-in_err-extend_from_slice-clause-any_moment
+returns-in_err-extend_from_slice-clause-any_moment g c = λ h.
+    same_log g (goal.at.returns-in_err-extend_from_slice-clause-any_moment g c).After-deref c.replace_tail.new.folder h (c.replace_tail.ensures.any_moment h)
+
 pub returns-clause-any_moment : goal.returns-clause-any_moment
 returns-clause-any_moment g c = λ h. same_log g (goal.at.returns-clause-any_moment g c).After-deref c.replace_tail.new.folder h (c.replace_tail.ensures.any_moment h)
+
+-- the new tail is the file's, in memory
+new_is : (g : _) (c : In_ok-extend_from_slice g) → c.extend_from_slice.new.self.items ≡ c.in_ok-tail.tail.items
+new_is g c = c.in_ok-extend_from_slice.ensures.items ∙ ap (λ l. l ++ c.deref-2.result.now) c.clear.ensures.items ∙ c.deref-2.ensures.value
+
+pub returns-clause-tail : goal.returns-clause-tail
+returns-clause-tail g c = ap length (new_is g (goal.at.returns-clause-tail g c).In_ok-extend_from_slice) ∙ c.in_ok-tail.ensures.4
 
 pub returns-clause-slots : goal.returns-clause-slots
 returns-clause-slots g c = λ h.
     let here = (goal.at.returns-clause-slots g c).After-deref in
-    emptied_slots c.self.inside.first (map (λ x. part_of x.first x.reader) c.self.inside.segments.items) c.self.inside.tail.items
-    ((known_is g here).1 h).0.parts c.in_ok-tail.tail.items (all_are_sealed g here h) (none_is g here)
+    let first = c.self.inside.first in
+    let segments = map (λ x. part_of x.first x.reader) c.self.inside.segments.items in
+    ap (λ t. log_slots first segments t) (new_is g (goal.at.returns-clause-slots g c).In_ok-extend_from_slice)
+    ∙ emptied_slots first segments c.self.inside.tail.items ((known_is g here).1 h).0.parts c.in_ok-tail.tail.items (all_are_sealed g here h) (none_is g here)
     ∙ ap (λ v. v.slots) c.self.view_is
 
 pub invariant_of-self-2 : goal.invariant_of-self-2
@@ -82,20 +96,25 @@ invariant_of-self-2 g c =
     let here = (goal.at.invariant_of-self-2 g c).After-deref in
     let F = g.F.Folder in
     let log = c.self.inside in
+    let end = log.tail_first + c.len-2.result in
+    let segments = map (λ x. part_of x.first x.reader) log.segments.items in
     let known = known_is g here in
     let made = c.in_ok-tail.ensures in
-    let new = c.replace_tail.new.folder in (
-      settled_empty _ _ _ _ _ _ known.0 _ _ (end_is g here) (sealed_is g here) made.0 made.1 (none_is g here) made.3 c.clear.new.self.items c.clear.ensures.items,
+    let new = c.replace_tail.new.folder in
+    let is = sym (new_is g (goal.at.invariant_of-self-2 g c).In_ok-extend_from_slice) in (
+      subst (λ t. IsSettledTail log.sealed end log.next t c.clear-2.new.self.items log.pending.items) is
+          (settled_empty _ _ _ _ _ _ known.0 _ _ (end_is g here) (sealed_is g here) made.0 made.1 (none_is g here) made.3 c.clear-2.new.self.items c.clear-2.ensures.items),
       λ h. (
-        folder_empty _ _ _ _ _ _ known.0 _ _ (end_is g here) (sealed_is g here) made.0 made.1 (none_is g here) made.3 log.first (map (λ x. part_of x.first x.reader) log.segments.items)
+        subst (λ t. IsSettledFolder (F.may_hold new) (F.may_leave new) (F.entry_kept new) log.first log.sealed segments t) is
+            (folder_empty _ _ _ _ _ _ known.0 _ _ (end_is g here) (sealed_is g here) made.0 made.1 (none_is g here) made.3 log.first segments
             (F.may_hold log.folder) (F.may_hold new) (F.may_leave log.folder) (F.may_leave new) (F.entry_kept log.folder) (F.entry_kept new) (known.1 h).0
-            (subst (λ b. TailIsKept (F.may_hold new) (F.may_leave new) (F.entry_kept new) b) c.deref.ensures.value (c.in_ok-replace_tail.ensures.kept h)) (c.replace_tail.ensures.crash h),
+            (subst (λ b. TailIsKept (F.may_hold new) (F.may_leave new) (F.entry_kept new) b) c.deref.ensures.value (c.in_ok-replace_tail.ensures.kept h)) (c.replace_tail.ensures.crash h)),
         (known.1 h).1,
       ),
     )
 
-pub returns-then-self-end-clause-any_moment : goal.returns-then-self-end-clause-any_moment
-returns-then-self-end-clause-any_moment g c = λ h.
+pub returns-then-len-eq-HEADER-clause-any_moment : goal.returns-then-len-eq-HEADER-clause-any_moment
+returns-then-len-eq-HEADER-clause-any_moment g c = λ h.
     let settled = (OnFalse_at (ap (λ v. v.is_broken) c.self.view_is ∙ c.requires.works) c.self.invariant).1 h in
     subst (λ v. LeavesOnly g.F.Folder.moment g.F.Folder.left_since v.folder v.folder (IsLog v.first v.slots)) c.self.view_is
     (log_stays _ _ _ _ _ _ _ _ _ settled.0 c.self.inside.folder (g.met.F.Folder.only_now c.self.inside.folder))

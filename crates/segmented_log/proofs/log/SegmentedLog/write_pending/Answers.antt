@@ -1,18 +1,21 @@
-use Rattle.std.proofs.Common.{◌≡◌, inl, ◌+◌, ◌≤◌, ◌<◌, ◌^◌, ◌++◌, ◌∷◌, length, map, ◌∙◌, ap, subst, arith}
+use Rattle.std.proofs.Common.{◌≡◌, inl, ◌+◌, ◌≤◌, ◌<◌, ◌^◌, ◌++◌, ◌∷◌, length, map, take, drop, sym, ◌∙◌, ap, subst, arith, length-append}
 use Rattle.std.specs.Prelude.{IsTrue}
 use Rattle.std.proofs.lemmas.Bool.{OnFalse_at}
+use Rattle.store_folder.specs.Folder.{ElsewhereOfBoth}
 use Rattle.store_folder.specs.Moments.{LeavesOnly}
+use Rattle.store_folder.specs.Publishing.{part}
 use Rattle.store_folder.proofs.Steps.{started, weaker}
 use Rattle.store_format.specs.Block.{doc}
 use Rattle.record_log.proofs.Scans.{ends_later}
 use Rattle.record_log.specs.Place.{AddsRecords}
 use Rattle.record_log.specs.Tail.{sum_of, summed}
+use Rattle.segmented_log.specs.Names.{tail_name}
 use Rattle.segmented_log.specs.Parts.{part_of}
 use Rattle.segmented_log.specs.Log.{KeepsOrAdds}
 use Rattle.segmented_log.specs.Settled.{TailIsKept, PutsBatch}
-use Rattle.segmented_log.proofs.SyncLemmas.{settled_batch, folder_batch, slots_batch, log_on_disk, new_size}
+use Rattle.segmented_log.proofs.SyncLemmas.{settled_batch, folder_batch, slots_batch, log_on_disk, new_size, seam_front, seam_back}
 use Rattle.segmented_log.proofs.TailLemmas.{keeps_or_adds}
-use Rattle.segmented_log.proofs.log.SegmentedLog.write_pending.Goals.{After-place_records, After-deref-4, In_ok-extend_from_slice}
+use Rattle.segmented_log.proofs.log.SegmentedLog.write_pending.Goals.{After-place_records, After-deref-3}
 use Rattle.segmented_log.proofs.log.SegmentedLog.write_pending.Goals as goal
 
 -- before the batch is written the log is as it was
@@ -29,20 +32,39 @@ nothing_written g c h =
 pub returns-in_err-place_records-clause-any_moment : goal.returns-in_err-place_records-clause-any_moment
 returns-in_err-place_records-clause-any_moment g c = λ h. nothing_written g (goal.at.returns-in_err-place_records-clause-any_moment g c).After-place_records h
 
-pub returns-in_err-batch-clause-any_moment : goal.returns-in_err-batch-clause-any_moment
-returns-in_err-batch-clause-any_moment g c = λ h. nothing_written g (goal.at.returns-in_err-batch-clause-any_moment g c).After-place_records h
+pub returns-in_err-add_batch-clause-any_moment : goal.returns-in_err-add_batch-clause-any_moment
+returns-in_err-add_batch-clause-any_moment g c = λ h. nothing_written g (goal.at.returns-in_err-add_batch-clause-any_moment g c).After-place_records h
 
--- the size of the batch fits, and it is the batch of the pending records
-fits_is : (g : _) (c : After-deref-4 g) → sum_of c.self.inside.pending.items < 2 ^ 64
-fits_is g c = subst (λ b. sum_of b < 2 ^ 64) c.deref-2.ensures.value c.in_ok-batch.ensures.fits
+-- the size of the batch fits, and the tail has it after what it had
+fits_is : (g : _) (c : After-deref-3 g) → sum_of c.self.inside.pending.items < 2 ^ 64
+fits_is g c = subst (λ b. sum_of b < 2 ^ 64) c.deref-2.ensures.value c.in_ok-add_batch.ensures.fits
 
-batch_is : (g : _) (c : After-deref-4 g) → c.in_ok-batch.batch.items ≡ 1 ∷ summed c.self.inside.pending.items
-batch_is g c = c.in_ok-batch.ensures.bytes ∙ ap (λ b. 1 ∷ summed b) c.deref-2.ensures.value
+new_is : (g : _) (c : After-deref-3 g) → c.add_batch.new.bytes.items ≡ c.self.inside.tail.items ++ 1 ∷ summed c.self.inside.pending.items
+new_is g c = c.in_ok-add_batch.ensures.added ∙ ap (λ b. c.self.inside.tail.items ++ 1 ∷ summed b) c.deref-2.ensures.value
+
+written_is : (g : _) (c : After-deref-3 g) → c.deref-3.result.now ≡ c.self.inside.tail.items ++ 1 ∷ summed c.self.inside.pending.items
+written_is g c = c.deref-3.ensures.value ∙ new_is g c
+
+front_is : (g : _) (c : After-deref-3 g) → take c.len-end.result c.deref-3.result.now ≡ c.self.inside.tail.items
+front_is g c = seam_front c.deref-3.result.now c.self.inside.tail.items (1 ∷ summed c.self.inside.pending.items) c.len-end.result (written_is g c) (omega arith)
+
+back_is : (g : _) (c : After-deref-3 g) → drop c.len-end.result c.deref-3.result.now ≡ 1 ∷ summed c.self.inside.pending.items
+back_is g c = seam_back c.deref-3.result.now c.self.inside.tail.items (1 ∷ summed c.self.inside.pending.items) c.len-end.result (written_is g c) (omega arith)
+
+pub write_batch-requires-clause-within : goal.write_batch-requires-clause-within
+write_batch-requires-clause-within g c = omega (arith, ap length (written_is g (goal.at.write_batch-requires-clause-within g c).After-deref-3), length-append c.self.inside.tail.items (1 ∷ summed c.self.inside.pending.items))
+
+pub write_batch-requires-clause-kept : goal.write_batch-requires-clause-kept
+write_batch-requires-clause-kept g c = λ h.
+    let F = g.F.Folder in
+    let log = c.self.inside in
+    let known = OnFalse_at (ap (λ v. v.is_broken) c.self.view_is ∙ c.requires.works) c.self.invariant in
+    subst (λ t. TailIsKept (F.may_hold log.folder) (F.may_leave log.folder) (F.entry_kept log.folder) t) (sym (front_is g (goal.at.write_batch-requires-clause-kept g c).After-deref-3)) (known.1 h).0.on_disk.tail_kept
 
 -- while the batch is written, each moment has the old records, or the batch's after them
-kept_or_added : (g : _) (c : After-deref-4 g) (new : _) → IsTrue g.F.Folder.honest
+kept_or_added : (g : _) (c : After-deref-3 g) (new : _) → IsTrue g.F.Folder.honest
     → LeavesOnly g.F.Folder.moment g.F.Folder.left_since c.self.inside.folder new
-    (PutsBatch c.self.inside.commit (g.F.Folder.may_leave c.self.inside.folder) c.deref-3.result.now c.deref-4.result.now)
+    (PutsBatch c.self.inside.commit (g.F.Folder.may_leave c.self.inside.folder) (take c.len-end.result c.deref-3.result.now) (drop c.len-end.result c.deref-3.result.now))
     → LeavesOnly g.F.Folder.moment g.F.Folder.left_since c.args.self.now.folder new
     (KeepsOrAdds c.args.self.now.commit c.args.self.now.first c.args.self.now.slots c.args.self.now.pending)
 kept_or_added g c new h putting =
@@ -53,34 +75,33 @@ kept_or_added g c new h putting =
     (weaker F.moment F.left_since log.folder new _ _
     (λ l puts. keeps_or_adds log.first (map (λ s. part_of s.first s.reader) log.segments.items) log.tail.items log.pending.items (known.1 h).0.parts known.0.whole known.0.pending_whole
     log.commit known.0.small (fits_is g c) (F.may_leave log.folder) (λ d left. (known.1 h).0.on_disk.outcomes d left) l
-    (subst (λ b. PutsBatch log.commit (F.may_leave log.folder) log.tail.items b l) (c.deref-4.ensures.value ∙ batch_is g c)
-    (subst (λ t. PutsBatch log.commit (F.may_leave log.folder) t c.deref-4.result.now l) c.deref-3.ensures.value puts))) putting)
+    (subst (λ b. PutsBatch log.commit (F.may_leave log.folder) log.tail.items b l) (back_is g c)
+    (subst (λ t. PutsBatch log.commit (F.may_leave log.folder) t (drop c.len-end.result c.deref-3.result.now) l) (front_is g c) puts))) putting)
 
 pub returns-in_err-write_batch-clause-any_moment : goal.returns-in_err-write_batch-clause-any_moment
 returns-in_err-write_batch-clause-any_moment g c = λ h.
-    kept_or_added g (goal.at.returns-in_err-write_batch-clause-any_moment g c).After-deref-4 c.write_batch.new.folder h (c.write_batch.ensures.any_moment h)
-
-pub returns-in_err-extend_from_slice-clause-any_moment : goal.returns-in_err-extend_from_slice-clause-any_moment
-returns-in_err-extend_from_slice-clause-any_moment g c = λ h.
-    kept_or_added g (goal.at.returns-in_err-extend_from_slice-clause-any_moment g c).After-deref-4 c.write_batch.new.folder h (c.write_batch.ensures.any_moment h)
+    kept_or_added g (goal.at.returns-in_err-write_batch-clause-any_moment g c).After-deref-3 c.write_batch.new.folder h (c.write_batch.ensures.any_moment h)
 
 pub returns-clause-any_moment : goal.returns-clause-any_moment
 returns-clause-any_moment g c = λ h.
-    kept_or_added g (goal.at.returns-clause-any_moment g c).After-deref-4 c.write_batch.new.folder h (c.write_batch.ensures.any_moment h)
+    kept_or_added g (goal.at.returns-clause-any_moment g c).After-deref-3 c.write_batch.new.folder h (c.write_batch.ensures.any_moment h)
 
--- the tail that there is then
-new_is : (g : _) (c : In_ok-extend_from_slice g) → c.extend_from_slice.new.self.items ≡ c.self.inside.tail.items ++ 1 ∷ summed c.self.inside.pending.items
-new_is g c =
-    c.in_ok-extend_from_slice.ensures.items
-    ∙ ap (λ b. c.self.inside.tail.items ++ b) (c.deref-5.ensures.value ∙ c.in_ok-batch.ensures.bytes ∙ ap (λ b. 1 ∷ summed b) c.deref-2.ensures.value)
+pub returns-clause-elsewhere : goal.returns-clause-elsewhere
+returns-clause-elsewhere g c = λ h.
+    let F = g.F.Folder in
+    subst (λ v. ElsewhereOfBoth (tail_name ++ part) tail_name (F.seen v.folder) (F.seen c.write_batch.new.folder)) c.self.view_is (c.in_ok-write_batch.ensures.elsewhere h)
+
+pub returns-clause-tail : goal.returns-clause-tail
+returns-clause-tail g c =
+    new_size c.self.inside.tail.items c.self.inside.pending.items c.add_batch.new.bytes.items (new_is g (goal.at.returns-clause-tail g c).After-deref-3)
+    ∙ ap (λ v. v.tail_bytes + 13 + v.batch_bytes) c.self.view_is
 
 pub returns-clause-acknowledged : goal.returns-clause-acknowledged
 returns-clause-acknowledged g c = λ h.
     let log = c.self.inside in
     let known = OnFalse_at (ap (λ v. v.is_broken) c.self.view_is ∙ c.requires.works) c.self.invariant in
-    let body = log.pending.items in
-    let here = (goal.at.returns-clause-acknowledged g c).In_ok-extend_from_slice in
-    slots_batch log.sealed log.tail_first log.next log.tail.items body c.extend_from_slice.new.self.items log.places.items known.0 (fits_is g (goal.at.returns-clause-acknowledged g c).After-deref-4) (new_is g here)
+    let here = (goal.at.returns-clause-acknowledged g c).After-deref-3 in
+    slots_batch log.sealed log.tail_first log.next log.tail.items log.pending.items c.add_batch.new.bytes.items log.places.items known.0 (fits_is g here) (new_is g here)
     log.first (map (λ s. part_of s.first s.reader) log.segments.items) (known.1 h).0.parts
     ∙ ap (λ v. v.slots ++ map doc v.pending) c.self.view_is
 
@@ -92,22 +113,20 @@ invariant_of-self-2 g c =
     let s = known.0 in
     let tail = log.tail.items in
     let body = log.pending.items in
-    let new = c.extend_from_slice.new.self.items in
+    let new = c.add_batch.new.bytes.items in
     let new_folder = c.write_batch.new.folder in
     let later = c.place_records.new.places.items in
-    let here = (goal.at.invariant_of-self-2 g c).In_ok-extend_from_slice in
+    let here = (goal.at.invariant_of-self-2 g c).After-deref-3 in
     let is = new_is g here in
-    let len_is : c.len.result + 13 ≡ length tail + 13 = omega arith in
+    let len_is : c.len-end.result + 13 ≡ length tail + 13 = omega arith in
     let adds : AddsRecords body (length tail + 13) log.places.items later =
-    subst (λ n. AddsRecords body n log.places.items later) len_is (subst (λ b. AddsRecords b (c.len.result + 13) log.places.items later) c.deref.ensures.value c.in_ok-place_records.ensures.records) in
-    let within = c.in_ok-place_records.ensures.within (ends_later (length tail) (c.len.result + 13) log.places.items (omega (arith, len_is)) s.within) in
-    let size : c.len.result + 13 + length c.deref.result.now ≤ length new = omega (arith, len_is, ap length c.deref.ensures.value, new_size tail body new is) in (
-      settled_batch log.sealed log.tail_first log.next tail body new log.places.items s (fits_is g (goal.at.invariant_of-self-2 g c).After-deref-4) is later c.clear.new.self.items (c.len.result + 13 + length c.deref.result.now) adds within size c.clear.ensures.items,
+    subst (λ n. AddsRecords body n log.places.items later) len_is (subst (λ b. AddsRecords b (c.len-end.result + 13) log.places.items later) c.deref.ensures.value c.in_ok-place_records.ensures.records) in
+    let within = c.in_ok-place_records.ensures.within (ends_later (length tail) (c.len-end.result + 13) log.places.items (omega (arith, len_is)) s.within) in
+    let size : c.len-end.result + 13 + length c.deref.result.now ≤ length new = omega (arith, len_is, ap length c.deref.ensures.value, new_size tail body new is) in (
+      settled_batch log.sealed log.tail_first log.next tail body new log.places.items s (fits_is g here) is later c.clear.new.self.items (c.len-end.result + 13 + length c.deref.result.now) adds within size c.clear.ensures.items,
       λ h.
-          let kept = subst (λ b. TailIsKept (F.may_hold new_folder) (F.may_leave new_folder) (F.entry_kept new_folder) (tail ++ b))
-          (c.deref-4.ensures.value ∙ batch_is g (goal.at.invariant_of-self-2 g c).After-deref-4)
-          (subst (λ t. TailIsKept (F.may_hold new_folder) (F.may_leave new_folder) (F.entry_kept new_folder) (t ++ c.deref-4.result.now)) c.deref-3.ensures.value (c.in_ok-write_batch.ensures.kept h)) in (
-            folder_batch log.sealed log.tail_first log.next tail body new log.places.items s (fits_is g (goal.at.invariant_of-self-2 g c).After-deref-4) is log.first (map (λ x. part_of x.first x.reader) log.segments.items)
+          let kept = subst (λ t. TailIsKept (F.may_hold new_folder) (F.may_leave new_folder) (F.entry_kept new_folder) t) (written_is g here) (c.in_ok-write_batch.ensures.kept h) in (
+            folder_batch log.sealed log.tail_first log.next tail body new log.places.items s (fits_is g here) is log.first (map (λ x. part_of x.first x.reader) log.segments.items)
                 (F.may_hold log.folder) (F.may_hold new_folder) (F.may_leave log.folder) (F.may_leave new_folder) (F.entry_kept log.folder) (F.entry_kept new_folder) (known.1 h).0 kept (c.write_batch.ensures.crash h),
             (known.1 h).1,
           ),
