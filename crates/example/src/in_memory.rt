@@ -22,6 +22,12 @@ pub fn opened(alloc: Global, bytes: Vec<u8>) -> Result<Reader, StoreError> {
     StoreReader::open(alloc, file, 100).map_err(|refusal| refusal.error)
 }
 
+/// Prints a document, which is text, after these words.
+pub fn print_text<R: Print>(rt: &R, words: &str, document: &[u8]) -> anyhow::Result<()> {
+    println!(rt; "{words}: {}", str::from_utf8(document)?)?;
+    Ok(())
+}
+
 fn stacked(alloc: Global, front: &str, store: &mut Reader) -> Result<Vec<u8>, StoreError> {
     let mut writer = StoreWriter::new(alloc, MemSink::new(alloc), Compressor::None, 16384);
     writer.store_bytes(front.as_bytes())?;
@@ -43,11 +49,18 @@ fn print_store<R: Print>(rt: &R, alloc: Global, store: &mut Reader) -> anyhow::R
     print_live(rt, alloc, store)
 }
 
+// The file of a document and then those of a file.
+fn stacked_file(alloc: Global, file: Vec<u8>) -> Result<Vec<u8>, StoreError> {
+    stacked(alloc, "almond", &mut opened(alloc, file)?)
+}
+
+fn print_file<R: Print>(rt: &R, alloc: Global, file: Vec<u8>) -> anyhow::Result<()> {
+    print_store(rt, alloc, &mut opened(alloc, file)?)
+}
+
 /// Prints the size of a file, and what is in the store that was stacked.
 pub fn write_and_read(rt: &HostRuntime) -> anyhow::Result<()> {
-    let alloc = rt.alloc();
-    let fruits = written(alloc, &["apple", "banana", "cherry"])?;
+    let fruits = written(rt.alloc(), &["apple", "banana", "cherry"])?;
     println!(rt; "a file of {} bytes", fruits.len())?;
-    let all = stacked(alloc, "almond", &mut opened(alloc, fruits)?)?;
-    print_store(rt, alloc, &mut opened(alloc, all)?)
+    print_file(rt, rt.alloc(), stacked_file(rt.alloc(), fruits)?)
 }

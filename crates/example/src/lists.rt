@@ -1,6 +1,6 @@
 //! Whole lists of calls.
 
-use crate::in_memory::opened;
+use crate::in_memory::{Reader, opened};
 use docstore::{
     MemFile, MemSink, ReadCall, RecordDocument, Schema, StoreCommand, StoreError, answer_all,
     any_lacks_memory, write_store,
@@ -26,9 +26,8 @@ fn listed(alloc: Global, mut commands: Commands) -> Result<Vec<u8>, StoreError> 
     }
 }
 
-/// Prints how many calls of a list were answered.
-pub fn print_answers(rt: &HostRuntime) -> anyhow::Result<()> {
-    let mut reader = opened(rt.alloc(), listed(rt.alloc(), commands(rt.alloc())?)?)?;
+// How many calls of a list were answered, and whether one ran out of memory.
+fn answered(alloc: Global, reader: &mut Reader) -> Result<(usize, bool), StoreError> {
     let calls = [
         ReadCall::Bytes(0),
         ReadCall::Bytes(5),
@@ -37,11 +36,14 @@ pub fn print_answers(rt: &HostRuntime) -> anyhow::Result<()> {
             take: 1,
         },
     ];
-    let answers = answer_all(rt.alloc(), &mut reader, calls.as_slice())?;
-    println!(rt;
-        "{} answers, memory was short: {}",
-        answers.len(),
-        any_lacks_memory(&answers)
-    )?;
+    let answers = answer_all(alloc, reader, calls.as_slice())?;
+    Ok((answers.len(), any_lacks_memory(&answers)))
+}
+
+/// Prints how many calls of a list were answered.
+pub fn print_answers(rt: &HostRuntime) -> anyhow::Result<()> {
+    let file = listed(rt.alloc(), commands(rt.alloc())?)?;
+    let (count, is_short) = answered(rt.alloc(), &mut opened(rt.alloc(), file)?)?;
+    println!(rt; "{count} answers, memory was short: {is_short}")?;
     Ok(())
 }

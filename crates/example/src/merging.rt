@@ -3,7 +3,7 @@ ghost use Rattle.std.specs.Prelude.{IfOk};
 ghost use Rattle.std.specs.List.{AllByRecursion};
 ghost use Rattle.store_merge.specs.Inputs.{HasWholeSet};
 
-use crate::in_memory::{opened, written};
+use crate::in_memory::{opened, print_text, written};
 use docstore::{AliveBitSet, Compressor, MemFile, MemSink, StoreError, StoreWriter};
 use std::alloc::Global;
 use store_merge::{MergeInput, merge};
@@ -41,10 +41,7 @@ fn inputs(alloc: Global) -> Result<Vec<MergeInput<MemFile>>, StoreError>
 
 /// Prints how many documents a merge has, and the last one.
 pub fn print_merged(rt: &HostRuntime) -> anyhow::Result<()> {
-    let mut inputs = inputs(rt.alloc())?;
-    let file = merged(rt.alloc(), &mut inputs)?;
-    drop(inputs);
+    let file = merged(rt.alloc(), &mut inputs(rt.alloc())?)?;
     let cherry = opened(rt.alloc(), file)?.get_document_bytes(rt.alloc(), 1)?;
-    println!(rt; "merged: {}", str::from_utf8(cherry.as_slice())?)?;
-    Ok(())
+    print_text(rt, "merged", cherry.as_slice())
 }

@@ -1,5 +1,6 @@
 //! Writes a store to a file, and gets a document of it.
 
+use crate::in_memory::print_text;
 use docstore::{Compressor, FileSlice, StoreReader, StoreWriter};
 use std::fs;
 use store_files::{DiskFile, DiskSink, OsFile};
@@ -24,12 +25,11 @@ fn open(rt: &HostRuntime, path: &str) -> anyhow::Result<Reader> {
     Ok(opened.map_err(|refusal| refusal.error)?)
 }
 
-/// Writes a store to a file of the current folder, prints a document of it, and removes it.
+/// Writes a store to a file of the current folder, removes it, and prints a document that it had.
 pub fn write_and_read(rt: &HostRuntime) -> anyhow::Result<()> {
     let path = "fruits.store";
     write(rt, path, &["apple", "banana", "cherry"])?;
     let cherry = open(rt, path)?.get_document_bytes(rt.alloc(), 2)?;
-    println!(rt; "on disk: {}", str::from_utf8(cherry.as_slice())?)?;
     fs::remove_file(rt, path)?;
-    Ok(())
+    print_text(rt, "on disk", cherry.as_slice())
 }

@@ -1,6 +1,6 @@
 //! A page of results: some documents, in the order of a search.
 
-use crate::in_memory::{opened, written};
+use crate::in_memory::{opened, print_text, written};
 use docstore::{DocId, FileHandle, OwnedBytes, StoreError, StoreReader};
 use std::alloc::Global;
 
@@ -18,12 +18,16 @@ fn page<H: FileHandle>(
     Ok(documents)
 }
 
+fn print_documents<R: Print>(rt: &R, documents: &[OwnedBytes]) -> anyhow::Result<()> {
+    for document in documents {
+        print_text(rt, "on the page", document.as_slice())?;
+    }
+    Ok(())
+}
+
 /// Prints a page of two documents.
 pub fn print_page(rt: &HostRuntime) -> anyhow::Result<()> {
     let file = written(rt.alloc(), &["apple", "banana", "cherry"])?;
     let documents = page(rt.alloc(), &mut opened(rt.alloc(), file)?, &[2, 0])?;
-    for document in documents.iter() {
-        println!(rt; "on the page: {}", str::from_utf8(document.as_slice())?)?;
-    }
-    Ok(())
+    print_documents(rt, &documents)
 }

@@ -23,11 +23,8 @@ fn records(alloc: Global) -> Result<Vec<u8>, StoreError> {
     Ok(writer.close()?.into_bytes())
 }
 
-/// Prints the fields of a record.
-pub fn write_and_read(rt: &HostRuntime) -> anyhow::Result<()> {
-    let file = records(rt.alloc())?;
-    let plum = opened(rt.alloc(), file)?.get::<RecordDocument>(rt.alloc(), 0)?;
-    for (field, bytes) in plum.fields() {
+fn print_fields<R: Print>(rt: &R, record: &RecordDocument) -> anyhow::Result<()> {
+    for (field, bytes) in record.fields() {
         println!(rt;
             "field {}: {}",
             field.field_id(),
@@ -35,4 +32,11 @@ pub fn write_and_read(rt: &HostRuntime) -> anyhow::Result<()> {
         )?;
     }
     Ok(())
+}
+
+/// Prints the fields of a record.
+pub fn write_and_read(rt: &HostRuntime) -> anyhow::Result<()> {
+    let file = records(rt.alloc())?;
+    let plum = opened(rt.alloc(), file)?.get::<RecordDocument>(rt.alloc(), 0)?;
+    print_fields(rt, &plum)
 }

@@ -1,18 +1,13 @@
 //! Reads bytes in memory by a view.
 
-use crate::in_memory::written;
+use crate::in_memory::{print_text, written};
 use docstore::StoreView;
 
-/// Prints a document of a view, and where it lies in the file.
+/// Prints where a document lies in the file of a view, and the document.
 pub fn print_view(rt: &HostRuntime) -> anyhow::Result<()> {
     let file = written(rt.alloc(), &["apple", "banana", "cherry"])?;
     let view = StoreView::open(rt.alloc(), file.as_slice())?;
     let (banana, place) = (view.get(1)?, view.locate(1)?);
-    println!(rt;
-        "viewed: {} at {}..{}",
-        str::from_utf8(banana)?,
-        place.start,
-        place.end
-    )?;
-    Ok(())
+    println!(rt; "at {}..{}", place.start, place.end)?;
+    print_text(rt, "viewed", banana)
 }

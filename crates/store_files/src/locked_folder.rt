@@ -9,7 +9,7 @@ use crate::loading::read_all;
 use crate::output_file::{LockFile, lock, open_folder};
 use crate::read_at::OsFile;
 use std::alloc::Global;
-use std::fs::{File, Files, OpenFile, OpenOptions};
+use std::fs::{DirEntry, File, Files, OpenFile, OpenOptions};
 use std::io::{ErrorKind, Write};
 use std::{fs, io};
 use store_folder::{Folder, ReadableFolder};
@@ -54,6 +54,15 @@ fn check_name(name: &str) -> io::Result<()> {
 // Whether a file of this name is listed: the lock is not, nor what was not published.
 fn is_listed(name: &str) -> bool {
     name != LOCK && !name.ends_with(".part")
+}
+
+// The name of this entry of a folder, if it is that of a plain file that is listed.
+fn listed_name<R: Files>(alloc: Global, entry: &DirEntry<R>) -> io::Result<Option<String>> {
+    let name = entry.file_name();
+    if is_listed(name) && entry.file_type()?.is_file() {
+        return Ok(Some(String::from_str(alloc, name)?));
+    }
+    Ok(None)
 }
 
 impl<R: Files + Drop> LockedFolder<R>
@@ -279,10 +288,8 @@ impl<R: Files<File = File> + Drop> ReadableFolder for LockedFolder<R> {
     fn names(&self, alloc: Global) -> io::Result<Vec<String>> {
         let mut names = Vec::new(alloc);
         for entry in fs::read_dir(&(&self.rt, alloc), self.path.as_str())? {
-            let entry = entry?;
-            let name = entry.file_name();
-            if is_listed(name) && entry.file_type()?.is_file() {
-                names.push(String::from_str(alloc, name)?)?;
+            if let Some(name) = listed_name(alloc, &entry?)? {
+                names.push(name)?;
             }
         }
         Ok(names)

@@ -35,15 +35,21 @@ fn two_blocks(alloc: Global) -> Result<Vec<u8>, Fail> {
     Ok(written(alloc, 0, &[b"a", b"b"])?)
 }
 
+// Whether a reader says all of this of a store of two blocks.
+fn describes_two_blocks(reader: &StoreReader<MemFile>) -> bool {
+    reader.num_docs() == 2
+        && reader.period() == 8
+        && reader.version() == DocStoreVersion::V3
+        && reader.decompressor() == Decompressor::None
+        && reader.space_usage().total() == 27
+        && reader.peek_lru().is_none()
+        && are_two_blocks(reader.block_checkpoints())
+}
+
 #[test]
 fn a_reader_describes_its_store(rt: HostRuntime) -> Result<(), Fail> {
     let reader = opened_bytes(rt.alloc(), two_blocks(rt.alloc())?)?;
-    assert!(rt; reader.num_docs() == 2 && reader.period() == 8);
-    assert!(rt;
-        reader.version() == DocStoreVersion::V3 && reader.decompressor() == Decompressor::None
-    );
-    assert!(rt; reader.space_usage().total() == 27 && reader.peek_lru().is_none());
-    assert!(rt; are_two_blocks(reader.block_checkpoints()));
+    assert!(rt; describes_two_blocks(&reader));
     Ok(())
 }
 
@@ -70,15 +76,27 @@ fn given_and_looked_up(
     Ok((given, after.saturating_sub(before)))
 }
 
+// The first iteration whose counts are others, of a store whose first block has two documents, and is looked up when an
+// iteration begins.
+fn other_counts(
+    alloc: Global,
+    reader: &mut StoreReader<MemFile>,
+) -> Result<Option<(usize, usize)>, Fail> {
+    for (taken, blocks) in [(0, 1), (1, 1), (2, 1), (3, 2), (4, 2)] {
+        let counts = given_and_looked_up(alloc, reader, taken)?;
+        if counts != (taken.min(3), blocks) {
+            return Ok(Some(counts));
+        }
+    }
+    Ok(None)
+}
+
 #[test]
 fn an_iteration_looks_up_the_blocks_that_it_came_to(rt: HostRuntime) -> Result<(), Fail> {
-    // The first block has two documents, and is looked up when the iteration begins.
     let file = written(rt.alloc(), 17, &[b"a", b"b", b"c"])?;
     let mut reader = opened_bytes(rt.alloc(), file)?;
-    for (taken, blocks) in [(0, 1), (1, 1), (2, 1), (3, 2), (4, 2)] {
-        let counts = given_and_looked_up(rt.alloc(), &mut reader, taken)?;
-        assert_eq!(rt; counts, (taken.min(3), blocks), "{taken}");
-    }
+    let other = other_counts(rt.alloc(), &mut reader)?;
+    assert_eq!(rt; other, None);
     Ok(())
 }
 

@@ -1,6 +1,6 @@
 //! Stores merged, with and without deleted documents.
 
-use docstore::{Compressor, MemSink, StoreError, StoreWriter};
+use docstore::{Compressor, MemFile, MemSink, StoreError, StoreReader, StoreWriter};
 use std::alloc::Global;
 use std::test::Fail;
 use store_merge::{MergeError, merge};
@@ -71,17 +71,32 @@ fn long_stores(alloc: Global) -> Result<(Vec<u8>, Vec<u8>), StoreError> {
     Ok((first, written(alloc, 16384, &documents)?))
 }
 
+// The file of a merge of them, without the short document.
+fn long_merged(alloc: Global) -> Result<Vec<u8>, StoreError> {
+    let (first, second) = long_stores(alloc)?;
+    merged(alloc, &[(&first, &[]), (&second, &[0])])
+}
+
+// Whether a store has 30 long documents, each in a block of its own.
+fn has_long_documents(
+    alloc: Global,
+    reader: &mut StoreReader<MemFile>,
+) -> Result<bool, StoreError> {
+    let long = vec![in alloc; b'x'; 26000]?;
+    Ok(
+        reader.num_docs() == 30
+            && reader.space_usage().data_usage() == 780240
+            && reader.block_checkpoints().nth(29).is_some()
+            && reader.block_checkpoints().nth(30).is_none()
+            && is_found(alloc, reader, 29, &long),
+    )
+}
+
 // As tantivy's test of the same name: the first store whole, and the second without its short document.
 #[test]
 fn merge_store_with_stacking_reproducing_issue969(rt: HostRuntime) -> Result<(), Fail> {
-    let alloc = rt.alloc();
-    let (first, second) = long_stores(alloc)?;
-    let file = merged(alloc, &[(&first, &[]), (&second, &[0])])?;
-    let mut reader = opened_bytes(alloc, file)?;
-    assert!(rt; reader.num_docs() == 30 && reader.space_usage().data_usage() == 780240);
-    assert!(rt; reader.block_checkpoints().nth(29).is_some());
-    assert!(rt; reader.block_checkpoints().nth(30).is_none());
-    let long = vec![in alloc; b'x'; 26000]?;
-    assert!(rt; is_found(alloc, &mut reader, 29, &long));
+    let mut reader = opened_bytes(rt.alloc(), long_merged(rt.alloc())?)?;
+    let is_so = has_long_documents(rt.alloc(), &mut reader)?;
+    assert!(rt; is_so);
     Ok(())
 }

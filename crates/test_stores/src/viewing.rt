@@ -7,16 +7,21 @@ use std::alloc::Global;
 use std::test::Fail;
 use test_support::making::{closed, written};
 
+// Whether a view has three documents, `a`, `bc` and one of no bytes, each in a block of its own.
+fn has_three(view: &StoreView<'_>) -> bool {
+    view.num_docs() == 3
+        && view.get(0) == Ok(b"a".as_slice())
+        && view.get(1) == Ok(b"bc".as_slice())
+        && view.get(2) == Ok(b"".as_slice())
+        && view.get(3) == Err(StoreError::InvalidArgument(3))
+        && view.locate(1) == Ok(9..11)
+}
+
 #[test]
 fn a_view_gives_documents(rt: HostRuntime) -> Result<(), Fail> {
-    let alloc = rt.alloc();
-    let file = written(alloc, 0, &[b"a", b"bc", b""])?;
-    let view = StoreView::open(alloc, file.as_slice())?;
-    assert_eq!(rt; view.num_docs(), 3);
-    assert_eq!(rt; view.get(0)?, b"a".as_slice());
-    assert_eq!(rt; view.get(1)?, b"bc".as_slice());
-    assert_eq!(rt; view.get(3).err(), Some(StoreError::InvalidArgument(3)));
-    assert_eq!(rt; view.locate(1)?, 9..11);
+    let file = written(rt.alloc(), 0, &[b"a", b"bc", b""])?;
+    let view = StoreView::open(rt.alloc(), file.as_slice())?;
+    assert!(rt; has_three(&view));
     Ok(())
 }
 
@@ -45,17 +50,19 @@ fn listed_alive(
     Ok(text)
 }
 
+// The documents of an iteration, and then those of one without the documents 0, 2 and 4.
+fn listed_twice(alloc: Global, view: &StoreView<'_>) -> Result<Vec<u8>, StoreError> {
+    let mut text = listed(alloc, view)?;
+    let alive = AliveBitSet::from_deleted_docs(alloc, &[0, 2, 4], view.num_docs())?;
+    text.extend_from_slice(&listed_alive(alloc, view, &alive)?)?;
+    Ok(text)
+}
+
 #[test]
 fn a_view_is_gone_over(rt: HostRuntime) -> Result<(), Fail> {
-    let alloc = rt.alloc();
-    let file = written(alloc, 18, &[b"a", b"b", b"", b"cd", b"e"])?;
-    let view = StoreView::open(alloc, file.as_slice())?;
-    assert_eq!(rt; listed(alloc, &view)?.as_slice(), b"a;b;;cd;e;".as_slice());
-    let alive = AliveBitSet::from_deleted_docs(alloc, &[0, 2, 4], 5)?;
-    assert_eq!(rt;
-        listed_alive(alloc, &view, &alive)?.as_slice(),
-        b"\x01b;\x03cd;".as_slice()
-    );
+    let file = written(rt.alloc(), 18, &[b"a", b"b", b"", b"cd", b"e"])?;
+    let text = listed_twice(rt.alloc(), &StoreView::open(rt.alloc(), file.as_slice())?)?;
+    assert_eq!(rt; text.as_slice(), b"a;b;;cd;e;\x01b;\x03cd;".as_slice());
     Ok(())
 }
 

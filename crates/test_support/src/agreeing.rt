@@ -109,20 +109,27 @@ fn answer_alike<H: FileHandle>(
         && are_gotten(view)
 }
 
+// Whether a reader of this file opens as this view did, and answers the same.
+fn reader_agrees<H: FileHandle>(
+    alloc: Global,
+    bytes: &[u8],
+    viewed: &Result<StoreView<'_>, StoreError>,
+    file: H,
+) -> bool {
+    match (viewed, opened(alloc, file)) {
+        (Ok(view), Ok(mut reader)) => answer_alike(alloc, bytes, view, &mut reader),
+        (Err(viewed), Err(read)) => *viewed == read,
+        _ => false,
+    }
+}
+
 /// Whether a view of these bytes and a reader of this file open the same, and answer the same; and a slice of them, and
 /// a file of them that is sought.
 pub fn agree_with<H: FileHandle>(alloc: Global, bytes: &[u8], file: H) -> bool {
     let viewed = StoreView::open(alloc, bytes);
-    if slice_agrees(alloc, bytes, &viewed) != Ok(true)
-        || seeking_agrees(alloc, bytes, &viewed) != Ok(true)
-    {
-        return false;
-    }
-    match (viewed, opened(alloc, file)) {
-        (Ok(view), Ok(mut reader)) => answer_alike(alloc, bytes, &view, &mut reader),
-        (Err(viewed), Err(read)) => viewed == read,
-        _ => false,
-    }
+    slice_agrees(alloc, bytes, &viewed) == Ok(true)
+        && seeking_agrees(alloc, bytes, &viewed) == Ok(true)
+        && reader_agrees(alloc, bytes, &viewed, file)
 }
 
 /// Whether a view and a reader open the same of these bytes, and answer the same.
