@@ -7,6 +7,7 @@ ghost use Rattle.store_base.specs.Outputs.{never_terminated, terminated_once};
 ghost use Rattle.store_folder.specs.Moments.{ComesFrom, Elapses, LeavesOnly};
 ghost use Rattle.store_folder.specs.Folder.{Elsewhere};
 ghost use Rattle.store_folder.specs.Publishing.{part, IsUntouched, IsSafe, IsSameOutput};
+ghost use Rattle.store_folder.specs.Stages.{IsBeside};
 
 use crate::folder::Folder;
 use crate::publishing::publish;
@@ -40,7 +41,6 @@ pub struct Publication<F: Folder> {
     beside: FileBeside,
     // The folder as `create` got it. It takes no memory: only clauses read it.
     first: Snapshot<F>,
-    num_bytes: u64,
     stage: Stage,
     ends: u64,
     failures: u64,
@@ -54,6 +54,8 @@ struct FileBeside {
     buffer: Vec<u8>,
     // What was passed to it. It takes no memory: only clauses read it.
     sent: Sent,
+    // How many bytes were passed to it, or wait.
+    num_bytes: u64,
 }
 
 /// Clauses see what was written, its ends, how often a call failed, the two names, and the folder at first and now.
@@ -85,7 +87,7 @@ impl<F: Folder> Model for Publication<F> {
         (s.beside.sent.bytes ++ s.beside.buffer.items)) × (IsTrue F.honest → s.ends ≡ 0
         → LeavesOnly F.moment F.left_since s.first.value s.folder
         (IsUntouched (F.may_leave s.first.value) (string_bytes s.beside.name)))
-        × (s.num_bytes ≡ length (s.beside.sent.bytes ++ s.beside.buffer.items)) };
+        × (s.beside.num_bytes ≡ length (s.beside.sent.bytes ++ s.beside.buffer.items)) };
 }
 
 // The name, and the name of the file beside.
@@ -121,6 +123,7 @@ impl FileBeside {
         ensures sent { OnOk result (self.new.sent.bytes ≡ self.old.sent.bytes ++ self.old.buffer.items) }
         ensures empty { OnOk result (self.new.buffer.items ≡ []) }
         ensures name { self.new.name ≡ self.old.name }
+        ensures count { self.new.num_bytes ≡ self.old.num_bytes }
         ensures content { self.new.sent.bytes ++ self.new.buffer.items
             ≡ self.old.sent.bytes ++ self.old.buffer.items }
         ensures file { IsTrue F.honest → OnOk result (F.seen folder.new (string_bytes self.old.name)
@@ -133,6 +136,41 @@ impl FileBeside {
         pass_on(folder, self.name.as_str(), &self.buffer, &mut self.sent)?;
         self.buffer.clear();
         Ok(())
+    }
+
+    // Passes bytes to the folder, or holds them until there are enough of them.
+    #[inline]
+    fn take<F: Folder>(&mut self, folder: &mut F, bytes: &[u8]) -> io::Result<()>
+        requires there { IsTrue F.honest → IsSome (F.seen folder.old (string_bytes self.old.name)) }
+        requires count { self.old.num_bytes ≡ length (self.old.sent.bytes ++ self.old.buffer.items) }
+        ensures content { OnOk result (self.new.sent.bytes ++ self.new.buffer.items
+            ≡ (self.old.sent.bytes ++ self.old.buffer.items) ++ bytes.now) }
+        ensures name { self.new.name ≡ self.old.name }
+        ensures count { self.new.num_bytes ≡ length (self.new.sent.bytes ++ self.new.buffer.items) }
+        ensures beside { IsTrue F.honest → OnOk result ((first : F) → IsBeside F.seen F.may_leave F.moment F.left_since
+            first folder.old (string_bytes self.old.name) self.old.sent.bytes → IsBeside F.seen F.may_leave F.moment
+            F.left_since first folder.new (string_bytes self.old.name) self.new.sent.bytes) }
+        ensures any_moment { IsTrue F.honest → (first : F) → IsBeside F.seen F.may_leave F.moment F.left_since
+            first folder.old (string_bytes self.old.name) self.old.sent.bytes → LeavesOnly F.moment F.left_since
+            first folder.new (IsUntouched (F.may_leave first) (string_bytes self.old.name)) }
+    {
+        let Some(num_bytes) = self.num_bytes.checked_add(bytes.len() as u64) else {
+            return Err(io::ErrorKind::FileTooLarge.into());
+        };
+        if bytes.len() >= BUFFER_SIZE {
+            if !self.buffer.is_empty() {
+                self.hand_over(folder)?;
+            }
+            pass_on(folder, self.name.as_str(), bytes, &mut self.sent)?;
+            self.num_bytes = num_bytes;
+            return Ok(());
+        }
+        self.buffer.extend_from_slice(bytes)?;
+        self.num_bytes = num_bytes;
+        if self.buffer.len() < BUFFER_SIZE {
+            return Ok(());
+        }
+        self.hand_over(folder)
     }
 }
 
@@ -167,9 +205,9 @@ impl<F: Folder> Publication<F> {
                 name: beside,
                 buffer: Vec::new(alloc),
                 sent: Sent::new(),
+                num_bytes: 0,
             },
             first,
-            num_bytes: 0,
             stage: Stage::Open,
             ends: 0,
             failures: 0,
@@ -186,7 +224,7 @@ impl<F: Folder> Publication<F> {
     pub fn num_bytes(&self) -> u64
         ensures { result ≡ length self.now.content }
     {
-        self.num_bytes
+        self.beside.num_bytes
     }
 
     /// The folder.
@@ -236,29 +274,6 @@ impl<F: Folder> Publication<F> {
         }
         self.refuse()
     }
-
-    // Passes what is held to the folder, where a write of this length is not copied to it.
-    #[inline]
-    fn make_way(&mut self, len: usize) -> Result<(), WriteFault>
-        ensures content { self.new.content ≡ self.old.content }
-        ensures termination { self.new.termination ≡ self.old.termination }
-        ensures count { self.old.failures ≤ self.new.failures }
-        ensures fault { OnErr result (HasRisen self.old.failures self.new.failures) }
-        ensures steady { OnOk result (self.new.failures ≡ self.old.failures) }
-        ensures same { IsSameOutput self.old self.new }
-    {
-        if len < BUFFER_SIZE || self.beside.buffer.is_empty() {
-            return Ok(());
-        }
-        if self.stage != Stage::Open {
-            return self.refuse();
-        }
-        if let Err(error) = self.beside.hand_over(&mut self.folder) {
-            self.stage = Stage::Failed;
-            return self.fail(error);
-        }
-        Ok(())
-    }
 }
 
 impl<F: Folder> TerminatingWrite for Publication<F> {
@@ -278,31 +293,10 @@ impl<F: Folder> TerminatingWrite for Publication<F> {
         ensures steady { OnOk result (self.new.failures ≡ self.old.failures) }
         ensures same { IsSameOutput self.old self.new }
     {
-        self.make_way(bytes.len())?;
         if self.stage != Stage::Open {
             return self.refuse();
         }
-        let Some(num_bytes) = self.num_bytes.checked_add(bytes.len() as u64) else {
-            return self.fail(io::ErrorKind::FileTooLarge.into());
-        };
-        if bytes.len() >= BUFFER_SIZE && self.beside.buffer.is_empty() {
-            let beside = self.beside.name.as_str();
-            let passed = pass_on(&mut self.folder, beside, bytes, &mut self.beside.sent);
-            if let Err(error) = passed {
-                self.stage = Stage::Failed;
-                return self.fail(error);
-            }
-            self.num_bytes = num_bytes;
-            return Ok(());
-        }
-        if self.beside.buffer.extend_from_slice(bytes).is_err() {
-            return self.fail(io::ErrorKind::OutOfMemory.into());
-        }
-        self.num_bytes = num_bytes;
-        if self.beside.buffer.len() < BUFFER_SIZE {
-            return Ok(());
-        }
-        if let Err(error) = self.beside.hand_over(&mut self.folder) {
+        if let Err(error) = self.beside.take(&mut self.folder, bytes) {
             self.stage = Stage::Failed;
             return self.fail(error);
         }

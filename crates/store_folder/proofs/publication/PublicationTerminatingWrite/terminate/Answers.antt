@@ -64,7 +64,7 @@ invariant_of-self-in-Err-named g c =
           (IsOldOrWhole (F.may_leave s.first.value) (string_bytes s.beside.name) (string_bytes s.name) (Some b)))
           (content_is g here) (old_or_whole g here h)),
       λ h none. absurd (omega arith),
-      c.self.invariant.3 ∙ ap length (content_is g here),
+      c.hand_over.ensures.count ∙ c.self.invariant.3 ∙ ap length (content_is g here),
     )
 
 pub invariant_of-self-2 : goal.invariant_of-self-2
@@ -86,5 +86,5 @@ invariant_of-self-2 g c =
           subst (λ (n : List ℕ). IsKept F.may_leave F.moment F.left_since first new n name (c.hand_over.new.self.sent.bytes ++ c.hand_over.new.self.buffer.items)) (sym (beside_is g here))
           (subst (λ (b : List ℕ). IsKept F.may_leave F.moment F.left_since first new beside name b) (content_is g here) (record { kept = kept_all; any_moment = old_or_whole g here h })),
       λ h none. absurd (omega arith),
-      c.self.invariant.3 ∙ ap length (content_is g here),
+      c.hand_over.ensures.count ∙ c.self.invariant.3 ∙ ap length (content_is g here),
     )
