@@ -20,7 +20,7 @@ mod tests {
     use std::alloc::Global;
     use std::test::Fail;
     use store_base::TerminatingWrite;
-    use store_folder::{Folder, MemFolder, ReadableFolder, publish, replace};
+    use store_folder::{Folder, MemFolder, Publication, ReadableFolder, publish, replace};
     use torn_folder::TornFolder;
 
     // A folder with one file.
@@ -39,13 +39,17 @@ mod tests {
         })
     }
 
+    // Whether the file `a` has these bytes, and there is none beside it.
+    fn has_whole(alloc: Global, folder: &MemFolder, bytes: &[u8]) -> Result<bool, Fail> {
+        Ok(holds(alloc, folder, "a", bytes)? && folder.read(alloc, "a.part")?.is_none())
+    }
+
     #[test]
     fn a_file_is_replaced(rt: HostRuntime) -> Result<(), Fail> {
         let alloc = rt.alloc();
         let mut folder = with_file(alloc, "a", b"old")?;
         replace(&mut folder, "a.part", "a", b"new")?;
-        assert!(rt; holds(alloc, &folder, "a", b"new")?);
-        assert!(rt; folder.read(alloc, "a.part")?.is_none());
+        assert!(rt; has_whole(alloc, &folder, b"new")?);
         Ok(())
     }
 
@@ -56,26 +60,26 @@ mod tests {
         let mut output = begun(alloc, folder, "a")?;
         output.write_all(b"whole")?;
         output.terminate()?;
-        let folder = output.into_folder();
-        assert!(rt; holds(alloc, &folder, "a", b"whole")?);
-        assert!(rt; folder.read(alloc, "a.part")?.is_none());
+        assert!(rt; has_whole(alloc, output.folder(), b"whole")?);
         Ok(())
+    }
+
+    // Whether an output of `a` leaves the old file until its end, takes its name then, and takes no call after it.
+    fn takes_its_name(alloc: Global, output: &mut Publication<MemFolder>) -> Result<bool, Fail> {
+        output.write_all(b"ne")?;
+        output.write_all(b"w")?;
+        let was_old = holds(alloc, output.folder(), "a", b"old")?;
+        output.terminate()?;
+        let is_ended = output.write_all(b"more").is_err() && output.terminate().is_err();
+        Ok(was_old && is_ended && has_whole(alloc, output.folder(), b"new")?)
     }
 
     #[test]
     fn an_output_takes_its_name_at_the_end(rt: HostRuntime) -> Result<(), Fail> {
-        let alloc = rt.alloc();
-        let folder = with_file(alloc, "a", b"old")?;
-        let mut output = begun(alloc, folder, "a")?;
-        output.write_all(b"ne")?;
-        output.write_all(b"w")?;
-        assert!(rt; holds(alloc, output.folder(), "a", b"old")?);
-        output.terminate()?;
-        assert!(rt; output.write_all(b"more").is_err());
-        assert!(rt; output.terminate().is_err());
-        let folder = output.into_folder();
-        assert!(rt; holds(alloc, &folder, "a", b"new")?);
-        assert!(rt; folder.read(alloc, "a.part")?.is_none());
+        let folder = with_file(rt.alloc(), "a", b"old")?;
+        let mut output = begun(rt.alloc(), folder, "a")?;
+        let is_so = takes_its_name(rt.alloc(), &mut output)?;
+        assert!(rt; is_so);
         Ok(())
     }
 

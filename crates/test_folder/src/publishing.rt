@@ -42,16 +42,25 @@ fn folder_with_two<F: Folder>(alloc: Global, folder: F) -> Result<PublishedStore
     }
 }
 
+// Whether the folder has the store of two documents, and nothing beside it, and this is told of it.
+fn has_two(alloc: Global, published: &PublishedStore<MemFolder>) -> Result<bool, Fail> {
+    let expected = crate::stores::file(alloc)?;
+    let written = &published.written;
+    let is_told = written.documents == 2
+        && written.blocks == 1
+        && written.bytes == expected.len() as u64;
+    Ok(
+        is_told
+            && published.folder.read(alloc, "a.store")? == Some(expected)
+            && published.folder.read(alloc, "a.store.part")?.is_none(),
+    )
+}
+
 #[test]
 fn documents_are_published(rt: HostRuntime) -> Result<(), Fail> {
     let alloc = rt.alloc();
     let published = folder_with_two(alloc, MemFolder::new(alloc))?;
-    let expected = crate::stores::file(alloc)?;
-    let written = published.written;
-    assert_eq!(rt; (written.documents, written.blocks), (2, 1));
-    assert_eq!(rt; written.bytes, expected.len() as u64);
-    assert!(rt; published.folder.read(alloc, "a.store")? == Some(expected));
-    assert!(rt; published.folder.read(alloc, "a.store.part")?.is_none());
+    assert!(rt; has_two(alloc, &published)?);
     folder_with_two(alloc, TornFolder::new(alloc))?;
     Ok(())
 }

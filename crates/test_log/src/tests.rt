@@ -107,22 +107,37 @@ fn run(alloc: Global, bytes: Vec<u8>, commit: Commit, calls: &[Call]) -> Result<
     })
 }
 
+// How many changes of the device an opening is.
+fn changes_of_an_opening(alloc: Global, commit: Commit) -> Result<usize, LogError> {
+    let opened = run(alloc, new_tail(alloc, FIRST)?, commit, &[])?;
+    Ok(opened.device.changes().len())
+}
+
+// Whether a log has the records of these calls, and each batch made its changes.
+fn is_read(
+    alloc: Global,
+    commit: Commit,
+    batches: &[Vec<Vec<u8>>],
+    calls: &[Call],
+) -> Result<bool, LogError> {
+    let before = changes_of_an_opening(alloc, commit)?;
+    let read = run(alloc, new_tail(alloc, FIRST)?, commit, calls)?;
+    let made = read.device.changes().len().checked_sub(before);
+    Ok(
+        read.first == FIRST
+            && read.records == joined(alloc, batches, BATCHES)?
+            && made == Some(changes_of_a_batch(commit) * BATCHES),
+    )
+}
+
 #[test]
 fn records_are_read_by_their_numbers(rt: HostRuntime) -> Result<(), Fail> {
-    let alloc = rt.alloc();
     let mut dice = Dice::new(1);
-    let batches = batches(alloc, &mut dice)?;
-    let calls = calls(alloc, &batches)?;
+    let batches = batches(rt.alloc(), &mut dice)?;
+    let calls = calls(rt.alloc(), &batches)?;
     for commit in COMMITS {
-        let opened = run(alloc, new_tail(alloc, FIRST)?, commit, &[])?;
-        let read = run(alloc, new_tail(alloc, FIRST)?, commit, &calls)?;
-        assert_eq!(rt; read.first, FIRST);
-        assert!(rt; read.records == joined(alloc, &batches, BATCHES)?);
-        let made = changes_of_a_batch(commit) * BATCHES;
-        assert_eq!(rt;
-            read.device.changes().len(),
-            opened.device.changes().len() + made
-        );
+        let is_so = is_read(rt.alloc(), commit, &batches, &calls)?;
+        assert!(rt; is_so, "{commit:?}");
     }
     Ok(())
 }
@@ -177,24 +192,46 @@ fn is_right(commit: Commit, count: usize, left: Option<usize>) -> bool {
     }
 }
 
-// Crashes after each change of a script, many times. How often a batch was there that wasn't acknowledged, or none if a
+// The bytes of a log that was opened and has no record.
+fn opened_bytes(alloc: Global, commit: Commit) -> Result<Vec<u8>, LogError> {
+    let opened = run(alloc, new_tail(alloc, FIRST)?, commit, &[])?;
+    Ok(opened.device.bytes().to_vec(alloc)?)
+}
+
+// Crashes after this number of changes, many times. How often a batch was there that wasn't acknowledged, or none if a
 // crash left what it may not.
+fn crash_after(
+    alloc: Global,
+    commit: Commit,
+    batches: &[Vec<Vec<u8>>],
+    device: &TornDevice,
+    count: usize,
+    dice: &mut Dice,
+) -> Result<Option<usize>, LogError> {
+    let mut more = 0usize;
+    for _ in 0..ROUNDS {
+        let bytes = image(alloc, device, count, dice)?;
+        let left = batches_left(alloc, bytes, commit, batches, dice)?;
+        if !is_right(commit, count, left) {
+            return Ok(None);
+        }
+        let is_more = left != Some(count / changes_of_a_batch(commit));
+        more = more.saturating_add(is_more as usize);
+    }
+    Ok(Some(more))
+}
+
+// The same after each change of a script.
 fn crash_everywhere(alloc: Global, commit: Commit) -> Result<Option<usize>, LogError> {
     let mut dice = Dice::new(2);
     let batches = batches(alloc, &mut dice)?;
-    let opened = run(alloc, new_tail(alloc, FIRST)?, commit, &[])?;
-    let bytes = opened.device.bytes().to_vec(alloc)?;
-    let device = run(alloc, bytes, commit, &calls(alloc, &batches)?)?.device;
+    let calls = calls(alloc, &batches)?;
+    let device = run(alloc, opened_bytes(alloc, commit)?, commit, &calls)?.device;
     let mut more = 0usize;
     for count in 0..device.changes().len() + 1 {
-        for _ in 0..ROUNDS {
-            let bytes = image(alloc, &device, count, &mut dice)?;
-            let left = batches_left(alloc, bytes, commit, &batches, &mut dice)?;
-            if !is_right(commit, count, left) {
-                return Ok(None);
-            }
-            let is_more = left != Some(count / changes_of_a_batch(commit));
-            more = more.saturating_add(is_more as usize);
+        match crash_after(alloc, commit, &batches, &device, count, &mut dice)? {
+            Some(times) => more = more.saturating_add(times),
+            None => return Ok(None),
         }
     }
     Ok(Some(more))
@@ -209,7 +246,20 @@ fn a_crash_at_any_call_leaves_whole_batches(rt: HostRuntime) -> Result<(), Fail>
     Ok(())
 }
 
-// Whether what a crash cut off is written again, after each change of a script.
+// Whether what this crash cut off is written again.
+fn goes_on(
+    alloc: Global,
+    commit: Commit,
+    bytes: Vec<u8>,
+    batches: &[Vec<Vec<u8>>],
+    calls: &[Call],
+) -> Result<bool, LogError> {
+    let mut wanted = run(alloc, bytes.to_vec(alloc)?, commit, &[])?.records;
+    wanted.append(&mut joined(alloc, batches, BATCHES)?)?;
+    Ok(run(alloc, bytes, commit, calls)?.records == wanted)
+}
+
+// The same after each change of a script.
 fn goes_on_after_each_crash(alloc: Global, commit: Commit) -> Result<bool, LogError> {
     let mut dice = Dice::new(3);
     let batches = batches(alloc, &mut dice)?;
@@ -217,9 +267,7 @@ fn goes_on_after_each_crash(alloc: Global, commit: Commit) -> Result<bool, LogEr
     let device = run(alloc, new_tail(alloc, FIRST)?, commit, &calls)?.device;
     for count in 0..device.changes().len() + 1 {
         let bytes = image(alloc, &device, count, &mut dice)?;
-        let mut wanted = run(alloc, bytes.to_vec(alloc)?, commit, &[])?.records;
-        wanted.append(&mut joined(alloc, &batches, BATCHES)?)?;
-        if run(alloc, bytes, commit, &calls)?.records != wanted {
+        if !goes_on(alloc, commit, bytes, &batches, &calls)? {
             return Ok(false);
         }
     }
