@@ -42,15 +42,15 @@ fn folder_with_two<F: Folder>(alloc: Global, folder: F) -> Result<PublishedStore
     }
 }
 
-// Whether the folder has the store of two documents, and nothing beside it, and this is told of it.
+// Whether the folder has the store of two documents and nothing beside it, and the call counted them.
 fn has_two(alloc: Global, published: &PublishedStore<MemFolder>) -> Result<bool, Fail> {
     let expected = crate::stores::file(alloc)?;
     let written = &published.written;
-    let is_told = written.documents == 2
+    let is_counted = written.documents == 2
         && written.blocks == 1
         && written.bytes == expected.len() as u64;
     Ok(
-        is_told
+        is_counted
             && published.folder.read(alloc, "a.store")? == Some(expected)
             && published.folder.read(alloc, "a.store.part")?.is_none(),
     )
