@@ -17,8 +17,7 @@ LAYERS = "each get decodes eight layers of the index"
 OBJECT = "each document becomes an object in new memory"
 CHECKS = "it looks at more than the floor does before the get"
 UNKNOWN = "the cause was not looked for yet"
-#: of appends to a log in memory, as callgrind counts them for batches of 10000 records of 100 bytes
-SUM = "the sum over each batch takes two fifths of the instructions"
+SUM = "each batch has a sum, which LMDB has not"
 
 Row = Dict[str, object]
 
