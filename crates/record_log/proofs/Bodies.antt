@@ -1,6 +1,6 @@
 -- Batches at the front of bytes.
 use Rattle.std.proofs.Common.{◌≡◌, ◌≢◌, ◌<◌, ◌≤◌, ◌^◌, ◌==◌, ◌&&◌, ℕ, zero, suc, ◌+◌, ◌-◌, List, [], ◌∷◌, ◌++◌}
-use Rattle.std.proofs.Common.{length, take, drop, Bool, true, false, refl, sym, ◌∙◌, ap, arith, length-append, length-take, length-drop, append_assoc, inl, inr}
+use Rattle.std.proofs.Common.{length, take, drop, Bool, true, false, refl, sym, ◌∙◌, ap, arith, length-append, length-take, length-drop, inl, inr}
 use Rattle.std.proofs.lemmas.List.{drop_all, drop_at, take-append-le, take-take, drop-take}
 use Rattle.std.proofs.Math.Bool.{and-false}
 use Rattle.std.proofs.lemmas.Bool.{cases_eq, cond-true, cond-false}
@@ -175,12 +175,3 @@ one_alone (gate ∷ bytes) body more is short = elim (cases_eq gate 1) [
   ]
   | inr shut ↦ absurd (no_bodies body more (bodies_after 0 (gate ∷ bytes)) is (gate_shut gate bytes shut))
 ]
-
--- the parts of a batch after other bytes
-pub summed_after : (old body head sum : List ℕ) → head ≡ four (8 + length body) → sum ≡ eight (sum_of body) → ((old ++ head) ++ sum) ++ body ≡ old ++ summed body
-summed_after old body head sum head_is sum_is =
-    let item = eight (sum_of body) ++ body in
-    let size : 8 + length body ≡ length item = omega (arith, length-append (eight (sum_of body)) body, length-eight (sum_of body)) in
-    append_assoc (old ++ head) sum body
-    ∙ append_assoc old head (sum ++ body)
-    ∙ (λ i. old ++ ((head_is ∙ ap four size) i ++ (sum_is i ++ body)))

@@ -143,27 +143,18 @@ pub fn find_records(alloc: Global, bytes: &[u8]) -> Result<Found, AllocError>
     Ok(Found { places, end })
 }
 
-// Puts a batch after other bytes, but for its gate: its length, its sum and its body.
-#[tactic(auto, unfolding(crate::specs::Tail::four, crate::specs::Tail::eight))]
-fn add_summed(bytes: &mut Vec<u8>, body: &[u8]) -> Result<(), AllocError>
+/// What stands before the body of a batch: its open gate, its length and its sum.
+pub fn batch_header(body: &[u8]) -> [u8; BATCH_HEADER]
     requires { 8 + length body.now < 2 ^ 32 }
-    ensures added { OnOk result (bytes.new.items ≡ bytes.old.items ++ summed body.now) }
-    ensures fits { OnOk result (sum_of body.now < 2 ^ 64) }
+    ensures header { result ++ body.now ≡ 1 ∷ summed body.now }
+    ensures fits { sum_of body.now < 2 ^ 64 }
 {
-    bytes.extend_from_slice(&(8 + body.len() as u32).to_le_bytes())?;
-    bytes.extend_from_slice(&sum_over(body).to_le_bytes())?;
-    bytes.extend_from_slice(body)?;
-    Ok(())
-}
-
-/// Puts a batch with its open gate after other bytes.
-pub fn add_batch(bytes: &mut Vec<u8>, body: &[u8]) -> Result<(), AllocError>
-    requires { 8 + length body.now < 2 ^ 32 }
-    ensures added { OnOk result (bytes.new.items ≡ bytes.old.items ++ 1 ∷ summed body.now) }
-    ensures fits { OnOk result (sum_of body.now < 2 ^ 64) }
-{
-    bytes.push(1)?;
-    add_summed(bytes, body)
+    let len = (8 + body.len() as u32).to_le_bytes();
+    let sum = sum_over(body).to_le_bytes();
+    [
+        1, len[0], len[1], len[2], len[3], sum[0], sum[1], sum[2], sum[3], sum[4], sum[5], sum[6],
+        sum[7],
+    ]
 }
 
 /// A batch with its open gate.
@@ -173,7 +164,8 @@ pub(crate) fn open_batch(alloc: Global, body: &[u8]) -> Result<Vec<u8>, AllocErr
     ensures fits { OnOk result (sum_of body.now < 2 ^ 64) }
 {
     let mut batch = Vec::with_capacity(alloc, BATCH_HEADER + body.len())?;
-    add_batch(&mut batch, body)?;
+    batch.extend_from_slice(&batch_header(body))?;
+    batch.extend_from_slice(body)?;
     Ok(batch)
 }
 
@@ -184,7 +176,8 @@ pub(crate) fn staged_batch(alloc: Global, body: &[u8]) -> Result<Vec<u8>, AllocE
     ensures fits { OnOk result (sum_of body.now < 2 ^ 64) }
 {
     let mut batch = Vec::with_capacity(alloc, BATCH_HEADER + body.len())?;
-    add_summed(&mut batch, body)?;
+    batch.extend_from_slice(&batch_header(body)[1..])?;
+    batch.extend_from_slice(body)?;
     batch.push(0)?;
     Ok(batch)
 }

@@ -28,3 +28,4 @@ pub mod SyncLemmas
 pub mod TailLemmas
 pub mod TailRepairLemmas
 pub mod UniqueLemmas
+pub mod RestartLemmas

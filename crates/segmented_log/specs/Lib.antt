@@ -8,3 +8,4 @@ pub mod Runs
 pub mod Laws
 pub mod Dropping
 pub mod Compacting
+pub mod TailBuffer

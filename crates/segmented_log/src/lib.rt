@@ -17,6 +17,7 @@ pub mod sealing;
 mod segment;
 mod syncing;
 mod tail;
+mod tail_buffer;
 mod tail_file;
 
 pub use log::{MAX_RECORD, SegmentedLog};

@@ -22,6 +22,7 @@ use crate::names::TAIL;
 use crate::opening::{end_of_segments, numbers_in, open_segments};
 use crate::segment::Segment;
 use crate::tail::{Tail, begin_tail, repair_tail};
+use crate::tail_buffer::TailBuffer;
 use docstore::{FileHandle, laws};
 use record_log::{Commit, LogError};
 use std::alloc::Global;
@@ -210,9 +211,8 @@ impl<F: ReadableFolder> SegmentedLog<F> {
                     sealed,
                     tail_first,
                     segments,
-                    tail: bytes,
+                    tail: TailBuffer::new(bytes),
                     places,
-                    pending: Vec::new(alloc),
                     next,
                     is_broken: false,
                 })

@@ -12,7 +12,8 @@ ghost use Rattle.record_log.specs.Causes.{IsOfAppends};
 use crate::reading::{copy_record, get_from};
 use crate::sealing::BLOCK_SIZE;
 use crate::segment::Segment;
-use record_log::batches::{MAX_BODY, Place, add_record};
+use crate::tail_buffer::TailBuffer;
+use record_log::batches::{MAX_BODY, Place};
 use record_log::{Commit, LogError};
 use std::alloc::Global;
 use std::marker::Model;
@@ -36,11 +37,10 @@ pub struct SegmentedLog<F: ReadableFolder> {
     pub(crate) sealed: u64,
     pub(crate) tail_first: u64,
     pub(crate) segments: Vec<Segment<F::File>>,
-    // The tail's bytes, and where its records lie.
-    pub(crate) tail: Vec<u8>,
+    // The tail, with the batch that the next sync writes, and where its records lie.
+    pub(crate) tail: TailBuffer,
     pub(crate) places: Vec<Place>,
-    // The body of the batch that the next sync writes, and the number of the next record that is appended.
-    pub(crate) pending: Vec<u8>,
+    // The number of the next record that is appended.
     pub(crate) next: u64,
     pub(crate) is_broken: bool,
 }
@@ -61,21 +61,21 @@ impl<F: ReadableFolder> Model for SegmentedLog<F> {
     ghost view = { λ l. record {
       folder = l.folder;
       first = l.first;
-      slots = log_slots l.first (map (λ s. part_of s.first s.reader) l.segments.items) l.tail.items;
+      slots = log_slots l.first (map (λ s. part_of s.first s.reader) l.segments.items) l.tail.bytes;
       segments = map (λ s. sealed_of s.first s.reader) l.segments.items;
       read_failures = sum_by (λ s. s.reader.file.failures) l.segments.items;
       commit = l.commit;
       seal_size = l.seal_size;
-      tail_bytes = length l.tail.items;
+      tail_bytes = length l.tail.bytes;
       unsealed = l.tail_first + length l.places.items - l.sealed;
-      pending = records_in l.pending.items;
-      batch_bytes = length l.pending.items;
+      pending = records_in l.tail.pending;
+      batch_bytes = length l.tail.pending;
       is_broken = l.is_broken;
     } };
 
-    ghost invariant = { λ l. OnFalse l.is_broken (IsSettledTail l.sealed l.tail_first l.next l.tail.items l.places.items
-        l.pending.items × (IsTrue F.honest → IsSettledFolder (F.may_hold l.folder) (F.may_leave l.folder)
-        (F.entry_kept l.folder) l.first l.sealed (map (λ s. part_of s.first s.reader) l.segments.items) l.tail.items
+    ghost invariant = { λ l. OnFalse l.is_broken (IsSettledTail l.sealed l.tail_first l.next l.tail.bytes l.places.items
+        l.tail.pending × (IsTrue F.honest → IsSettledFolder (F.may_hold l.folder) (F.may_leave l.folder)
+        (F.entry_kept l.folder) l.first l.sealed (map (λ s. part_of s.first s.reader) l.segments.items) l.tail.bytes
         × All (λ s. IsTrue s.reader.file.honest) l.segments.items)) };
 }
 
@@ -116,10 +116,10 @@ impl<F: ReadableFolder> SegmentedLog<F> {
         if bytes.len() > MAX_RECORD {
             return Err(LogError::TooLong);
         }
-        if bytes.len() + 4 > MAX_BODY - self.pending.len() {
+        if bytes.len() + 4 > MAX_BODY - self.tail.pending().len() {
             return Err(LogError::BatchFull);
         }
-        add_record(&mut self.pending, bytes)?;
+        self.tail.add_record(bytes)?;
         self.next = number + 1;
         Ok(number)
     }
@@ -195,7 +195,7 @@ impl<F: ReadableFolder> SegmentedLog<F> {
             return Ok(None);
         }
         let place = self.places[index];
-        Ok(Some(copy_record(self.alloc, &self.tail, place)?))
+        Ok(Some(copy_record(self.alloc, self.tail.bytes(), place)?))
     }
 
     /// Hands the folder back. What waits for a sync is lost.

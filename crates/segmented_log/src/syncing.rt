@@ -1,6 +1,7 @@
 //! How a log writes what waits, and seals its tail.
 
-ghost use Rattle.std.specs.Prelude.{◌≡◌, ◌⊎◌, ◌↔◌, false, ◌≤◌, ◌+◌, ◌++◌, [], map, IfErr, OnOk, OnErr, IsErrOf, IsTrue};
+ghost use Rattle.std.specs.Prelude.{◌≡◌, ◌⊎◌, ◌↔◌, false, ◌≤◌, ◌<◌, ◌+◌, ◌++◌, [], map};
+ghost use Rattle.std.specs.Prelude.{IfErr, OnOk, OnErr, IsErrOf, IsTrue};
 ghost use Rattle.store_base.specs.Counts.{HasRisen};
 ghost use Rattle.store_folder.specs.Moments.{LeavesOnly};
 ghost use Rattle.store_format.specs.Block.{doc};
@@ -14,7 +15,7 @@ ghost use Rattle.record_log.specs.Causes.{IsFault, IsOfSyncs};
 use crate::log::SegmentedLog;
 use crate::segment::add_segment;
 use crate::tail_file::{replace_tail, write_batch};
-use record_log::batches::{BATCH_HEADER, HEADER, add_batch, place_records};
+use record_log::batches::{BATCH_HEADER, HEADER, place_records};
 use record_log::{LogError, new_tail};
 use store_folder::ReadableFolder;
 
@@ -22,6 +23,7 @@ impl<F: ReadableFolder> SegmentedLog<F> {
     // Puts the pending records on the disk, as one batch.
     fn write_pending(&mut self) -> Result<(), LogError>
         requires works { self.old.is_broken ≡ false }
+        requires some { 0 < self.old.batch_bytes }
         ensures first { self.new.first ≡ self.old.first }
         ensures commit { self.new.commit ≡ self.old.commit }
         ensures seal_size { self.new.seal_size ≡ self.old.seal_size }
@@ -45,10 +47,9 @@ impl<F: ReadableFolder> SegmentedLog<F> {
         // A call that fails leaves the log so.
         self.is_broken = true;
         let end = self.tail.len();
-        place_records(&self.pending, end + BATCH_HEADER, &mut self.places)?;
-        add_batch(&mut self.tail, &self.pending)?;
-        write_batch(&mut self.folder, self.commit, &self.tail, end)?;
-        self.pending.clear();
+        place_records(self.tail.pending(), end + BATCH_HEADER, &mut self.places)?;
+        self.tail.take_batch();
+        write_batch(&mut self.folder, self.commit, self.tail.bytes(), end)?;
         self.is_broken = false;
         Ok(())
     }
@@ -84,7 +85,7 @@ impl<F: ReadableFolder> SegmentedLog<F> {
             self.alloc,
             &mut self.folder,
             self.sealed,
-            &self.tail,
+            self.tail.bytes(),
             &self.places[from..],
         )?;
         self.segments.push(segment)?;
@@ -120,8 +121,7 @@ impl<F: ReadableFolder> SegmentedLog<F> {
         let tail = new_tail(self.alloc, end)?;
         replace_tail(&mut self.folder, &tail)?;
         // The new tail grows in the memory of the old one.
-        self.tail.clear();
-        self.tail.extend_from_slice(&tail)?;
+        self.tail.restart(&tail);
         self.tail_first = end;
         self.places.clear();
         self.is_broken = false;
@@ -258,7 +258,7 @@ impl<F: ReadableFolder> SegmentedLog<F> {
         if self.is_broken {
             return Err(LogError::Broken);
         }
-        if self.pending.is_empty() {
+        if self.tail.pending().is_empty() {
             return self.seal_large();
         }
         self.write_pending()?;

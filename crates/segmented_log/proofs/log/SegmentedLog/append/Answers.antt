@@ -16,9 +16,9 @@ invariant_of-self-2 g c =
     let s = known.0 in
     let log = c.self.inside in
     let bytes = c.args.bytes.now in
-    let body = c.add_record.new.body.items in
-    let more = one_more log.pending.items bytes body (omega arith) c.in_ok-add_record.ensures.added s.pending_whole in
-    let now : IsSettledTail log.sealed log.tail_first (log.next + 1) log.tail.items log.places.items body = record {
+    let body = c.add_record.new.self.pending in
+    let more = one_more log.tail.pending bytes body (omega arith) c.in_ok-add_record.ensures.added s.pending_whole in
+    let now : IsSettledTail log.sealed log.tail_first (log.next + 1) log.tail.bytes log.places.items body = record {
       is_tail = s.is_tail;
       whole = s.whole;
       records = s.records;
@@ -26,17 +26,17 @@ invariant_of-self-2 g c =
       first_is = s.first_is;
       low = s.low;
       high = s.high;
-      next_is = omega (arith, s.next_is, ap length more.1, length-append (records_in log.pending.items) (bytes ∷ []));
+      next_is = omega (arith, s.next_is, ap length more.1, length-append (records_in log.tail.pending) (bytes ∷ []));
       fits = omega arith;
       pending_whole = more.0;
-      small = omega (arith, ap length c.in_ok-add_record.ensures.added, length-append log.pending.items (framed bytes), length-append (four (length bytes)) bytes, length-four (length bytes));
+      small = omega (arith, ap length c.pending.ensures, ap length c.in_ok-add_record.ensures.added, length-append log.tail.pending (framed bytes), length-append (four (length bytes)) bytes, length-four (length bytes));
     } in
-    both_on_false _ _ _ now known.1
+    rw c.add_record.ensures.bytes (both_on_false _ _ _ now known.1)
 
 pub returns-clause-pending : goal.returns-clause-pending
 returns-clause-pending g c =
     let s = (OnFalse_at c.if-self.false c.self.invariant).0 in
-    let more = one_more c.self.inside.pending.items c.args.bytes.now c.add_record.new.body.items (omega arith) c.in_ok-add_record.ensures.added s.pending_whole in
+    let more = one_more c.self.inside.tail.pending c.args.bytes.now c.add_record.new.self.pending (omega arith) c.in_ok-add_record.ensures.added s.pending_whole in
     more.1 ∙ ap (λ v. v.pending ++ c.args.bytes.now ∷ []) c.self.view_is
 
 pub returns-clause-number : goal.returns-clause-number

@@ -38,9 +38,9 @@ returns-in_default-clause-compacted g c = λ h no.
     let same = view_parts (λ s. sealed_of s.first s.reader) (λ s. part_of s.first s.reader) (λ s. refl) log.segments.items in
     subst (λ v. IsCompacted v.first c.args.size v.segments (F.seen v.folder)) c.self.view_is
     (record {
-      tail = log.tail.items;
-      parts = subst (λ l. AreParts log.first l log.tail.items) (sym same) f.parts;
-      holds = subst (λ l. Holds l log.tail.items (F.seen log.folder)) (sym same) (f.on_disk.outcomes (F.seen log.folder) (g.met.F.Folder.seen_may_be_left log.folder h));
+      tail = log.tail.bytes;
+      parts = subst (λ l. AreParts log.first l log.tail.bytes) (sym same) f.parts;
+      holds = subst (λ l. Holds l log.tail.bytes (F.seen log.folder)) (sym same) (f.on_disk.outcomes (F.seen log.folder) (g.met.F.Folder.seen_may_be_left log.folder h));
       apart = subst (λ l. AreApart c.args.size (map (λ s. sealed_of s.first s.reader) l)) c.deref.ensures.value c.in_default.ensures.none;
     })
 

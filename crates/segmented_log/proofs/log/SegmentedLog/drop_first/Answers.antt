@@ -39,7 +39,7 @@ returns-in_default-clause-stays g c = λ h no.
     subst (λ v. IsDropped v.first number (F.seen v.folder)) c.self.view_is
     (record {
       segments = segments;
-      tail = log.tail.items;
+      tail = log.tail.bytes;
       parts = f.parts;
       holds = f.on_disk.outcomes (F.seen log.folder) (g.met.F.Folder.seen_may_be_left log.folder h);
       stays = λ next go. c.in_default.ensures.none next
@@ -49,13 +49,13 @@ returns-in_default-clause-stays g c = λ h no.
 
 -- what the log knows before the segment is removed
 known_is : (g : _) (c : In-Some g)
-    → IsSettledTail c.self.inside.sealed c.self.inside.tail_first c.self.inside.next c.self.inside.tail.items c.self.inside.places.items c.self.inside.pending.items
+    → IsSettledTail c.self.inside.sealed c.self.inside.tail_first c.self.inside.next c.self.inside.tail.bytes c.self.inside.places.items c.self.inside.tail.pending
     × (IsTrue g.F.Folder.honest → IsSettledFolder (g.F.Folder.may_hold c.self.inside.folder) (g.F.Folder.may_leave c.self.inside.folder) (g.F.Folder.entry_kept c.self.inside.folder)
-    c.self.inside.first c.self.inside.sealed (map (λ x. part_of x.first x.reader) c.self.inside.segments.items) c.self.inside.tail.items
+    c.self.inside.first c.self.inside.sealed (map (λ x. part_of x.first x.reader) c.self.inside.segments.items) c.self.inside.tail.bytes
     × All (λ x. IsTrue x.reader.file.honest) c.self.inside.segments.items)
 known_is g c = OnFalse_at (ap (λ v. v.is_broken) c.self.view_is ∙ c.requires.works) c.self.invariant
 
-can_go : (g : _) (c : In-Some g) → CanGo c.self.inside.first c.args.number (map (λ x. part_of x.first x.reader) c.self.inside.segments.items) (first_of c.self.inside.tail.items) c.in-Some.next
+can_go : (g : _) (c : In-Some g) → CanGo c.self.inside.first c.args.number (map (λ x. part_of x.first x.reader) c.self.inside.segments.items) (first_of c.self.inside.tail.bytes) c.in-Some.next
 can_go g c =
     let log = c.self.inside in
     subst (λ n. CanGo log.first c.args.number (map (λ x. part_of x.first x.reader) log.segments.items) n c.in-Some.next) (known_is g c).0.first_is
@@ -71,7 +71,7 @@ dropping g c new h losing =
     let f = ((known_is g c).1 h).0 in
     subst (λ v. LeavesOnly F.moment F.left_since v.folder new (DropsTo v.first v.slots c.args.number)) c.self.view_is
     (weaker F.moment F.left_since log.folder new _ _
-    (λ l loses. dropped_log log.first c.args.number c.in-Some.next (map (λ x. part_of x.first x.reader) log.segments.items) log.tail.items f.parts (can_go g c)
+    (λ l loses. dropped_log log.first c.args.number c.in-Some.next (map (λ x. part_of x.first x.reader) log.segments.items) log.tail.bytes f.parts (can_go g c)
     (F.may_leave log.folder) (λ d left. f.on_disk.outcomes d left) l loses) losing)
 
 pub returns-in_err-remove_segment-clause-any_moment : goal.returns-in_err-remove_segment-clause-any_moment
@@ -84,7 +84,7 @@ returns-clause-any_moment g c = λ h. dropping g (goal.at.returns-clause-any_mom
 pub returns-in_err-remove_segment-clause-rest : goal.returns-in_err-remove_segment-clause-rest
 returns-in_err-remove_segment-clause-rest g c = λ h.
     let log = c.self.inside in
-    let slots = log_slots log.first (map (λ x. part_of x.first x.reader) log.segments.items) log.tail.items in
+    let slots = log_slots log.first (map (λ x. part_of x.first x.reader) log.segments.items) log.tail.bytes in
     subst (λ v. IsRest v.first v.slots c.args.number log.first slots) c.self.view_is (rest_itself log.first c.args.number slots)
 
 pub remove-requires : goal.remove-requires
@@ -101,9 +101,9 @@ returns-clause-rest g c = λ h.
     let f = ((known_is g here).1 h).0 in
     let segments = map (λ x. part_of x.first x.reader) log.segments.items in
     let left = ap (λ l. map (λ x. part_of x.first x.reader) l) c.remove.ensures.by_index.2 ∙ sym (drop-map (λ x. part_of x.first x.reader) 1 log.segments.items) in
-    subst (λ v. IsRest v.first v.slots c.args.number next (log_slots next (map (λ x. part_of x.first x.reader) c.remove.new.self.items) log.tail.items)) c.self.view_is
-    (subst (λ l. IsRest log.first (log_slots log.first segments log.tail.items) c.args.number next (log_slots next l log.tail.items)) (sym left)
-    (dropped_rest log.first c.args.number next segments log.tail.items f.parts (can_go g here)))
+    subst (λ v. IsRest v.first v.slots c.args.number next (log_slots next (map (λ x. part_of x.first x.reader) c.remove.new.self.items) log.tail.bytes)) c.self.view_is
+    (subst (λ l. IsRest log.first (log_slots log.first segments log.tail.bytes) c.args.number next (log_slots next l log.tail.bytes)) (sym left)
+    (dropped_rest log.first c.args.number next segments log.tail.bytes f.parts (can_go g here)))
 
 pub returns-clause-files : goal.returns-clause-files
 returns-clause-files g c = λ h.
@@ -113,7 +113,7 @@ returns-clause-files g c = λ h.
     let new = c.remove_segment.new.folder in
     let f = ((known_is g here).1 h).0 in
     subst (λ v. RemovesOnly c.args.number (F.seen v.folder) (F.seen new)) c.self.view_is
-    (dropped_names log.first c.args.number c.in-Some.next (map (λ x. part_of x.first x.reader) log.segments.items) log.tail.items f.parts (can_go g here)
+    (dropped_names log.first c.args.number c.in-Some.next (map (λ x. part_of x.first x.reader) log.segments.items) log.tail.bytes f.parts (can_go g here)
     (F.seen log.folder) (F.seen new) (f.on_disk.outcomes (F.seen log.folder) (g.met.F.Folder.seen_may_be_left log.folder h))
     (c.remove_segment.ensures.elsewhere h) (c.in_ok-remove_segment.ensures.seen h))
 
@@ -136,8 +136,8 @@ invariant_of-self-2 g c =
     let left = ap (λ l. map (λ x. part_of x.first x.reader) l) c.remove.ensures.by_index.2 ∙ sym (drop-map (λ x. part_of x.first x.reader) 1 log.segments.items) in (
       known.0,
       λ h. (
-        subst (λ l. IsSettledFolder (F.may_hold new) (F.may_leave new) (F.entry_kept new) next log.sealed l log.tail.items) (sym left)
-            (dropped_folder log.first c.args.number next segments log.tail.items (known.1 h).0.parts (can_go g here) log.sealed
+        subst (λ l. IsSettledFolder (F.may_hold new) (F.may_leave new) (F.entry_kept new) next log.sealed l log.tail.bytes) (sym left)
+            (dropped_folder log.first c.args.number next segments log.tail.bytes (known.1 h).0.parts (can_go g here) log.sealed
             (F.may_hold log.folder) (F.may_hold new) (F.may_leave log.folder) (F.may_leave new) (F.entry_kept log.folder) (F.entry_kept new) (known.1 h).0
             (c.remove_segment.ensures.files h) (c.in_ok-remove_segment.ensures.kept h) (c.remove_segment.ensures.crash h) (c.in_ok-remove_segment.ensures.gone h)),
         All-same (λ x. IsTrue x.reader.file.honest) c.remove.new.self.items (drop 1 log.segments.items) c.remove.ensures.by_index.2

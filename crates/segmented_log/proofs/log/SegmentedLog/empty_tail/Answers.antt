@@ -13,7 +13,7 @@ use Rattle.segmented_log.specs.Settled.{TailIsKept, IsSettledTail, IsSettledFold
 use Rattle.segmented_log.proofs.SyncLemmas.{log_stays, begins_there, all_sealed, settled_empty, folder_empty}
 use Rattle.segmented_log.proofs.PartLemmas.{emptied_slots}
 use Rattle.segmented_log.proofs.SealLemmas.{replaced_log}
-use Rattle.segmented_log.proofs.log.SegmentedLog.empty_tail.Goals.{After-deref, In_ok-extend_from_slice}
+use Rattle.segmented_log.proofs.log.SegmentedLog.empty_tail.Goals.{After-deref, After-restart}
 use Rattle.segmented_log.proofs.log.SegmentedLog.empty_tail.Goals as goal
 
 pub returns-in_err-tail-clause-any_moment : goal.returns-in_err-tail-clause-any_moment
@@ -23,9 +23,9 @@ returns-in_err-tail-clause-any_moment g c = λ h.
     (log_stays _ _ _ _ _ _ _ _ _ settled.0 c.self.inside.folder (g.met.F.Folder.only_now c.self.inside.folder))
 
 -- what the log knows before the tail is replaced
-known_is : (g : _) (c : After-deref g) → IsSettledTail c.self.inside.sealed c.self.inside.tail_first c.self.inside.next c.self.inside.tail.items c.self.inside.places.items c.self.inside.pending.items
+known_is : (g : _) (c : After-deref g) → IsSettledTail c.self.inside.sealed c.self.inside.tail_first c.self.inside.next c.self.inside.tail.bytes c.self.inside.places.items c.self.inside.tail.pending
     × (IsTrue g.F.Folder.honest → IsSettledFolder (g.F.Folder.may_hold c.self.inside.folder) (g.F.Folder.may_leave c.self.inside.folder) (g.F.Folder.entry_kept c.self.inside.folder)
-    c.self.inside.first c.self.inside.sealed (map (λ x. part_of x.first x.reader) c.self.inside.segments.items) c.self.inside.tail.items
+    c.self.inside.first c.self.inside.sealed (map (λ x. part_of x.first x.reader) c.self.inside.segments.items) c.self.inside.tail.bytes
     × All (λ x. IsTrue x.reader.file.honest) c.self.inside.segments.items)
 known_is g c = OnFalse_at (ap (λ v. v.is_broken) c.self.view_is ∙ c.requires.works) c.self.invariant
 
@@ -41,7 +41,7 @@ none_is g c = ap (λ b. flat_map records_in b) c.in_ok-tail.ensures.2
 
 -- the segments have all records
 all_are_sealed : (g : _) (c : After-deref g) → IsTrue g.F.Folder.honest
-    → end_from c.self.inside.first (map (λ x. part_of x.first x.reader) c.self.inside.segments.items) ≡ tail_end c.self.inside.tail.items
+    → end_from c.self.inside.first (map (λ x. part_of x.first x.reader) c.self.inside.segments.items) ≡ tail_end c.self.inside.tail.bytes
 all_are_sealed g c h =
     let made = c.in_ok-tail.ensures in
     all_sealed _ _ _ _ _ _ (known_is g c).0 _ _ (end_is g c) (sealed_is g c) made.0 made.1 (none_is g c) made.3 c.self.inside.first
@@ -59,7 +59,7 @@ same_log g c new h replacing =
     let settled = ((known_is g c).1 h).0 in
     subst (λ v. LeavesOnly F.moment F.left_since v.folder new (IsLog v.first v.slots)) c.self.view_is
     (weaker F.moment F.left_since log.folder new _ _
-    (λ l o. replaced_log log.first (map (λ x. part_of x.first x.reader) log.segments.items) log.tail.items file settled.parts (all_are_sealed g c h) made.0
+    (λ l o. replaced_log log.first (map (λ x. part_of x.first x.reader) log.segments.items) log.tail.bytes file settled.parts (all_are_sealed g c h) made.0
     (begins_there _ _ _ _ _ _ (known_is g c).0 file _ (end_is g c) (sealed_is g c) made.0 made.1 (none_is g c) made.3) (none_is g c)
     (F.may_leave log.folder) (λ d left. settled.on_disk.outcomes d left) l
     (subst (λ b. IsOldOrWhole (F.may_leave log.folder) (tail_name ++ part) tail_name (Some b) l) c.deref.ensures.value o)) replacing)
@@ -68,27 +68,23 @@ pub returns-in_err-replace_tail-clause-any_moment : goal.returns-in_err-replace_
 returns-in_err-replace_tail-clause-any_moment g c = λ h.
     same_log g (goal.at.returns-in_err-replace_tail-clause-any_moment g c).After-deref c.replace_tail.new.folder h (c.replace_tail.ensures.any_moment h)
 
-pub returns-in_err-extend_from_slice-clause-any_moment : goal.returns-in_err-extend_from_slice-clause-any_moment
-returns-in_err-extend_from_slice-clause-any_moment g c = λ h.
-    same_log g (goal.at.returns-in_err-extend_from_slice-clause-any_moment g c).After-deref c.replace_tail.new.folder h (c.replace_tail.ensures.any_moment h)
-
 pub returns-clause-any_moment : goal.returns-clause-any_moment
 returns-clause-any_moment g c = λ h. same_log g (goal.at.returns-clause-any_moment g c).After-deref c.replace_tail.new.folder h (c.replace_tail.ensures.any_moment h)
 
 -- the new tail is the file's, in memory
-new_is : (g : _) (c : In_ok-extend_from_slice g) → c.extend_from_slice.new.self.items ≡ c.in_ok-tail.tail.items
-new_is g c = c.in_ok-extend_from_slice.ensures.items ∙ ap (λ l. l ++ c.deref-2.result.now) c.clear.ensures.items ∙ c.deref-2.ensures.value
+new_is : (g : _) (c : After-restart g) → c.restart.new.self.bytes ≡ c.in_ok-tail.tail.items
+new_is g c = c.restart.ensures.bytes ∙ c.deref-2.ensures.value
 
 pub returns-clause-tail : goal.returns-clause-tail
-returns-clause-tail g c = ap length (new_is g (goal.at.returns-clause-tail g c).In_ok-extend_from_slice) ∙ c.in_ok-tail.ensures.4
+returns-clause-tail g c = ap length (new_is g (goal.at.returns-clause-tail g c).After-restart) ∙ c.in_ok-tail.ensures.4
 
 pub returns-clause-slots : goal.returns-clause-slots
 returns-clause-slots g c = λ h.
     let here = (goal.at.returns-clause-slots g c).After-deref in
     let first = c.self.inside.first in
     let segments = map (λ x. part_of x.first x.reader) c.self.inside.segments.items in
-    ap (λ t. log_slots first segments t) (new_is g (goal.at.returns-clause-slots g c).In_ok-extend_from_slice)
-    ∙ emptied_slots first segments c.self.inside.tail.items ((known_is g here).1 h).0.parts c.in_ok-tail.tail.items (all_are_sealed g here h) (none_is g here)
+    ap (λ t. log_slots first segments t) (new_is g (goal.at.returns-clause-slots g c).After-restart)
+    ∙ emptied_slots first segments c.self.inside.tail.bytes ((known_is g here).1 h).0.parts c.in_ok-tail.tail.items (all_are_sealed g here h) (none_is g here)
     ∙ ap (λ v. v.slots) c.self.view_is
 
 pub invariant_of-self-2 : goal.invariant_of-self-2
@@ -101,9 +97,9 @@ invariant_of-self-2 g c =
     let known = known_is g here in
     let made = c.in_ok-tail.ensures in
     let new = c.replace_tail.new.folder in
-    let is = sym (new_is g (goal.at.invariant_of-self-2 g c).In_ok-extend_from_slice) in (
-      subst (λ t. IsSettledTail log.sealed end log.next t c.clear-2.new.self.items log.pending.items) is
-          (settled_empty _ _ _ _ _ _ known.0 _ _ (end_is g here) (sealed_is g here) made.0 made.1 (none_is g here) made.3 c.clear-2.new.self.items c.clear-2.ensures.items),
+    let is = sym (new_is g (goal.at.invariant_of-self-2 g c).After-restart) in (
+      subst (λ p. IsSettledTail log.sealed end log.next c.restart.new.self.bytes c.clear.new.self.items p) (sym c.restart.ensures.pending)
+          (subst (λ t. IsSettledTail log.sealed end log.next t c.clear.new.self.items log.tail.pending) is (settled_empty _ _ _ _ _ _ known.0 _ _ (end_is g here) (sealed_is g here) made.0 made.1 (none_is g here) made.3 c.clear.new.self.items c.clear.ensures.items)),
       λ h. (
         subst (λ t. IsSettledFolder (F.may_hold new) (F.may_leave new) (F.entry_kept new) log.first log.sealed segments t) is
             (folder_empty _ _ _ _ _ _ known.0 _ _ (end_is g here) (sealed_is g here) made.0 made.1 (none_is g here) made.3 log.first segments

@@ -22,7 +22,7 @@ returns-then-number-self-2-clause-found g c = λ h.
     let le : log.first ≤ number = omega arith in
     let below : number < end_from log.first segments = omega (arith, f.sealed_is) in
     subst (λ v. Gives (slot_at v.first v.slots number) c.get_from.result) c.self.view_is
-    (subst (λ o. Gives o c.get_from.result) (sym (slot_sealed log.first segments log.tail.items f.parts number le below)) (c.get_from.ensures.found log.first (known.1 h).1 f.parts.in_line le below))
+    (subst (λ o. Gives o c.get_from.result) (sym (slot_sealed log.first segments log.tail.bytes f.parts number le below)) (c.get_from.ensures.found log.first (known.1 h).1 f.parts.in_line le below))
 
 pub returns-then-number-self-2-clause-broken : goal.returns-then-number-self-2-clause-broken
 returns-then-number-self-2-clause-broken g c = (
@@ -46,9 +46,9 @@ returns-then-index-len-clause-found g c = λ h.
     let s = known.0 in
     let number = c.args.number in
     let there = tail_is_there _ _ _ _ _ _ s in
-    let past : tail_end log.tail.items ≤ number = omega (arith, there, s.low) in
+    let past : tail_end log.tail.bytes ≤ number = omega (arith, there, s.low) in
     subst (λ v. slot_at v.first v.slots number ≡ None) c.self.view_is
-    (slot_after log.first (map (λ x. part_of x.first x.reader) log.segments.items) log.tail.items (known.1 h).0.parts number past)
+    (slot_after log.first (map (λ x. part_of x.first x.reader) log.segments.items) log.tail.bytes (known.1 h).0.parts number past)
 
 pub returns-clause-found : goal.returns-clause-found
 returns-clause-found g c = λ h.
@@ -59,8 +59,8 @@ returns-clause-found g c = λ h.
     let number = c.args.number in
     let bytes = c.in_ok-copy_record.field-0 in
     let place = c.index-place.result.now in
-    let copied = c.in_ok-copy_record.ensures ∙ ap (λ b. content b place) c.deref.ensures.value in
+    let copied = c.in_ok-copy_record.ensures ∙ ap (λ b. content b place) c.bytes.ensures in
     let is : place ≡ get_or log.places.items (number - log.tail_first) place = c.index-place.ensures in
     subst (λ v. slot_at v.first v.slots number ≡ Some (doc bytes.items)) c.self.view_is
-    (slot_read log.first (map (λ x. part_of x.first x.reader) log.segments.items) log.tail.items f.parts log.places.items place bytes.items number s.records (omega (arith, f.sealed_is))
+    (slot_read log.first (map (λ x. part_of x.first x.reader) log.segments.items) log.tail.bytes f.parts log.places.items place bytes.items number s.records (omega (arith, f.sealed_is))
     (omega (arith, s.first_is)) (is ∙ ap (λ n. get_or log.places.items (number - n) place) s.first_is) copied)

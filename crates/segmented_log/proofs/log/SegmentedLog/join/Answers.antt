@@ -101,7 +101,7 @@ moments_now g c h =
     let r = run_is g c c.requires.run in
     subst (λ w. LeavesOnly F.moment F.left_since w.folder c.join_segments.new.folder (IsLog w.first w.slots)) c.self.view_is
     (weaker F.moment F.left_since log.folder c.join_segments.new.folder _ _
-    (λ l adds. run_log log.first segments log.tail.items c.args.place c.args.count r f.parts (F.may_leave log.folder) (λ d left. f.on_disk.outcomes d left) l
+    (λ l adds. run_log log.first segments log.tail.bytes c.args.place c.args.count r f.parts (F.may_leave log.folder) (λ d left. f.on_disk.outcomes d left) l
     (subst (λ p. AddsSegment (F.may_leave log.folder) p l) (part_is g c r) adds)) (c.join_segments.ensures.any_moment h (there g c h)))
 
 -- the folder has the first of them
@@ -112,7 +112,7 @@ head_there g c h =
     let f = ((OnFalse_at (ap (λ v. v.is_broken) c.self.view_is ∙ c.requires.works) c.self.invariant).1 h).0 in
     let r = run_is g c c.requires.run in
     let held = f.on_disk.outcomes (F.seen log.folder) (g.met.F.Folder.seen_may_be_left log.folder h) in
-    segment_there r.before r.head (r.run ++ r.after) log.tail.items (F.seen log.folder) (subst (λ l. Holds l log.tail.items (F.seen log.folder)) r.split held)
+    segment_there r.before r.head (r.run ++ r.after) log.tail.bytes (F.seen log.folder) (subst (λ l. Holds l log.tail.bytes (F.seen log.folder)) r.split held)
 
 has_segments : (g : _) (c : After-join_segments g) → IsTrue g.F.Folder.honest → HasSegments (g.F.Folder.seen c.args.self.now.folder)
 has_segments g c h = subst (λ w. HasSegments (g.F.Folder.seen w.folder)) c.self.view_is ((run_is g c c.requires.run).head.first, head_there g c h)
@@ -203,8 +203,8 @@ returns-clause-slots g c = λ h.
     let y = c.replace.new.dest in
     let r = run_is g here c.requires.run in
     let is : part_of y.first y.reader ≡ one_of r = ap (λ s. part_of s.first s.reader) c.replace.ensures.after ∙ c.in_ok-joined.ensures.segment h (there g here h) ∙ part_is g here r in
-    ap (λ l. log_slots log.first l log.tail.items) (run_set (λ s. part_of s.first s.reader) log.segments.items c.args.place c.args.count r y is)
-    ∙ run_same log.first segments log.tail.items c.args.place c.args.count r f.parts ∙ ap (λ w. w.slots) c.self.view_is
+    ap (λ l. log_slots log.first l log.tail.bytes) (run_set (λ s. part_of s.first s.reader) log.segments.items c.args.place c.args.count r y is)
+    ∙ run_same log.first segments log.tail.bytes c.args.place c.args.count r f.parts ∙ ap (λ w. w.slots) c.self.view_is
 
 pub invariant_of-self-2 : goal.invariant_of-self-2
 invariant_of-self-2 g c = (
@@ -222,8 +222,8 @@ invariant_of-self-2 g c = (
       let name_is = first_is g here r in
       let is : part_of y.first y.reader ≡ one_of r = ap (λ s. part_of s.first s.reader) c.replace.ensures.after ∙ c.in_ok-joined.ensures.segment h (there g here h) ∙ part_is g here r in
       let left = run_set (λ s. part_of s.first s.reader) log.segments.items c.args.place c.args.count r y is in (
-        subst (λ l. IsSettledFolder (F.may_hold new) (F.may_leave new) (F.entry_kept new) log.first log.sealed l log.tail.items) (sym left)
-            (run_folder log.first segments log.tail.items c.args.place c.args.count r f.parts log.sealed
+        subst (λ l. IsSettledFolder (F.may_hold new) (F.may_leave new) (F.entry_kept new) log.first log.sealed l log.tail.bytes) (sym left)
+            (run_folder log.first segments log.tail.bytes c.args.place c.args.count r f.parts log.sealed
             (F.may_hold log.folder) (F.may_hold new) (F.may_leave log.folder) (F.may_leave new) (F.entry_kept log.folder) (F.entry_kept new) f
             (subst (λ n. FilesElsewhereOfBoth (segment_name n ++ part) (segment_name n) (F.may_hold log.folder) (F.may_hold new)) name_is (c.join_segments.ensures.files h))
             (c.in_ok-joined.ensures.kept h)

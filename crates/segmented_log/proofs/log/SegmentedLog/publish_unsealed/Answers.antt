@@ -17,7 +17,7 @@ use Rattle.segmented_log.specs.Causes.{HasNoRoom, HasNoRoomForLast, HasNewSegmen
 use Rattle.segmented_log.proofs.CauseLemmas.{none_sealed}
 use Rattle.segmented_log.proofs.SyncLemmas.{log_stays}
 use Rattle.segmented_log.proofs.SegmentLemmas.{part_is, settled_segment, segment_log, slots_segment, folder_segment}
-use Rattle.segmented_log.proofs.log.SegmentedLog.publish_unsealed.Goals.{After-deref-2}
+use Rattle.segmented_log.proofs.log.SegmentedLog.publish_unsealed.Goals.{After-deref}
 use Rattle.segmented_log.proofs.log.SegmentedLog.publish_unsealed.Goals as goal
 
 pub returns-then-self-end-clause-any_moment : goal.returns-then-self-end-clause-any_moment
@@ -27,34 +27,34 @@ returns-then-self-end-clause-any_moment g c = λ h.
     (log_stays _ _ _ _ _ _ _ _ _ settled.0 c.self.inside.folder (g.met.F.Folder.only_now c.self.inside.folder))
 
 -- what the log knows before the segment is added
-known_is : (g : _) (c : After-deref-2 g)
-    → IsSettledTail c.self.inside.sealed c.self.inside.tail_first c.self.inside.next c.self.inside.tail.items c.self.inside.places.items c.self.inside.pending.items
+known_is : (g : _) (c : After-deref g)
+    → IsSettledTail c.self.inside.sealed c.self.inside.tail_first c.self.inside.next c.self.inside.tail.bytes c.self.inside.places.items c.self.inside.tail.pending
     × (IsTrue g.F.Folder.honest → IsSettledFolder (g.F.Folder.may_hold c.self.inside.folder) (g.F.Folder.may_leave c.self.inside.folder) (g.F.Folder.entry_kept c.self.inside.folder)
-    c.self.inside.first c.self.inside.sealed (map (λ x. part_of x.first x.reader) c.self.inside.segments.items) c.self.inside.tail.items
+    c.self.inside.first c.self.inside.sealed (map (λ x. part_of x.first x.reader) c.self.inside.segments.items) c.self.inside.tail.bytes
     × All (λ x. IsTrue x.reader.file.honest) c.self.inside.segments.items)
 known_is g c = OnFalse_at (ap (λ v. v.is_broken) c.self.view_is ∙ c.requires.works) c.self.invariant
 
 -- the places of the records that no segment has
-abbrev rest : (g : _) → After-deref-2 g → List Place
+abbrev rest : (g : _) → After-deref g → List Place
 rest g c =
     let from = c.self.inside.sealed - c.self.inside.tail_first in
-    take (length c.deref-2.result.now - from) (drop from c.deref-2.result.now)
+    take (length c.deref.result.now - from) (drop from c.deref.result.now)
 
-rest_is : (g : _) (c : After-deref-2 g) → rest g c ≡ drop (c.self.inside.sealed - c.self.inside.tail_first) c.self.inside.places.items
+rest_is : (g : _) (c : After-deref g) → rest g c ≡ drop (c.self.inside.sealed - c.self.inside.tail_first) c.self.inside.places.items
 rest_is g c =
     let from = c.self.inside.sealed - c.self.inside.tail_first in
-    take_rest c.deref-2.result.now from ∙ ap (λ l. drop from l) c.deref-2.ensures.value
+    take_rest c.deref.result.now from ∙ ap (λ l. drop from l) c.deref.ensures.value
 
-end_is : (g : _) (c : After-deref-2 g) → c.self.inside.tail_first + c.len.result ≡ c.self.inside.tail_first + length c.self.inside.places.items
+end_is : (g : _) (c : After-deref g) → c.self.inside.tail_first + c.len.result ≡ c.self.inside.tail_first + length c.self.inside.places.items
 end_is g c = omega arith
 
-more_is : (g : _) (c : After-deref-2 g) → c.self.inside.sealed < c.self.inside.tail_first + c.len.result
+more_is : (g : _) (c : After-deref g) → c.self.inside.sealed < c.self.inside.tail_first + c.len.result
 more_is g c = omega (arith, (known_is g c).0.high, end_is g c, c.if-self-end.false)
 
 -- while the segment is added, each moment has the same log
-same_log : (g : _) (c : After-deref-2 g) (new : _) → IsTrue g.F.Folder.honest
+same_log : (g : _) (c : After-deref g) (new : _) → IsTrue g.F.Folder.honest
     → LeavesOnly g.F.Folder.moment g.F.Folder.left_since c.self.inside.folder new
-    (AddsSegment (g.F.Folder.may_leave c.self.inside.folder) (part_at c.self.inside.sealed c.deref.result.now (rest g c)))
+    (AddsSegment (g.F.Folder.may_leave c.self.inside.folder) (part_at c.self.inside.sealed c.bytes.result.now (rest g c)))
     → LeavesOnly g.F.Folder.moment g.F.Folder.left_since c.args.self.now.folder new (IsLog c.args.self.now.first c.args.self.now.slots)
 same_log g c new h adding =
     let F = g.F.Folder in
@@ -65,37 +65,37 @@ same_log g c new h adding =
     (λ l adds. segment_log _ _ _ _ _ _ (known_is g c).0 _ _ (end_is g c) (more_is g c) refl log.first (map (λ x. part_of x.first x.reader) log.segments.items) settled.parts settled.sealed_is
     (rest g c) (rest_is g c)
     (F.may_leave log.folder) (λ d left. settled.on_disk.outcomes d left) l
-    (subst (λ t. AddsSegment (F.may_leave log.folder) (part_at log.sealed t (rest g c)) l) c.deref.ensures.value adds)) adding)
+    (subst (λ t. AddsSegment (F.may_leave log.folder) (part_at log.sealed t (rest g c)) l) c.bytes.ensures adds)) adding)
 
 pub add_segment-requires : goal.add_segment-requires
 add_segment-requires g c =
-    let here = (goal.at.add_segment-requires g c).After-deref-2 in
+    let here = (goal.at.add_segment-requires g c).After-deref in
     let log = c.self.inside in
-    let within : All (EndsBy (length log.tail.items)) (rest g here) =
-    All-same (EndsBy (length log.tail.items)) (rest g here) _ (rest_is g here) (All-drop (EndsBy (length log.tail.items)) (log.sealed - log.tail_first) log.places.items (known_is g here).0.within) in
-    record { within = subst (λ t. All (EndsBy (length t)) (rest g here)) (sym c.deref.ensures.value) within }
+    let within : All (EndsBy (length log.tail.bytes)) (rest g here) =
+    All-same (EndsBy (length log.tail.bytes)) (rest g here) _ (rest_is g here) (All-drop (EndsBy (length log.tail.bytes)) (log.sealed - log.tail_first) log.places.items (known_is g here).0.within) in
+    record { within = subst (λ t. All (EndsBy (length t)) (rest g here)) (sym c.bytes.ensures) within }
 
 pub returns-in_err-segment-clause-any_moment : goal.returns-in_err-segment-clause-any_moment
 returns-in_err-segment-clause-any_moment g c = λ h.
-    same_log g (goal.at.returns-in_err-segment-clause-any_moment g c).After-deref-2 c.add_segment.new.folder h (c.add_segment.ensures.any_moment h)
+    same_log g (goal.at.returns-in_err-segment-clause-any_moment g c).After-deref c.add_segment.new.folder h (c.add_segment.ensures.any_moment h)
 
 pub returns-in_err-push-clause-any_moment : goal.returns-in_err-push-clause-any_moment
 returns-in_err-push-clause-any_moment g c = λ h.
-    same_log g (goal.at.returns-in_err-push-clause-any_moment g c).After-deref-2 c.add_segment.new.folder h (c.add_segment.ensures.any_moment h)
+    same_log g (goal.at.returns-in_err-push-clause-any_moment g c).After-deref c.add_segment.new.folder h (c.add_segment.ensures.any_moment h)
 
 pub returns-clause-any_moment : goal.returns-clause-any_moment
 returns-clause-any_moment g c = λ h.
-    same_log g (goal.at.returns-clause-any_moment g c).After-deref-2 c.add_segment.new.folder h (c.add_segment.ensures.any_moment h)
+    same_log g (goal.at.returns-clause-any_moment g c).After-deref c.add_segment.new.folder h (c.add_segment.ensures.any_moment h)
 
 pub returns-clause-slots : goal.returns-clause-slots
 returns-clause-slots g c = λ h.
-    let here = (goal.at.returns-clause-slots g c).After-deref-2 in
+    let here = (goal.at.returns-clause-slots g c).After-deref in
     let log = c.self.inside in
     let settled = ((known_is g here).1 h).0 in
     let segment = c.in_ok-segment.segment in
-    let part_is = c.in_ok-segment.ensures.segment h ∙ ap (λ t. part_at log.sealed t (rest g here)) c.deref.ensures.value in
+    let part_is = c.in_ok-segment.ensures.segment h ∙ ap (λ t. part_at log.sealed t (rest g here)) c.bytes.ensures in
     let grown = ap (λ l. map (λ x. part_of x.first x.reader) l) c.in_ok-push.ensures.items ∙ map_push (λ x. part_of x.first x.reader) log.segments.items segment in
-    ap (λ l. log_slots log.first l log.tail.items) grown
+    ap (λ l. log_slots log.first l log.tail.bytes) grown
     ∙ slots_segment _ _ _ _ _ _ (known_is g here).0 _ _ (end_is g here) (more_is g here) refl log.first (map (λ x. part_of x.first x.reader) log.segments.items) settled.parts settled.sealed_is
     (rest g here) (rest_is g here)
     (part_of segment.first segment.reader) part_is
@@ -103,7 +103,7 @@ returns-clause-slots g c = λ h.
 
 pub invariant_of-self-2 : goal.invariant_of-self-2
 invariant_of-self-2 g c =
-    let here = (goal.at.invariant_of-self-2 g c).After-deref-2 in
+    let here = (goal.at.invariant_of-self-2 g c).After-deref in
     let F = g.F.Folder in
     let log = c.self.inside in
     let known = known_is g here in
@@ -112,10 +112,10 @@ invariant_of-self-2 g c =
     let grown = ap (λ l. map (λ x. part_of x.first x.reader) l) c.in_ok-push.ensures.items ∙ map_push (λ x. part_of x.first x.reader) log.segments.items segment in (
       settled_segment _ _ _ _ _ _ known.0 _ _ (end_is g here) (more_is g here) refl,
       λ h.
-          let part_is = c.in_ok-segment.ensures.segment h ∙ ap (λ t. part_at log.sealed t (rest g here)) c.deref.ensures.value in
-          let published : (l : Look) → F.may_leave new l → HasSegment l (part_at log.sealed log.tail.items (rest g here)) =
-          λ l left. subst (λ t. HasSegment l (part_at log.sealed t (rest g here))) c.deref.ensures.value (c.in_ok-segment.ensures.published h l left) in (
-            subst (λ l. IsSettledFolder (F.may_hold new) (F.may_leave new) (F.entry_kept new) log.first (log.tail_first + c.len.result) l log.tail.items) (sym grown)
+          let part_is = c.in_ok-segment.ensures.segment h ∙ ap (λ t. part_at log.sealed t (rest g here)) c.bytes.ensures in
+          let published : (l : Look) → F.may_leave new l → HasSegment l (part_at log.sealed log.tail.bytes (rest g here)) =
+          λ l left. subst (λ t. HasSegment l (part_at log.sealed t (rest g here))) c.bytes.ensures (c.in_ok-segment.ensures.published h l left) in (
+            subst (λ l. IsSettledFolder (F.may_hold new) (F.may_leave new) (F.entry_kept new) log.first (log.tail_first + c.len.result) l log.tail.bytes) (sym grown)
                 (folder_segment _ _ _ _ _ _ known.0 _ _ (end_is g here) (more_is g here) refl log.first (map (λ x. part_of x.first x.reader) log.segments.items) (known.1 h).0.parts (known.1 h).0.sealed_is
                 (rest g here) (rest_is g here)
                 (part_of segment.first segment.reader) part_is
@@ -128,20 +128,20 @@ invariant_of-self-2 g c =
 
 pub returns-in_err-segment-clause-failed : goal.returns-in_err-segment-clause-failed
 returns-in_err-segment-clause-failed g c = λ h is.
-    let here = (goal.at.returns-in_err-segment-clause-failed g c).After-deref-2 in
+    let here = (goal.at.returns-in_err-segment-clause-failed g c).After-deref in
     let F = g.F.Folder in
     let log = c.self.inside in
     let new = c.add_segment.new.folder in
     let settled = ((known_is g here).1 h).0 in
     let failed : IsErrOf c.add_segment.result Failed = search rules in
-    let none = none_sealed log.first log.sealed (map (λ x. part_of x.first x.reader) log.segments.items) log.tail.items (F.seen log.folder) settled.parts settled.sealed_is
+    let none = none_sealed log.first log.sealed (map (λ x. part_of x.first x.reader) log.segments.items) log.tail.bytes (F.seen log.folder) settled.parts settled.sealed_is
     (settled.on_disk.outcomes (F.seen log.folder) (g.met.F.Folder.seen_may_be_left log.folder h)) in
     subst (λ v. HasRisen (F.failures v.folder) (F.failures new) ⊎ HasNewSegment (F.seen v.folder) (F.seen new)) c.self.view_is
     (⊎_elim (λ risen. inl risen) (λ some. inr (log.sealed, none, some)) (c.add_segment.ensures.failed h failed))
 
 pub returns-in_err-segment-clause-full : goal.returns-in_err-segment-clause-full
 returns-in_err-segment-clause-full g c = λ h is.
-    let here = (goal.at.returns-in_err-segment-clause-full g c).After-deref-2 in
+    let here = (goal.at.returns-in_err-segment-clause-full g c).After-deref in
     let log = c.self.inside in
     let parts = map (λ x. part_of x.first x.reader) log.segments.items in
     let settled = ((known_is g here).1 h).0 in
@@ -149,7 +149,7 @@ returns-in_err-segment-clause-full g c = λ h is.
     let last = part_is _ _ _ _ _ _ (known_is g here).0 _ _ (end_is g here) (more_is g here) refl log.first parts settled.parts settled.sealed_is (rest g here) (rest_is g here) in
     subst (λ v. HasNoRoomForLast v.slots) c.self.view_is (
       joined log.first parts,
-      contents log.tail.items (rest g here),
+      contents log.tail.bytes (rest g here),
       ap (λ (p : Part). joined log.first parts ++ p.slots) (sym last),
-      subst (λ t. HasNoRoom (contents t (rest g here))) c.deref.ensures.value (c.add_segment.ensures.full failed),
+      subst (λ t. HasNoRoom (contents t (rest g here))) c.bytes.ensures (c.add_segment.ensures.full failed),
     )

@@ -22,7 +22,7 @@ use Rattle.segmented_log.proofs.log.SegmentedLog.remove_covered.Goals as goal
 
 -- what the log knows of its folder
 settled : (g : _) (c : After-remove_segment g) → IsTrue g.F.Folder.honest → IsSettledFolder (g.F.Folder.may_hold c.self.inside.folder) (g.F.Folder.may_leave c.self.inside.folder)
-    (g.F.Folder.entry_kept c.self.inside.folder) c.self.inside.first c.self.inside.sealed (map (λ s. part_of s.first s.reader) c.self.inside.segments.items) c.self.inside.tail.items
+    (g.F.Folder.entry_kept c.self.inside.folder) c.self.inside.first c.self.inside.sealed (map (λ s. part_of s.first s.reader) c.self.inside.segments.items) c.self.inside.tail.bytes
 settled g c h = ((OnFalse_at (ap (λ v. v.is_broken) c.self.view_is ∙ c.requires.works) c.self.invariant).1 h).0
 
 -- the segment at the place is covered
@@ -51,7 +51,7 @@ same_log g c h =
     let f = settled g c h in
     subst (λ w. LeavesOnly F.moment F.left_since w.folder c.remove_segment.new.folder (IsLog w.first w.slots)) c.self.view_is
     (weaker F.moment F.left_since log.folder c.remove_segment.new.folder _ _
-    (λ l loses. covered_log log.first (map (λ s. part_of s.first s.reader) log.segments.items) log.tail.items c.args.place (covered g c h) f.parts (F.may_leave log.folder)
+    (λ l loses. covered_log log.first (map (λ s. part_of s.first s.reader) log.segments.items) log.tail.bytes c.args.place (covered g c h) f.parts (F.may_leave log.folder)
     (λ d left. f.on_disk.outcomes d left) l (subst (λ n. LosesSegment (F.may_leave log.folder) n l) (first_is g c h) loses)) (c.remove_segment.ensures.any_moment h))
 
 changed : (g : _) (c : After-remove_segment g) → IsTrue g.F.Folder.honest → ChangesSegments (g.F.Folder.seen c.args.self.now.folder) (g.F.Folder.seen c.remove_segment.new.folder)
@@ -60,7 +60,7 @@ changed g c h =
     let log = c.self.inside in
     let v = covered g c h in
     let held = (settled g c h).on_disk.outcomes (F.seen log.folder) (g.met.F.Folder.seen_may_be_left log.folder h) in
-    let some = segment_there v.before v.covered v.after log.tail.items (F.seen log.folder) (subst (λ l. Holds l log.tail.items (F.seen log.folder)) v.split held) in
+    let some = segment_there v.before v.covered v.after log.tail.bytes (F.seen log.folder) (subst (λ l. Holds l log.tail.bytes (F.seen log.folder)) v.split held) in
     subst (λ w. ChangesSegments (F.seen w.folder) (F.seen c.remove_segment.new.folder)) c.self.view_is
     (changes_removed c.index.result.now.first (F.seen log.folder) (F.seen c.remove_segment.new.folder) (subst (λ n. IsSome (F.seen log.folder (segment_name n))) (sym (first_is g c h)) some)
     (c.remove_segment.ensures.elsewhere h))
@@ -91,8 +91,8 @@ pub returns-clause-slots : goal.returns-clause-slots
 returns-clause-slots g c = λ h.
     let log = c.self.inside in
     let v = covered g (goal.at.returns-clause-slots g c).After-remove_segment h in
-    ap (λ l. log_slots log.first l log.tail.items) (parts_left g (goal.at.returns-clause-slots g c).After-remove v)
-    ∙ covered_same log.first (map (λ s. part_of s.first s.reader) log.segments.items) log.tail.items c.args.place v (settled g (goal.at.returns-clause-slots g c).After-remove_segment h).parts
+    ap (λ l. log_slots log.first l log.tail.bytes) (parts_left g (goal.at.returns-clause-slots g c).After-remove v)
+    ∙ covered_same log.first (map (λ s. part_of s.first s.reader) log.segments.items) log.tail.bytes c.args.place v (settled g (goal.at.returns-clause-slots g c).After-remove_segment h).parts
     ∙ ap (λ w. w.slots) c.self.view_is
 
 pub returns-in_err-remove_segment-clause-none_new : goal.returns-in_err-remove_segment-clause-none_new
@@ -120,9 +120,9 @@ invariant_of-self-2 g c = (
       let first = first_is g here h in
       let new = c.remove_segment.new.folder in
       let honest = ((OnFalse_at (ap (λ w. w.is_broken) c.self.view_is ∙ c.requires.works) c.self.invariant).1 h).1 in (
-        subst (λ l. IsSettledFolder (F.may_hold new) (F.may_leave new) (F.entry_kept new) log.first log.sealed l log.tail.items)
+        subst (λ l. IsSettledFolder (F.may_hold new) (F.may_leave new) (F.entry_kept new) log.first log.sealed l log.tail.bytes)
             (sym (parts_left g (goal.at.invariant_of-self-2 g c).After-remove v))
-            (covered_folder log.first (map (λ s. part_of s.first s.reader) log.segments.items) log.tail.items place v f.parts log.sealed
+            (covered_folder log.first (map (λ s. part_of s.first s.reader) log.segments.items) log.tail.bytes place v f.parts log.sealed
             (F.may_hold log.folder) (F.may_hold new) (F.may_leave log.folder) (F.may_leave new) (F.entry_kept log.folder) (F.entry_kept new) f
             (subst (λ n. FilesElsewhere (segment_name n) (F.may_hold log.folder) (F.may_hold new)) first (c.remove_segment.ensures.files h))
             (c.in_ok-remove_segment.ensures.kept h)

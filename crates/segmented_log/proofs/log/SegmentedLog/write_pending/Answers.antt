@@ -15,8 +15,20 @@ use Rattle.segmented_log.specs.Log.{KeepsOrAdds}
 use Rattle.segmented_log.specs.Settled.{TailIsKept, PutsBatch}
 use Rattle.segmented_log.proofs.SyncLemmas.{settled_batch, folder_batch, slots_batch, log_on_disk, new_size, seam_front, seam_back}
 use Rattle.segmented_log.proofs.TailLemmas.{keeps_or_adds}
-use Rattle.segmented_log.proofs.log.SegmentedLog.write_pending.Goals.{After-place_records, After-deref-3}
+use Rattle.segmented_log.proofs.log.SegmentedLog.write_pending.Goals.{After-pending, After-place_records, After-bytes}
 use Rattle.segmented_log.proofs.log.SegmentedLog.write_pending.Goals as goal
+
+-- how much place there is for a batch
+has_room : (g : _) (c : After-pending g) → c.len-end.result + 13 + length c.pending.result.now < 2 ^ 64
+has_room g c =
+    let known = OnFalse_at (ap (λ v. v.is_broken) c.self.view_is ∙ c.requires.works) c.self.invariant in
+    omega (arith, known.0.small, c.len-end.ensures.small, ap length c.pending.ensures)
+
+pub overflow_add-end : goal.overflow_add-end
+overflow_add-end g c = omega (arith, c.len-end.ensures.small)
+
+pub place_records-requires : goal.place_records-requires
+place_records-requires g c = has_room g (goal.at.place_records-requires g c).After-pending
 
 -- before the batch is written the log is as it was
 nothing_written : (g : _) (c : After-place_records g) → IsTrue g.F.Folder.honest
@@ -32,39 +44,36 @@ nothing_written g c h =
 pub returns-in_err-place_records-clause-any_moment : goal.returns-in_err-place_records-clause-any_moment
 returns-in_err-place_records-clause-any_moment g c = λ h. nothing_written g (goal.at.returns-in_err-place_records-clause-any_moment g c).After-place_records h
 
-pub returns-in_err-add_batch-clause-any_moment : goal.returns-in_err-add_batch-clause-any_moment
-returns-in_err-add_batch-clause-any_moment g c = λ h. nothing_written g (goal.at.returns-in_err-add_batch-clause-any_moment g c).After-place_records h
-
 -- the size of the batch fits, and the tail has it after what it had
-fits_is : (g : _) (c : After-deref-3 g) → sum_of c.self.inside.pending.items < 2 ^ 64
-fits_is g c = subst (λ b. sum_of b < 2 ^ 64) c.deref-2.ensures.value c.in_ok-add_batch.ensures.fits
+fits_is : (g : _) (c : After-bytes g) → sum_of c.self.inside.tail.pending < 2 ^ 64
+fits_is g c = c.take_batch.ensures.fits
 
-new_is : (g : _) (c : After-deref-3 g) → c.add_batch.new.bytes.items ≡ c.self.inside.tail.items ++ 1 ∷ summed c.self.inside.pending.items
-new_is g c = c.in_ok-add_batch.ensures.added ∙ ap (λ b. c.self.inside.tail.items ++ 1 ∷ summed b) c.deref-2.ensures.value
+new_is : (g : _) (c : After-bytes g) → c.take_batch.new.self.bytes ≡ c.self.inside.tail.bytes ++ 1 ∷ summed c.self.inside.tail.pending
+new_is g c = c.take_batch.ensures.bytes
 
-written_is : (g : _) (c : After-deref-3 g) → c.deref-3.result.now ≡ c.self.inside.tail.items ++ 1 ∷ summed c.self.inside.pending.items
-written_is g c = c.deref-3.ensures.value ∙ new_is g c
+written_is : (g : _) (c : After-bytes g) → c.bytes.result.now ≡ c.self.inside.tail.bytes ++ 1 ∷ summed c.self.inside.tail.pending
+written_is g c = c.bytes.ensures ∙ new_is g c
 
-front_is : (g : _) (c : After-deref-3 g) → take c.len-end.result c.deref-3.result.now ≡ c.self.inside.tail.items
-front_is g c = seam_front c.deref-3.result.now c.self.inside.tail.items (1 ∷ summed c.self.inside.pending.items) c.len-end.result (written_is g c) (omega arith)
+front_is : (g : _) (c : After-bytes g) → take c.len-end.result c.bytes.result.now ≡ c.self.inside.tail.bytes
+front_is g c = seam_front c.bytes.result.now c.self.inside.tail.bytes (1 ∷ summed c.self.inside.tail.pending) c.len-end.result (written_is g c) (omega arith)
 
-back_is : (g : _) (c : After-deref-3 g) → drop c.len-end.result c.deref-3.result.now ≡ 1 ∷ summed c.self.inside.pending.items
-back_is g c = seam_back c.deref-3.result.now c.self.inside.tail.items (1 ∷ summed c.self.inside.pending.items) c.len-end.result (written_is g c) (omega arith)
+back_is : (g : _) (c : After-bytes g) → drop c.len-end.result c.bytes.result.now ≡ 1 ∷ summed c.self.inside.tail.pending
+back_is g c = seam_back c.bytes.result.now c.self.inside.tail.bytes (1 ∷ summed c.self.inside.tail.pending) c.len-end.result (written_is g c) (omega arith)
 
 pub write_batch-requires-clause-within : goal.write_batch-requires-clause-within
-write_batch-requires-clause-within g c = omega (arith, ap length (written_is g (goal.at.write_batch-requires-clause-within g c).After-deref-3), length-append c.self.inside.tail.items (1 ∷ summed c.self.inside.pending.items))
+write_batch-requires-clause-within g c = omega (arith, ap length (written_is g (goal.at.write_batch-requires-clause-within g c).After-bytes), length-append c.self.inside.tail.bytes (1 ∷ summed c.self.inside.tail.pending))
 
 pub write_batch-requires-clause-kept : goal.write_batch-requires-clause-kept
 write_batch-requires-clause-kept g c = λ h.
     let F = g.F.Folder in
     let log = c.self.inside in
     let known = OnFalse_at (ap (λ v. v.is_broken) c.self.view_is ∙ c.requires.works) c.self.invariant in
-    subst (λ t. TailIsKept (F.may_hold log.folder) (F.may_leave log.folder) (F.entry_kept log.folder) t) (sym (front_is g (goal.at.write_batch-requires-clause-kept g c).After-deref-3)) (known.1 h).0.on_disk.tail_kept
+    subst (λ t. TailIsKept (F.may_hold log.folder) (F.may_leave log.folder) (F.entry_kept log.folder) t) (sym (front_is g (goal.at.write_batch-requires-clause-kept g c).After-bytes)) (known.1 h).0.on_disk.tail_kept
 
 -- while the batch is written, each moment has the old records, or the batch's after them
-kept_or_added : (g : _) (c : After-deref-3 g) (new : _) → IsTrue g.F.Folder.honest
+kept_or_added : (g : _) (c : After-bytes g) (new : _) → IsTrue g.F.Folder.honest
     → LeavesOnly g.F.Folder.moment g.F.Folder.left_since c.self.inside.folder new
-    (PutsBatch c.self.inside.commit (g.F.Folder.may_leave c.self.inside.folder) (take c.len-end.result c.deref-3.result.now) (drop c.len-end.result c.deref-3.result.now))
+    (PutsBatch c.self.inside.commit (g.F.Folder.may_leave c.self.inside.folder) (take c.len-end.result c.bytes.result.now) (drop c.len-end.result c.bytes.result.now))
     → LeavesOnly g.F.Folder.moment g.F.Folder.left_since c.args.self.now.folder new
     (KeepsOrAdds c.args.self.now.commit c.args.self.now.first c.args.self.now.slots c.args.self.now.pending)
 kept_or_added g c new h putting =
@@ -73,18 +82,18 @@ kept_or_added g c new h putting =
     let known = OnFalse_at (ap (λ v. v.is_broken) c.self.view_is ∙ c.requires.works) c.self.invariant in
     subst (λ v. LeavesOnly F.moment F.left_since v.folder new (KeepsOrAdds v.commit v.first v.slots v.pending)) c.self.view_is
     (weaker F.moment F.left_since log.folder new _ _
-    (λ l puts. keeps_or_adds log.first (map (λ s. part_of s.first s.reader) log.segments.items) log.tail.items log.pending.items (known.1 h).0.parts known.0.whole known.0.pending_whole
+    (λ l puts. keeps_or_adds log.first (map (λ s. part_of s.first s.reader) log.segments.items) log.tail.bytes log.tail.pending (known.1 h).0.parts known.0.whole known.0.pending_whole
     log.commit known.0.small (fits_is g c) (F.may_leave log.folder) (λ d left. (known.1 h).0.on_disk.outcomes d left) l
-    (subst (λ b. PutsBatch log.commit (F.may_leave log.folder) log.tail.items b l) (back_is g c)
-    (subst (λ t. PutsBatch log.commit (F.may_leave log.folder) t (drop c.len-end.result c.deref-3.result.now) l) (front_is g c) puts))) putting)
+    (subst (λ b. PutsBatch log.commit (F.may_leave log.folder) log.tail.bytes b l) (back_is g c)
+    (subst (λ t. PutsBatch log.commit (F.may_leave log.folder) t (drop c.len-end.result c.bytes.result.now) l) (front_is g c) puts))) putting)
 
 pub returns-in_err-write_batch-clause-any_moment : goal.returns-in_err-write_batch-clause-any_moment
 returns-in_err-write_batch-clause-any_moment g c = λ h.
-    kept_or_added g (goal.at.returns-in_err-write_batch-clause-any_moment g c).After-deref-3 c.write_batch.new.folder h (c.write_batch.ensures.any_moment h)
+    kept_or_added g (goal.at.returns-in_err-write_batch-clause-any_moment g c).After-bytes c.write_batch.new.folder h (c.write_batch.ensures.any_moment h)
 
 pub returns-clause-any_moment : goal.returns-clause-any_moment
 returns-clause-any_moment g c = λ h.
-    kept_or_added g (goal.at.returns-clause-any_moment g c).After-deref-3 c.write_batch.new.folder h (c.write_batch.ensures.any_moment h)
+    kept_or_added g (goal.at.returns-clause-any_moment g c).After-bytes c.write_batch.new.folder h (c.write_batch.ensures.any_moment h)
 
 pub returns-clause-elsewhere : goal.returns-clause-elsewhere
 returns-clause-elsewhere g c = λ h.
@@ -93,15 +102,15 @@ returns-clause-elsewhere g c = λ h.
 
 pub returns-clause-tail : goal.returns-clause-tail
 returns-clause-tail g c =
-    new_size c.self.inside.tail.items c.self.inside.pending.items c.add_batch.new.bytes.items (new_is g (goal.at.returns-clause-tail g c).After-deref-3)
+    new_size c.self.inside.tail.bytes c.self.inside.tail.pending c.take_batch.new.self.bytes (new_is g (goal.at.returns-clause-tail g c).After-bytes)
     ∙ ap (λ v. v.tail_bytes + 13 + v.batch_bytes) c.self.view_is
 
 pub returns-clause-acknowledged : goal.returns-clause-acknowledged
 returns-clause-acknowledged g c = λ h.
     let log = c.self.inside in
     let known = OnFalse_at (ap (λ v. v.is_broken) c.self.view_is ∙ c.requires.works) c.self.invariant in
-    let here = (goal.at.returns-clause-acknowledged g c).After-deref-3 in
-    slots_batch log.sealed log.tail_first log.next log.tail.items log.pending.items c.add_batch.new.bytes.items log.places.items known.0 (fits_is g here) (new_is g here)
+    let here = (goal.at.returns-clause-acknowledged g c).After-bytes in
+    slots_batch log.sealed log.tail_first log.next log.tail.bytes log.tail.pending c.take_batch.new.self.bytes log.places.items known.0 (fits_is g here) (new_is g here)
     log.first (map (λ s. part_of s.first s.reader) log.segments.items) (known.1 h).0.parts
     ∙ ap (λ v. v.slots ++ map doc v.pending) c.self.view_is
 
@@ -111,19 +120,19 @@ invariant_of-self-2 g c =
     let log = c.self.inside in
     let known = OnFalse_at (ap (λ v. v.is_broken) c.self.view_is ∙ c.requires.works) c.self.invariant in
     let s = known.0 in
-    let tail = log.tail.items in
-    let body = log.pending.items in
-    let new = c.add_batch.new.bytes.items in
+    let tail = log.tail.bytes in
+    let body = log.tail.pending in
+    let new = c.take_batch.new.self.bytes in
     let new_folder = c.write_batch.new.folder in
     let later = c.place_records.new.places.items in
-    let here = (goal.at.invariant_of-self-2 g c).After-deref-3 in
+    let here = (goal.at.invariant_of-self-2 g c).After-bytes in
     let is = new_is g here in
     let len_is : c.len-end.result + 13 ≡ length tail + 13 = omega arith in
     let adds : AddsRecords body (length tail + 13) log.places.items later =
-    subst (λ n. AddsRecords body n log.places.items later) len_is (subst (λ b. AddsRecords b (c.len-end.result + 13) log.places.items later) c.deref.ensures.value c.in_ok-place_records.ensures.records) in
+    subst (λ n. AddsRecords body n log.places.items later) len_is (subst (λ b. AddsRecords b (c.len-end.result + 13) log.places.items later) c.pending.ensures c.in_ok-place_records.ensures.records) in
     let within = c.in_ok-place_records.ensures.within (ends_later (length tail) (c.len-end.result + 13) log.places.items (omega (arith, len_is)) s.within) in
-    let size : c.len-end.result + 13 + length c.deref.result.now ≤ length new = omega (arith, len_is, ap length c.deref.ensures.value, new_size tail body new is) in (
-      settled_batch log.sealed log.tail_first log.next tail body new log.places.items s (fits_is g here) is later c.clear.new.self.items (c.len-end.result + 13 + length c.deref.result.now) adds within size c.clear.ensures.items,
+    let size : c.len-end.result + 13 + length c.pending.result.now ≤ length new = omega (arith, len_is, ap length c.pending.ensures, new_size tail body new is) in (
+      settled_batch log.sealed log.tail_first log.next tail body new log.places.items s (fits_is g here) is later c.take_batch.new.self.pending (c.len-end.result + 13 + length c.pending.result.now) adds within size c.take_batch.ensures.none_pending,
       λ h.
           let kept = subst (λ t. TailIsKept (F.may_hold new_folder) (F.may_leave new_folder) (F.entry_kept new_folder) t) (written_is g here) (c.in_ok-write_batch.ensures.kept h) in (
             folder_batch log.sealed log.tail_first log.next tail body new log.places.items s (fits_is g here) is log.first (map (λ x. part_of x.first x.reader) log.segments.items)

@@ -1,0 +1,114 @@
+//! The bytes of a tail in memory, and the batch that waits after them.
+
+ghost use Rattle.std.specs.Prelude.{◌≡◌, ◌≤◌, ◌<◌, ◌+◌, ◌^◌, ◌++◌, ◌∷◌, [], length, drop, OnOk, OnErr};
+ghost use Rattle.record_log.specs.Tail.{framed, sum_of, summed};
+
+use record_log::batches::{BATCH_HEADER, add_record, batch_header};
+use std::alloc::AllocError;
+use std::marker::Model;
+
+/// A tail, and after it in the same memory the batch that the next sync writes: so a record is copied once.
+#[derive(Drop)]
+pub(crate) struct TailBuffer {
+    // The tail; then, once a record waits, room for the header of the batch, and its body.
+    bytes: Vec<u8>,
+    // Where the tail ends.
+    end: usize,
+}
+
+/// Clauses see the tail's bytes, and the body of the batch.
+impl Model for TailBuffer {
+    ghost use Rattle.std.specs.Prelude.{◌≡◌, ◌⊎◌, ◌≤◌, ◌+◌, length, take, drop};
+    ghost use Rattle.segmented_log.specs.TailBuffer.{TailView};
+
+    ghost Value = { TailView };
+
+    ghost view = { λ t. record {
+      bytes = take t.end t.bytes.items;
+      pending = drop (t.end + 13) t.bytes.items;
+    } };
+
+    ghost invariant = { λ t. (length t.bytes.items ≡ t.end) ⊎ (t.end + 13 ≤ length t.bytes.items) };
+}
+
+// Puts these bytes in place of the first ones.
+fn put_front(bytes: &mut Vec<u8>, front: &[u8])
+    requires { length front.now ≤ length bytes.old.items }
+    ensures { bytes.new.items ≡ front.now ++ drop (length front.now) bytes.old.items }
+{
+    bytes[0..front.len()].copy_from_slice(front);
+}
+
+impl TailBuffer {
+    /// A tail of these bytes, after which nothing waits.
+    pub(crate) fn new(bytes: Vec<u8>) -> TailBuffer
+        ensures bytes { result.bytes ≡ bytes.items }
+        ensures none_pending { result.pending ≡ [] }
+    {
+        let end = bytes.len();
+        TailBuffer { bytes, end }
+    }
+
+    /// The tail.
+    pub(crate) fn bytes(&self) -> &[u8]
+        ensures { result.now ≡ self.now.bytes }
+    {
+        &self.bytes[..self.end]
+    }
+
+    /// How long the tail is.
+    pub(crate) fn len(&self) -> usize
+        ensures value { result ≡ length self.now.bytes }
+        ensures small { result < 2 ^ 63 }
+    {
+        self.end
+    }
+
+    /// The body of the batch that waits.
+    pub(crate) fn pending(&self) -> &[u8]
+        ensures { result.now ≡ self.now.pending }
+    {
+        let body = (self.end + BATCH_HEADER).min(self.bytes.len());
+        &self.bytes[body..]
+    }
+
+    /// Puts a record after those that wait. An error leaves them as they were.
+    pub(crate) fn add_record(&mut self, bytes: &[u8]) -> Result<(), AllocError>
+        requires { length bytes.now < 2 ^ 32 }
+        ensures bytes { self.new.bytes ≡ self.old.bytes }
+        ensures added { OnOk result (self.new.pending ≡ self.old.pending ++ framed bytes.now) }
+        ensures kept { OnErr result (self.new ≡ self.old) }
+    {
+        if self.bytes.len() == self.end {
+            self.bytes.extend_from_slice(&[0; BATCH_HEADER])?;
+        }
+        add_record(&mut self.bytes, bytes)
+    }
+
+    /// Makes the batch that waits the last one of the tail.
+    pub(crate) fn take_batch(&mut self)
+        requires some { 0 < length self.old.pending }
+        requires small { 8 + length self.old.pending < 2 ^ 32 }
+        ensures bytes { self.new.bytes ≡ self.old.bytes ++ 1 ∷ summed self.old.pending }
+        ensures none_pending { self.new.pending ≡ [] }
+        ensures fits { sum_of self.old.pending < 2 ^ 64 }
+    {
+        let body = self.end + BATCH_HEADER;
+        let header = batch_header(&self.bytes[body..]);
+        self.bytes[self.end..body].copy_from_slice(&header);
+        self.end = self.bytes.len();
+    }
+
+    /// Begins the tail again with these bytes, in the memory that it has. What waits stays.
+    pub(crate) fn restart(&mut self, bytes: &[u8])
+        requires { length bytes.now ≤ length self.old.bytes }
+        ensures bytes { self.new.bytes ≡ bytes.now }
+        ensures pending { self.new.pending ≡ self.old.pending }
+    {
+        let rest = self.bytes.len() - self.end;
+        self.bytes.copy_within(self.end.., bytes.len());
+        self.bytes.truncate(bytes.len() + rest);
+        put_front(&mut self.bytes, bytes);
+        self.end = bytes.len();
+    }
+}
