@@ -49,8 +49,8 @@ class Append(LogCase):
     def test_a_number_is_printed_before_more_input_is_waited_for(self):
         for policy in ("every", "batch"):
             with self.subTest(policy):
-                writing = self.begin("--sync", policy, "--number")
                 count = len(self.records().splitlines()) if "events" in self.names() else 0
+                writing = self.begin("--sync", policy, "--number")
                 # The second line has not ended.
                 self.assertEqual(self.say(writing, b"one\ntw"), b"%d\n" % count)
                 self.assertEqual(self.say(writing, b"o\n"), b"%d\n" % (count + 1))
