@@ -56,10 +56,6 @@ impl<'a, D: Device> Iterator for Records<'a, D> {
         }
         let number = self.next;
         self.next = number + 1;
-        match self.log.get(number) {
-            Ok(Some(record)) => Some(Ok(record)),
-            Ok(None) => None,
-            Err(error) => Some(Err(error)),
-        }
+        self.log.get(number).transpose()
     }
 }

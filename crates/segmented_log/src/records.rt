@@ -66,10 +66,6 @@ impl<'a, F: ReadableFolder> Iterator for Records<'a, F> {
         }
         let number = self.next;
         self.next = number + 1;
-        match self.log.get(number) {
-            Ok(Some(record)) => Some(Ok(record)),
-            Ok(None) => None,
-            Err(error) => Some(Err(error)),
-        }
+        self.log.get(number).transpose()
     }
 }
