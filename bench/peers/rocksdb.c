@@ -129,8 +129,8 @@ static void rocksdb_append(const char *path, const struct documents *documents, 
     ingest(path, documents, settings, settings->count, settings->count + more);
 }
 
-/* Its log is synced at each write, if that is not put off. Its first write reserves space on the disk, so one of nothing
- * comes here. */
+/* Its log is synced at each write, if that is not put off. Its first write reserves space on the disk, so one of
+ * nothing comes here. */
 static void *rocksdb_log_begin(const char *path, const struct settings *settings) {
     struct rocksdb_log *log = malloc(sizeof *log);
     char *why = NULL;

@@ -30,12 +30,12 @@ struct side {
     /* Writes all documents by their numbers, and ends with a file that needs no more work before it is opened. */
     void (*write)(const char *path, const struct documents *documents, const struct settings *settings);
 
-    /* Adds `more` documents after the `settings->count` of a store that was written, with the next numbers. NULL where a
-     * library can't. */
+    /* Adds `more` documents after the `settings->count` of a store that was written, with the next numbers. NULL
+     * where a library can't. */
     void (*append)(const char *path, const struct documents *documents, const struct settings *settings, uint32_t more);
 
-    /* A new log, an append of the documents from one number up to another, which is back once the system keeps them all,
-     * a sync for a log that puts it off, and the log's end. NULL where a side is no log. */
+    /* A new log, an append of the documents from one number up to another, which is back once the system keeps them
+     * all, a sync for a log that puts it off, and the log's end. NULL where a side is no log. */
     void *(*log_begin)(const char *path, const struct settings *settings);
     void (*log_append)(void *log, const struct documents *documents, uint32_t first, uint32_t end);
     void (*log_sync)(void *log);

@@ -1,4 +1,4 @@
-"""shellcheck and flake8 find nothing; no script is long. A rule that is silenced has its reason beside it."""
+"""shellcheck and flake8 find nothing, no script and no line is long, and a silenced rule has its reason beside it."""
 
 from __future__ import annotations
 
@@ -6,13 +6,15 @@ import re
 import subprocess
 from pathlib import Path
 
-from documents.pages import files, text_of
+from documents.pages import at, files, text_of
 from harness import TOP, Case
 
 SCRIPTS = [*files("tests", "tools", "bench", "bindings", "examples", ".ci"), TOP / "dist.sh"]
 PYTHON = [path for path in SCRIPTS if path.suffix == ".py"]
 SHELL = [path for path in SCRIPTS if path.suffix == ".sh" or re.match(r"#!.*\b(?:ba)?sh\b", text_of(path))]
 LONGEST = 400
+# How many columns the lines of a language have at most.
+WIDTHS = {".antt": 200, ".rt": 120, ".rs": 120, ".c": 120, ".h": 120, ".py": 120, ".sh": 120}
 # What silences a rule: it is a comment, and a reason follows in brackets or stands on the line before.
 SILENCES = re.compile(r"# (?:noqa|shellcheck disable)\b(.*)")
 
@@ -51,3 +53,14 @@ class Lint(Case):
     def test_no_script_is_long(self):
         lengths = {str(path.relative_to(TOP)): len(text_of(path).splitlines()) for path in SHELL + PYTHON}
         self.assertEqual({name: length for name, length in lengths.items() if length >= LONGEST}, {})
+
+    def test_no_line_of_code_is_long(self):
+        code = [path for path in files(".") if path.suffix in WIDTHS]
+        self.assertGreater(len(code), 500, "few files of code are found")
+        faults = [
+            at(path, number, f"{len(line)} columns")
+            for path in code
+            for number, line in enumerate(text_of(path).splitlines(), 1)
+            if len(line) > WIDTHS[path.suffix]
+        ]
+        self.assertEqual(faults, [])

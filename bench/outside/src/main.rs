@@ -2,9 +2,9 @@
 //!
 //! usage: tantivy_side WORKLOAD [key=number ...]
 //!
-//! WORKLOAD: write, open, get_uniform, get_hot, get_zipf, get_seq, iter_raw or stack. Keys: n documents, l bytes of each,
-//! bs bytes of a block, cap blocks of a cache, q questions, hot documents that are asked for most, k stores stacked.
-//! Standard output has a line `NAME COUNT NANOSECONDS`, and standard error `# NAME check=NUMBER`.
+//! WORKLOAD: write, open, get_uniform, get_hot, get_zipf, get_seq, iter_raw or stack. Keys: n documents, l bytes of
+//! each, bs bytes of a block, cap blocks of a cache, q questions, hot documents that are asked for most, k stores
+//! stacked. Standard output has a line `NAME COUNT NANOSECONDS`, and standard error `# NAME check=NUMBER`.
 
 mod documents;
 mod numbers;

@@ -2,7 +2,8 @@
  *
  * usage: pack_lines [--append] FILE
  *
- * With --append the lines come after the documents of the store FILE. FILE stays as it was until the new store is whole.
+ * With --append the lines come after the documents of the store FILE. FILE stays as it was until the new store is
+ * whole.
  */
 #define _POSIX_C_SOURCE 200809L
 #include <errno.h>

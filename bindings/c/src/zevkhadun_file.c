@@ -92,8 +92,8 @@ static size_t index_start(const zevk_file *file) {
 }
 
 /* Opens the store and makes its table, which has a row more than it needs: it is never NULL. A block takes at least two
- * bytes of the index, so a table of half the length of the index has room, and the index is decoded once. Where there is
- * no memory for that, it is decoded twice. */
+ * bytes of the index, so a table of half the length of the index has room, and the index is decoded once. Where there
+ * is no memory for that, it is decoded twice. */
 static int fill_table(zevk_file *file) {
     size_t end = file->len < FOOTER_LEN ? 0 : file->len - FOOTER_LEN;
     size_t start = index_start(file);

@@ -1,5 +1,5 @@
-/* Prints what a store's file is answered, as answers.c does, by path. Of each file the cursor gives the same as the gets,
- * and what is read without the check of the whole index is the same where that check finds nothing.
+/* Prints what a store's file is answered, as answers.c does, by path. Of each file the cursor gives the same as the
+ * gets, and what is read without the check of the whole index is the same where that check finds nothing.
  *
  * usage: answers_by_path FILE..
  */

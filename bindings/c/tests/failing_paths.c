@@ -1,5 +1,5 @@
-/* Makes one call of a program with stores by path fail: the one whose number FAIL_AT says, counted from 1. Its name goes
- * to standard error.
+/* Makes one call of a program with stores by path fail: the one whose number FAIL_AT says, counted from 1. Its name
+ * goes to standard error.
  *
  * SHARE says how the system shares bytes between files: "clone", "copy", "part" (a few bytes, and then an error), or
  * not. With LOST the second file loses its name before it is locked, as where another writer has just renamed it.

@@ -170,7 +170,8 @@ static void other_bytes(const uint8_t *file, size_t len) {
 static void texts(void) {
     uint8_t text[ZEVK_TEXT_LEN], other[ZEVK_TEXT_LEN];
     size_t len = zevk_refusal_text(ZEVK_NO_DOCUMENT, text, sizeof text);
-    WANT(strcmp((const char *)text, "the store has no document of this number") == 0 && len == strlen((const char *)text));
+    WANT(strcmp((const char *)text, "the store has no document of this number") == 0);
+    WANT(len == strlen((const char *)text));
     for (uint32_t number = 0; number < 40; number++) {
         len = zevk_refusal_text(number, other, sizeof other);
         WANT(len == strlen((const char *)other) && len > 0 && len < sizeof other);

@@ -71,7 +71,8 @@ bytes_get bytes (Err (BadPeriod k)) old new sound worked works too_many too_larg
 -- ---- documents
 
 -- a document that was taken
-document_fits : (bytes : Option (List ℕ)) (x : Unit {0}) (old new : Writing) → HasIdLeft old → StoresDocument bytes old new → (HasTooMuch old bytes → IsErrOf (Ok x) BlockTooLarge ⊎ IsErrOf (Ok x) Memory)
+document_fits : (bytes : Option (List ℕ)) (x : Unit {0}) (old new : Writing) → HasIdLeft old → StoresDocument bytes old new
+    → (HasTooMuch old bytes → IsErrOf (Ok x) BlockTooLarge ⊎ IsErrOf (Ok x) Memory)
     → MatchOption bytes ⊥ (HasRoom (stage_of old))
 document_fits None x old new id stored too_much = absurd stored
 document_fits (Some bytes) x old new id stored too_much = room (Ok x) old bytes id (λ t. elim (too_much t) [

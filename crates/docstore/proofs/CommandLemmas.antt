@@ -132,7 +132,8 @@ not_asked Write old new same = inl same
 not_asked OutOfMemory old new same = same
 
 -- a writer that is not closed
-not_closed : (held : OutputState) (w : Writing) (first : Option Cause) (cause : Cause) (new : OutputState) → w.output.failure ≡ first → held.failures ≤ w.output.failures → w.output.termination ≡ held.termination
+not_closed : (held : OutputState) (w : Writing) (first : Option Cause) (cause : Cause) (new : OutputState) → w.output.failure ≡ first → held.failures ≤ w.output.failures
+    → w.output.termination ≡ held.termination
     → IsStoreWriter w → (w.output.failure ≡ None → w.output.before ≡ held.content)
     → IfSome first (λ c. HasCause c held.failures w.output.failures held.content w.output.content) → AfterFailedClose first cause w.output new.content new.termination new.failures
     → HasCause cause held.failures new.failures held.content new.content × HasNotEnded cause held.termination new.termination
@@ -151,7 +152,8 @@ one_waits : (docs : List (List ℕ)) → length (blocks_of docs) ≤ 1
 one_waits [] = omega arith
 one_waits (d ∷ docs) = omega arith
 
-pub after_run : {D H : Type 0} (size period : ℕ) (doc_bytes : D → Option (List ℕ)) (commands left : List (StoreCommand D H)) (results : List (Result (Unit {0}) StoreError)) (held : OutputState) (w : Writing)
+pub after_run : {D H : Type 0} (size period : ℕ) (doc_bytes : D → Option (List ℕ)) (commands left : List (StoreCommand D H)) (results : List (Result (Unit {0}) StoreError)) (held : OutputState)
+    (w : Writing)
     (e : StoreError) (new : OutputState)
     → held.failures ≤ w.output.failures → w.output.termination ≡ held.termination → IsStoreWriter w → IsRun size period held.content doc_bytes commands left results w
     → HasFailedSince held.content held.failures w → AfterClose e w.output new.content new.termination new.failures → AfterRun size doc_bytes commands left held new e

@@ -1,5 +1,6 @@
 -- What the reading of a store in parts brings, and what a part that is refused leaves.
-use Rattle.std.proofs.Common.{◌≡◌, ◌⊎◌, inl, inr, ℕ, zero, suc, ◌+◌, ◌-◌, ◌^◌, ◌<◌, ◌≤◌, IsTrue, List, [], ◌∷◌, ◌++◌, length, take, drop, Option, Some, None, refl, sym, ◌∙◌, ap, subst, arith, append_assoc, length-append}
+use Rattle.std.proofs.Common.{◌≡◌, ◌⊎◌, inl, inr, ℕ, zero, suc, ◌+◌, ◌-◌, ◌^◌, ◌<◌, ◌≤◌, IsTrue, List, [], ◌∷◌, ◌++◌, length, take, drop, Option, Some, None}
+use Rattle.std.proofs.Common.{refl, sym, ◌∙◌, ap, subst, arith, append_assoc, length-append}
 use Rattle.std.specs.Prelude.{slice_range, IfSome, IsNone, Ok, Err}
 use Rattle.std.specs.List.{sum_by, AllByRecursion}
 use Rattle.std.proofs.lemmas.List.{append-nil, map-append, take_all, take-map, take-append-drop}
@@ -61,7 +62,8 @@ same_checkpoints times bytes reader read kept = ap (λ (r : Reading). r.checkpoi
 pub covers_still : (times bytes : ℕ) (reader read : Reading) → IsReadTimes times bytes reader read → Covers read.checkpoints (length read.file.content)
     → Covers reader.checkpoints (length reader.file.content)
 covers_still times bytes reader read kept covers =
-    subst (λ (xs : List ℕ). Covers reader.checkpoints (length xs)) kept.content (subst (λ (cs : List Checkpoint). Covers cs (length read.file.content)) (same_checkpoints times bytes reader read kept) covers)
+    subst (λ (xs : List ℕ). Covers reader.checkpoints (length xs)) kept.content
+    (subst (λ (cs : List Checkpoint). Covers cs (length read.file.content)) (same_checkpoints times bytes reader read kept) covers)
 
 -- a part has bytes
 part_bytes : (cs : List Checkpoint) (total n m : ℕ) → Covers cs total → n < m → m ≤ length cs → byte_at n cs < byte_at m cs

@@ -122,8 +122,8 @@ impl<W: TerminatingWrite> StoreWriter<W> {
         self.current_block.mem_usage()
     }
 
-    // Refuses where the writer has failed, and where there is no id for one more document. It runs for each document, and
-    // takes fewer instructions so than by `check_works`.
+    // Refuses where the writer has failed, and where there is no id for one more document. It runs for each document,
+    // and takes fewer instructions so than by `check_works`.
     fn check_id_left(&self) -> Result<(), StoreError>
         ensures { MatchResult result (λ _. HasIdLeft self.now) (HasNoIdLeft self.now) }
     {

@@ -189,7 +189,8 @@ chosen false x y z e = inr (refl, e)
 abbrev starts_at : ℕ → List ℕ → Option (Heading × List ℕ)
 starts_at count bytes = number_below (2 ^ 32) bytes >>= λ doc. number_below (2 ^ 64) doc.1 >>= λ byte. Some (record { count = count; doc = doc.0; byte = byte.0 }, byte.1)
 
-starts_read : (count : ℕ) (bytes a : List ℕ) (h : Heading) (rest : List ℕ) → 0 < count → count < 2 ^ 64 → SplitsOff bytes (number count) a → starts_at count a ≡ Some (h, rest) → CountsSome bytes h rest
+starts_read : (count : ℕ) (bytes a : List ℕ) (h : Heading) (rest : List ℕ) → 0 < count → count < 2 ^ 64 → SplitsOff bytes (number count) a → starts_at count a ≡ Some (h, rest)
+    → CountsSome bytes h rest
 starts_read count bytes a h rest some few takes e =
     let p = bind_some (number_below (2 ^ 32) a) (λ doc. number_below (2 ^ 64) doc.1 >>= λ byte. Some (record { count = count; doc = doc.0; byte = byte.0 }, byte.1)) (h, rest) e in
     let q = bind_some (number_below (2 ^ 64) p.0.1) (λ byte. Some (record { count = count; doc = p.0.0; byte = byte.0 }, byte.1)) (h, rest) p.2 in
@@ -244,7 +245,8 @@ block_read bytes cs rest fits e =
     elim (heading_read bytes h a.0.1 fits a.1) [
       | inl none ↦
           let nothing = no_steps h.doc h.byte a.0.1 cs rest (ap (λ (n : ℕ). steps_at n h.doc h.byte a.0.1) (sym none.none) ∙ a.2) in
-          let takes : SplitsOff bytes (checkpoint_block []) rest = subst (λ (t : List ℕ). SplitsOff bytes t rest) (sym block_none) (subst (λ (r : List ℕ). SplitsOff bytes (number 0) r) nothing.1 none.takes) in
+          let takes : SplitsOff bytes (checkpoint_block []) rest = subst (λ (t : List ℕ). SplitsOff bytes t rest) (sym block_none)
+          (subst (λ (r : List ℕ). SplitsOff bytes (number 0) r) nothing.1 none.takes) in
           subst (λ (xs : List Checkpoint). IsBlock bytes xs rest) (sym nothing.0) (record { in_line = tt; few = omega arith; takes = takes })
       | inr some ↦ some_block h.count h.doc h.byte bytes some.after_count some.after_doc a.0.1 cs rest some.some some.few some.takes_count some.takes_doc some.takes_byte
           (steps_read h.count h.doc h.byte a.0.1 cs rest some.takes_byte.rest_fits a.2)

@@ -12,8 +12,8 @@ const NEAR: usize = 256;
 /// The documents parted into equal stretches, and how many checkpoints end before each of them.
 ///
 /// The pace is the number of checkpoints divided by the number of documents, as a fixed-point number with 32 bits after
-/// the point. So a product with an id needs a shift and no division, and has no float's rounding. At this pace a stretch
-/// has 64 checkpoints. A list of fewer has no stretches. A guess uses it, and no answer depends on it.
+/// the point. So a product with an id needs a shift and no division, and has no float's rounding. At this pace a
+/// stretch has 64 checkpoints. A list of fewer has no stretches. A guess uses it, and no answer depends on it.
 #[derive(Drop)]
 pub(crate) struct Guide {
     pace: u64,
@@ -33,8 +33,8 @@ fn at_pace(pace: u64, docs: DocId) -> usize {
     (u64::from(docs).saturating_mul(pace) >> 32) as usize
 }
 
-// How many checkpoints end before the stretch at whose start the pace expects `first` of them. At least `known` do: those
-// that end before the stretch before it.
+// How many checkpoints end before the stretch at whose start the pace expects `first` of them. At least `known` do:
+// those that end before the stretch before it.
 fn ends_before(doc_ends: &[DocId], pace: u64, first: usize, known: usize) -> usize {
     let rest = doc_ends.get(known..).unwrap_or(&[]);
     let near = match rest.get(..NEAR) {

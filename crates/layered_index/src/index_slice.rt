@@ -194,9 +194,9 @@ impl<'a> IndexSlice<'a> {
         Ok(self.descend(false, target, &mut steps)?.found)
     }
 
-    /// The first checkpoint whose documents end past the target, and a cursor over those after it; or `None` where there
-    /// is none. It returns `BadIndex` where a run is not where the layer above points. It seeks as `seek` does, also in
-    /// bytes that are no index, and then decodes the run of the bottom layer again up to the checkpoint.
+    /// The first checkpoint whose documents end past the target, and a cursor over those after it; or `None` where
+    /// there is none. It returns `BadIndex` where a run is not where the layer above points. It seeks as `seek` does,
+    /// also in bytes that are no index, and then decodes the run of the bottom layer again up to the checkpoint.
     pub fn seek_on(
         &self,
         target: DocId,

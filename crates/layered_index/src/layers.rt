@@ -33,9 +33,9 @@ pub(crate) struct Run {
 // From 64 KiB on, a layer is too long for a processor to learn how many bytes each of its numbers has.
 const LONG_LAYER: usize = 1 << 16;
 
-// How the numbers of the next run are decoded, by the lengths of the runs before it. Where two runs of a long layer have
-// different lengths, a processor mispredicts how many bytes their numbers have, and decoding takes the way with fewer
-// branches. No answer depends on it.
+// How the numbers of the next run are decoded, by the lengths of the runs before it. Where two runs of a long layer
+// have different lengths, a processor mispredicts how many bytes their numbers have, and decoding takes the way with
+// fewer branches. No answer depends on it.
 #[derive(Drop)]
 struct RunLengths {
     is_long: bool,

@@ -7,7 +7,8 @@ ghost use Rattle.layered_index.specs.Checkpoint.{IsInLine, first_past};
 ghost use Rattle.layered_index.specs.Layers.{layer_text};
 ghost use Rattle.layered_index.specs.BlockReading.{steps_at};
 ghost use Rattle.layered_index.specs.Sought.{found_on_top, found_in_run, found_in};
-ghost use Rattle.layered_index.specs.Sought.{sought_from, sought_at, scanned, scanned_at, IsPast, IsRunAt, IsFoundAbove};
+ghost use Rattle.layered_index.specs.Sought.{sought_from, sought_at, scanned, scanned_at};
+ghost use Rattle.layered_index.specs.Sought.{IsPast, IsRunAt, IsFoundAbove};
 
 use crate::checkpoint::Checkpoint;
 use crate::looks::Steps;

@@ -1,6 +1,6 @@
 //! The layered skip index of a store.
-ghost use Rattle.std.specs.Prelude.{◌≡◌, ◌≤◌, ◌<◌, ◌+◌, ◌*◌, ℕ, [], length, slice_get, slice_range, IfOk, IfErr, MatchResult};
-ghost use Rattle.std.specs.Prelude.{IsNone, IsSome, IfSome};
+ghost use Rattle.std.specs.Prelude.{◌≡◌, ◌≤◌, ◌<◌, ◌+◌, ◌*◌, ℕ, [], length, slice_get, slice_range};
+ghost use Rattle.std.specs.Prelude.{IfOk, IfErr, MatchResult, IsNone, IsSome, IfSome};
 ghost use Rattle.store_base.specs.Counts.{raised};
 ghost use Rattle.layered_index.specs.Checkpoint.{IsInLine, first_past};
 ghost use Rattle.layered_index.specs.Covering.{covered_to};

@@ -97,7 +97,11 @@ fn open_length(bytes: &[u8]) -> Option<usize>
 }
 
 /// Adds the places of the records of a body, which lies at this place of a file.
-pub fn place_records(body: &[u8], base: usize, places: &mut Vec<Place>) -> Result<(), AllocError>
+pub(crate) fn place_records(
+    body: &[u8],
+    base: usize,
+    places: &mut Vec<Place>,
+) -> Result<(), AllocError>
     requires { base + length body.now < 2 ^ 64 }
     ensures records { OnOk result (AddsRecords body.now base places.old.items places.new.items) }
     ensures within { OnOk result

@@ -68,7 +68,8 @@ has_or_adds commit first kept pending c keeps =
     keeps
 
 -- segments that are removed
-pub has_dropped : (commit : Commit) (first number : ℕ) (kept : List Slot) (pending : Records) (c : Look) → DropsTo first kept number c → HasBeginning commit first kept pending (DropBefore number ∷ []) c
+pub has_dropped : (commit : Commit) (first number : ℕ) (kept : List Slot) (pending : Records) (c : Look) → DropsTo first kept number c
+    → HasBeginning commit first kept pending (DropBefore number ∷ []) c
 has_dropped commit first number kept pending c drops = record {
   made = DropBefore number ∷ [];
   others = [];

@@ -33,7 +33,8 @@ not_among k [] below among = absurd (omega (arith, among.1))
 not_among k (p ∷ parts) below among = ⊎_elim (λ same. omega (arith, same, below.0)) (λ later. not_among k parts below.1 later) (among_cons p parts k among)
 
 -- the number from which on no segment has records has no segment
-pub none_sealed : (first sealed : ℕ) (segments : List Part) (tail : List ℕ) (c : Look) → AreParts first segments tail → sealed ≡ end_from first segments → Holds segments tail c → c (segment_name sealed) ≡ None
+pub none_sealed : (first sealed : ℕ) (segments : List Part) (tail : List ℕ) (c : Look) → AreParts first segments tail → sealed ≡ end_from first segments → Holds segments tail c
+    → c (segment_name sealed) ≡ None
 none_sealed first sealed segments tail c parts sealed_is held =
     ⊎_elim (λ none. none)
     (λ among. absurd (not_among (end_from first segments) segments (begin_before first segments parts.in_line) (subst (λ (n : ℕ). Contains (firsts segments) n) sealed_is among)))

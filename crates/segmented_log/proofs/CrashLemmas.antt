@@ -77,7 +77,8 @@ module _ (process : Process) (first : ℕ) (kept : List Slot) (c : Look) (left :
       let acknowledged = slots_of (batches_by [] process.made) in
       let slots : (kept ++ slots_by process (joined after)) ++ map doc forged ≡ kept ++ slots_by process (joined after ++ forged) =
       append_assoc kept (slots_by process (joined after)) (map doc forged)
-      ∙ ap (λ (l : List Slot). kept ++ l) (append_assoc acknowledged (map doc (joined after)) (map doc forged) ∙ ap (λ (l : List Slot). acknowledged ++ l) (sym (map-append doc (joined after) forged))) in (
+      ∙ ap (λ (l : List Slot). kept ++ l) (append_assoc acknowledged (map doc (joined after)) (map doc forged)
+      ∙ ap (λ (l : List Slot). acknowledged ++ l) (sym (map-append doc (joined after) forged))) in (
         joined after ++ forged,
         may_follow forged (joined after ++ forged) refl (λ two. absurd (let both = sym ends.forged.one_sync ∙ two in cc)),
         record {
@@ -122,7 +123,14 @@ new_logs_lose_nothing (process ∷ later) old new blank by =
     let dropped = dropped_in 0 process in (
       max dropped rest.0,
       rest.1,
-      ([], rest.0, record { written = []; others = _; all = refl; forged = []; more_is = refl; none = λ two. refl }, refl, subst (λ (calls : List Call). HaveAllOf 0 later (slots_of (batches_by [] calls) ++ []) rest.0 rest.1) (sym none.1) rest.2),
+      (
+        [],
+        rest.0,
+        record { written = []; others = _; all = refl; forged = []; more_is = refl; none = λ two. refl },
+        refl,
+        subst
+            (λ (calls : List Call). HaveAllOf 0 later (slots_of (batches_by [] calls) ++ []) rest.0 rest.1) (sym none.1) rest.2,
+      ),
       ⊎_elim (λ drops. inl (drops_more 0 rest.0 (max dropped rest.0) rest.1 new drops (omega arith))) (λ still. inr still) rest.3,
     ))
     (λ has.

@@ -23,7 +23,8 @@ module _ (may_hold : List ℕ → List ℕ → Type 0) (may_leave : Look → Typ
   }
 
   -- bytes that a crash may tear
-  pub grows_torn : (held : List ℕ → Type 0) (after : Look → Type 0) → Extends (may_hold tail_name) held → ComesFrom (Written tail_name held) may_leave after → (c : Look) → after c → GrowsTail may_leave tail c
+  pub grows_torn : (held : List ℕ → Type 0) (after : Look → Type 0) → Extends (may_hold tail_name) held → ComesFrom (Written tail_name held) may_leave after → (c : Look) → after c
+      → GrowsTail may_leave tail c
   grows_torn held after extends follows c left =
       let from = follows c left in
       elim from.2.at_name [
@@ -71,7 +72,8 @@ module _ {F : Type 0} (may_leave : F → Look → Type 0) (moment : F → ℕ) (
       (started moment left_since old (GrowsTail (may_leave old) tail) (λ c left. grows_none may_hold (may_leave old) entry_kept tail kept c (only c left)))
       time (grows_torn may_hold (may_leave old) entry_kept tail kept held (may_leave mid) extends follows)
 
-  pub run_synced : (new : F) → NoMore (may_leave mid) (may_leave new) → Elapses (moment mid) (moment new) (left_since mid) (left_since new) (may_leave new) → LeavesOnly moment left_since old new (GrowsTail (may_leave old) tail)
+  pub run_synced : (new : F) → NoMore (may_leave mid) (may_leave new) → Elapses (moment mid) (moment new) (left_since mid) (left_since new) (may_leave new)
+      → LeavesOnly moment left_since old new (GrowsTail (may_leave old) tail)
   run_synced new no_more time' =
       goes_on moment left_since old mid new (GrowsTail (may_leave old) tail) (may_leave new) run_appended time'
       (λ c left. grows_torn may_hold (may_leave old) entry_kept tail kept held (may_leave mid) extends follows c (no_more c left))

@@ -10,7 +10,8 @@ abbrev pub firsts : List Part → List ℕ
 firsts parts = map (λ part. part.first) parts
 
 module _ (old c : Look) where
-  each_stays : (parts : List Part) → AllByRecursion (λ part. c (segment_name part.first) ≡ old (segment_name part.first)) parts → AllByRecursion (HasSegment old) parts → AllByRecursion (HasSegment c) parts
+  each_stays : (parts : List Part) → AllByRecursion (λ part. c (segment_name part.first) ≡ old (segment_name part.first)) parts → AllByRecursion (HasSegment old) parts
+      → AllByRecursion (HasSegment c) parts
   each_stays [] same all = tt
   each_stays (part ∷ parts) same all = ((all.0.0, all.0.1, same.0 ∙ all.0.2), each_stays parts same.1 all.1)
 
@@ -28,5 +29,6 @@ module _ (old c : Look) where
   }
 
 -- only the tail changed, and files that are no log's
-pub other_tail : (segments : List Part) (tail file : List ℕ) (old c : Look) → Holds segments tail old → ((k : ℕ) → c (segment_name k) ≡ old (segment_name k)) → c tail_name ≡ Some file → Holds segments file c
+pub other_tail : (segments : List Part) (tail file : List ℕ) (old c : Look) → Holds segments tail old → ((k : ℕ) → c (segment_name k) ≡ old (segment_name k)) → c tail_name ≡ Some file
+    → Holds segments file c
 other_tail segments tail file old c held same is = same_segments old c segments tail file held (all_same old c segments same) (λ k low. same k) is

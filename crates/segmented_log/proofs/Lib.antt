@@ -13,6 +13,7 @@ pub mod NoLogLemmas
 pub mod NumberLemmas
 pub mod OpeningLemmas
 pub mod PartLemmas
+pub mod PlaceLemmas
 pub mod ReadLemmas
 pub mod RefusalLemmas
 pub mod RestLemmas

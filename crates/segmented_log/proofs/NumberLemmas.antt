@@ -67,7 +67,8 @@ numbers_same names numbers name other known = record {
 }
 
 -- a segment's name
-pub numbers_more : (names : List (List ℕ)) (numbers name new : List ℕ) (number : ℕ) → name ≡ segment_name number → number < 2 ^ 64 → new ≡ numbers ++ number ∷ [] → AreNumbersIn names numbers → AreNumbersIn (names ++ name ∷ []) new
+pub numbers_more : (names : List (List ℕ)) (numbers name new : List ℕ) (number : ℕ) → name ≡ segment_name number → number < 2 ^ 64 → new ≡ numbers ++ number ∷ [] → AreNumbersIn names numbers
+    → AreNumbersIn (names ++ name ∷ []) new
 numbers_more names numbers name new number is fits new_is known = record {
   each = λ k low among. subst (λ (l : List ℕ). Contains l k) (sym new_is) (⊎_elim
       (λ before. Contains-append_left numbers (number ∷ []) k (known.each k low before))

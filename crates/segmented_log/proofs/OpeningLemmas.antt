@@ -45,7 +45,8 @@ pub keeps_same : (seen c : Look) → ((n : List ℕ) → c n ≡ seen n) → Kee
 keeps_same seen c same = record { same = λ first all log. log_same first all seen c same log; begun = λ blank. inl (blank_same seen c same blank) }
 
 -- a log of no records
-new_log : (d c : Look) (file : List ℕ) → IsBlank d → ((k : ℕ) → c (segment_name k) ≡ d (segment_name k)) → c tail_name ≡ Some file → IsTail file → first_of file ≡ 0 → records_of file ≡ [] → IsLog 0 [] c
+new_log : (d c : Look) (file : List ℕ) → IsBlank d → ((k : ℕ) → c (segment_name k) ≡ d (segment_name k)) → c tail_name ≡ Some file → IsTail file → first_of file ≡ 0 → records_of file ≡ []
+    → IsLog 0 [] c
 new_log d c file blank same is is_tail first none = record {
   segments = [];
   tail = file;
@@ -77,7 +78,8 @@ module _ (seen : Look) (before : Look → Type 0) (restarted : (c : Look) → be
   }
 
   -- a tail is made
-  pub keeps_begun : (file : List ℕ) → seen tail_name ≡ None → IsTail file → first_of file ≡ 0 → records_of file ≡ [] → (c : Look) → IsOldOrWhole before (tail_name ++ part) tail_name (Some file) c → KeepsLog seen c
+  pub keeps_begun : (file : List ℕ) → seen tail_name ≡ None → IsTail file → first_of file ≡ 0 → records_of file ≡ [] → (c : Look) → IsOldOrWhole before (tail_name ++ part) tail_name (Some file) c
+      → KeepsLog seen c
   keeps_begun file had is_tail first none c o = record {
     same = λ n all log. absurd (none_some log.tail (sym had ∙ log.holds.tail_is));
     begun = λ blank. ⊎_elim

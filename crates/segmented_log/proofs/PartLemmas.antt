@@ -70,7 +70,8 @@ module _ (first : ℕ) (segments : List Part) (tail : List ℕ) (parts : ArePart
     reaches = omega (arith, parts.reaches, first_same, ap length more, length-append (records_of tail) added);
   }
 
-  pub more_slots : (file : List ℕ) (added : List (List ℕ)) → first_of file ≡ first_of tail → records_of file ≡ records_of tail ++ added → log_slots first segments file ≡ log_slots first segments tail ++ map doc added
+  pub more_slots : (file : List ℕ) (added : List (List ℕ)) → first_of file ≡ first_of tail → records_of file ≡ records_of tail ++ added
+      → log_slots first segments file ≡ log_slots first segments tail ++ map doc added
   more_slots file added first_same more =
       let k = end_from first segments - first_of tail in
       let all : tail_slots file ≡ tail_slots tail ++ map doc added = ap (λ (l : List (List ℕ)). map doc l) more ∙ map-append doc (records_of tail) added in

@@ -1,5 +1,6 @@
 -- Which part of a log has a slot.
-use Rattle.std.proofs.Common.{◌≡◌, ℕ, zero, suc, ◌+◌, ◌-◌, ◌<◌, ◌≤◌, max, List, [], ◌∷◌, ◌++◌, length, drop, take, map, get_or, Option, Some, None, refl, sym, ◌∙◌, ap, subst, arith, length-append, length-drop}
+use Rattle.std.proofs.Common.{◌≡◌, ℕ, zero, suc, ◌+◌, ◌-◌, ◌<◌, ◌≤◌, max, List, [], ◌∷◌, ◌++◌, length, drop, take, map, get_or, Option, Some, None, refl, sym}
+use Rattle.std.proofs.Common.{◌∙◌, ap, subst, arith, length-append, length-drop}
 use Rattle.std.specs.Prelude.{slice_get, nat_le, All, option_map}
 use Rattle.std.proofs.Common.{set}
 use Rattle.std.proofs.lemmas.List.{length-map, get_or-map, take-map, map-set, set-get_or}
@@ -46,7 +47,8 @@ joined_size n (p ∷ parts) line =
     )
 
 -- the first part that ends after a number has its slot
-pub slot_found : (n : ℕ) (parts : List Part) (i number : ℕ) (d : Part) → AreInLine n parts → n ≤ number → i < length parts → All (λ p. end_of p ≤ number) (take i parts) → number < end_of (get_or parts i d)
+pub slot_found : (n : ℕ) (parts : List Part) (i number : ℕ) (d : Part) → AreInLine n parts → n ≤ number → i < length parts → All (λ p. end_of p ≤ number) (take i parts)
+    → number < end_of (get_or parts i d)
     → ((get_or parts i d).first ≤ number) × (slice_get (joined n parts) (number - n) ≡ slice_get (get_or parts i d).slots (number - (get_or parts i d).first))
 slot_found n [] i number d line le within before now = absurd (omega arith)
 slot_found n (p ∷ parts) zero number d line le within before now =
@@ -159,7 +161,8 @@ module _ (first : ℕ) (segments : List Part) (tail : List ℕ) (parts : ArePart
       ∙ slice_get-map doc (records_of tail) (number - first_of tail)
 
   -- what is read of the tail at a place
-  pub slot_read : (places : List Place) (place : Place) (bytes : List ℕ) (number : ℕ) → contents tail places ≡ records_of tail → end_from first segments ≤ number → number - first_of tail < length places
+  pub slot_read : (places : List Place) (place : Place) (bytes : List ℕ) (number : ℕ) → contents tail places ≡ records_of tail → end_from first segments ≤ number
+      → number - first_of tail < length places
       → place ≡ get_or places (number - first_of tail) place → bytes ≡ content tail place → slot_at first (log_slots first segments tail) number ≡ Some (doc bytes)
   slot_read places place bytes number known high within is read =
       let i = number - first_of tail in

@@ -16,11 +16,12 @@ module _ (bytes old moved cut new : List ℕ) (end len : ℕ) (len_is : length o
       ap (λ (l : List ℕ). drop (length bytes) l) cut_is
       ∙ drop-take (length bytes) size moved
       ∙ ap (λ (l : List ℕ). take size (drop (length bytes) l)) (moved_is ∙ append_assoc (take (length bytes) old) (take size rest) (drop (length bytes + size) old))
-      ∙ ap (λ (l : List ℕ). take size l) (drop_at (take (length bytes) old) (take size rest ++ drop (length bytes + size) old) (length bytes) (length-take-le (length bytes) old (omega (arith, within, short))))
+      ∙ ap (λ (l : List ℕ). take size l) (drop_at (take (length bytes) old) (take size rest ++ drop (length bytes + size) old) (length bytes)
+      (length-take-le (length bytes) old (omega (arith, within, short))))
       ∙ take_at (take size rest) (drop (length bytes + size) old) size (length-take-le size rest (omega (arith, len_is, length-drop end old)))
       ∙ take_all size rest (omega (arith, len_is, length-drop end old))
 
-  kept : new ≡ bytes ++ rest
+  pub kept : new ≡ bytes ++ rest
   kept = new_is ∙ ap (λ (l : List ℕ). bytes ++ l) moved_down
 
   pub restarted_bytes : take (length bytes) new ≡ bytes

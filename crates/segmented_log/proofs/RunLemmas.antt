@@ -1,5 +1,6 @@
 -- Lists of calls on a log in a folder, one call more.
-use Rattle.std.proofs.Common.{◌≡◌, ◌<◌, ◌≤◌, inl, inr, ⊎_elim, ℕ, zero, suc, ◌+◌, max, List, [], ◌∷◌, ◌++◌, length, get_or, take, drop, map, refl, sym, ◌∙◌, ap, subst, arith, append_assoc, length-append, take-append-drop}
+use Rattle.std.proofs.Common.{◌≡◌, ◌<◌, ◌≤◌, inl, inr, ⊎_elim, ℕ, zero, suc, ◌+◌, max, List, [], ◌∷◌, ◌++◌, length, get_or, take, drop, map, refl, sym, ◌∙◌, ap}
+use Rattle.std.proofs.Common.{subst, arith, append_assoc, length-append, take-append-drop}
 use Rattle.std.specs.Prelude.{Result, Ok, Err, OnErr}
 use Rattle.std.specs.List.{Contains}
 use Rattle.std.proofs.lemmas.List.{append-nil, length-map, map-append, drop_more, take_more}
@@ -92,7 +93,8 @@ makes_none pending first kept = subst (λ (l : List Slot). IsRest first l 0 firs
 
 pub only_drops_remove : OnlyDropsRemove
 only_drops_remove calls pending first kept new_first rest none makes =
-    rest_whole first (dropped_by (first + length kept) pending calls) new_first (kept ++ slots_of (batches_by pending calls)) rest makes (omega (arith, none_dropped (first + length kept) pending calls none))
+    rest_whole first (dropped_by (first + length kept) pending calls) new_first (kept ++ slots_of (batches_by pending calls)) rest makes
+    (omega (arith, none_dropped (first + length kept) pending calls none))
 
 -- calls after calls
 pub makes_more : (pending waits : Records) (a b : List Call) (first mid last : ℕ) (kept some few : List Slot) → Makes a pending first kept mid some
@@ -168,7 +170,8 @@ begins_later commit pending waits a b more first mid kept some c one same has = 
 }
 
 -- the same, of a log that is called by its numbers, slots and records
-pub begins_from : (commit by : Commit) (first other : ℕ) (kept slots : List Slot) (pending waits : Records) (calls : List Call) (c : Look) → by ≡ commit → other ≡ first → slots ≡ kept → waits ≡ pending
+pub begins_from : (commit by : Commit) (first other : ℕ) (kept slots : List Slot) (pending waits : Records) (calls : List Call) (c : Look) → by ≡ commit → other ≡ first → slots ≡ kept
+    → waits ≡ pending
     → HasBeginning by other slots waits calls c → HasBeginning commit first kept pending calls c
 begins_from commit by first other kept slots pending waits calls c same_commit same same_slots same_waits has =
     subst (λ (k : Commit). HasBeginning k first kept pending calls c) same_commit
@@ -226,6 +229,7 @@ module _ (calls : List Call) (i : ℕ) (item : Call) (within : i < length calls)
           omega (arith, rest_ends first (dropped_by begins pending (take i calls)) mid (kept ++ before) some so_far, length-append kept before) in
           let now : dropped_by (mid + length some) waits (item ∷ []) ≡ dropped_by (begins + length before) (pending_by pending (take i calls)) (item ∷ []) =
           ap (λ (n : ℕ). dropped_by n waits (item ∷ [])) ends ∙ ap (λ (p : Records). dropped_by (begins + length before) p (item ∷ [])) waits_is in
-          let all : dropped_by begins pending (take i calls ++ item ∷ []) ≤ dropped_by begins pending calls = subst (λ (l : List Call). dropped_by begins pending (take i calls ++ item ∷ []) ≤ dropped_by begins pending l) (
+          let all : dropped_by begins pending (take i calls ++ item ∷ []) ≤ dropped_by begins pending calls = subst
+          (λ (l : List Call). dropped_by begins pending (take i calls ++ item ∷ []) ≤ dropped_by begins pending l) (
           append_assoc (take i calls) (item ∷ []) (drop (i + 1) calls) ∙ sym whole) (dropped_by-more begins pending (take i calls ++ item ∷ []) (drop (i + 1) calls)) in
           omega (arith, reaches, so_far.before, now, dropped_by-append begins pending (take i calls) (item ∷ []), all)

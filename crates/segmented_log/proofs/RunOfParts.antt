@@ -133,7 +133,8 @@ covered_left f xs first place v =
     ∙ (λ i. sym (take-map f place xs) i ++ sym (drop-map f (suc place) xs) i)
     ∙ ap (λ (m : List Part). take place m ++ drop (suc place) m) v.split
     ∙ ap (λ (m : List Part). m ++ drop (suc place) l) (take_at v.before (v.covered ∷ v.after) place v.place_is)
-    ∙ ap (λ (m : List Part). v.before ++ m) (ap (λ (n : ℕ). drop n l) (sym next) ∙ sym (drop-drop 1 place l) ∙ ap (λ (m : List Part). drop 1 m) (drop_at v.before (v.covered ∷ v.after) place v.place_is))
+    ∙ ap (λ (m : List Part). v.before ++ m) (ap (λ (n : ℕ). drop n l) (sym next) ∙ sym (drop-drop 1 place l)
+    ∙ ap (λ (m : List Part). drop 1 m) (drop_at v.before (v.covered ∷ v.after) place v.place_is))
 
 module _ (first : ℕ) (parts : List Part) (tail : List ℕ) (place : ℕ) (v : IsCovered first parts place) (a : AreParts first parts tail) where
   cut : AreParts first (v.before ++ v.covered ∷ v.after) tail

@@ -26,7 +26,8 @@ pub record ScannedTo (first end least : ℕ) (parts : List Part) : Type 0 where
 pub scanned_none : (first : ℕ) → ScannedTo first first first []
 scanned_none first = record { end_is = refl; line = tt; ascend = tt; least_is = refl }
 
-pub scanned_more : (first end least : ℕ) (parts more : List Part) (p : Part) (now then : ℕ) → more ≡ parts ++ p ∷ [] → ScannedTo first end least parts → p.first ≤ end → least ≤ p.first → 0 < length p.slots
+pub scanned_more : (first end least : ℕ) (parts more : List Part) (p : Part) (now then : ℕ) → more ≡ parts ++ p ∷ [] → ScannedTo first end least parts → p.first ≤ end → least ≤ p.first
+    → 0 < length p.slots
     → now ≡ max end (end_of p) → then ≡ p.first + 1 → ScannedTo first now then more
 scanned_more first end least parts more p now then more_is s at above some now_is then_is =
     let grown : ScannedTo first now then (parts ++ p ∷ []) = record {

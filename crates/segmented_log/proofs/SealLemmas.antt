@@ -20,7 +20,8 @@ use Rattle.segmented_log.proofs.HoldLemmas.{firsts, same_segments, other_tail}
 use Rattle.segmented_log.proofs.PartLemmas.{next_segment, unsealed, sealed_parts, sealed_slots, emptied_parts, emptied_slots, begin_before}
 
 -- the part of a tail's records that no segment has
-pub unsealed_part : (first sealed tail_first from : ℕ) (segments : List Part) (tail : List ℕ) (places : List Place) → sealed ≡ end_from first segments → tail_first ≡ first_of tail → from ≡ sealed - tail_first
+pub unsealed_part : (first sealed tail_first from : ℕ) (segments : List Part) (tail : List ℕ) (places : List Place) → sealed ≡ end_from first segments → tail_first ≡ first_of tail
+    → from ≡ sealed - tail_first
     → contents tail places ≡ records_of tail → part_at sealed tail (drop from places) ≡ next_segment first segments tail
 unsealed_part first sealed tail_first from segments tail places sealed_is first_is from_is records =
     let k : from ≡ end_from first segments - first_of tail = omega (arith, sealed_is, first_is, from_is) in
@@ -29,7 +30,8 @@ unsealed_part first sealed tail_first from segments tail places sealed_is first_
     λ i. record { first = sealed_is i; slots = (all ∙ ap (λ (n : ℕ). drop n (tail_slots tail)) k) i }
 
 -- one segment more
-module _ (old c : Look) (segments : List Part) (tail : List ℕ) (segment : Part) (held : Holds segments tail old) (others : (k : ℕ) → k ≢ segment.first → k < 2 ^ 64 → c (segment_name k) ≡ old (segment_name k))
+module _ (old c : Look) (segments : List Part) (tail : List ℕ) (segment : Part) (held : Holds segments tail old)
+    (others : (k : ℕ) → k ≢ segment.first → k < 2 ^ 64 → c (segment_name k) ≡ old (segment_name k))
     (below : AllByRecursion (λ part. part.first < segment.first) segments) (low : segment.first < 2 ^ 64) (has : HasSegment c segment) (is : c tail_name ≡ Some tail) where
   each_more : (parts : List Part) → AllByRecursion (λ part. part.first < segment.first) parts → AllByRecursion (HasSegment old) parts → AllByRecursion (HasSegment c) (parts ++ segment ∷ [])
   each_more [] lower all = (has, tt)
@@ -81,7 +83,8 @@ module _ (first : ℕ) (segments : List Part) (tail : List ℕ) (parts : ArePart
     holds = held;
   }
 
-  same_log : (old c : Look) → Holds segments tail old → ElsewhereOfBoth beside (segment_name new.first) old c → c (segment_name new.first) ≡ old (segment_name new.first) → IsLog first (log_slots first segments tail) c
+  same_log : (old c : Look) → Holds segments tail old → ElsewhereOfBoth beside (segment_name new.first) old c → c (segment_name new.first) ≡ old (segment_name new.first)
+      → IsLog first (log_slots first segments tail) c
   same_log old c held elsewhere same = record {
     segments = segments;
     tail = tail;
@@ -135,7 +138,8 @@ module _ (first : ℕ) (segments : List Part) (tail file : List ℕ) (parts : Ar
     holds = held;
   }
 
-  pub replaced_log : (before : Look → Type 0) → ((c : Look) → before c → Holds segments tail c) → (c : Look) → IsOldOrWhole before (tail_name ++ part) tail_name (Some file) c → IsLog first (log_slots first segments tail) c
+  pub replaced_log : (before : Look → Type 0) → ((c : Look) → before c → Holds segments tail c) → (c : Look) → IsOldOrWhole before (tail_name ++ part) tail_name (Some file) c
+      → IsLog first (log_slots first segments tail) c
   replaced_log before held c o =
       let was = held o.old o.was in
       let names = λ (k : ℕ). o.elsewhere (segment_name k) (segment_no_tail_beside k) (segment_no_tail k) in
@@ -150,7 +154,8 @@ module _ (first : ℕ) (segments : List Part) (tail file : List ℕ) (parts : Ar
       (λ is. emptied_log c (other_tail segments tail file o.old c was names is)) o.at_name
 
 -- the tail is another file
-pub replaced_outcomes : (segments : List Part) (tail file : List ℕ) (before after : Look → Type 0) → ((c : Look) → before c → Holds segments tail c) → ComesFrom (ElsewhereOfBoth (tail_name ++ part) tail_name) before after
+pub replaced_outcomes : (segments : List Part) (tail file : List ℕ) (before after : Look → Type 0) → ((c : Look) → before c → Holds segments tail c)
+    → ComesFrom (ElsewhereOfBoth (tail_name ++ part) tail_name) before after
     → ((c : Look) → after c → c tail_name ≡ Some file) → (c : Look) → after c → Holds segments file c
 replaced_outcomes segments tail file before after held follows is c left =
     let from = follows c left in

@@ -14,7 +14,8 @@ use Rattle.segmented_log.specs.Settled.{part_at, AddsSegment, IsOnDisk, IsSettle
 use Rattle.segmented_log.proofs.PartLemmas.{next_segment, unsealed, unsealed_size, sealed_end, sealed_parts, sealed_slots}
 use Rattle.segmented_log.proofs.SealLemmas.{unsealed_part, adds_log, added_outcomes, tail_stays}
 
-module _ (sealed tail_first next : ℕ) (tail : List ℕ) (places : List Place) (pending : List ℕ) (s : IsSettledTail sealed tail_first next tail places pending) (end from : ℕ) (end_is : end ≡ tail_first + length places) (more : sealed < end) (from_is : from ≡ sealed - tail_first) where
+module _ (sealed tail_first next : ℕ) (tail : List ℕ) (places : List Place) (pending : List ℕ)
+    (s : IsSettledTail sealed tail_first next tail places pending) (end from : ℕ) (end_is : end ≡ tail_first + length places) (more : sealed < end) (from_is : from ≡ sealed - tail_first) where
   size : length places ≡ length (records_of tail)
   size = omega (arith, ap length s.records, length-map places (content tail))
 
@@ -33,7 +34,8 @@ module _ (sealed tail_first next : ℕ) (tail : List ℕ) (places : List Place) 
     small = s.small;
   }
 
-  module _ (first : ℕ) (segments : List Part) (parts : AreParts first segments tail) (sealed_is : sealed ≡ end_from first segments) (unsealed_places : List Place) (rest_is : unsealed_places ≡ drop from places) where
+  module _ (first : ℕ) (segments : List Part) (parts : AreParts first segments tail) (sealed_is : sealed ≡ end_from first segments) (unsealed_places : List Place)
+      (rest_is : unsealed_places ≡ drop from places) where
     abbrev new : Part
     new = next_segment first segments tail
 
@@ -51,14 +53,16 @@ module _ (sealed tail_first next : ℕ) (tail : List ℕ) (places : List Place) 
     high : tail_end tail < 2 ^ 64
     high = omega (arith, ends, end_is, s.next_is, s.fits)
 
-    pub segment_log : (before : Look → Type 0) → ((c : Look) → before c → Holds segments tail c) → (c : Look) → AddsSegment before (part_at sealed tail unsealed_places) c → IsLog first (log_slots first segments tail) c
+    pub segment_log : (before : Look → Type 0) → ((c : Look) → before c → Holds segments tail c) → (c : Look) → AddsSegment before (part_at sealed tail unsealed_places) c
+        → IsLog first (log_slots first segments tail) c
     segment_log before held c adds = adds_log first segments tail parts some high before held c (subst (λ (p : Part). AddsSegment before p c) part_is adds)
 
     pub slots_segment : (p : Part) → p ≡ part_at sealed tail unsealed_places → log_slots first (segments ++ p ∷ []) tail ≡ log_slots first segments tail
     slots_segment p is = ap (λ (q : Part). log_slots first (segments ++ q ∷ []) tail) (is ∙ part_is) ∙ sealed_slots first segments tail parts some high
 
     pub folder_segment : (p : Part) → p ≡ part_at sealed tail unsealed_places → (old_hold new_hold : List ℕ → List ℕ → Type 0) (before after : Look → Type 0) (old_entry new_entry : List ℕ → Type 0)
-        → IsOnDisk old_hold before old_entry segments tail → ((c : Look) → after c → HasSegment c (part_at sealed tail unsealed_places)) → FilesElsewhereOfBoth (segment_name sealed ++ part) (segment_name sealed) old_hold new_hold
+        → IsOnDisk old_hold before old_entry segments tail → ((c : Look) → after c → HasSegment c (part_at sealed tail unsealed_places))
+        → FilesElsewhereOfBoth (segment_name sealed ++ part) (segment_name sealed) old_hold new_hold
         → ((n : List ℕ) → new_entry n) → ComesFrom (ElsewhereOfBoth (segment_name sealed ++ part) (segment_name sealed)) before after
         → IsSettledFolder new_hold after new_entry first end (segments ++ p ∷ []) tail
     folder_segment p is old_hold new_hold before after old_entry new_entry disk has files entries follows =

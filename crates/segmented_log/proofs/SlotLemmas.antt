@@ -44,7 +44,8 @@ module _ {X : Type 0} (f : X → List Slot) where
 
 -- what holds a slot of the first part or of the others holds one of all
 either : (p : Part) (some all : List Part) (s : Slot) → (Contains (slots_in some) s → Contains (slots_in all) s) → Contains (slots_in (p ∷ some)) s → Contains (slots_in (p ∷ all)) s
-either p some all s more has = ⊎_elim (λ here. Contains-append_left p.slots (slots_in all) s here) (λ there. Contains-append_right p.slots (slots_in all) s (more there)) (Contains-append_cases p.slots (slots_in some) s has)
+either p some all s more has = ⊎_elim (λ here. Contains-append_left p.slots (slots_in all) s here) (λ there. Contains-append_right p.slots (slots_in all) s (more there))
+    (Contains-append_cases p.slots (slots_in some) s has)
 
 module _ {X : Type 0} (f : X → Part) (s : Slot) where
   in_taken : (n : ℕ) (xs : List X) → Contains (slots_in (map f (take n xs))) s → Contains (slots_in (map f xs)) s
@@ -74,7 +75,8 @@ in_joined parts place count r s has = subst (λ (l : List Part). Contains (slots
     in_run : Contains (slots_in r.run) s → Contains (slots_in (r.run ++ r.after)) s
     in_run in_it = subst (λ (l : List Slot). Contains l s) (sym (flat_map-append (λ p. p.slots) r.run r.after)) (Contains-append_left (slots_in r.run) (slots_in r.after) s in_it)
 
-    by : (some : List Part) → Contains (slots_in (some ++ record { first = r.head.first; slots = r.head.slots ++ slots_in r.run } ∷ (r.run ++ r.after))) s → Contains (slots_in (some ++ r.head ∷ (r.run ++ r.after))) s
+    by : (some : List Part) → Contains (slots_in (some ++ record { first = r.head.first; slots = r.head.slots ++ slots_in r.run } ∷ (r.run ++ r.after))) s
+        → Contains (slots_in (some ++ r.head ∷ (r.run ++ r.after))) s
     by [] in_it = ⊎_elim
         (λ one. ⊎_elim
         (λ here. Contains-append_left r.head.slots (slots_in (r.run ++ r.after)) s here)

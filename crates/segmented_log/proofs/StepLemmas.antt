@@ -65,7 +65,8 @@ run_taken parts place count r =
 
 -- how many slots it has
 pub few_at : {X : Type 0} (f : X → Part) (xs others : List X) (i count : ℕ) (x : X) → i < length xs → x ≡ get_or xs i x → others ≡ drop (suc i) xs → count ≤ length others
-    → AreNext (end_of (f x)) (map f (take count others)) → length (f x).slots + length (slots_in (map f (take count others))) < 2 ^ 32 → length (slots_in (take (count + 1) (drop i (map f xs)))) < 2 ^ 32
+    → AreNext (end_of (f x)) (map f (take count others)) → length (f x).slots + length (slots_in (map f (take count others))) < 2 ^ 32
+    → length (slots_in (take (count + 1) (drop i (map f xs)))) < 2 ^ 32
 unfolding run_at
 few_at f xs others i count x within is rest some next few =
     let taken = run_taken (map f xs) i count (run_at f xs others i count x within is rest some next) in
@@ -83,7 +84,8 @@ slots_more parts more p is =
     )
 
 -- a thing that covers the first of those after it
-pub covers_at : {X : Type 0} (f : X → Part) (xs others : List X) (i : ℕ) (x : X) → i < length xs → x ≡ get_or xs i x → others ≡ drop (suc i) xs → CoversFirst (f x) (map f others) → CoversNext (map f xs) i
+pub covers_at : {X : Type 0} (f : X → Part) (xs others : List X) (i : ℕ) (x : X) → i < length xs → x ≡ get_or xs i x → others ≡ drop (suc i) xs → CoversFirst (f x) (map f others)
+    → CoversNext (map f xs) i
 covers_at {X} f xs others i x within is rest covers = by others rest covers
   where
     by : (some : List X) → some ≡ drop (suc i) xs → CoversFirst (f x) (map f some) → CoversNext (map f xs) i
@@ -158,7 +160,8 @@ first_after g (x ∷ []) zero b got = absurd (none_some b got)
 first_after g (x ∷ y ∷ ys) zero b got = (y, ys, refl, sym (some_is (g y) b got))
 first_after g (x ∷ xs) (suc i) b got = first_after g xs i b got
 
-pub apart_more : {X : Type 0} (f : X → Part) (g : X → Sealed) → ((y : X) → (g y).part ≡ f y) → (size : ℕ) (xs others : List X) (i : ℕ) (x : X) → i < length xs → x ≡ get_or xs i x → others ≡ drop (suc i) xs
+pub apart_more : {X : Type 0} (f : X → Part) (g : X → Sealed) → ((y : X) → (g y).part ≡ f y) → (size : ℕ) (xs others : List X) (i : ℕ) (x : X) → i < length xs → x ≡ get_or xs i x
+    → others ≡ drop (suc i) xs
     → IsPassedByFirst (f x) (map f others) → (CanJoinFirst size (g x) (map g others) → ⊥) → AreApartTo i size (map g xs) → AreApartTo (i + 1) size (map g xs)
 apart_more {X} f g part_is size xs others i x within is rest passed not so_far j a b below here next = by j (i - j) (omega (arith, below)) here next
   where

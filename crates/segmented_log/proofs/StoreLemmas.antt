@@ -12,7 +12,8 @@ some_is : (a b : List ℕ) → Some a ≡ Some b → a ≡ b
 some_is a b e = cc e
 
 -- a file has the slots of one store
-pub same_slots : StoresAreApart → (c : Look) (first : ℕ) (all others : List Slot) → HasSegment c (record { first = first; slots = all }) → HasSegment c (record { first = first; slots = others }) → all ≡ others
+pub same_slots : StoresAreApart → (c : Look) (first : ℕ) (all others : List Slot) → HasSegment c (record { first = first; slots = all }) → HasSegment c (record { first = first; slots = others })
+    → all ≡ others
 same_slots apart c first all others one two =
     let a = one.1 in
     let b = two.1 in

@@ -42,7 +42,8 @@ seam_back whole front back n is at = ap (λ (k : ℕ). drop k whole) at ∙ ap (
 pub new_size : (tail body new : List ℕ) → new ≡ tail ++ 1 ∷ summed body → length new ≡ length tail + 13 + length body
 new_size tail body new new_is = omega (arith, ap length new_is, length-append tail (1 ∷ summed body), length-summed body)
 
-module _ (sealed tail_first next : ℕ) (tail body new : List ℕ) (places : List Place) (s : IsSettledTail sealed tail_first next tail places body) (fits : sum_of body < 2 ^ 64) (new_is : new ≡ tail ++ 1 ∷ summed body) where
+module _ (sealed tail_first next : ℕ) (tail body new : List ℕ) (places : List Place) (s : IsSettledTail sealed tail_first next tail places body) (fits : sum_of body < 2 ^ 64)
+    (new_is : new ≡ tail ++ 1 ∷ summed body) where
   rest : IsAtRest OneSync (length tail) tail
   rest = at_rest tail s.whole
 
@@ -76,12 +77,14 @@ module _ (sealed tail_first next : ℕ) (tail body new : List ℕ) (places : Lis
 
   -- the folder's segments stay
   pub folder_batch : (first : ℕ) (segments : List Part) (old_hold new_hold : List ℕ → List ℕ → Type 0) (before after : Look → Type 0) (old_entry new_entry : List ℕ → Type 0)
-      → IsSettledFolder old_hold before old_entry first sealed segments tail → TailIsKept new_hold after new_entry (tail ++ 1 ∷ summed body) → ComesFrom (ElsewhereOfBoth (tail_name ++ part) tail_name) before after
+      → IsSettledFolder old_hold before old_entry first sealed segments tail → TailIsKept new_hold after new_entry (tail ++ 1 ∷ summed body)
+      → ComesFrom (ElsewhereOfBoth (tail_name ++ part) tail_name) before after
       → IsSettledFolder new_hold after new_entry first sealed segments new
   folder_batch first segments old_hold new_hold before after old_entry new_entry f kept follows =
       let kept_new = subst (λ (l : List ℕ). TailIsKept new_hold after new_entry l) (sym new_is) kept in
       record {
-        parts = more_parts first segments tail f.parts new (records_in body) (subst (λ (l : List ℕ). IsTail l) (sym new_is) (grown_tail tail (1 ∷ summed body) s.whole s.is_tail)) batch_first batch_records;
+        parts = more_parts first segments tail f.parts new (records_in body)
+            (subst (λ (l : List ℕ). IsTail l) (sym new_is) (grown_tail tail (1 ∷ summed body) s.whole s.is_tail)) batch_first batch_records;
         sealed_is = f.sealed_is;
         on_disk = record {
           outcomes = replaced_outcomes segments tail new before after f.on_disk.outcomes follows kept_new.outcomes;
@@ -104,14 +107,16 @@ log_on_disk may_hold may_leave entry_kept first sealed segments tail f c left = 
 }
 
 -- while no call changes the folder, each moment has the same log
-pub log_stays : {D : Type 0} (moment : D → ℕ) (left_since : D → ℕ → Look → Type 0) (may_hold : List ℕ → List ℕ → Type 0) (may_leave : Look → Type 0) (entry_kept : List ℕ → Type 0) (first sealed : ℕ) (segments : List Part)
+pub log_stays : {D : Type 0} (moment : D → ℕ) (left_since : D → ℕ → Look → Type 0) (may_hold : List ℕ → List ℕ → Type 0) (may_leave : Look → Type 0) (entry_kept : List ℕ → Type 0) (first sealed : ℕ)
+    (segments : List Part)
     (tail : List ℕ) → IsSettledFolder may_hold may_leave entry_kept first sealed segments tail → (folder : D) → ((c : Look) → left_since folder (moment folder) c → may_leave c)
     → LeavesOnly moment left_since folder folder (IsLog first (log_slots first segments tail))
 log_stays moment left_since may_hold may_leave entry_kept first sealed segments tail f folder only_now =
     started moment left_since folder _ (λ c left. log_on_disk may_hold may_leave entry_kept first sealed segments tail f c (only_now c left))
 
 -- the numbers of the records that are appended and synced next
-module _ (sealed tail_first next : ℕ) (tail : List ℕ) (places : List Place) (pending : List ℕ) (s : IsSettledTail sealed tail_first next tail places pending) (first : ℕ) (segments : List Part) (parts : AreParts first segments tail) where
+module _ (sealed tail_first next : ℕ) (tail : List ℕ) (places : List Place) (pending : List ℕ) (s : IsSettledTail sealed tail_first next tail places pending) (first : ℕ) (segments : List Part)
+    (parts : AreParts first segments tail) where
   pub tail_number : tail_first + length places ≡ first + length (log_slots first segments tail)
   tail_number = omega (arith, s.first_is, slots_end first segments tail parts, ap length s.records, length-map places (content tail))
 
@@ -119,7 +124,8 @@ module _ (sealed tail_first next : ℕ) (tail : List ℕ) (places : List Place) 
   next_number = omega (arith, s.next_is, tail_number)
 
 -- an empty tail after segments that have all records
-module _ (sealed tail_first next : ℕ) (tail : List ℕ) (places : List Place) (pending : List ℕ) (s : IsSettledTail sealed tail_first next tail places pending) (file : List ℕ) (end : ℕ) (end_is : end ≡ tail_first + length places) (sealed_is : sealed ≡ end)
+module _ (sealed tail_first next : ℕ) (tail : List ℕ) (places : List Place) (pending : List ℕ) (s : IsSettledTail sealed tail_first next tail places pending) (file : List ℕ) (end : ℕ)
+    (end_is : end ≡ tail_first + length places) (sealed_is : sealed ≡ end)
     (is_tail : IsTail file) (begins : first_of file ≡ end) (none : records_of file ≡ []) (whole : IsWholeTo (length file) file) where
   places_size : length places ≡ length (records_of tail)
   places_size = omega (arith, ap length s.records, length-map places (content tail))
@@ -159,7 +165,8 @@ pub both_on_false : (b : Bool) (A B : Type 0) → A → B → OnFalse b (A × B)
 both_on_false b A B one two = OnFalse_from b (A × B) (λ works. (one, two))
 
 -- where the tail ends
-pub tail_is_there : (sealed tail_first next : ℕ) (tail : List ℕ) (places : List Place) (pending : List ℕ) → IsSettledTail sealed tail_first next tail places pending → tail_end tail ≡ tail_first + length places
+pub tail_is_there : (sealed tail_first next : ℕ) (tail : List ℕ) (places : List Place) (pending : List ℕ) → IsSettledTail sealed tail_first next tail places pending
+    → tail_end tail ≡ tail_first + length places
 tail_is_there sealed tail_first next tail places pending s = omega (arith, s.first_is, ap length s.records, length-map places (content tail))
 
 pub always_ok : {T E P : Type 0} (r : Result T E) → P → OnOk r P

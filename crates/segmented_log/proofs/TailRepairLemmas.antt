@@ -17,7 +17,8 @@ some_is : (a b : List ℕ) → Some a ≡ Some b → a ≡ b
 some_is a b e = cc e
 
 -- the tail that is there, after a restart
-pub kept_restarted : (seen : Look) (may_hold : List ℕ → List ℕ → Type 0) (may_leave : Look → Type 0) (entry_kept : List ℕ → Type 0) (bytes : List ℕ) → IsRestarted seen may_hold may_leave entry_kept → seen tail_name ≡ Some bytes
+pub kept_restarted : (seen : Look) (may_hold : List ℕ → List ℕ → Type 0) (may_leave : Look → Type 0) (entry_kept : List ℕ → Type 0) (bytes : List ℕ) → IsRestarted seen may_hold may_leave entry_kept
+    → seen tail_name ≡ Some bytes
     → TailIsKept may_hold may_leave entry_kept bytes
 kept_restarted seen may_hold may_leave entry_kept bytes r is = record {
   file = λ all held. some_is all bytes (sym (r.files tail_name all held) ∙ is);

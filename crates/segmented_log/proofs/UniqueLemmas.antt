@@ -52,7 +52,8 @@ same_parts apart c n (p ∷ parts) (q ∷ others) up up' in' in'' has has' =
     λ i. record { first = first i; slots = slots i } ∷ rest i
 
 -- a segment that is there is known
-known_all : (c : Look) (segments : List Part) (tail : List ℕ) (parts : List Part) (end : ℕ) → end < 2 ^ 64 → AllByRecursion (λ part. part.first < end) parts → AllByRecursion (HasSegment c) parts → Holds segments tail c → AreAmong parts segments
+known_all : (c : Look) (segments : List Part) (tail : List ℕ) (parts : List Part) (end : ℕ) → end < 2 ^ 64 → AllByRecursion (λ part. part.first < end) parts → AllByRecursion (HasSegment c) parts
+    → Holds segments tail c → AreAmong parts segments
 known_all c segments tail [] end low below has held = tt
 known_all c segments tail (p ∷ parts) end low below has held = (
   ⊎_elim (λ none. absurd (there has.0.0 (sym none ∙ has.0.2))) (λ among. among) (held.no_others p.first (omega (arith, below.0, low))),

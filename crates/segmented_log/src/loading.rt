@@ -211,7 +211,7 @@ impl<F: ReadableFolder> SegmentedLog<F> {
                     sealed,
                     tail_first,
                     segments,
-                    tail: TailBuffer::new(bytes),
+                    tail: TailBuffer::new(alloc, bytes),
                     places,
                     next,
                     is_broken: false,

@@ -15,7 +15,7 @@ ghost use Rattle.record_log.specs.Causes.{IsFault, IsOfSyncs};
 use crate::log::SegmentedLog;
 use crate::segment::add_segment;
 use crate::tail_file::{replace_tail, write_batch};
-use record_log::batches::{BATCH_HEADER, HEADER, place_records};
+use record_log::batches::HEADER;
 use record_log::{LogError, new_tail};
 use store_folder::ReadableFolder;
 
@@ -47,7 +47,7 @@ impl<F: ReadableFolder> SegmentedLog<F> {
         // A call that fails leaves the log so.
         self.is_broken = true;
         let end = self.tail.len();
-        place_records(self.tail.pending(), end + BATCH_HEADER, &mut self.places)?;
+        self.tail.place_batch(&mut self.places)?;
         self.tail.take_batch();
         write_batch(&mut self.folder, self.commit, self.tail.bytes(), end)?;
         self.is_broken = false;

@@ -1,10 +1,13 @@
 //! The bytes of a tail in memory, and the batch that waits after them.
 
-ghost use Rattle.std.specs.Prelude.{◌≡◌, ◌≤◌, ◌<◌, ◌+◌, ◌^◌, ◌++◌, ◌∷◌, [], length, drop, OnOk, OnErr};
+ghost use Rattle.std.specs.Prelude.{◌≡◌, ◌⊎◌, ◌≤◌, ◌<◌, ◌+◌, ◌-◌, ◌^◌, ◌++◌, ◌∷◌, [], length, take, drop, map, All};
+ghost use Rattle.std.specs.Prelude.{OnOk, OnErr};
+ghost use Rattle.record_log.specs.Place.{EndsBy, AddsRecords};
 ghost use Rattle.record_log.specs.Tail.{framed, sum_of, summed};
+ghost use Rattle.segmented_log.specs.TailBuffer.{moved};
 
-use record_log::batches::{BATCH_HEADER, add_record, batch_header};
-use std::alloc::AllocError;
+use record_log::batches::{BATCH_HEADER, Place, add_record, batch_header};
+use std::alloc::{AllocError, Global};
 use std::marker::Model;
 
 /// A tail, and after it in the same memory the batch that the next sync writes: so a record is copied once.
@@ -14,12 +17,14 @@ pub(crate) struct TailBuffer {
     bytes: Vec<u8>,
     // Where the tail ends.
     end: usize,
+    // Where the records of the batch lie in its body. `add_record` knows their lengths, so no sync reads them again.
+    places: Vec<Place>,
 }
 
 /// Clauses see the tail's bytes, and the body of the batch.
 impl Model for TailBuffer {
     ghost use Rattle.std.specs.Prelude.{◌≡◌, ◌⊎◌, ◌≤◌, ◌+◌, length, take, drop};
-    ghost use Rattle.segmented_log.specs.TailBuffer.{TailView};
+    ghost use Rattle.segmented_log.specs.TailBuffer.{TailView, ArePlacesIn};
 
     ghost Value = { TailView };
 
@@ -28,7 +33,8 @@ impl Model for TailBuffer {
       pending = drop (t.end + 13) t.bytes.items;
     } };
 
-    ghost invariant = { λ t. (length t.bytes.items ≡ t.end) ⊎ (t.end + 13 ≤ length t.bytes.items) };
+    ghost invariant = { λ t. ((length t.bytes.items ≡ t.end) ⊎ (t.end + 13 ≤ length t.bytes.items))
+        × ArePlacesIn (drop (t.end + 13) t.bytes.items) t.places.items };
 }
 
 // Puts these bytes in place of the first ones.
@@ -39,14 +45,47 @@ fn put_front(bytes: &mut Vec<u8>, front: &[u8])
     bytes[0..front.len()].copy_from_slice(front);
 }
 
+// Makes room for the header of a batch after a tail of this length, unless there is a batch.
+fn begin_batch(bytes: &mut Vec<u8>, end: usize) -> Result<(), AllocError>
+    requires { (length bytes.old.items ≡ end) ⊎ (end + 13 ≤ length bytes.old.items) }
+    ensures room { OnOk result (end + 13 ≤ length bytes.new.items) }
+    ensures tail { take end bytes.new.items ≡ take end bytes.old.items }
+    ensures body { drop (end + 13) bytes.new.items ≡ drop (end + 13) bytes.old.items }
+    ensures kept { OnErr result (bytes.new.items ≡ bytes.old.items) }
+{
+    if bytes.len() == end {
+        bytes.extend_from_slice(&[0; BATCH_HEADER])?;
+    }
+    Ok(())
+}
+
+// Puts these places after the others, each that many bytes further on.
+fn add_moved(places: &mut Vec<Place>, more: &[Place], by: usize) -> Result<(), AllocError>
+    requires { All (EndsBy (2 ^ 64 - 1 - by)) more.now }
+    ensures { OnOk result (places.new.items ≡ places.old.items ++ map (moved by) more.now) }
+{
+    places.reserve(more.len())?;
+    for place in more {
+        places.push(Place {
+            start: by + place.start,
+            end: by + place.end,
+        })?;
+    }
+    Ok(())
+}
+
 impl TailBuffer {
     /// A tail of these bytes, after which nothing waits.
-    pub(crate) fn new(bytes: Vec<u8>) -> TailBuffer
+    pub(crate) fn new(alloc: Global, bytes: Vec<u8>) -> TailBuffer
         ensures bytes { result.bytes ≡ bytes.items }
         ensures none_pending { result.pending ≡ [] }
     {
         let end = bytes.len();
-        TailBuffer { bytes, end }
+        TailBuffer {
+            bytes,
+            end,
+            places: Vec::new(alloc),
+        }
     }
 
     /// The tail.
@@ -79,10 +118,23 @@ impl TailBuffer {
         ensures added { OnOk result (self.new.pending ≡ self.old.pending ++ framed bytes.now) }
         ensures kept { OnErr result (self.new ≡ self.old) }
     {
-        if self.bytes.len() == self.end {
-            self.bytes.extend_from_slice(&[0; BATCH_HEADER])?;
-        }
-        add_record(&mut self.bytes, bytes)
+        begin_batch(&mut self.bytes, self.end)?;
+        let start = self.bytes.len() - (self.end + BATCH_HEADER) + 4;
+        self.places.reserve(1)?;
+        add_record(&mut self.bytes, bytes)?;
+        let end = start + bytes.len();
+        self.places.push(Place { start, end })?;
+        Ok(())
+    }
+
+    /// Adds the places that the records of the batch have once it is the last one of the tail.
+    pub(crate) fn place_batch(&self, places: &mut Vec<Place>) -> Result<(), AllocError>
+        ensures records { OnOk result (AddsRecords self.now.pending (length self.now.bytes + 13)
+            places.old.items places.new.items) }
+        ensures within { OnOk result (All (EndsBy (length self.now.bytes + 13)) places.old.items
+            → All (EndsBy (length self.now.bytes + 13 + length self.now.pending)) places.new.items) }
+    {
+        add_moved(places, &self.places, self.end + BATCH_HEADER)
     }
 
     /// Makes the batch that waits the last one of the tail.
@@ -97,6 +149,7 @@ impl TailBuffer {
         let header = batch_header(&self.bytes[body..]);
         self.bytes[self.end..body].copy_from_slice(&header);
         self.end = self.bytes.len();
+        self.places.clear();
     }
 
     /// Begins the tail again with these bytes, in the memory that it has. What waits stays.

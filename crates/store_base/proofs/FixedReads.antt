@@ -106,5 +106,6 @@ pub found_reads : (w : Width) (limit : ℕ) → IsWide w limit → (old front re
     → rest ≡ drop (byte_len w) old → n ≡ from_le_bytes w front → Reads (IsBelow limit) (fixed (byte_len w)) old (Ok n) rest
 found_reads w limit wide old front rest n fits enough f r is = rw (is, f, r) (fixed_found w limit wide old fits enough)
 
-pub short_reads : (w : Width) (limit : ℕ) → IsWide w limit → (old rest : List ℕ) → AreOctets old → length old < byte_len w → rest ≡ old → Reads (IsBelow limit) (fixed (byte_len w)) old (Err Short) rest
+pub short_reads : (w : Width) (limit : ℕ) → IsWide w limit → (old rest : List ℕ) → AreOctets old → length old < byte_len w → rest ≡ old
+    → Reads (IsBelow limit) (fixed (byte_len w)) old (Err Short) rest
 short_reads w limit wide old rest fits few same = rw same (fixed_short w limit wide old fits few)

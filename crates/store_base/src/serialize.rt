@@ -2,8 +2,8 @@
 //!
 //! Fixed numbers are little-endian. A list of numbers is their count and then each, as [`VInt`](crate::VInt)s.
 
-ghost use Rattle.std.specs.Prelude.{◌≡◌, ◌≤◌, ◌<◌, ◌+◌, ◌^◌, ◌++◌, ℕ, List, Result, Ok, Err, length, take, drop, get_or};
-ghost use Rattle.std.specs.Prelude.{IsOk, IfOk, IfErr, OnOk, OnErr};
+ghost use Rattle.std.specs.Prelude.{◌≡◌, ◌≤◌, ◌<◌, ◌+◌, ◌^◌, ◌++◌, ℕ, List, Result, Ok, Err, length, take, drop};
+ghost use Rattle.std.specs.Prelude.{get_or, IsOk, IfOk, IfErr, OnOk, OnErr};
 ghost use Rattle.store_base.specs.Counts.{HasRisen};
 ghost use Rattle.store_base.specs.Serialize.{fixed};
 ghost use Rattle.store_base.specs.Reading.{IsBelow, Reads};

@@ -72,7 +72,8 @@ closed writer table ends period end none is least most made starts text w h =
     let index = index_part period (checkpoints_of bs) in
     let front : text ≡ front_bytes = h.written ∙ ap (λ (docs : List (List ℕ)). front_bytes ++ concat docs) pending ∙ append-nil front_bytes in
     let following : end ≡ index ++ footer 3 (length front_bytes) 0 (reserved_of period 3) =
-    one_end period (ends_in ends) end made (checkpoints_of bs) covers.in_line (rows_are writer table ends starts text w is h) ∙ ap (λ (n : ℕ). index ++ footer 3 n 0 (reserved_of period 3)) covers.end in
+    one_end period (ends_in ends) end made (checkpoints_of bs) covers.in_line (rows_are writer table ends starts text w is h)
+    ∙ ap (λ (n : ℕ). index ++ footer 3 n 0 (reserved_of period 3)) covers.end in
     let all : text ++ end ≡ file period 3 bs = (λ i. front i ++ following i) ∙ sym (append_assoc front_bytes index (footer 3 (length front_bytes) 0 (reserved_of period 3))) in
     record {
       pending = pending;

@@ -157,7 +157,8 @@ by_six file id result e is h s = (
 )
 
 -- 7 comes exactly where it is damaged
-pub by_seven : (file : List ℕ) (id result : ℕ) (e : StoreError) → result ≡ number_of e → RefusesGet file id e → (s : IsSomeStore file) → (result ≡ 7) ↔ (document_in file s id ≡ Err (DamagedDocument id))
+pub by_seven : (file : List ℕ) (id result : ℕ) (e : StoreError) → result ≡ number_of e → RefusesGet file id e → (s : IsSomeStore file)
+    → (result ≡ 7) ↔ (document_in file s id ≡ Err (DamagedDocument id))
 by_seven file id result e is h s = (
   λ seven. elim h.0 [
     | inl none ↦ absurd (omega (arith, seven, is, ap number_of none))

@@ -110,7 +110,8 @@ whole_head file file_len tail number t long (inr p) =
     let all = t.len_is in
     inr (p.0, record { footer = p.1.footer; finds = tail_footer file file_len tail (Ok p.1.footer) t long p.1.finds; past = omega (arith, p.1.past) })
 
-pub tail_head : (file_len : ℕ) (tail : List ℕ) (number : ℕ) (d : StoreError) → 28 ≤ length tail → length tail ≤ file_len → RefusesHead file_len tail number → RefusesTail file_len tail d → (d ≡ Memory → ⊥)
+pub tail_head : (file_len : ℕ) (tail : List ℕ) (number : ℕ) (d : StoreError) → 28 ≤ length tail → length tail ≤ file_len → RefusesHead file_len tail number → RefusesTail file_len tail d
+    → (d ≡ Memory → ⊥)
     → number_of d ≡ number
 tail_head file_len tail number d long few head refused kept =
     let f = some_file file_len tail few in

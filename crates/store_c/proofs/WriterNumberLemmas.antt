@@ -44,7 +44,8 @@ put_many len m BadPeriod result is why text w h = absurd why
 put_many len m OpenBlock result is why text w h = absurd why
 put_many len m OtherWriter result is why text w h = absurd why
 
-pub put_large : (len : ℕ) (m : Memory) (r : WriterRefusal) (result : ℕ) → result ≡ writer_number r → RefusesLength len m r → (text document : List ℕ) (w : Writing) → length document ≡ len → Holds m text w
+pub put_large : (len : ℕ) (m : Memory) (r : WriterRefusal) (result : ℕ) → result ≡ writer_number r → RefusesLength len m r → (text document : List ℕ) (w : Writing) → length document ≡ len
+    → Holds m text w
     → (result ≡ 13) ↔ (HasRoom 2 m × IsTooLarge w document)
 put_large len m NoRoom result is why text d w size h = (λ e. absurd (omega (arith, e, is)), λ x. absurd (no_room 2 m x.0 why))
 put_large len m TooManyDocs result is why text d w size h =
@@ -176,7 +177,8 @@ module _ (file : List ℕ) (view : Viewing) (of : IsViewOf file view) (writer : 
   stacked_open is t = never 34 _ (λ e. omega (arith, e, is)) (λ x. omega (arith, x.1, t.may.1))
 
 -- bytes that are not opened are the file of no store
-pub unopened_for : (file : List ℕ) (e : StoreError) (n result : ℕ) (Why : Viewing → Type 0) → result ≡ number_of e → Finds file (Err e) → (e ≡ OutOfMemory) ⊎ (IsSomeStore file → ⊥) → (n ≡ 11) ⊎ (n ≡ 14)
+pub unopened_for : (file : List ℕ) (e : StoreError) (n result : ℕ) (Why : Viewing → Type 0) → result ≡ number_of e → Finds file (Err e) → (e ≡ OutOfMemory) ⊎ (IsSomeStore file → ⊥)
+    → (n ≡ 11) ⊎ (n ≡ 14)
     → ComesFor n result file Why
 unopened_for file e n result Why is finds refused which kept = (
   λ comes. absurd (other_number file e n finds which (sym is ∙ comes)),

@@ -7,8 +7,8 @@ pub struct Fault {
     /// Of an index that is refused, the byte of the file at which its first run begins that breaks a rule; of the list
     /// of layers, and of an index whose blocks don't cover the data, the byte at which the index begins.
     pub byte: usize,
-    /// Of an index that is refused, the layer of that run, the bottom one at 0; `LAYER_LIST` for the list of layers, and
-    /// `LAYER_COVER` for an index whose blocks don't cover the data.
+    /// Of an index that is refused, the layer of that run, the bottom one at 0; `LAYER_LIST` for the list of layers,
+    /// and `LAYER_COVER` for an index whose blocks don't cover the data.
     pub layer: u32,
     /// Of a document that is damaged, its number.
     pub doc_id: u32,

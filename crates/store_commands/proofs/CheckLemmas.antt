@@ -25,7 +25,8 @@ judged_next : (r now : Reading) (next : ℕ) (v w : Verdict) (part : DataPart) (
 judged_next r now next v w part h n takes honest old =
     let front = h.walked.front in
     let id : part.ids.start ≡ docs_in front = n.first ∙ h.walked.come.next_is in
-    let t1 : TakesBlock v w (docs_in front) part.start part.bytes (part.ids.end - part.ids.start) = subst (λ (k : ℕ). TakesBlock v w k part.start part.bytes (part.ids.end - part.ids.start)) id takes in
+    let t1 : TakesBlock v w (docs_in front) part.start part.bytes (part.ids.end - part.ids.start) = subst
+    (λ (k : ℕ). TakesBlock v w k part.start part.bytes (part.ids.end - part.ids.start)) id takes in
     let t2 : TakesBlock v w (docs_in front) (length (data_of front)) part.bytes (part.ids.end - part.ids.start) =
     subst (λ (k : ℕ). TakesBlock v w (docs_in front) k part.bytes (part.ids.end - part.ids.start)) n.byte t1 in
     let t3 : TakesBlock v w (docs_in front) (length (data_of front)) n.block.bytes (part.ids.end - part.ids.start) =
@@ -39,7 +40,8 @@ pub record HasTold {P : Type 0} (adds : P → ℕ → ℕ → P → Type 0) (r n
   pub checked : HasChecked r now next verdict
   pub told : HasWatched adds checked.walked.front old new
 
-watched_joined : {P : Type 0} (adds : P → ℕ → ℕ → P → Type 0) (front : List StoreBlock) (b : StoreBlock) (old middle new : P) → HasWatched adds front old middle → adds middle b.count (length b.bytes) new
+watched_joined : {P : Type 0} (adds : P → ℕ → ℕ → P → Type 0) (front : List StoreBlock) (b : StoreBlock) (old middle new : P) → HasWatched adds front old middle
+    → adds middle b.count (length b.bytes) new
     → HasWatched adds (front ++ b ∷ []) old new
 watched_joined {P} adds [] b old middle new same one = (new, subst (λ (x : P). adds x b.count (length b.bytes) new) same one, refl)
 watched_joined adds (x ∷ front) b old middle new h one = (h.0, h.1, watched_joined adds front b h.0 middle new h.2 one)

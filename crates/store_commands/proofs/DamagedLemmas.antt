@@ -59,7 +59,8 @@ filled_push [] s h some = (some, tt)
 filled_push (x ∷ xs) s h some = (h.0, filled_push xs s h.1 some)
 
 -- one that is damaged, and one that isn't
-pub found_one : (block : List ℕ) (first n : ℕ) (old spans : List IdSpan) → ((id : ℕ) → is_among spans id ≡ (is_among old id || damaged_from first (slots_in block n) id)) → is_damaged (slot block n) ≡ true
+pub found_one : (block : List ℕ) (first n : ℕ) (old spans : List IdSpan) → ((id : ℕ) → is_among spans id ≡ (is_among old id || damaged_from first (slots_in block n) id))
+    → is_damaged (slot block n) ≡ true
     → (id : ℕ) → is_among (spans ++ record { start = first + n; end = (first + n) + 1 } ∷ []) id ≡ (is_among old id || damaged_from first (slots_in block (n + 1)) id)
 found_one block first n old spans h bad id =
     let d = damaged_from first (slots_in block n) id in
@@ -71,7 +72,8 @@ found_one block first n old spans h bad id =
     ∙ ap (λ (b : Bool). is_among old id || (d || b)) here
     ∙ sym (ap (λ (b : Bool). is_among old id || b) (damaged_one block first n id))
 
-pub found_none : (block : List ℕ) (first n : ℕ) (old spans : List IdSpan) → ((id : ℕ) → is_among spans id ≡ (is_among old id || damaged_from first (slots_in block n) id)) → is_damaged (slot block n) ≡ false
+pub found_none : (block : List ℕ) (first n : ℕ) (old spans : List IdSpan) → ((id : ℕ) → is_among spans id ≡ (is_among old id || damaged_from first (slots_in block n) id))
+    → is_damaged (slot block n) ≡ false
     → (id : ℕ) → is_among spans id ≡ (is_among old id || damaged_from first (slots_in block (n + 1)) id)
 found_none block first n old spans h sound id =
     let d = damaged_from first (slots_in block n) id in
@@ -79,7 +81,8 @@ found_none block first n old spans h sound id =
     h id ∙ ap (λ (b : Bool). is_among old id || b) (sym (damaged_one block first n id ∙ ap (λ (b : Bool). d || b) none ∙ or_false d))
 
 -- those from a place on, if all are damaged
-rest : (block : List ℕ) (k a n id : ℕ) → ((j : ℕ) → a ≤ j → j < a + n → slot block j ≡ damaged) → is_in (record { start = k; end = k + n }) id ≡ damaged_from k (map (slot block) (range_with_len a n)) id
+rest : (block : List ℕ) (k a n id : ℕ) → ((j : ℕ) → a ≤ j → j < a + n → slot block j ≡ damaged)
+    → is_in (record { start = k; end = k + n }) id ≡ damaged_from k (map (slot block) (range_with_len a n)) id
 rest block k a zero id h = is_in_by (record { start = k; end = k + 0 }) id false (λ bad. absurd cc) (λ le lt. absurd (omega arith))
 rest block k a (suc n) id h =
     let on = rest block (k + 1) (a + 1) n id (λ j le lt. h j (omega arith) (omega arith)) in
@@ -101,7 +104,8 @@ rest block k a (suc n) id h =
       | false ↦ λ t. let apart : k ≢ id = grind (arith, nat_tests) in is_in_true (record { start = k + 1; end = (k + 1) + n }) id (omega arith) (omega arith)
     ]) refl
 
-pub found_rest : (block : List ℕ) (first m n : ℕ) (old spans : List IdSpan) → ((id : ℕ) → is_among spans id ≡ (is_among old id || damaged_from first (slots_in block m) id)) → ((j : ℕ) → m ≤ j → j < m + n → slot block j ≡ damaged)
+pub found_rest : (block : List ℕ) (first m n : ℕ) (old spans : List IdSpan) → ((id : ℕ) → is_among spans id ≡ (is_among old id || damaged_from first (slots_in block m) id))
+    → ((j : ℕ) → m ≤ j → j < m + n → slot block j ≡ damaged)
     → (id : ℕ) → is_among (spans ++ record { start = first + m; end = (first + m) + n } ∷ []) id ≡ (is_among old id || damaged_from first (slots_in block (m + n)) id)
 found_rest block first m n old spans h bad id =
     let d = damaged_from first (slots_in block m) id in

@@ -114,7 +114,8 @@ pub record IsMerging (spans merged : List IdSpan) (last : IdSpan) (place : ℕ) 
   pub same : (id : ℕ) → (is_among merged id || is_in last id) ≡ is_among (take place spans) id
   pub sorted : (k : ℕ) (d : IdSpan) → place ≤ k → k < length spans → last.start ≤ (get_or spans k d).start
 
-pub merging_first : (spans : List IdSpan) (first : IdSpan) (rest : List IdSpan) → spans ≡ first ∷ rest → AllByRecursion HasId spans → IsNonDecreasingBy (λ (s : IdSpan). s.start) spans → IsMerging spans [] first 1
+pub merging_first : (spans : List IdSpan) (first : IdSpan) (rest : List IdSpan) → spans ≡ first ∷ rest → AllByRecursion HasId spans → IsNonDecreasingBy (λ (s : IdSpan). s.start) spans
+    → IsMerging spans [] first 1
 merging_first spans first rest e filled rise = subst (λ (xs : List IdSpan). IsMerging xs [] first 1) (sym e) (record {
   apart = tt;
   before = omega arith;
@@ -148,7 +149,8 @@ merging_touch spans merged last x place m lt at touch =
       sorted = λ k d le below. m.sorted k d (omega arith) below;
     }
 
-pub merging_apart : (spans merged : List IdSpan) (last x : IdSpan) (place : ℕ) → IsMerging spans merged last place → place < length spans → x ≡ get_or spans place x → last.end < x.start → AllByRecursion HasId spans
+pub merging_apart : (spans merged : List IdSpan) (last x : IdSpan) (place : ℕ) → IsMerging spans merged last place → place < length spans → x ≡ get_or spans place x → last.end < x.start
+    → AllByRecursion HasId spans
     → IsNonDecreasingBy (λ (s : IdSpan). s.start) spans → IsMerging spans (merged ++ last ∷ []) x (place + 1)
 merging_apart spans merged last x place m lt at gap filled rise =
     let each : HasId x = subst HasId (sym at) (All-get_or HasId spans place x lt (All-from_recursion HasId spans filled)) in

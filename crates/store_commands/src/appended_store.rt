@@ -64,8 +64,8 @@ pub struct AppendedStore<S: StoreSource, D: DocumentSource> {
 }
 
 /// Puts all documents of a store after those of a writer: block by block in parts of `part_bytes` bytes, or document by
-/// document if it has few blocks. Where the file is honest, an Ok says that the writer's slots have grown by exactly the
-/// store's. It returns the reader.
+/// document if it has few blocks. Where the file is honest, an Ok says that the writer's slots have grown by exactly
+/// the store's. It returns the reader.
 pub fn copy_store<W: TerminatingWrite, H: FileHandle>(
     alloc: Global,
     writer: &mut StoreWriter<W>,

@@ -1,7 +1,7 @@
 //! The documents that `--without` leaves out, as ranges of ids.
 
-ghost use Rattle.std.specs.Prelude.{◌≡◌, ◌<◌, ◌≤◌, ◌&&◌, ℕ, IfOk, IfErr, OnOk, IfSome, MatchOption, length, not, nat_lt};
-ghost use Rattle.std.specs.Prelude.{if◌then◌else◌, ◌||◌, true, false, map};
+ghost use Rattle.std.specs.Prelude.{◌≡◌, ◌<◌, ◌≤◌, ◌&&◌, ℕ, IfOk, IfErr, OnOk, IfSome, MatchOption, length};
+ghost use Rattle.std.specs.Prelude.{not, nat_lt, if◌then◌else◌, ◌||◌, true, false, map};
 ghost use Rattle.std.specs.List.{AllByRecursion};
 ghost use Rattle.std.specs.List.Sorted.{IsNonDecreasingBy};
 ghost use Rattle.store_base.specs.AliveBitSet.{is_alive_at};

@@ -63,8 +63,8 @@ pub trait StoreInputs: Drop {
     ghost none_left: { (inputs : Self) → IsTrue honest → number_left inputs ≡ 0 → slots_left inputs ≡ [] };
 }
 
-/// Stores that are merged into one, as what fills it. A store that is stacked is read in parts of `part_bytes` bytes, or
-/// of a block. This is for inputs of a type of one's own; the program calls `merge_store` for each file itself.
+/// Stores that are merged into one, as what fills it. A store that is stacked is read in parts of `part_bytes` bytes,
+/// or of a block. This is for inputs of a type of one's own; the program calls `merge_store` for each file itself.
 #[derive(Drop)]
 pub struct MergedStores<I: StoreInputs> {
     pub alloc: Global,
@@ -96,7 +96,8 @@ fn merge_next<I: StoreInputs, W: TerminatingWrite>(
     }
 }
 
-/// Puts the documents of the stores that are left after those of a writer, in order, except those that their words name.
+/// Puts the documents of the stores that are left after those of a writer, in order, except those that their words
+/// name.
 pub fn merge_all<I: StoreInputs, W: TerminatingWrite>(
     alloc: Global,
     writer: &mut StoreWriter<W>,

@@ -112,7 +112,8 @@ file_is_named [] old n there = inr there
 file_is_named (e ∷ changes) old n there = elim (file_is_named changes (after e old) n there) [
   | inl later ↦ inl (Contains-append_right (string_bytes e.name ∷ []) (names_of changes) n later)
   | inr now ↦ elim (decided (string_bytes e.name) n) [
-    | inl q ↦ inl (subst (λ m. Contains (string_bytes e.name ∷ names_of changes) m) q (Contains-append_left (string_bytes e.name ∷ []) (names_of changes) (string_bytes e.name) (Contains-push [] (string_bytes e.name))))
+    | inl q ↦ inl (subst (λ m. Contains (string_bytes e.name ∷ names_of changes) m) q
+        (Contains-append_left (string_bytes e.name ∷ []) (names_of changes) (string_bytes e.name) (Contains-push [] (string_bytes e.name))))
     | inr ne ↦ inr (after_other_is e old n ne now)
   ]
 ]

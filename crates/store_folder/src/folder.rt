@@ -38,8 +38,8 @@ pub trait Folder: Drop {
     /// Which folders a crash at that moment or a later one could have left, during a call or between two.
     ghost left_since: { Self → ℕ → (List ℕ → Option (List ℕ)) → Type 0 };
 
-    /// Whether the entry of a name is on the disk: a crash leaves under the name this file, as a crash leaves the file's
-    /// bytes, or nothing where there is none.
+    /// Whether the entry of a name is on the disk: a crash leaves under the name this file, as a crash leaves the
+    /// file's bytes, or nothing where there is none.
     ghost entry_kept: { Self → List ℕ → Type 0 };
 
     /// How often a call failed. A count that stands at its greatest value is taken to have risen.
@@ -75,8 +75,8 @@ pub trait Folder: Drop {
         ensures count { failures self.old ≤ failures self.new }
         ensures fault { OnErr result (HasRisen (failures self.old) (failures self.new)) };
 
-    /// Syncs a file. After an Ok, a crash leaves the file's bytes as they are, even if it is renamed later; and it leaves
-    /// them under the name, if the entry of the name was on the disk.
+    /// Syncs a file. After an Ok, a crash leaves the file's bytes as they are, even if it is renamed later; and it
+    /// leaves them under the name, if the entry of the name was on the disk.
     fn sync_file(&mut self, name: &str) -> io::Result<()>
         requires { IsTrue honest → IsSome (seen self.old name.now) }
         ensures durable { IsTrue honest → OnOk result

@@ -88,7 +88,8 @@ fn add_name(
 ) -> Result<(), AllocError>
     ensures { OnOk result ((others : List (List ℕ))
         → AreNamesAmong (look_of changes.now) others (map string_bytes names.old.items)
-        → AreNamesAmong (look_of changes.now) (others ++ string_bytes name.now ∷ []) (map string_bytes names.new.items)) }
+        → AreNamesAmong (look_of changes.now) (others ++ string_bytes name.now ∷ [])
+        (map string_bytes names.new.items)) }
 {
     if names.contains(name) || bytes_at(alloc, changes, name.as_str())?.is_none() {
         return Ok(());

@@ -10,8 +10,8 @@ use std::io;
 use std::io::ErrorKind;
 use store_base::FileHandle;
 
-/// A folder whose files are listed and read. A read that fails leaves the folder as it was, and is not counted among its
-/// failures.
+/// A folder whose files are listed and read. A read that fails leaves the folder as it was, and is not counted among
+/// its failures.
 pub trait ReadableFolder: Folder {
     /// A file of it that is open. It keeps what it held as it was opened.
     type File: FileHandle;

@@ -24,7 +24,8 @@ pub fn footer_in(alloc: Global, bytes: &[u8]) -> Result<DocStoreFooter, StoreErr
         Err(DecodeFault::Version(version)) => Err(StoreError::BadVersion(version)),
         Err(DecodeFault::Kind(kind)) => Err(StoreError::BadBlockKind(kind)),
         Err(DecodeFault::Period(period)) => Err(StoreError::BadPeriod(period)),
-        // 28 bytes are enough for a footer, each of its numbers has one spelling, and nothing grows. The proof shows it.
+        // 28 bytes are enough for a footer, each of its numbers has one spelling, and nothing grows. The proof shows
+        // it.
         Err(DecodeFault::Short | DecodeFault::Malformed | DecodeFault::Memory) => unreachable!(),
     }
 }

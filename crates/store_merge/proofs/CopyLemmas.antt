@@ -218,9 +218,11 @@ module _ (first old new : Reading) (set : Option (ℕ → Bool)) (from to : Walk
 
   -- why no document came
   refuses_item : (e : StoreError) → IsWalk new to → HasFailedRead first new (taken_last to) → item ≡ Err e → RefusesItem gives.last first new e
-  refuses_item e walk failed is = by (taken_last to) refl (subst (λ (r : Result (List ℕ) StoreError). IsSomeAnd (taken_last to) (λ b. AnswersFrom gives.last (gives.last - to.first) b r)) is gives.gives.answers)
+  refuses_item e walk failed is = by (taken_last to) refl
+      (subst (λ (r : Result (List ℕ) StoreError). IsSomeAnd (taken_last to) (λ b. AnswersFrom gives.last (gives.last - to.first) b r)) is gives.gives.answers)
     where
-      by : (block : Option (Result (List ℕ) StoreError)) → (taken_last to) ≡ block → IsSomeAnd block (λ b. AnswersFrom gives.last (gives.last - to.first) b (Err e)) → RefusesItem gives.last first new e
+      by : (block : Option (Result (List ℕ) StoreError)) → (taken_last to) ≡ block → IsSomeAnd block (λ b. AnswersFrom gives.last (gives.last - to.first) b (Err e))
+          → RefusesItem gives.last first new e
       by None here answers = absurd answers
       by (Some (Ok block)) here answers = elim answers [
         | inl x ↦ subst (RefusesItem gives.last first new) (sym x.0) (
@@ -291,7 +293,8 @@ copied_all first old new set from to start w docs same gives below copied =
     (sym (alive_to set all from.next (length all) below (omega arith) dead) ∙ ap (λ (xs : List Slot). alive xs set) (take_all (length all) all (omega arith))) copied
 
 -- The reads so far ask for no byte twice.
-pub asked_next : (first old new : Reading) (set : Option (ℕ → Bool)) (from to : Walk) (given : Option (Result (List ℕ) StoreError)) → Covers first.checkpoints (length first.file.content) → IsSameStore first old
+pub asked_next : (first old new : Reading) (set : Option (ℕ → Bool)) (from to : Walk) (given : Option (Result (List ℕ) StoreError)) → Covers first.checkpoints (length first.file.content)
+    → IsSameStore first old
     → LooksAlong (take from.place first.checkpoints) first None old (taken_last from) → GivesNext set old from given new to → IsAskedOnce first new
 asked_next first old new set from to given covers same looks gives =
     asked_within to.place first None new (taken_last to) covers (looks_joined first old from set gives.last new to same.checkpoints looks gives.walks)

@@ -1,5 +1,5 @@
-//! A store drawn as a page of HTML: its numbers, its parts, the path of a seek, how its sizes spread, and documents. The
-//! page is made of plain numbers and bytes: this crate knows no store.
+//! A store drawn as a page of HTML: its numbers, its parts, the path of a seek, how its sizes spread, and documents.
+//! The page is made of plain numbers and bytes: this crate knows no store.
 #![tactic(auto)]
 
 mod block_starts;

@@ -55,7 +55,8 @@ module _ {F : Type 0} (moment : F → ℕ) (left_since : F → ℕ → Look → 
   }
 
 -- a run since an output's first folder, by what is known of that
-module _ {F : Type 0} (may_leave : F → Look → Type 0) (moment : F → ℕ) (left_since : F → ℕ → Look → Type 0) (began : ℕ) (before : Look → Type 0) (past : ℕ → Look → Type 0) (beside name : List ℕ) (p : Published F) (from : IsFrom may_leave moment left_since began before past beside name p) (now : F) where
+module _ {F : Type 0} (may_leave : F → Look → Type 0) (moment : F → ℕ) (left_since : F → ℕ → Look → Type 0) (began : ℕ) (before : Look → Type 0) (past : ℕ → Look → Type 0) (beside name : List ℕ)
+    (p : Published F) (from : IsFrom may_leave moment left_since began before past beside name p) (now : F) where
   since_from : (P Q : Look → Type 0) → ((c : Look) → P c → Q c) → LeavesOnly moment left_since p.first now P → LeavesOnlySince moment left_since began past now Q
   since_from P Q then run = record {
     later = omega (arith, run.later, from.moment_is);

@@ -29,7 +29,8 @@ module _ (w : Writing) (content : List ℕ) (written : Written) where
       )
 
 -- the same, by what was brought
-pub filled_store : (brought : List Slot → Type 0) (first w : Writing) (period : ℕ) (content : List ℕ) (written : Written) → brought (taken w) → IsSameFile first w → first.output.before ≡ [] → first.output.period ≡ period
+pub filled_store : (brought : List Slot → Type 0) (first w : Writing) (period : ℕ) (content : List ℕ) (written : Written) → brought (taken w) → IsSameFile first w → first.output.before ≡ []
+    → first.output.period ≡ period
     → (w.output.before ≡ [] → HasStore (λ all. all ≡ taken w) w.output.period content written) → HasStore brought period content written
 filled_store brought first w period content written came same empty period_is closed =
     let s = closed (same.before ∙ empty) in
@@ -45,7 +46,8 @@ filled_store brought first w period content written came same empty period_is cl
     )
 
 -- what is returned once it was published
-pub published_store : {F E : Type 0} (r : Result (PublishedStore F) (NotPublished F E)) (honest : Type 0) (keeps : List ℕ → F → Type 0) (brought : List Slot → Type 0) (period : ℕ) (content : List ℕ) (written : Written)
+pub published_store : {F E : Type 0} (r : Result (PublishedStore F) (NotPublished F E)) (honest : Type 0) (keeps : List ℕ → F → Type 0) (brought : List Slot → Type 0) (period : ℕ) (content : List ℕ)
+    (written : Written)
     → HasStore brought period content written → IfOk r (λ p. p.written ≡ written) → (honest → IfOk r (λ p. keeps content p.folder))
     → IfOk r (λ p. (all : List ℕ) × HasStore brought period all p.written × (honest → keeps all p.folder))
 published_store (Ok p) honest keeps brought period content written store is kept =

@@ -22,7 +22,8 @@ pub moved : (d t : SliceDocuments) (r : Option (Result (Bor (List ℕ)) StoreErr
 moved d t r a b e step = subst (Step d r t) e step
 
 -- a document that is alive
-pub alive_given : (bytes : List ℕ) (s : IsSomeStore bytes) (set : List Bool) (from id : ℕ) (d t : SliceDocuments) (item : Result (Bor (List ℕ)) StoreError) → Step d (Some item) t bytes → Amid bytes s d
+pub alive_given : (bytes : List ℕ) (s : IsSomeStore bytes) (set : List Bool) (from id : ℕ) (d t : SliceDocuments) (item : Result (Bor (List ℕ)) StoreError) → Step d (Some item) t bytes
+    → Amid bytes s d
     → AreDead set from d.next → from ≤ d.next → id ≡ d.next → is_alive_at set id ≡ true → GivesStoredAlive set bytes s from (Some (id, item)) t.next × Amid bytes s t
 alive_given bytes s set from id d t item step amid dead le same alive =
     let gives = step s amid in

@@ -217,7 +217,11 @@ keys_in (suc n) k block es = rw (zero-lt, sub-one) (ap (λ ks. k ∷ ks) (take_k
 pub AreCached-with_pair : (capacity k : ℕ) (block : List ℕ) (is_kept : Bool) (es : List (ℕ × List ℕ)) → lookup (nat_eq k) es ≡ None → AreCached capacity es
     → AreCached capacity (with_pair capacity k block is_kept es)
 unfolding room_for
-AreCached-with_pair capacity k block true es none a = record { distinct = distinct_in capacity k block es (apart_from_none k es (ap is_some none)).0 a.distinct; few = few_in capacity k block es a.few }
+AreCached-with_pair capacity k block true es none a = record {
+  distinct = distinct_in capacity k block es
+      (apart_from_none k es (ap is_some none)).0 a.distinct;
+  few = few_in capacity k block es a.few;
+}
 AreCached-with_pair capacity k block false es none a = a
 
 -- a look-up that finds its key is the definition's, whatever it says of keeping

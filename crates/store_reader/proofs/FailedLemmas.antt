@@ -22,7 +22,8 @@ use Rattle.store_reader.proofs.GetAnswerLemmas.{has_failed}
 use Rattle.store_reader.proofs.IterationLookUpLemmas.{IsListedTo}
 use Rattle.store_reader.proofs.RecentLemmas.{same_store, same_along}
 
-failed_once : (r : Reading) (id : ℕ) (c : Checkpoint) (block : Result (List ℕ) StoreError) (mid : Reading) → IsBlockTaken r id c block mid → block ≡ Err Read → HasRisen r.file.failures mid.file.failures
+failed_once : (r : Reading) (id : ℕ) (c : Checkpoint) (block : Result (List ℕ) StoreError) (mid : Reading) → IsBlockTaken r id c block mid → block ≡ Err Read
+    → HasRisen r.file.failures mid.file.failures
 failed_once r id c block mid t is = by t.came t.looked (subst (λ (b : Result (List ℕ) StoreError). IsShared t.came b) is t.taken)
   where
     by : (came : Result (List ℕ) StoreError) → IsLookedUp r id c came mid → IsShared came (Err Read) → HasRisen r.file.failures mid.file.failures

@@ -1,5 +1,6 @@
 -- Where an item is no failed read, no read failed for it, but of blocks that were passed over.
-use Rattle.std.proofs.Common.{◌≡◌, ◌⊎◌, inl, inr, ℕ, zero, suc, ◌+◌, ◌-◌, ◌<◌, ◌≤◌, min, Bool, false, List, [], ◌∷◌, ◌++◌, length, take, drop, is_some, Option, Some, None, refl, sym, ap, ◌∙◌, subst, arith}
+use Rattle.std.proofs.Common.{◌≡◌, ◌⊎◌, inl, inr, ℕ, zero, suc, ◌+◌, ◌-◌, ◌<◌, ◌≤◌, min, Bool, false, List, [], ◌∷◌, ◌++◌, length, take, drop, is_some, Option}
+use Rattle.std.proofs.Common.{Some, None, refl, sym, ap, ◌∙◌, subst, arith}
 use Rattle.std.proofs.lemmas.Bool.{cases_lt, false≢true}
 use Rattle.std.proofs.lemmas.List.Elements.{Contains-append_left, Contains-push}
 use Rattle.std.specs.List.{AllByRecursion, Contains}
@@ -109,7 +110,8 @@ module _ (set : Option (ℕ → Bool)) (old : Reading) (from : Walk) (last : ℕ
       let found = there old.checkpoints from.place (omega (arith, few, is)) in
       let none : from.place - from.place ≡ 0 = omega arith in
       let range : slice_range old.checkpoints from.place to.place ≡ found.0 ∷ [] =
-      ap (slice_range old.checkpoints from.place) is ∙ range_more old.checkpoints from.place from.place found.0 (omega arith) found.1 ∙ ap (λ n. take n (drop from.place old.checkpoints) ++ found.0 ∷ []) none in
+      ap (slice_range old.checkpoints from.place) is ∙ range_more old.checkpoints from.place from.place found.0 (omega arith) found.1
+      ∙ ap (λ n. take n (drop from.place old.checkpoints) ++ found.0 ∷ []) none in
       one_block found.0 old (taken_last from) new (taken_last to) (subst (λ (xs : List Checkpoint). LooksAlong xs old (taken_last from) new (taken_last to)) range walks.looks)
 
   -- to a document of the block that was taken last
@@ -137,7 +139,8 @@ module _ (set : Option (ℕ → Bool)) (old : Reading) (from : Walk) (last : ℕ
   began_past none failed hi =
       let some = taken_place from.place from.block (ap is_some failed) in
       let at : (from.place - 1) + 1 ≡ from.place = omega (arith, some) in
-      passed set old.checkpoints bytes (from.place - 1) from.next last covers (omega (arith, some, start.few)) (omega (arith, none)) (subst (λ (n : ℕ). docs_end 0 (take n old.checkpoints) ≤ last) (sym at) hi) walks.dead
+      passed set old.checkpoints bytes (from.place - 1) from.next last covers (omega (arith, some, start.few)) (omega (arith, none))
+      (subst (λ (n : ℕ). docs_end 0 (take n old.checkpoints) ≤ last) (sym at) hi) walks.dead
 
 -- ---- items
 

@@ -1,5 +1,6 @@
 -- How an iteration goes over the documents.
-use Rattle.std.proofs.Common.{◌≡◌, ℕ, zero, suc, ◌+◌, ◌-◌, ◌<◌, ◌≤◌, Bool, true, false, List, [], ◌∷◌, ◌++◌, length, take, drop, Option, Some, None, is_some, refl, sym, ap, ◌∙◌, subst, arith, add-one, inl, inr, ◌⊎◌}
+use Rattle.std.proofs.Common.{◌≡◌, ℕ, zero, suc, ◌+◌, ◌-◌, ◌<◌, ◌≤◌, Bool, true, false, List, [], ◌∷◌, ◌++◌, length, take, drop, Option, Some, None, is_some}
+use Rattle.std.proofs.Common.{refl, sym, ap, ◌∙◌, subst, arith, add-one, inl, inr, ◌⊎◌}
 use Rattle.std.proofs.lemmas.Bool.{ltb-true, ltb-false, lt-ltb, le-ltb}
 use Rattle.std.proofs.lemmas.List.{drop-drop}
 use Rattle.std.proofs.Math.Seq.{take-add}
@@ -89,7 +90,8 @@ walks_past set old from id new to to' w dead place block = record {
     ]) refl
 
 -- blocks on and on
-pub looks_on : (cs ds : List Checkpoint) (r : Reading) (b : Option (Result (List ℕ) StoreError)) (mid : Reading) (b1 : Option (Result (List ℕ) StoreError)) (r' : Reading) (b' : Option (Result (List ℕ) StoreError))
+pub looks_on : (cs ds : List Checkpoint) (r : Reading) (b : Option (Result (List ℕ) StoreError)) (mid : Reading) (b1 : Option (Result (List ℕ) StoreError)) (r' : Reading)
+    (b' : Option (Result (List ℕ) StoreError))
     → LooksAlong cs r b mid b1 → LooksAlong ds mid b1 r' b' → LooksAlong (cs ++ ds) r b r' b'
 looks_on [] ds r b mid b1 r' b' l m = subst (λ (x : Reading). LooksAlong ds x b r' b') l.0 (subst (λ (x : Option (Result (List ℕ) StoreError)). LooksAlong ds mid x r' b') l.1 m)
 looks_on (c ∷ cs) ds r b mid b1 r' b' l m = (l.0, l.1, l.2, looks_on cs ds l.0 (Some l.1) mid b1 r' b' l.3 m)
@@ -110,7 +112,8 @@ walks_along set old from id mid to new to' w later looks =
       dead = w.dead;
       later = omega (arith, w.later);
       looks = rw (range_joined old.checkpoints from.place to.place to'.place w.later later)
-          (looks_on _ _ old (taken_last from) mid (taken_last to) new (taken_last to') w.looks (subst (λ (cs : List Checkpoint). LooksAlong (slice_range cs to.place to'.place) mid (taken_last to) new (taken_last to')) same looks));
+          (looks_on _ _ old (taken_last from) mid (taken_last to) new (taken_last to') w.looks
+          (subst (λ (cs : List Checkpoint). LooksAlong (slice_range cs to.place to'.place) mid (taken_last to) new (taken_last to')) same looks));
     }
 
 -- a walk that has not begun

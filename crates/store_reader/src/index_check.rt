@@ -27,8 +27,8 @@ fn fault_of(alloc: Global, part: &[u8], period: u8) -> Result<Option<IndexFault>
     SkipIndex::find_fault(alloc, &part, period)
 }
 
-/// Where the index of a file first breaks a rule. It returns the errors of the footer, `BadOffset` where the index would
-/// begin after the footer's first byte, and `Memory`.
+/// Where the index of a file first breaks a rule. It returns the errors of the footer, `BadOffset` where the index
+/// would begin after the footer's first byte, and `Memory`.
 pub fn check_index(alloc: Global, file: &[u8]) -> Result<IndexCheck, StoreError>
     ensures ok { IfOk result (λ check. BreaksIndex file.now check.start check.fault) }
     ensures refused { IfErr result (λ e. Finds file.now (Err e) ⊎ (e ≡ StoreError.Memory)) }

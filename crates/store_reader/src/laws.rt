@@ -91,8 +91,8 @@ pub fn slices_give_each_alive()
     ensures { SlicesGiveEachAlive }
 {}
 
-/// `StoreTail::new` wants more of a tail with a footer at most once: with as many bytes as it wants, it is not too short
-/// again.
+/// `StoreTail::new` wants more of a tail with a footer at most once: with as many bytes as it wants, it is not too
+/// short again.
 pub fn tails_are_wanted_once()
     ensures { TailsAreWantedOnce }
 {}

@@ -5,7 +5,8 @@ use crate::slot::document_at;
 use store_base::{DocId, StoreError};
 
 /// The documents of a store in the order of their ids: each a part of the file, or `DamagedDocument`. It decodes each
-/// checkpoint of the bottom layer once, and seeks nothing. Where it finds the index damaged, `BadIndex` is the last item.
+/// checkpoint of the bottom layer once, and seeks nothing. Where it finds the index damaged, `BadIndex` is the last
+/// item.
 #[derive(Drop)]
 pub struct SliceDocuments<'a> {
     pub(crate) blocks: BlockSlices<'a>,

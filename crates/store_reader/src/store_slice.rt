@@ -29,9 +29,9 @@ use std::ops::Range;
 use store_base::{AliveBitSet, DocId, DocumentDeserialize, StoreError, StoreSpaceUsage};
 use store_format::{DocStoreVersion, FOOTER_LEN, part};
 
-/// A store whose file is a slice of bytes that another holds. A call reads the part of the index that it needs, so `new`
-/// takes no memory and the same time for every store. Of the file of a store, each call returns what the same call of
-/// `StoreView` returns. Of other bytes, it returns a part of the bytes or an error, which may be `BadIndex`.
+/// A store whose file is a slice of bytes that another holds. A call reads the part of the index that it needs, so
+/// `new` takes no memory and the same time for every store. Of the file of a store, each call returns what the same
+/// call of `StoreView` returns. Of other bytes, it returns a part of the bytes or an error, which may be `BadIndex`.
 #[derive(Drop)]
 pub struct StoreSlice<'a> {
     file: &'a [u8],
@@ -152,7 +152,8 @@ impl<'a> StoreSlice<'a> {
     }
 
     /// Where a document lies in the file. It takes no memory. It returns `InvalidArgument` where there is no such
-    /// document, `DamagedDocument` where its block doesn't say where it lies, and `BadIndex` where the index is damaged.
+    /// document, `DamagedDocument` where its block doesn't say where it lies, and `BadIndex` where the index is
+    /// damaged.
     #[inline(always)]
     pub fn locate(&self, doc_id: DocId) -> Result<Range<usize>, StoreError>
         ensures document { (s : IsSomeStore self.now) → placed_in self.now result ≡ document_in self.now s doc_id }
@@ -256,8 +257,8 @@ impl<'a> StoreSlice<'a> {
     }
 
     /// The block that has a document, and those after it. It seeks once; then each checkpoint of the bottom layer is
-    /// decoded once. It returns `InvalidArgument` where there is no such document, and `BadIndex` where it finds the index
-    /// damaged.
+    /// decoded once. It returns `InvalidArgument` where there is no such document, and `BadIndex` where it finds the
+    /// index damaged.
     pub fn blocks_from(
         &self,
         doc_id: DocId,
@@ -282,8 +283,8 @@ impl<'a> StoreSlice<'a> {
         Ok((block, blocks))
     }
 
-    /// The documents in the order of their ids. Each is a part of the file. It returns `BadIndex` where it can't find the
-    /// bottom layer of the index.
+    /// The documents in the order of their ids. Each is a part of the file. It returns `BadIndex` where it can't find
+    /// the bottom layer of the index.
     pub fn iter(&self) -> Result<SliceDocuments<'a>, StoreError>
         ensures file { IfOk result (λ d. d.blocks.bytes ≡ self.now) }
         ensures first { IfOk result (λ d. d.next ≡ 0) }
@@ -301,8 +302,8 @@ impl<'a> StoreSlice<'a> {
         })
     }
 
-    /// The documents that are alive, in the order of their ids, each with its id. Those at or past the end of the set are
-    /// not alive. It returns `BadIndex` where it can't find the bottom layer of the index.
+    /// The documents that are alive, in the order of their ids, each with its id. Those at or past the end of the set
+    /// are not alive. It returns `BadIndex` where it can't find the bottom layer of the index.
     pub fn iter_alive<'v>(
         &self,
         alive: &'v AliveBitSet,

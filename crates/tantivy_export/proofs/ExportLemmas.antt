@@ -1,6 +1,6 @@
 -- Blocks that are copied a part at a time, and the file that they come to.
 use Rattle.std.proofs.Common.{◌≡◌, inl, inr, ℕ, ◌+◌, ◌≤◌, IsTrue, List, [], ◌++◌, length, replicate, refl, sym, ◌∙◌, ap, subst, arith, append_assoc, length-append}
-use Rattle.std.specs.Prelude.{slice_range, Result, Ok, Err, OnOk}
+use Rattle.std.specs.Prelude.{slice_range}
 use Rattle.std.proofs.lemmas.List.{append-nil, take_all}
 use Rattle.layered_index.specs.declared.checkpoint.Checkpoint.{Checkpoint}
 use Rattle.layered_index.specs.Checkpoint.{Covers, bytes_end}
@@ -107,8 +107,3 @@ exported reader old mid new offset index index_is covers p offset_is new_is =
 pub offset_is : (times bytes index : ℕ) (reader read : Reading) (usage : ℕ × ℕ) (offset : ℕ) → offset ≡ usage.0 → usage ≡ (length read.file.content, index) → IsReadTimes times bytes reader read
     → offset ≡ length reader.file.content
 offset_is times bytes index reader read usage offset is told kept = is ∙ ap (λ (u : ℕ × ℕ). u.0) told ∙ ap length kept.content
-
--- what holds of an Ok, by what is known of it
-pub on_ok : {A E : Type 0} {P Q : Type 0} (r : Result A E) → OnOk r P → (P → Q) → OnOk r Q
-on_ok (Ok x) p f = f p
-on_ok (Err e) p f = tt

@@ -34,7 +34,8 @@ fn reads_of(rt: &HostRuntime, len: usize) -> Option<usize> {
     Some(source.reads)
 }
 
-// Beside a read for each 8 KiB there are at most eight: the first ones have little room, and the last one finds the end.
+// Beside a read for each 8 KiB there are at most eight: the first ones have little room, and the last one finds the
+// end.
 #[test]
 fn a_source_is_read_by_one_call_for_eight_kibibytes(rt: HostRuntime) -> Result<(), Fail> {
     for len in [0usize, 1, 8191, 8192, 8193, 30000, 1048576] {

@@ -1,6 +1,6 @@
-//! Are scripts answered as tantivy's own code and the format's rows answer them? Answers each script that `names` lists,
-//! and prints whether the answers are those that are expected, byte for byte. Then it reads each file that stands in a
-//! script or in its answers, from memory and from disk, and prints how many there were.
+//! Are scripts answered as tantivy's own code and the format's rows answer them? Answers each script that `names`
+//! lists, and prints whether the answers are those that are expected, byte for byte. Then it reads each file that
+//! stands in a script or in its answers, from memory and from disk, and prints how many there were.
 #![tactic(auto)]
 
 use std::alloc::{Alloc, Global};

@@ -27,8 +27,8 @@ fn make_if_absent(alloc: Global, folder: &mut MemFolder, name: &str) -> io::Resu
 // Writes bytes at the end of a file, which is made if it is not there.
 fn append_in(alloc: Global, folder: &mut MemFolder, name: &str, bytes: &[u8]) -> io::Result<()>
     ensures { OnOk result (Is (put name.now
-        (Some (unwrap_or (look_of folder.old.changes.items name.now) [] ++ bytes.now)) (look_of folder.old.changes.items))
-        (look_of folder.new.changes.items)) }
+        (Some (unwrap_or (look_of folder.old.changes.items name.now) [] ++ bytes.now))
+        (look_of folder.old.changes.items)) (look_of folder.new.changes.items)) }
 {
     make_if_absent(alloc, folder, name)?;
     folder.append(name, bytes)

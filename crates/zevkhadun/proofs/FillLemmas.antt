@@ -10,10 +10,6 @@ pub on_ok_given : {T E : Type 0} (r : Result T E) (x : T) (P : Type 0) → r ≡
 on_ok_given (Ok y) x P is on = on
 on_ok_given (Err e) x P is on = let no : ⊥ = cc in absurd no
 
-pub on_ok_then : {T E : Type 0} (r : Result T E) (P Q : Type 0) → (P → Q) → OnOk r P → OnOk r Q
-on_ok_then (Ok x) P Q then on = then on
-on_ok_then (Err e) P Q then on = tt
-
 pub some_are_sound : (old new : Writing) → taken old ≡ [] → AddsSome old new → AreSound (taken new)
 some_are_sound old new empty some = (some.0, rw empty at some.1.grown)
 

@@ -30,7 +30,8 @@ fn list<'a>(alloc: Global) -> Result<Arg<'a>, AllocError> {
     flag(
         alloc,
         "list",
-        "Print the numbers of all damaged documents of one store, as --without takes them, and the fault on standard error",
+        "Print the numbers of all damaged documents of one store, as --without takes them, \
+         and the fault on standard error",
     )
     .conflicts_with("json")
 }

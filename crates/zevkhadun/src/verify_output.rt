@@ -94,7 +94,8 @@ impl Found {
         } = *verdict;
         if first.is_some() {
             return format!(in alloc;
-                "{path}: broken: {fault}; damaged: {damaged} of {documents} documents, {broken_blocks} of {blocks} blocks"
+                "{path}: broken: {fault}; damaged: {damaged} of {documents} documents, \
+                 {broken_blocks} of {blocks} blocks"
             );
         }
         let document = if documents == 1 {

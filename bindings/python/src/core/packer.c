@@ -225,8 +225,8 @@ static PyMethodDef methods[] = {
      "discard()\n--\n\nRemoves the second file: the file of the name stays as it was. After `close` it does nothing."},
     {"put", put, METH_O,
      "put(document)\n--\n\nAdds a document, and returns its number.\n\n"
-     "Raises BlockTooLarge, TooManyDocs and NoMemory, after which the writer is as it was; OSError, after which it has\n"
-     "failed; Closed and Failed."},
+     "Raises BlockTooLarge, TooManyDocs and NoMemory, after which the writer is as it was; OSError, after which it\n"
+     "has failed; Closed and Failed."},
     {"extend", extend, METH_O,
      "extend(documents)\n--\n\nAdds all documents of an iterable, in order. Other threads run in the meantime.\n\n"
      "If the iterable raises, or one of its documents can't be put, those before it are added. Raises what `put`\n"

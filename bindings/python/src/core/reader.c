@@ -302,7 +302,8 @@ static PyObject *verify(PyObject *object, PyObject *unused) {
 static int get_buffer(PyObject *object, Py_buffer *wanted, int flags) {
     reader *self = (reader *)object;
     wanted->obj = NULL;
-    if (!check_open(self) || PyBuffer_FillInfo(wanted, object, (void *)self->file, (Py_ssize_t)self->len, 1, flags) < 0) {
+    if (!check_open(self) ||
+        PyBuffer_FillInfo(wanted, object, (void *)self->file, (Py_ssize_t)self->len, 1, flags) < 0) {
         return -1;
     }
     self->views++;

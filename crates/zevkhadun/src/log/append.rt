@@ -17,8 +17,9 @@ use segmented_log::Commit;
 use std::alloc::{AllocError, Global};
 
 const EXAMPLE: &str = "\
-The log is begun if FOLDER is missing or empty. Once 'append' ends with status 0, all records are on the disk. A crash or
-a failure leaves the log as it was, and then the first records, as far as they came to the disk: of a batch all or none.
+The log is begun if FOLDER is missing or empty. Once 'append' ends with status 0, all records are on the disk. A crash
+or failure leaves the log as it was, and then the first records, as far as they reached the disk: of a batch all or
+none.
 If an input can't be read, the records before it are appended; with '--sync end' none are.
 
 Examples:

@@ -7,7 +7,8 @@ use crate::log::log_folder::{LogFolder, SystemCause};
 use segmented_log::{Commit, LogError, Records, SegmentedLog};
 use std::alloc::Global;
 
-/// How the tail of a log is written: how a sync puts records on the disk, and the size in bytes past which it is sealed.
+/// How the tail of a log is written: how a sync puts records on the disk, and the size in bytes past which it is
+/// sealed.
 #[derive(Clone, Copy)]
 pub struct TailOptions {
     pub commit: Commit,

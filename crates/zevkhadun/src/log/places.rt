@@ -98,7 +98,8 @@ fn open_locked<'a>(
     let cut = before.saturating_sub(tail_bytes(rt, path)?.unwrap_or(0));
     if cut > 0 {
         let _ = eprintln!(rt;
-            "zevkhadun: {path}: {cut} bytes at the end of the tail were no whole batch, as after a crash; they are cut off"
+            "zevkhadun: {path}: {cut} bytes at the end of the tail were no whole batch, as after a crash; \
+             they are cut off"
         );
     }
     Ok(log)

@@ -17,8 +17,8 @@ use std::fs;
 
 const EXAMPLE: &str = "\
 Checks each segment as a store, the batches of the tail by their sums, and that no number is missing between them. Bytes
-at the end of the tail that are no whole batch are reported: a crash leaves such bytes, or a changed byte of a batch; the
-next 'append' or 'seal' cuts them off. The exit status is then 1, as for a broken log.
+at the end of the tail that are no whole batch are reported: a crash leaves such bytes, or a changed byte of a batch;
+the next 'append' or 'seal' cuts them off. The exit status is then 1, as for a broken log.
 
 Example:
   zevkhadun log verify events";

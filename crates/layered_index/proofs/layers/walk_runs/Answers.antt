@@ -47,7 +47,8 @@ returns-then-not-may_stand c =
               (standing_refused c.args.period l.doc_end l.byte_end l.place l.rest.now r after read (sym c.may_stand.ensures ∙ w.if-not-may_stand.true)))
           | then-not-may_stand-via-else-not-may_stand+then-not-next_points w ↦ passed (passed_unpointed l.above w.next_points.new.above w.next_points.result
               (checkpoint r.doc r.doc_end l.place place) _ (standing_from c.args.period r.doc_end r.byte_end place after) l.place
-              (standing_goes_on c.args.period l.doc_end l.byte_end l.place l.rest.now r after read (sym c.may_stand.ensures ∙ w.if-not-may_stand.false)) w.next_points.ensures w.if-not-next_points.true)
+              (standing_goes_on c.args.period l.doc_end l.byte_end l.place l.rest.now r after read
+              (sym c.may_stand.ensures ∙ w.if-not-may_stand.false)) w.next_points.ensures w.if-not-next_points.true)
         ],
       ),
     )

@@ -14,7 +14,8 @@ returns-then-covers_next-clause-some g c =
     record {
       run = λ some. absurd (omega (arith, some));
       few = λ some. absurd (omega (arith, some));
-      covers = λ none. covers_at (λ s. part_of s.first s.reader) segments (take (length segments - (i + 1)) (drop (i + 1) segments)) i x c.loop-first-test.true c.index-segments-first.is rest (c.covers_next.ensures.yes c.if-covers_next.true);
+      covers = λ none. covers_at (λ s. part_of s.first s.reader) segments (take (length segments - (i + 1)) (drop (i + 1) segments)) i x c.loop-first-test.true c.index-segments-first.is rest
+          (c.covers_next.ensures.yes c.if-covers_next.true);
     }
 
 pub returns-then-count-gt0-clause-some : goal.returns-then-count-gt0-clause-some
@@ -25,9 +26,11 @@ returns-then-count-gt0-clause-some g c =
     let next : i + 1 ≡ suc i = omega arith in
     let rest = take_rest segments (i + 1) ∙ ap (λ n. drop n segments) next in
     record {
-      run = λ some. run_at (λ s. part_of s.first s.reader) segments (take (length segments - (i + 1)) (drop (i + 1) segments)) i c.count_next-count.result x c.loop-first-test.true c.index-segments-first.is rest c.count_next-count.ensures.within
+      run = λ some. run_at (λ s. part_of s.first s.reader) segments
+          (take (length segments - (i + 1)) (drop (i + 1) segments)) i c.count_next-count.result x c.loop-first-test.true c.index-segments-first.is rest c.count_next-count.ensures.within
           c.count_next-count.ensures.next;
-      few = λ some. few_at (λ s. part_of s.first s.reader) segments (take (length segments - (i + 1)) (drop (i + 1) segments)) i c.count_next-count.result x c.loop-first-test.true c.index-segments-first.is rest c.count_next-count.ensures.within
+      few = λ some. few_at (λ s. part_of s.first s.reader) segments
+          (take (length segments - (i + 1)) (drop (i + 1) segments)) i c.count_next-count.result x c.loop-first-test.true c.index-segments-first.is rest c.count_next-count.ensures.within
           c.count_next-count.ensures.next (c.count_next-count.ensures.few some);
       covers = λ none. absurd (omega (arith, none, c.if-count-gt0.true));
     }
@@ -40,7 +43,8 @@ loop-first-preserved g c =
     let next : i + 1 ≡ suc i = omega arith in
     let rest = take_rest segments (i + 1) ∙ ap (λ n. drop n segments) next in
     let none : c.count_next-count.result ≡ 0 = omega (arith, c.if-count-gt0.false) in
-    apart_more (λ s. part_of s.first s.reader) (λ s. sealed_of s.first s.reader) (λ s. refl) c.args.size segments (take (length segments - (i + 1)) (drop (i + 1) segments)) i x c.loop-first-test.true c.index-segments-first.is rest
+    apart_more (λ s. part_of s.first s.reader) (λ s. sealed_of s.first s.reader) (λ s. refl) c.args.size segments
+    (take (length segments - (i + 1)) (drop (i + 1) segments)) i x c.loop-first-test.true c.index-segments-first.is rest
     (c.covers_next.ensures.no c.if-covers_next.false) (c.count_next-count.ensures.none none) c.loop-first.invariant
 
 pub returns-clause-none : goal.returns-clause-none

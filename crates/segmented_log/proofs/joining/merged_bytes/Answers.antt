@@ -25,7 +25,8 @@ returns-in-Ok-clause-store g c = λ honest.
     c.in-Ok.ensures.store (c.into_bytes.ensures ∙ c.in-Ok.ensures.file)
 
 -- the merge ended at an input
-ended : (g : _) (c : In-Err g) → (c.in-Err.refusal.error ≡ OldVersion → ⊥) → IsEnded BeginsStack c.args.inputs.now c.merge_in_parts.new.inputs c.new-writer.result c.merge_in_parts.new.writer c.in-Err.refusal
+ended : (g : _) (c : In-Err g) → (c.in-Err.refusal.error ≡ OldVersion → ⊥)
+    → IsEnded BeginsStack c.args.inputs.now c.merge_in_parts.new.inputs c.new-writer.result c.merge_in_parts.new.writer c.in-Err.refusal
 ended g c new = ended_by (first_old c.args.inputs.now) c.merge_in_parts.result
     (λ _. c.merge_in_parts.new.writer ≡ c.new-writer.result) (λ _. c.merge_in_parts.new.inputs ≡ c.args.inputs.now)
     (λ e. IsEnded BeginsStack c.args.inputs.now c.merge_in_parts.new.inputs c.new-writer.result c.merge_in_parts.new.writer e)

@@ -11,4 +11,5 @@ returns-in-Ok-clause-slots g c = λ h all has.
     let seen = g.F.Folder.seen c.args.folder.now in
     let s = c.in-Ok.segment in
     alive_all (slots (store_of s.reader))
-    ∙ ap (λ (p : Part). p.slots) (same_segment c.stores_are_apart.ensures seen (part_of s.first s.reader) (record { first = c.args.first; slots = all }) c.in-Ok.ensures.first (c.in-Ok.ensures.found h) has)
+    ∙ ap (λ (p : Part). p.slots) (same_segment c.stores_are_apart.ensures seen (part_of s.first s.reader) (record { first = c.args.first; slots = all }) c.in-Ok.ensures.first
+    (c.in-Ok.ensures.found h) has)

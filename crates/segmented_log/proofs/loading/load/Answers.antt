@@ -51,7 +51,8 @@ returns-clause-folder g c = λ h.
       parts = c.in_ok-parts.ensures.parts;
       sealed_is = c.in_ok-parts.ensures.sealed;
       on_disk = record {
-        outcomes = loaded_outcomes (F.seen old) names numbers (c.in_ok-names.ensures.names h) numbered (map (λ x. part_of x.first x.reader) p.segments.items) firsts_are p.tail.bytes.items (F.may_leave old) (F.may_leave new)
+        outcomes = loaded_outcomes (F.seen old) names numbers (c.in_ok-names.ensures.names h) numbered (map (λ x. part_of x.first x.reader) p.segments.items) firsts_are p.tail.bytes.items
+            (F.may_leave old) (F.may_leave new)
             (c.requires h).outcomes each (c.load_tail.ensures.crash h) kept.outcomes;
         tail_kept = kept;
       };
@@ -76,7 +77,8 @@ returns-in_err-segments-clause-failed g c = λ h readable is.
     let numbers = c.in_ok-numbers.numbers.items in
     let numbered = subst (λ l. AreNumbersIn (map string_bytes l) numbers) c.deref.ensures.value c.in_ok-numbers.ensures.numbers in
     let failed : IsErrOf c.open_segments.result Failed = search rules in
-    inr (some_segment seen (map string_bytes c.in_ok-names.names.items) numbers (c.in_ok-names.ensures.names h) numbered (subst (λ l. 0 < length l) c.deref-2.ensures.value (c.open_segments.ensures.failed failed)))
+    inr (some_segment seen (map string_bytes c.in_ok-names.names.items) numbers (c.in_ok-names.ensures.names h) numbered
+    (subst (λ l. 0 < length l) c.deref-2.ensures.value (c.open_segments.ensures.failed failed)))
 
 pub returns-in_err-tail-clause-no_log : goal.returns-in_err-tail-clause-no_log
 returns-in_err-tail-clause-no_log g c = λ h is.

@@ -2,7 +2,8 @@ use Rattle.std.proofs.Common.{◌≡◌, inl, inr, ◌+◌, ◌<◌, ◌≤◌, 
 use Rattle.std.proofs.lemmas.List.{map_more}
 use Rattle.segmented_log.specs.Parts.{part_of}
 use Rattle.segmented_log.proofs.ScanLemmas.{scanned_none, scanned_more, split_at, goes_on, ends_within, if_none}
-use Rattle.segmented_log.proofs.opening.end_of_segments.Goals.{then-segment-end-via-then-segment-end, then-segment-end-via-else-segment-end+then-segment-least, then-segment-end-via-else-segment-end+else-segment-least+then-count-eq0}
+use Rattle.segmented_log.proofs.opening.end_of_segments.Goals.{then-segment-end-via-then-segment-end, then-segment-end-via-else-segment-end+then-segment-least}
+use Rattle.segmented_log.proofs.opening.end_of_segments.Goals.{then-segment-end-via-else-segment-end+else-segment-least+then-count-eq0}
 use Rattle.segmented_log.proofs.opening.end_of_segments.Goals as goal
 
 pub loop-segment-init : goal.loop-segment-init

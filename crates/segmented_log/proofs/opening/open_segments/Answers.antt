@@ -17,5 +17,6 @@ loop-number-preserved g c =
           ∙ sym (take_more c.args.numbers.now c.loop-number.number-index 0 c.loop-number-test.true),
       λ h. All-same (λ x. HasSegment seen (part_of x.first x.reader)) new (old ++ segment ∷ []) items
           (All-push (λ x. HasSegment seen (part_of x.first x.reader)) old segment (c.loop-number.invariant.1 h) (c.in_ok-open_segment.ensures.found h)),
-      λ h. All-same (λ x. IsTrue x.reader.file.honest) new (old ++ segment ∷ []) items (All-push (λ x. IsTrue x.reader.file.honest) old segment (c.loop-number.invariant.2 h) (c.in_ok-open_segment.ensures.honest h)),
+      λ h. All-same (λ x. IsTrue x.reader.file.honest) new (old ++ segment ∷ []) items
+          (All-push (λ x. IsTrue x.reader.file.honest) old segment (c.loop-number.invariant.2 h) (c.in_ok-open_segment.ensures.honest h)),
     )

@@ -10,12 +10,14 @@ use Rattle.segmented_log.proofs.reading.get_from.Goals as goal
 pub returns-clause-parts : goal.returns-clause-parts
 returns-clause-parts g c =
     let within : c.find_segment-i.result < length c.args.segments.now.items = omega arith in
-    same_map (λ s. part_of s.first s.reader) c.args.segments.now.items c.find_segment-i.result c.get_in.new.segment c.index_mut-segment.result.now within c.index_mut-segment.ensures.value c.get_in.ensures.part
+    same_map (λ s. part_of s.first s.reader) c.args.segments.now.items c.find_segment-i.result c.get_in.new.segment c.index_mut-segment.result.now within c.index_mut-segment.ensures.value
+    c.get_in.ensures.part
 
 pub returns-clause-sealed : goal.returns-clause-sealed
 returns-clause-sealed g c =
     let within : c.find_segment-i.result < length c.args.segments.now.items = omega arith in
-    same_map (λ s. sealed_of s.first s.reader) c.args.segments.now.items c.find_segment-i.result c.get_in.new.segment c.index_mut-segment.result.now within c.index_mut-segment.ensures.value c.get_in.ensures.sealed
+    same_map (λ s. sealed_of s.first s.reader) c.args.segments.now.items c.find_segment-i.result c.get_in.new.segment c.index_mut-segment.result.now within c.index_mut-segment.ensures.value
+    c.get_in.ensures.sealed
 
 pub returns-clause-found : goal.returns-clause-found
 returns-clause-found g c = λ n honest line le below.

@@ -18,7 +18,8 @@ leaves g c h =
     let before = c.loop-next.invariant in
     joined F.moment F.left_since old.folder mid.folder new.folder (HasBeginning old.commit old.first old.slots old.pending c.args.calls.now) (before.any_moment h)
     (weaker F.moment F.left_since mid.folder new.folder _ _
-    (λ l has. begins_all c.args.calls.now c.loop-next.next-index c.next-item.result (omega arith) c.next-item.is old.pending mid.pending old.first mid.first old.slots mid.slots before.pending (before.makes h)
+    (λ l has. begins_all c.args.calls.now c.loop-next.next-index c.next-item.result (omega arith) c.next-item.is old.pending mid.pending old.first mid.first old.slots mid.slots before.pending
+    (before.makes h)
     old.commit mid.commit before.commit l has)
     (c.make_call.ensures.any_moment h))
 

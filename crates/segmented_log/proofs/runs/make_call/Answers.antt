@@ -38,7 +38,8 @@ returns-in-DropBefore-clause-any_moment g c = λ h.
     let old = c.args.log.now in
     let new = c.drop_before.new.self in
     subst (λ (x : Call). LeavesOnly F.moment F.left_since old.folder new.folder (HasBeginning old.commit old.first old.slots old.pending (x ∷ []))) (sym c.in-DropBefore.is)
-    (weaker F.moment F.left_since old.folder new.folder _ _ (λ l drops. has_dropped old.commit old.first c.in-DropBefore.number old.slots old.pending l drops) (c.drop_before.ensures.any_moment h c.requires))
+    (weaker F.moment F.left_since old.folder new.folder _ _ (λ l drops. has_dropped old.commit old.first c.in-DropBefore.number old.slots old.pending l drops)
+    (c.drop_before.ensures.any_moment h c.requires))
 
 -- an append writes nothing
 leaves : (g : _) (c : After-append g) → IsTrue g.F.Folder.honest → LeavesOnly g.F.Folder.moment g.F.Folder.left_since c.args.log.now.folder c.append.new.self.folder

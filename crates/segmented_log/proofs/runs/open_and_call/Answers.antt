@@ -16,7 +16,8 @@ returns-in-Err-clause-any_moment_err g c = λ h.
     (λ l keeps. keeps_and_adds c.args.commit calls (F.seen c.args.folder) l keeps) (c.in-Err.ensures.any_moment_err h)
 
 -- what a crash leaves while it opens and while it makes calls
-leaves : (g : _) (c : After-call_all g) → IsTrue g.F.Folder.honest → LeavesOnly g.F.Folder.moment g.F.Folder.left_since c.args.folder c.call_all.new.log.folder (KeepsAndAdds c.args.commit c.args.calls.now (g.F.Folder.seen c.args.folder))
+leaves : (g : _) (c : After-call_all g) → IsTrue g.F.Folder.honest
+    → LeavesOnly g.F.Folder.moment g.F.Folder.left_since c.args.folder c.call_all.new.log.folder (KeepsAndAdds c.args.commit c.args.calls.now (g.F.Folder.seen c.args.folder))
 leaves g c h =
     let F = g.F.Folder in
     let seen = F.seen c.args.folder in
@@ -27,8 +28,10 @@ leaves g c h =
     (weaker F.moment F.left_since c.args.folder log.folder (KeepsLog seen) (KeepsAndAdds c.args.commit calls seen) (λ l keeps. keeps_and_adds c.args.commit calls seen l keeps) (opened.any_moment h))
     (weaker F.moment F.left_since log.folder c.call_all.new.log.folder _ (KeepsAndAdds c.args.commit calls seen)
     (λ l has. record {
-      same = λ first kept is_log. let found = opened.found h first kept is_log in begins_from c.args.commit log.commit first log.first kept log.slots [] log.pending calls l opened.commit found.0 found.1 opened.none_pending has;
-      begun = λ blank. let found = opened.begun h blank in inr (begins_from c.args.commit log.commit 0 log.first [] log.slots [] log.pending calls l opened.commit found.0 found.1 opened.none_pending has);
+      same = λ first kept is_log. let found = opened.found h first kept is_log in begins_from c.args.commit log.commit first log.first kept log.slots [] log.pending calls l opened.commit found.0
+          found.1 opened.none_pending has;
+      begun = λ blank. let found = opened.begun h blank in inr
+          (begins_from c.args.commit log.commit 0 log.first [] log.slots [] log.pending calls l opened.commit found.0 found.1 opened.none_pending has);
     })
     (c.call_all.ensures.any_moment h opened.works))
 

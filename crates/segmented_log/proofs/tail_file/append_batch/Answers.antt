@@ -40,7 +40,8 @@ returns-clause-kept g c = λ h tail kept.
     let F = g.F.Folder in
     let old = c.args.folder.now in
     let new = c.sync_file.new.self in
-    grown_kept (F.may_hold old) (F.may_leave old) (F.entry_kept old) tail kept (F.seen old) (F.seen c.append.new.self) c.args.batch.now (F.entry_kept c.append.new.self) (F.entry_kept new) (F.may_hold new) (F.may_leave new)
+    grown_kept (F.may_hold old) (F.may_leave old) (F.entry_kept old) tail kept (F.seen old) (F.seen c.append.new.self) c.args.batch.now (F.entry_kept c.append.new.self) (F.entry_kept new)
+    (F.may_hold new) (F.may_leave new)
     (kept.outcomes (F.seen old) (g.met.F.Folder.seen_may_be_left old h)) (c.in_ok-append.ensures.appended h) (c.append.ensures.entries h) (c.sync_file.ensures.entries h)
     (c.in_ok-sync_file.ensures.durable h) (c.in_ok-sync_file.ensures.kept h)
 

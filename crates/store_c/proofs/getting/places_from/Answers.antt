@@ -37,7 +37,8 @@ pub returns-in_default-clause-next : goal.returns-in_default-clause-next
 returns-in_default-clause-next c =
     let l = c.loop-block in
     let e = c.places_on-count.ensures in
-    let ended : c.args.first + c.places_on-count.result.0 ≡ l.block.end = gone_through _ c.places_on-count.result.1 e.next (sym c.if-is_some.ensures) (λ full. c.if-count-places.false (full ∙ sym e.len)) in
+    let ended : c.args.first + c.places_on-count.result.0 ≡ l.block.end = gone_through _ c.places_on-count.result.1 e.next (sym c.if-is_some.ensures)
+    (λ full. c.if-count-places.false (full ∙ sym e.len)) in
     let room : c.places_on-count.result.0 < length c.args.places.now = omega (arith, e.room, c.if-count-places.false, e.len, l.invariant.size) in
     (room, none_after c.args.store.now _ l.block.end (sym ended) (λ s. sym l.invariant.next ∙ (c.in_default.ensures.steps.1 c.args.store.now s (l.invariant.left s)).0))
 
@@ -60,7 +61,8 @@ loop-block-preserved c =
     let e = c.places_on-count.ensures in
     let step = rw c.in-Ok-item.is at c.in-Some.ensures.steps in
     let part = step.0.0 in
-    let ended : c.args.first + c.places_on-count.result.0 ≡ l.block.end = gone_through _ c.places_on-count.result.1 e.next (sym c.if-is_some.ensures) (λ full. c.if-count-places.false (full ∙ sym e.len)) in
+    let ended : c.args.first + c.places_on-count.result.0 ≡ l.block.end = gone_through _ c.places_on-count.result.1 e.next (sym c.if-is_some.ensures)
+    (λ full. c.if-count-places.false (full ∙ sym e.len)) in
     record {
       are = e.found c.args.store.now kept.held kept.are;
       rest = e.kept ∙ further_stay l.found c.places_on-count.result.0 l.places c.args.places.now e.on kept.rest;

@@ -40,7 +40,8 @@ returns-then-weight_of-writer-clause-put c written w document size h =
     let sum = sum_is here in
     let heavy = c.if-weight_of-writer.true in
     let weighed = c.weight_of.ensures in
-    let done = put_full (memory c.args.writer.now c.args.starts.now c.args.table.now) c.args.len c.in_ok-end.end (omega (arith, room.0)) (omega (arith, room.1)) (ends_is here) (omega arith) written w document size h in
+    let done = put_full (memory c.args.writer.now c.args.starts.now c.args.table.now) c.args.len c.in_ok-end.end (omega (arith, room.0)) (omega (arith, room.1)) (ends_is here)
+    (omega arith) written w document size h in
     let count : c.finish.result ≡ c.args.writer.now.docs + 2 = omega (arith, c.finish.ensures.count) in
     rw (count, c.finish.ensures.writer, c.finish.ensures.starts, c.finish.ensures.table) done
 
@@ -51,7 +52,8 @@ returns-else-weight_of-writer-clause-put c written w document size h =
     let sum = sum_is here in
     let light = c.if-weight_of-writer.false in
     let weighed = c.weight_of.ensures in
-    rw sum (put_open (memory c.args.writer.now c.args.starts.now c.args.table.now) c.args.len c.in_ok-end.end (omega (arith, room.0)) (omega (arith, room.1)) (ends_is here) (omega arith) written w document size h)
+    rw sum (put_open (memory c.args.writer.now c.args.starts.now c.args.table.now) c.args.len c.in_ok-end.end (omega (arith, room.0)) (omega (arith, room.1)) (ends_is here)
+    (omega arith) written w document size h)
 
 -- it takes the length
 takes : (c : In_ok-end) → TakesLength c.args.len (memory c.args.writer.now c.args.starts.now c.args.table.now)

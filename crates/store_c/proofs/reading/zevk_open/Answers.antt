@@ -63,5 +63,9 @@ pub returns-clause-counts : goal.returns-clause-counts
 returns-clause-counts c blocks docs has kept =
     let same = same_counts c.args.file.now c.in-Ok.view blocks docs c.in-Ok.ensures.opened has in
     let size : c.fill_table.result ≡ blocks = c.fill_table.ensures.count ∙ ap length c.block_checkpoints.ensures ∙ same.0 in
-    let more = c.if-count-table.false in
-    (size, c.num_docs.ensures.count ∙ same.1, inr (c.number-else-count-table.ensures, omega (arith, size, len c.args.table.now c.fill_table.new.table c.block_checkpoints.result c.fill_table.ensures.filled)))
+    let more = c.if-count-table.false in (
+      size,
+      c.num_docs.ensures.count ∙ same.1,
+      inr
+          (c.number-else-count-table.ensures, omega (arith, size, len c.args.table.now c.fill_table.new.table c.block_checkpoints.result c.fill_table.ensures.filled)),
+    )

@@ -40,11 +40,13 @@ returns-clause-open_block c =
 
 pub returns-clause-too_many : goal.returns-clause-too_many
 returns-clause-too_many c starts written w h =
-    stack_many c.args.file.now c.in-Ok.view c.in-Ok.ensures.opened c.args.writer.now c.args.table.now _ starts written w h c.in-Err-stack.refusal c.number-in-Err-stack.ensures c.in-Err-stack.ensures.refused
+    stack_many c.args.file.now c.in-Ok.view c.in-Ok.ensures.opened c.args.writer.now c.args.table.now _ starts written w h c.in-Err-stack.refusal c.number-in-Err-stack.ensures
+    c.in-Err-stack.ensures.refused
 
 pub returns-clause-room : goal.returns-clause-room
 returns-clause-room c starts written w h =
-    stack_room c.args.file.now c.in-Ok.view c.in-Ok.ensures.opened c.args.writer.now c.args.table.now _ starts written w h c.in-Err-stack.refusal c.number-in-Err-stack.ensures c.in-Err-stack.ensures.refused
+    stack_room c.args.file.now c.in-Ok.view c.in-Ok.ensures.opened c.args.writer.now c.args.table.now _ starts written w h c.in-Err-stack.refusal c.number-in-Err-stack.ensures
+    c.in-Err-stack.ensures.refused
 
 pub returns-in-Err-clause-old_version : goal.returns-in-Err-clause-old_version
 returns-in-Err-clause-old_version c =

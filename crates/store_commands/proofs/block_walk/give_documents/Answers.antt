@@ -42,7 +42,8 @@ pub returns-in_err-block-clause-ended : goal.returns-in_err-block-clause-ended
 returns-in_err-block-clause-ended g c =
     let given = err_from_is_err_and c.from_residual.result c.from_residual.ensures.1 in
     rw (given.1, given.2)
-    (ends_by_read g.row.T-Error.Denot g.T.DocumentTarget.takes g.T.DocumentTarget.refuses (kept_by c.args.left_out.now) c.args.reader.now c.loop-block.reader c.read_block.new.self c.loop-block.next_id c.args.target.now
+    (ends_by_read g.row.T-Error.Denot g.T.DocumentTarget.takes g.T.DocumentTarget.refuses
+    (kept_by c.args.left_out.now) c.args.reader.now c.loop-block.reader c.read_block.new.self c.loop-block.next_id c.args.target.now
     c.loop-block.target c.read_block.result c.in_err-block.field-0.0 c.loop-block.invariant.given c.loop-block.invariant.file c.in_err-block.was
     c.read_block.ensures.causes c.read_block.ensures.failed c.read_block.ensures.steady c.read_block.ensures.none.1)
 
@@ -64,20 +65,24 @@ returns-clause-given g c honest =
 
 pub returns-clause-read : goal.returns-clause-read
 returns-clause-read g c =
-    walked_whole (AreGiven g.T.DocumentTarget.takes (kept_by c.args.left_out.now) c.args.target.now c.loop-block.target) c.args.reader.now c.loop-block.reader c.read_block.new.self c.loop-block.next_id
+    walked_whole (AreGiven g.T.DocumentTarget.takes
+    (kept_by c.args.left_out.now) c.args.target.now c.loop-block.target) c.args.reader.now c.loop-block.reader c.read_block.new.self c.loop-block.next_id
     c.loop-block.invariant.given (c.in_ok-block.ensures.none.0 (none_left c.in_ok-block.field-0 c.in_default.is)) c.read_block.ensures.no_read
 
 pub returns-clause-kept : goal.returns-clause-kept
 returns-clause-kept g c =
-    walked_within (AreGiven g.T.DocumentTarget.takes (kept_by c.args.left_out.now) c.args.target.now c.loop-block.target) c.args.reader.now c.loop-block.reader c.read_block.new.self c.loop-block.next_id
+    walked_within (AreGiven g.T.DocumentTarget.takes
+    (kept_by c.args.left_out.now) c.args.target.now c.loop-block.target) c.args.reader.now c.loop-block.reader c.read_block.new.self c.loop-block.next_id
     c.loop-block.invariant.given c.read_block.ensures.no_read c.read_block.ensures.once
 
 pub returns-in_err-block-clause-kept : goal.returns-in_err-block-clause-kept
 returns-in_err-block-clause-kept g c =
-    walked_within (AreGiven g.T.DocumentTarget.takes (kept_by c.args.left_out.now) c.args.target.now c.loop-block.target) c.args.reader.now c.loop-block.reader c.read_block.new.self c.loop-block.next_id
+    walked_within (AreGiven g.T.DocumentTarget.takes
+    (kept_by c.args.left_out.now) c.args.target.now c.loop-block.target) c.args.reader.now c.loop-block.reader c.read_block.new.self c.loop-block.next_id
     c.loop-block.invariant.given c.read_block.ensures.no_read c.read_block.ensures.once
 
 pub returns-in_err-give_block-clause-kept : goal.returns-in_err-give_block-clause-kept
 returns-in_err-give_block-clause-kept g c =
-    walked_within (AreGiven g.T.DocumentTarget.takes (kept_by c.args.left_out.now) c.args.target.now c.loop-block.target) c.args.reader.now c.loop-block.reader c.read_block.new.self c.loop-block.next_id
+    walked_within (AreGiven g.T.DocumentTarget.takes
+    (kept_by c.args.left_out.now) c.args.target.now c.loop-block.target) c.args.reader.now c.loop-block.reader c.read_block.new.self c.loop-block.next_id
     c.loop-block.invariant.given c.read_block.ensures.no_read c.read_block.ensures.once

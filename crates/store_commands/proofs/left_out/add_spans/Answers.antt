@@ -11,7 +11,8 @@ pub returns-in_err-add_part-clause-refused : goal.returns-in_err-add_part-clause
 returns-in_err-add_part-clause-refused c =
     let p = err_from_is_err_and c.from_residual-in_err-add_part.result c.from_residual-in_err-add_part.ensures.1 in
     let same = ap (map (λ (x : Bor (List ℕ)). x.now)) c.deref-part-items.ensures.value ∙ c.in_ok-parts.ensures in
-    rw (p.1, p.2) (part_refuses c.args.num_docs c.args.word.now c.deref-part-items.result.now c.loop-part.part-index _ c.in_err-add_part.field-0.0 same c.loop-part-test.true c.in_err-add_part.ensures.refused)
+    rw (p.1, p.2) (part_refuses c.args.num_docs c.args.word.now c.deref-part-items.result.now c.loop-part.part-index _ c.in_err-add_part.field-0.0 same c.loop-part-test.true
+    c.in_err-add_part.ensures.refused)
 
 pub returns-clause-added : goal.returns-clause-added
 returns-clause-added c id =

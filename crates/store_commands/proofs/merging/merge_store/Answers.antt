@@ -29,7 +29,8 @@ returns-in-Ok-clause-faults g c =
 pub returns-in-Ok-clause-read : goal.returns-in-Ok-clause-read
 returns-in-Ok-clause-read g c =
     let one = c.in_ok-inputs.ensures.one in
-    read_alone c.args.part_bytes c.args.words.now c.args.reader one.0 c.deref_mut.result.now c.merge_in_parts-merged.new.inputs c.reader_of-reader.result (c.deref_mut.ensures.value ∙ one.1) one.2 one.3
+    read_alone c.args.part_bytes c.args.words.now c.args.reader one.0 c.deref_mut.result.now c.merge_in_parts-merged.new.inputs c.reader_of-reader.result
+    (c.deref_mut.ensures.value ∙ one.1) one.2 one.3
     c.merge_in_parts-merged.ensures.kept
     (items_left one.0 c.deref_mut.result.now c.merge_in_parts-merged.new.inputs c.in_ok-inputs.inputs.items c.in_ok-inputs.inputs.len c.reader_of-reader.result (c.deref_mut.ensures.value ∙ one.1)
     c.merge_in_parts-merged.ensures.kept (sym c.deref_mut.ensures.len) c.reader_of-reader.ensures) c.in-Ok.ensures.read

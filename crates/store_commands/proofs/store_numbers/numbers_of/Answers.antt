@@ -29,7 +29,8 @@ returns g c =
         in_order = items;
         same = c.sort_unstable.ensures.permutation;
         rising = IsNonDecreasingBy-from_sort (λ (x : ℕ). x) items c.sort_unstable.ensures.sorted;
-        first = c.unwrap_or.ensures ∙ ap (λ o. unwrap_or o 0) (c.copied.ensures ∙ c.first.ensures.value) ∙ unwrap_or-slice_get c.deref.result.now 0 0 ∙ ap (λ (xs : List ℕ). get_or xs 0 0) c.deref.ensures.value;
+        first = c.unwrap_or.ensures ∙ ap (λ o. unwrap_or o 0) (c.copied.ensures ∙ c.first.ensures.value) ∙ unwrap_or-slice_get c.deref.result.now 0 0
+            ∙ ap (λ (xs : List ℕ). get_or xs 0 0) c.deref.ensures.value;
         middle = c.unwrap_or-2.ensures ∙ ap (λ o. unwrap_or o 0) c.copied-2.ensures ∙ c.get.ensures.lookup.4 (omega arith) 0
             ∙ ap (λ (xs : List ℕ). get_or xs (c.len-middle.result / 2) 0) c.deref-2.ensures.value ∙ ap (λ (n : ℕ). get_or items (n / 2) 0) (c.len-middle.ensures ∙ count);
         last = c.unwrap_or-3.ensures ∙ ap (λ o. unwrap_or o 0) (c.copied-3.ensures ∙ c.last.ensures.value) ∙ unwrap_or-slice_get c.deref-3.result.now (length c.deref-3.result.now - 1) 0

@@ -26,7 +26,8 @@ loop-call-preserved g c =
           (omega arith) c.call-item.is c.loop-call.invariant.same c.loop-call.invariant.so_far c.in_ok-answer.ensures.answer honest);
       past = subst (AllZip (RefusesPast (num_docs first)) (take (i + 1) calls)) (sym c.in_ok-push.ensures.items)
           (past_more first old calls i c.call-item.result answers c.in_ok-answer.answer (omega arith) c.call-item.is c.loop-call.invariant.same c.loop-call.invariant.past c.in_ok-answer.ensures.past);
-      steady = subst (λ (xs : List Answer). AllByRecursion (ShowsEachBlock first.checkpoints) (take (i + 1) calls) → (HasRefusal xs Read → ⊥) → c.answer_one.new.reader.file.failures ≡ first.file.failures)
+      steady = subst (λ (xs : List Answer). AllByRecursion (ShowsEachBlock first.checkpoints) (take (i + 1) calls) → (HasRefusal xs Read → ⊥)
+          → c.answer_one.new.reader.file.failures ≡ first.file.failures)
           (sym c.in_ok-push.ensures.items)
           (answers_steady first old c.answer_one.new.reader calls i c.call-item.result answers c.in_ok-answer.answer (omega arith) c.call-item.is c.loop-call.invariant.same.checkpoints
           c.loop-call.invariant.steady c.in_ok-answer.ensures.steady);

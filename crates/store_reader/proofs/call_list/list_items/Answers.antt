@@ -43,7 +43,8 @@ loop-iter-preserved g c =
       failed = subst (λ (xs : List (Result (List ℕ) StoreError)). Contains xs (Err Read) → HasRisen first.file.failures new.reader.now.file.failures) (sym pushed)
           (item_failed first old.reader.now new.reader.now set (length c.loop-iter.items.items + 1) old.walk new.walk c.in-Some.item c.loop-iter.items.items listed gives c.loop-iter.invariant.failed);
       steady = subst (λ (xs : List (Result (List ℕ) StoreError)). (Contains xs (Err Read) → ⊥) → IsSteadySoFar set first new.reader.now new.walk) (sym pushed)
-          (steady_next set first old.reader.now old.walk c.loop-iter.invariant.same c.num_docs.ensures.covers c.loop-iter.invariant.walk c.in-Some.item new.reader.now new.walk gives c.loop-iter.items.items
+          (steady_next set first old.reader.now old.walk c.loop-iter.invariant.same c.num_docs.ensures.covers c.loop-iter.invariant.walk c.in-Some.item new.reader.now new.walk gives
+          c.loop-iter.items.items
           c.loop-iter.invariant.steady);
       begun = inr (omega (arith, gives.gives.next));
       below = below_more first old.reader.now new.reader.now set old.walk new.walk c.in-Some.item docs c.loop-iter.invariant.same gives;

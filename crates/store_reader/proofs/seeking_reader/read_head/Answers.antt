@@ -13,7 +13,8 @@ returns-in_err-footer-clause-refused g c =
 pub returns-in_err-range-clause-refused : goal.returns-in_err-range-clause-refused
 returns-in_err-range-clause-refused g c =
     let given = err_from_is_err_and c.from_residual-in_err-range.result c.from_residual-in_err-range.ensures.1 in
-    rw (given.1, given.2, c.in_err-range.ensures.cause) (refused_offset c.args.file.now c.read_footer.new.file c.in_ok-footer.footer c.in_ok-footer.ensures (omega (arith, c.in_err-range.ensures.past, c.len.ensures)))
+    rw (given.1, given.2, c.in_err-range.ensures.cause)
+    (refused_offset c.args.file.now c.read_footer.new.file c.in_ok-footer.footer c.in_ok-footer.ensures (omega (arith, c.in_err-range.ensures.past, c.len.ensures)))
 
 pub returns-in_err-index-clause-refused : goal.returns-in_err-index-clause-refused
 returns-in_err-index-clause-refused g c =

@@ -23,7 +23,8 @@ returns-in_err-write_all-clause-kept g c =
 pub loop-part-preserved-in_ok-write_all : goal.loop-part-preserved-in_ok-write_all
 loop-part-preserved-in_ok-write_all g c =
     let w = c.in_ok-write_all.ensures in
-    copied_more _ _ _ _ _ _ _ _ _ _ c.loop-part.invariant (part_is g (goal.at.loop-part-preserved-in_ok-write_all g c).In-Some) c.as_slice.ensures w.ok (still c.in_ok-part.ensures.steady) w.termination w.steady
+    copied_more _ _ _ _ _ _ _ _ _ _ c.loop-part.invariant (part_is g (goal.at.loop-part-preserved-in_ok-write_all g c).In-Some) c.as_slice.ensures w.ok
+    (still c.in_ok-part.ensures.steady) w.termination w.steady
 
 pub loop-part-preserved : goal.loop-part-preserved
 loop-part-preserved g c =

@@ -45,13 +45,15 @@ pub loop-part-preserved-in_ok-write_blocks : goal.loop-part-preserved-in_ok-writ
 loop-part-preserved-in_ok-write_blocks g c =
     let taken = part_is g (goal.at.loop-part-preserved-in_ok-write_blocks g c).In-Some in
     let w = c.in_ok-write_blocks.ensures in
-    stacked_more _ _ _ _ _ _ _ _ _ _ _ c.loop-part.invariant taken.taken c.checkpoints_in.ensures c.as_slice.ensures w.written (still c.in_ok-part.ensures.steady) w.termination (still w.steady) w.sound
+    stacked_more _ _ _ _ _ _ _ _ _ _ _ c.loop-part.invariant taken.taken c.checkpoints_in.ensures c.as_slice.ensures w.written (still c.in_ok-part.ensures.steady) w.termination
+    (still w.steady) w.sound
 
 pub loop-part-preserved : goal.loop-part-preserved
 loop-part-preserved g c =
     let taken = part_is g (goal.at.loop-part-preserved g c).In-Some in
     let w = c.in_ok-write_blocks.ensures in
-    stacked_more _ _ _ _ _ _ _ _ _ _ _ c.loop-part.invariant taken.taken c.checkpoints_in.ensures c.as_slice.ensures w.written (still c.in_ok-part.ensures.steady) w.termination (still w.steady) w.sound
+    stacked_more _ _ _ _ _ _ _ _ _ _ _ c.loop-part.invariant taken.taken c.checkpoints_in.ensures c.as_slice.ensures w.written (still c.in_ok-part.ensures.steady) w.termination
+    (still w.steady) w.sound
 
 pub returns-clause-stacked : goal.returns-clause-stacked
 returns-clause-stacked g c =

@@ -44,8 +44,10 @@ overflow_add-self g c =
 
 -- the index and the output after the call
 made : (g : Over) (c : goal.After-self-2-1 g)
-    → (c.insert.new.self.checkpoints ≡ c.self.inside.index.checkpoints ++ checkpoints_from c.self.inside.first_doc_in_block c.self.inside.writer.written (block_of c.args.num_docs_in_block c.args.bytes.now))
-    × (c.insert.new.self.period ≡ c.self.inside.index.period) × (g.W.TerminatingWrite.content c.write_all.new.self.output ≡ g.W.TerminatingWrite.content c.self.inside.writer.output ++ c.args.bytes.now)
+    → (c.insert.new.self.checkpoints ≡ c.self.inside.index.checkpoints ++ checkpoints_from c.self.inside.first_doc_in_block c.self.inside.writer.written
+    (block_of c.args.num_docs_in_block c.args.bytes.now))
+    × (c.insert.new.self.period ≡ c.self.inside.index.period)
+    × (g.W.TerminatingWrite.content c.write_all.new.self.output ≡ g.W.TerminatingWrite.content c.self.inside.writer.output ++ c.args.bytes.now)
     × (c.write_all.new.self.written ≡ c.self.inside.writer.written + length c.args.bytes.now)
 made g c =
     let content = g.W.TerminatingWrite.content c.self.inside.writer.output in

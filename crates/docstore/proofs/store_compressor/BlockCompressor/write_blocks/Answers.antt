@@ -68,7 +68,8 @@ cs_is g c =
     let index_is : c.register_all-registered.new.index
     ≡ record { period = c.self.inside.index.period; checkpoints = cs ++ laid_from first c.written_bytes-start.result c.args.checkpoints } = grind (arith, common_steps) in
     ap (λ (index : Index). index.checkpoints) index_is ∙ ap (λ (n : ℕ). cs ++ laid_from first n c.args.checkpoints) c.written_bytes-start.ensures
-    ∙ ap (λ (xs : List Checkpoint). cs ++ xs) (are_cut _ _ _ _ _ _ _ _ _ _ c.args.checkpoints c.args.bytes.now c.self.view_is c.self.invariant c.requires.works c.requires.cut c.requires.few_docs).places
+    ∙ ap (λ (xs : List Checkpoint). cs ++ xs)
+    (are_cut _ _ _ _ _ _ _ _ _ _ c.args.checkpoints c.args.bytes.now c.self.view_is c.self.invariant c.requires.works c.requires.cut c.requires.few_docs).places
 
 pub invariant_of-self-else-is_err-2 : goal.invariant_of-self-else-is_err-2
 invariant_of-self-else-is_err-2 g c =

@@ -94,7 +94,8 @@ loop-preserved g c =
     let l = c.loop in
     let s = c.self.inside in
     record {
-      exact = λ honest of. layer_goes_on c.args.file.now.content l.ends.now c.args.self.now c.args.target s.count l.counter l.place s.texts c.in-Some.end c.in-Some.more_ends.now l.found c.in_ok-next.next
+      exact = λ honest of. layer_goes_on c.args.file.now.content l.ends.now c.args.self.now c.args.target s.count l.counter l.place s.texts c.in-Some.end c.in-Some.more_ends.now l.found
+          c.in_ok-next.next
           (next_is g (goal.at.loop-preserved g c).Else-texts_len-end of) (c.is_none.ensures ∙ ap not c.if-is_none.false) (l.invariant.exact honest of)
           (layer_sought l.counter _ c.args.file.now l.file _ c.args.self.now c.args.target _ _ l.found (Ok c.in_ok-next.next) l.invariant.kept c.self.view_is honest c.in_ok-next.ensures.exact);
       left = (
@@ -105,7 +106,8 @@ loop-preserved g c =
       within = c.if-texts_len-end.false;
       past = c.in_ok-next.ensures.past;
       steady = still c.in_ok-next.ensures.steady ∙ l.invariant.steady;
-      kept = reads_more c.args.self.now.period _ l.counter c.args.file.now l.file c.seek_layer_in.new.file (ap (λ (h : HeadBytes). h.period) c.self.view_is) l.invariant.kept c.seek_layer_in.ensures.once;
+      kept = reads_more c.args.self.now.period _ l.counter c.args.file.now l.file c.seek_layer_in.new.file
+          (ap (λ (h : HeadBytes). h.period) c.self.view_is) l.invariant.kept c.seek_layer_in.ensures.once;
     }
 
 pub returns-then-place-texts_len-clause-exact : goal.returns-then-place-texts_len-clause-exact
@@ -138,13 +140,15 @@ returns-then-end-place-clause-runs g c =
 pub returns-in_err-next-clause-runs : goal.returns-in_err-next-clause-runs
 returns-in_err-next-clause-runs g c =
     let s = c.self.inside in
-    runs_of_layers _ c.args.self.now s.count s.ends s.texts (c.loop.counter + 1) c.args.file.now c.seek_layer_in.new.file c.self.view_is c.self.invariant (omega arith) (reads_more c.args.self.now.period _ c.loop.counter c.args.file.now c.loop.file c.seek_layer_in.new.file
+    runs_of_layers _ c.args.self.now s.count s.ends s.texts (c.loop.counter + 1) c.args.file.now c.seek_layer_in.new.file c.self.view_is c.self.invariant (omega arith)
+    (reads_more c.args.self.now.period _ c.loop.counter c.args.file.now c.loop.file c.seek_layer_in.new.file
     (ap (λ (h : HeadBytes). h.period) c.self.view_is) c.loop.invariant.kept c.seek_layer_in.ensures.once)
 
 pub returns-then-is_none-clause-runs : goal.returns-then-is_none-clause-runs
 returns-then-is_none-clause-runs g c =
     let s = c.self.inside in
-    runs_of_layers _ c.args.self.now s.count s.ends s.texts (c.loop.counter + 1) c.args.file.now c.seek_layer_in.new.file c.self.view_is c.self.invariant (omega arith) (reads_more c.args.self.now.period _ c.loop.counter c.args.file.now c.loop.file c.seek_layer_in.new.file
+    runs_of_layers _ c.args.self.now s.count s.ends s.texts (c.loop.counter + 1) c.args.file.now c.seek_layer_in.new.file c.self.view_is c.self.invariant (omega arith)
+    (reads_more c.args.self.now.period _ c.loop.counter c.args.file.now c.loop.file c.seek_layer_in.new.file
     (ap (λ (h : HeadBytes). h.period) c.self.view_is) c.loop.invariant.kept c.seek_layer_in.ensures.once)
 
 pub returns-then-place-texts_len-clause-runs : goal.returns-then-place-texts_len-clause-runs

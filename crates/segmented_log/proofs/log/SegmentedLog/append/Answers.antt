@@ -29,7 +29,15 @@ invariant_of-self-2 g c =
       next_is = omega (arith, s.next_is, ap length more.1, length-append (records_in log.tail.pending) (bytes ∷ []));
       fits = omega arith;
       pending_whole = more.0;
-      small = omega (arith, ap length c.pending.ensures, ap length c.in_ok-add_record.ensures.added, length-append log.tail.pending (framed bytes), length-append (four (length bytes)) bytes, length-four (length bytes));
+      small = omega (
+        arith,
+        ap length c.pending.ensures,
+        ap length c.in_ok-add_record.ensures.added,
+        length-append log.tail.pending (framed bytes),
+        length-append
+            (four (length bytes)) bytes,
+        length-four (length bytes),
+      );
     } in
     rw c.add_record.ensures.bytes (both_on_false _ _ _ now known.1)
 

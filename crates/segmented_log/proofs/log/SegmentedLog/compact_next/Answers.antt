@@ -61,13 +61,29 @@ pub overflow_add-step : goal.overflow_add-step
 overflow_add-step g c =
     let log = c.self.inside in
     let s = step_is g (goal.at.overflow_add-step g c).In-Some in
-    omega (arith, step_within _ _ _ s, many_parts c.args.self.now.segments, ap (λ v. length v.segments) c.self.view_is, length-map log.segments.items (λ x. sealed_of x.first x.reader), log.segments.ok.0)
+    omega (
+      arith,
+      step_within _ _ _ s,
+      many_parts c.args.self.now.segments,
+      ap (λ v. length v.segments) c.self.view_is,
+      length-map log.segments.items
+          (λ x. sealed_of x.first x.reader),
+      log.segments.ok.0,
+    )
 
 pub overflow_add-step-2 : goal.overflow_add-step-2
 overflow_add-step-2 g c =
     let log = c.self.inside in
     let s = step_is g (goal.at.overflow_add-step-2 g c).In-Some in
-    omega (arith, step_within _ _ _ s, many_parts c.args.self.now.segments, ap (λ v. length v.segments) c.self.view_is, length-map log.segments.items (λ x. sealed_of x.first x.reader), log.segments.ok.0)
+    omega (
+      arith,
+      step_within _ _ _ s,
+      many_parts c.args.self.now.segments,
+      ap (λ v. length v.segments) c.self.view_is,
+      length-map log.segments.items
+          (λ x. sealed_of x.first x.reader),
+      log.segments.ok.0,
+    )
 
 pub remove_covered-requires-clause-within : goal.remove_covered-requires-clause-within
 remove_covered-requires-clause-within g c =

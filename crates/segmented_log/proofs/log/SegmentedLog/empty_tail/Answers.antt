@@ -99,7 +99,8 @@ invariant_of-self-2 g c =
     let new = c.replace_tail.new.folder in
     let is = sym (new_is g (goal.at.invariant_of-self-2 g c).After-restart) in (
       subst (λ p. IsSettledTail log.sealed end log.next c.restart.new.self.bytes c.clear.new.self.items p) (sym c.restart.ensures.pending)
-          (subst (λ t. IsSettledTail log.sealed end log.next t c.clear.new.self.items log.tail.pending) is (settled_empty _ _ _ _ _ _ known.0 _ _ (end_is g here) (sealed_is g here) made.0 made.1 (none_is g here) made.3 c.clear.new.self.items c.clear.ensures.items)),
+          (subst (λ t. IsSettledTail log.sealed end log.next t c.clear.new.self.items log.tail.pending) is
+          (settled_empty _ _ _ _ _ _ known.0 _ _ (end_is g here) (sealed_is g here) made.0 made.1 (none_is g here) made.3 c.clear.new.self.items c.clear.ensures.items)),
       λ h. (
         subst (λ t. IsSettledFolder (F.may_hold new) (F.may_leave new) (F.entry_kept new) log.first log.sealed segments t) is
             (folder_empty _ _ _ _ _ _ known.0 _ _ (end_is g here) (sealed_is g here) made.0 made.1 (none_is g here) made.3 log.first segments

@@ -58,7 +58,8 @@ slice_bounds-join_segments-end g c =
     omega (arith, run_within (λ s. part_of s.first s.reader) log.segments.items c.args.place c.args.count r, ap (λ l. length l) c.deref.ensures.value)
 
 -- the run, of the segments as the log has them
-run_is : (g : _) (c : After-join_segments g) → IsRun (parts_of c.args.self.now.segments) c.args.place c.args.count → IsRun (map (λ s. part_of s.first s.reader) c.self.inside.segments.items) c.args.place c.args.count
+run_is : (g : _) (c : After-join_segments g) → IsRun (parts_of c.args.self.now.segments) c.args.place c.args.count
+    → IsRun (map (λ s. part_of s.first s.reader) c.self.inside.segments.items) c.args.place c.args.count
 run_is g c r =
     let log = c.self.inside in
     let same = ap (λ w. parts_of w.segments) (sym c.self.view_is) ∙ view_parts (λ s. sealed_of s.first s.reader) (λ s. part_of s.first s.reader) (λ s. refl) log.segments.items in
@@ -76,15 +77,21 @@ there g c h =
     let log = c.self.inside in
     let f = ((OnFalse_at (ap (λ v. v.is_broken) c.self.view_is ∙ c.requires.works) c.self.invariant).1 h).0 in
     let held = f.on_disk.outcomes (F.seen log.folder) (g.met.F.Folder.seen_may_be_left log.folder h) in
-    parts_there (HasSegment (F.seen log.folder)) (λ s. part_of s.first s.reader) log.segments.items c.deref.result.now c.deref.ensures.value held.each c.args.place (c.args.place + c.args.count + 1 - c.args.place)
+    parts_there (HasSegment (F.seen log.folder)) (λ s. part_of s.first s.reader) log.segments.items c.deref.result.now c.deref.ensures.value held.each c.args.place
+    (c.args.place + c.args.count + 1 - c.args.place)
 
 -- the segment that is published
 part_is : (g : _) (c : After-join_segments g) (r : IsRun (map (λ s. part_of s.first s.reader) c.self.inside.segments.items) c.args.place c.args.count)
-    → record { first = c.index.result.now.first; slots = slots_in (map (λ s. part_of s.first s.reader) (take (c.args.place + c.args.count + 1 - c.args.place) (drop c.args.place c.deref.result.now))) } ≡ one_of r
+    → record {
+      first = c.index.result.now.first;
+      slots = slots_in
+          (map (λ s. part_of s.first s.reader) (take (c.args.place + c.args.count + 1 - c.args.place) (drop c.args.place c.deref.result.now)));
+    } ≡ one_of r
 part_is g c r =
     let items = c.self.inside.segments.items in
     let x = c.index.result.now in
-    subst (λ l. record { first = x.first; slots = slots_in (map (λ s. part_of s.first s.reader) (take (c.args.place + c.args.count + 1 - c.args.place) (drop c.args.place l))) } ≡ one_of r) (sym c.deref.ensures.value)
+    subst (λ l. record { first = x.first; slots = slots_in (map (λ s. part_of s.first s.reader) (take (c.args.place + c.args.count + 1 - c.args.place) (drop c.args.place l))) } ≡ one_of r)
+    (sym c.deref.ensures.value)
     (run_part (λ s. part_of s.first s.reader) items c.args.place c.args.count r x x.first (c.args.place + c.args.count + 1 - c.args.place) c.index.ensures refl (omega arith))
 
 -- its name
@@ -118,17 +125,20 @@ has_segments : (g : _) (c : After-join_segments g) → IsTrue g.F.Folder.honest 
 has_segments g c h = subst (λ w. HasSegments (g.F.Folder.seen w.folder)) c.self.view_is ((run_is g c c.requires.run).head.first, head_there g c h)
 
 -- a slot of those that are joined is one of the log's segments
-old_slots : (g : _) (c : After-join_segments g) (slot : Slot) → Contains (slots_in (map (λ s. part_of s.first s.reader) (take (c.args.place + c.args.count + 1 - c.args.place) (drop c.args.place c.deref.result.now)))) slot
+old_slots : (g : _) (c : After-join_segments g) (slot : Slot)
+    → Contains (slots_in (map (λ s. part_of s.first s.reader) (take (c.args.place + c.args.count + 1 - c.args.place) (drop c.args.place c.deref.result.now)))) slot
     → Contains (slots_in (parts_of c.args.self.now.segments)) slot
 old_slots g c slot has =
     let items = c.self.inside.segments.items in
     let same = ap (λ w. parts_of w.segments) (sym c.self.view_is) ∙ view_parts (λ s. sealed_of s.first s.reader) (λ s. part_of s.first s.reader) (λ s. refl) items in
     let n = c.args.place + c.args.count + 1 - c.args.place in
     subst (λ l. Contains (slots_in l) slot) (sym same)
-    (in_part (λ s. part_of s.first s.reader) slot c.args.place n items (subst (λ l. Contains (slots_in (map (λ s. part_of s.first s.reader) (take n (drop c.args.place l)))) slot) c.deref.ensures.value has))
+    (in_part (λ s. part_of s.first s.reader) slot c.args.place n items
+    (subst (λ l. Contains (slots_in (map (λ s. part_of s.first s.reader) (take n (drop c.args.place l)))) slot) c.deref.ensures.value has))
 
 -- a store has numbers for them
-few_slots : (g : _) (c : After-join_segments g) → length (slots_in (map (λ s. part_of s.first s.reader) (take (c.args.place + c.args.count + 1 - c.args.place) (drop c.args.place c.deref.result.now)))) < 2 ^ 32
+few_slots : (g : _) (c : After-join_segments g)
+    → length (slots_in (map (λ s. part_of s.first s.reader) (take (c.args.place + c.args.count + 1 - c.args.place) (drop c.args.place c.deref.result.now)))) < 2 ^ 32
 few_slots g c =
     let items = c.self.inside.segments.items in
     let same = ap (λ w. parts_of w.segments) (sym c.self.view_is) ∙ view_parts (λ s. sealed_of s.first s.reader) (λ s. part_of s.first s.reader) (λ s. refl) items in
@@ -150,7 +160,8 @@ files_now g c h =
     let f = ((OnFalse_at (ap (λ v. v.is_broken) c.self.view_is ∙ c.requires.works) c.self.invariant).1 h).0 in
     let r = run_is g c c.requires.run in
     subst (λ w. ChangesSegments (F.seen w.folder) (F.seen c.join_segments.new.folder)) c.self.view_is
-    (changes_replaced c.index.result.now.first (F.seen log.folder) (F.seen c.join_segments.new.folder) (subst (λ n. IsSome (F.seen log.folder (segment_name n))) (sym (first_is g c r)) (head_there g c h))
+    (changes_replaced c.index.result.now.first (F.seen log.folder) (F.seen c.join_segments.new.folder)
+    (subst (λ n. IsSome (F.seen log.folder (segment_name n))) (sym (first_is g c r)) (head_there g c h))
     (c.join_segments.ensures.elsewhere h))
 
 pub returns-in_err-joined-clause-any_moment : goal.returns-in_err-joined-clause-any_moment

@@ -116,7 +116,8 @@ invariant_of-self-2 g c =
           let published : (l : Look) → F.may_leave new l → HasSegment l (part_at log.sealed log.tail.bytes (rest g here)) =
           λ l left. subst (λ t. HasSegment l (part_at log.sealed t (rest g here))) c.bytes.ensures (c.in_ok-segment.ensures.published h l left) in (
             subst (λ l. IsSettledFolder (F.may_hold new) (F.may_leave new) (F.entry_kept new) log.first (log.tail_first + c.len.result) l log.tail.bytes) (sym grown)
-                (folder_segment _ _ _ _ _ _ known.0 _ _ (end_is g here) (more_is g here) refl log.first (map (λ x. part_of x.first x.reader) log.segments.items) (known.1 h).0.parts (known.1 h).0.sealed_is
+                (folder_segment _ _ _ _ _ _ known.0 _ _ (end_is g here) (more_is g here) refl log.first (map (λ x. part_of x.first x.reader) log.segments.items) (known.1 h).0.parts
+                (known.1 h).0.sealed_is
                 (rest g here) (rest_is g here)
                 (part_of segment.first segment.reader) part_is
                 (F.may_hold log.folder) (F.may_hold new) (F.may_leave log.folder) (F.may_leave new) (F.entry_kept log.folder) (F.entry_kept new) (known.1 h).0.on_disk published

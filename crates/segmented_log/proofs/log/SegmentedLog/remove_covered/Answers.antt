@@ -71,7 +71,8 @@ items_left g c =
     let next : c.args.place + 1 ≡ suc c.args.place = omega arith in
     c.remove.ensures.by_index.2 ∙ ap (λ n. take c.args.place c.self.inside.segments.items ++ drop n c.self.inside.segments.items) next
 
-parts_left : (g : _) (c : After-remove g) (v : IsCovered c.self.inside.first (map (λ s. part_of s.first s.reader) c.self.inside.segments.items) c.args.place) → map (λ s. part_of s.first s.reader) c.remove.new.self.items ≡ without v
+parts_left : (g : _) (c : After-remove g) (v : IsCovered c.self.inside.first (map (λ s. part_of s.first s.reader) c.self.inside.segments.items) c.args.place)
+    → map (λ s. part_of s.first s.reader) c.remove.new.self.items ≡ without v
 parts_left g c v =
     ap (λ l. map (λ s. part_of s.first s.reader) l) (items_left g c) ∙ covered_left (λ s. part_of s.first s.reader) c.self.inside.segments.items c.self.inside.first c.args.place v
 

@@ -17,13 +17,15 @@ use Rattle.segmented_log.proofs.log.SegmentedLog.sync.Goals as goal
 
 pub returns-then-is_empty-clause-none_pending : goal.returns-then-is_empty-clause-none_pending
 returns-then-is_empty-clause-none_pending g c =
-    let none = sym (ap (λ v. v.pending) c.self.view_is) ∙ nothing_pending c.self.inside.tail.pending (length c.pending.result.now) c.is_empty.result c.is_empty.ensures c.if-is_empty.true (sym (ap length c.pending.ensures)) in
+    let none = sym (ap (λ v. v.pending) c.self.view_is)
+    ∙ nothing_pending c.self.inside.tail.pending (length c.pending.result.now) c.is_empty.result c.is_empty.ensures c.if-is_empty.true (sym (ap length c.pending.ensures)) in
     always_ok c.seal_large.result (c.seal_large.ensures.pending ∙ none)
 
 pub returns-then-is_empty-clause-acknowledged : goal.returns-then-is_empty-clause-acknowledged
 returns-then-is_empty-clause-acknowledged g c = λ h.
     let old = c.args.self.now in
-    let none = sym (ap (λ v. v.pending) c.self.view_is) ∙ nothing_pending c.self.inside.tail.pending (length c.pending.result.now) c.is_empty.result c.is_empty.ensures c.if-is_empty.true (sym (ap length c.pending.ensures)) in
+    let none = sym (ap (λ v. v.pending) c.self.view_is)
+    ∙ nothing_pending c.self.inside.tail.pending (length c.pending.result.now) c.is_empty.result c.is_empty.ensures c.if-is_empty.true (sym (ap length c.pending.ensures)) in
     let same = sym (append-nil old.slots) ∙ ap (λ l. old.slots ++ map doc l) (sym none) in
     on_ok_weaker c.seal_large.result (λ slots. slots ∙ same) (c.seal_large.ensures.slots h)
 
@@ -41,7 +43,8 @@ returns-clause-any_moment g c = λ h works.
 pub returns-then-is_empty-clause-full : goal.returns-then-is_empty-clause-full
 returns-then-is_empty-clause-full g c = λ h is.
     let old = c.args.self.now in
-    let none = sym (ap (λ v. v.pending) c.self.view_is) ∙ nothing_pending c.self.inside.tail.pending (length c.pending.result.now) c.is_empty.result c.is_empty.ensures c.if-is_empty.true (sym (ap length c.pending.ensures)) in
+    let none = sym (ap (λ v. v.pending) c.self.view_is)
+    ∙ nothing_pending c.self.inside.tail.pending (length c.pending.result.now) c.is_empty.result c.is_empty.ensures c.if-is_empty.true (sym (ap length c.pending.ensures)) in
     let same = sym (append-nil old.slots) ∙ ap (λ l. old.slots ++ map doc l) (sym none) in
     subst (λ a. HasNoRoomForLast a) same (c.seal_large.ensures.full h is)
 

@@ -1,5 +1,5 @@
 use Rattle.std.proofs.Common.{◌≡◌, inl, ◌+◌, ◌≤◌, ◌<◌, ◌^◌, ◌++◌, ◌∷◌, length, map, take, drop, sym, ◌∙◌, ap, subst, arith, length-append}
-use Rattle.std.specs.Prelude.{IsTrue}
+use Rattle.std.specs.Prelude.{All, IsTrue}
 use Rattle.std.proofs.lemmas.Bool.{OnFalse_at}
 use Rattle.store_folder.specs.Folder.{ElsewhereOfBoth}
 use Rattle.store_folder.specs.Moments.{LeavesOnly}
@@ -7,7 +7,7 @@ use Rattle.store_folder.specs.Publishing.{part}
 use Rattle.store_folder.proofs.Steps.{started, weaker}
 use Rattle.store_format.specs.Block.{doc}
 use Rattle.record_log.proofs.Scans.{ends_later}
-use Rattle.record_log.specs.Place.{AddsRecords}
+use Rattle.record_log.specs.Place.{EndsBy, AddsRecords}
 use Rattle.record_log.specs.Tail.{sum_of, summed}
 use Rattle.segmented_log.specs.Names.{tail_name}
 use Rattle.segmented_log.specs.Parts.{part_of}
@@ -15,23 +15,11 @@ use Rattle.segmented_log.specs.Log.{KeepsOrAdds}
 use Rattle.segmented_log.specs.Settled.{TailIsKept, PutsBatch}
 use Rattle.segmented_log.proofs.SyncLemmas.{settled_batch, folder_batch, slots_batch, log_on_disk, new_size, seam_front, seam_back}
 use Rattle.segmented_log.proofs.TailLemmas.{keeps_or_adds}
-use Rattle.segmented_log.proofs.log.SegmentedLog.write_pending.Goals.{After-pending, After-place_records, After-bytes}
+use Rattle.segmented_log.proofs.log.SegmentedLog.write_pending.Goals.{After-place_batch, After-bytes}
 use Rattle.segmented_log.proofs.log.SegmentedLog.write_pending.Goals as goal
 
--- how much place there is for a batch
-has_room : (g : _) (c : After-pending g) → c.len-end.result + 13 + length c.pending.result.now < 2 ^ 64
-has_room g c =
-    let known = OnFalse_at (ap (λ v. v.is_broken) c.self.view_is ∙ c.requires.works) c.self.invariant in
-    omega (arith, known.0.small, c.len-end.ensures.small, ap length c.pending.ensures)
-
-pub overflow_add-end : goal.overflow_add-end
-overflow_add-end g c = omega (arith, c.len-end.ensures.small)
-
-pub place_records-requires : goal.place_records-requires
-place_records-requires g c = has_room g (goal.at.place_records-requires g c).After-pending
-
 -- before the batch is written the log is as it was
-nothing_written : (g : _) (c : After-place_records g) → IsTrue g.F.Folder.honest
+nothing_written : (g : _) (c : After-place_batch g) → IsTrue g.F.Folder.honest
     → LeavesOnly g.F.Folder.moment g.F.Folder.left_since c.args.self.now.folder c.self.inside.folder
     (KeepsOrAdds c.args.self.now.commit c.args.self.now.first c.args.self.now.slots c.args.self.now.pending)
 nothing_written g c h =
@@ -41,8 +29,8 @@ nothing_written g c h =
     subst (λ v. LeavesOnly F.moment F.left_since v.folder log.folder (KeepsOrAdds v.commit v.first v.slots v.pending)) c.self.view_is
     (started F.moment F.left_since log.folder _ (λ l left. inl (log_on_disk _ _ _ _ _ _ _ (known.1 h).0 l (g.met.F.Folder.only_now log.folder l left))))
 
-pub returns-in_err-place_records-clause-any_moment : goal.returns-in_err-place_records-clause-any_moment
-returns-in_err-place_records-clause-any_moment g c = λ h. nothing_written g (goal.at.returns-in_err-place_records-clause-any_moment g c).After-place_records h
+pub returns-in_err-place_batch-clause-any_moment : goal.returns-in_err-place_batch-clause-any_moment
+returns-in_err-place_batch-clause-any_moment g c = λ h. nothing_written g (goal.at.returns-in_err-place_batch-clause-any_moment g c).After-place_batch h
 
 -- the size of the batch fits, and the tail has it after what it had
 fits_is : (g : _) (c : After-bytes g) → sum_of c.self.inside.tail.pending < 2 ^ 64
@@ -61,14 +49,16 @@ back_is : (g : _) (c : After-bytes g) → drop c.len-end.result c.bytes.result.n
 back_is g c = seam_back c.bytes.result.now c.self.inside.tail.bytes (1 ∷ summed c.self.inside.tail.pending) c.len-end.result (written_is g c) (omega arith)
 
 pub write_batch-requires-clause-within : goal.write_batch-requires-clause-within
-write_batch-requires-clause-within g c = omega (arith, ap length (written_is g (goal.at.write_batch-requires-clause-within g c).After-bytes), length-append c.self.inside.tail.bytes (1 ∷ summed c.self.inside.tail.pending))
+write_batch-requires-clause-within g c = omega
+    (arith, ap length (written_is g (goal.at.write_batch-requires-clause-within g c).After-bytes), length-append c.self.inside.tail.bytes (1 ∷ summed c.self.inside.tail.pending))
 
 pub write_batch-requires-clause-kept : goal.write_batch-requires-clause-kept
 write_batch-requires-clause-kept g c = λ h.
     let F = g.F.Folder in
     let log = c.self.inside in
     let known = OnFalse_at (ap (λ v. v.is_broken) c.self.view_is ∙ c.requires.works) c.self.invariant in
-    subst (λ t. TailIsKept (F.may_hold log.folder) (F.may_leave log.folder) (F.entry_kept log.folder) t) (sym (front_is g (goal.at.write_batch-requires-clause-kept g c).After-bytes)) (known.1 h).0.on_disk.tail_kept
+    subst (λ t. TailIsKept (F.may_hold log.folder) (F.may_leave log.folder) (F.entry_kept log.folder) t) (sym (front_is g (goal.at.write_batch-requires-clause-kept g c).After-bytes))
+    (known.1 h).0.on_disk.tail_kept
 
 -- while the batch is written, each moment has the old records, or the batch's after them
 kept_or_added : (g : _) (c : After-bytes g) (new : _) → IsTrue g.F.Folder.honest
@@ -124,19 +114,19 @@ invariant_of-self-2 g c =
     let body = log.tail.pending in
     let new = c.take_batch.new.self.bytes in
     let new_folder = c.write_batch.new.folder in
-    let later = c.place_records.new.places.items in
+    let later = c.place_batch.new.places.items in
     let here = (goal.at.invariant_of-self-2 g c).After-bytes in
     let is = new_is g here in
-    let len_is : c.len-end.result + 13 ≡ length tail + 13 = omega arith in
-    let adds : AddsRecords body (length tail + 13) log.places.items later =
-    subst (λ n. AddsRecords body n log.places.items later) len_is (subst (λ b. AddsRecords b (c.len-end.result + 13) log.places.items later) c.pending.ensures c.in_ok-place_records.ensures.records) in
-    let within = c.in_ok-place_records.ensures.within (ends_later (length tail) (c.len-end.result + 13) log.places.items (omega (arith, len_is)) s.within) in
-    let size : c.len-end.result + 13 + length c.pending.result.now ≤ length new = omega (arith, len_is, ap length c.pending.ensures, new_size tail body new is) in (
-      settled_batch log.sealed log.tail_first log.next tail body new log.places.items s (fits_is g here) is later c.take_batch.new.self.pending (c.len-end.result + 13 + length c.pending.result.now) adds within size c.take_batch.ensures.none_pending,
+    let end = length tail + 13 + length body in
+    let adds : AddsRecords body (length tail + 13) log.places.items later = c.in_ok-place_batch.ensures.records in
+    let within : All (EndsBy end) later = c.in_ok-place_batch.ensures.within (ends_later (length tail) (length tail + 13) log.places.items (omega arith) s.within) in
+    let size : end ≤ length new = omega (arith, new_size tail body new is) in (
+      settled_batch log.sealed log.tail_first log.next tail body new log.places.items s (fits_is g here) is later c.take_batch.new.self.pending end adds within size c.take_batch.ensures.none_pending,
       λ h.
           let kept = subst (λ t. TailIsKept (F.may_hold new_folder) (F.may_leave new_folder) (F.entry_kept new_folder) t) (written_is g here) (c.in_ok-write_batch.ensures.kept h) in (
             folder_batch log.sealed log.tail_first log.next tail body new log.places.items s (fits_is g here) is log.first (map (λ x. part_of x.first x.reader) log.segments.items)
-                (F.may_hold log.folder) (F.may_hold new_folder) (F.may_leave log.folder) (F.may_leave new_folder) (F.entry_kept log.folder) (F.entry_kept new_folder) (known.1 h).0 kept (c.write_batch.ensures.crash h),
+                (F.may_hold log.folder) (F.may_hold new_folder) (F.may_leave log.folder) (F.may_leave new_folder) (F.entry_kept log.folder) (F.entry_kept new_folder) (known.1 h).0 kept
+                (c.write_batch.ensures.crash h),
             (known.1 h).1,
           ),
     )

@@ -44,7 +44,8 @@ old_or_whole g c h =
     let mid = c.hand_over.new.folder in
     let new = c.publish-named.new.folder in
     let run = c.publish-named.ensures.any_moment h in
-    let run_beside = subst (λ (b : List ℕ). LeavesOnly F.moment F.left_since mid new (IsOldOrWhole (F.may_leave mid) b c.as_str-2.result.now (F.seen mid b))) (c.as_str.ensures.value ∙ beside_is g c) run in
+    let run_beside = subst (λ (b : List ℕ). LeavesOnly F.moment F.left_since mid new (IsOldOrWhole (F.may_leave mid) b c.as_str-2.result.now (F.seen mid b)))
+    (c.as_str.ensures.value ∙ beside_is g c) run in
     let run_named = subst (λ (n : List ℕ). LeavesOnly F.moment F.left_since mid new (IsOldOrWhole (F.may_leave mid) beside n (F.seen mid beside))) c.as_str-2.ensures.value run_beside in
     named F.seen F.may_leave F.moment F.left_since beside (string_bytes s.name) c.self.invariant.0 s.first.value mid (s.beside.sent.bytes ++ s.beside.buffer.items) (whole g c h) new run_named
 

@@ -23,7 +23,8 @@ pub returns-in_err-period : goal.returns-in_err-period
 returns-in_err-period c =
     let p = err_from_is_err_and c.from_residual-in_err-period.result c.from_residual-in_err-period.ensures.1 in
     rw (p.1, p.2)
-    (period_fault _ _ _ _ _ c.in_ok-decompressor.decompressor _ (read (goal.at.returns-in_err-period c).In_ok-offset) c.in_ok-decompressor.ensures.ok c.in_err-period.ensures.err.0 c.in_err-period.ensures.err.1 c.in_err-period.ensures.err.2)
+    (period_fault _ _ _ _ _ c.in_ok-decompressor.decompressor _
+    (read (goal.at.returns-in_err-period c).In_ok-offset) c.in_ok-decompressor.ensures.ok c.in_err-period.ensures.err.0 c.in_err-period.ensures.err.1 c.in_err-period.ensures.err.2)
 
 pub returns : goal.returns
 returns c =

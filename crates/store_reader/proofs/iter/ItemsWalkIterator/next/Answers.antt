@@ -23,7 +23,15 @@ returns-clause-steps g c =
         walks = found.0;
         walk = c.walk_on.ensures.walk;
         same = c.walk_on.ensures.same;
-        gives = record { below = found.1; is_alive = found.2; next = found.3; above = (stands_from _ _ _ _ found.4).1; answers = c.answer_of.ensures; honest = item_is_true _ _ _ _ _ found.4 c.answer_of.ensures };
+        gives = record {
+          below = found.1;
+          is_alive = found.2;
+          next = found.3;
+          above =
+              (stands_from _ _ _ _ found.4).1;
+          answers = c.answer_of.ensures;
+          honest = item_is_true _ _ _ _ _ found.4 c.answer_of.ensures;
+        };
         steady = elim c.in_ok-doc_id.ensures.steady [ inl failed ↦ inl (failed_item _ _ _ _ c.answer_of.ensures failed) | inr steady ↦ inr steady ];
       },
       refl,

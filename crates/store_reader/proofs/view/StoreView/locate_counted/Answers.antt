@@ -55,4 +55,5 @@ returns-in-Some-likely_read_index-clause-place c =
 
 pub returns-in-None-clause-document : goal.returns-in-None-clause-document
 returns-in-None-clause-document c =
-    rw (← c.self.view_is) (sym (ap (exact_result c.args.doc_id) (slot_placed _ _ _ _ _ _ c.self.invariant (sym c.in-Some.ensures.answer) ∙ ap Some (rw c.part-block.ensures at c.in-None.ensures.slot))))
+    rw (← c.self.view_is) (sym (ap (exact_result c.args.doc_id)
+    (slot_placed _ _ _ _ _ _ c.self.invariant (sym c.in-Some.ensures.answer) ∙ ap Some (rw c.part-block.ensures at c.in-None.ensures.slot))))
