@@ -40,6 +40,17 @@ class Kept(OldStoreCase):
         after = self.path.stat()
         self.assertEqual((after.st_mode, after.st_uid, after.st_gid), (before.st_mode, before.st_uid, before.st_gid))
 
+    def test_a_link_beside_is_not_followed(self):
+        other = self.folder / "other"
+        other.write_bytes(b"other")
+        for target in ("other", "none"):
+            with self.subTest(target):
+                (self.folder / "a.store.part").symlink_to(target)
+                self.program.gives("pack", "a.store", input=target.encode())
+                self.assertEqual(self.text(), target.encode() + b"\n")
+                self.assertEqual(other.read_bytes(), b"other")
+                self.assertEqual(self.names(), ["a.store", "other"])
+
 
 class Names(OldStoreCase):
     def test_names_that_are_no_plain_words_are_taken(self):

@@ -30,6 +30,8 @@ class Writers(OldStoreCase):
         self.assertEqual(first.returncode, 0)
         self.assertEqual(self.text(), b"first\n")
         self.assertEqual(self.names(), ["a.store"])
+        self.pack("a.store", b"third\n")
+        self.assertEqual(self.text(), b"third\n")
 
     def test_an_interrupted_writer_leaves_the_old_store(self):
         for end in (signal.SIGINT, signal.SIGTERM, signal.SIGHUP):

@@ -14,6 +14,4 @@ mod outputs;
 #[cfg(test)]
 mod reading;
 #[cfg(test)]
-mod replacing;
-#[cfg(test)]
 mod stores;

@@ -41,15 +41,6 @@ fn a_second_writer_is_refused_at_once(rt: HostRuntime) -> Result<(), Fail> {
     Ok(remove(&rt, "test_files_locked")?)
 }
 
-#[test]
-fn a_folder_that_is_not_there_is_refused(rt: HostRuntime) -> Result<(), Fail> {
-    make(&rt, "test_files_no_log")?;
-    let reason = "No such file or directory (os error 2)";
-    assert!(rt; is_refused(&rt, "test_files_no_log/log", reason)?);
-    assert_eq!(rt; count(&rt, "test_files_no_log")?, 0);
-    Ok(remove(&rt, "test_files_no_log")?)
-}
-
 // Writes a file in pieces, between which another is published and a third is removed.
 fn fill<F: Folder>(folder: &mut F) -> io::Result<()> {
     folder.create("a.part")?;

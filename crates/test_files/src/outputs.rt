@@ -70,6 +70,38 @@ fn an_output_that_has_its_name_leaves_the_next_one_alone(rt: HostRuntime) -> Res
     Ok(remove(&rt, "test_files_next")?)
 }
 
+// Whether an output of this name can't be begun, for this reason.
+fn is_refused(rt: &HostRuntime, path: &str, reason: &str) -> Result<bool, Fail> {
+    match DiskSink::create(rt.alloc(), rt.clone()?, path) {
+        Ok(_) => Ok(false),
+        Err(error) => Ok(format!(in rt.alloc(); "{error}")?.as_str() == reason),
+    }
+}
+
+// Writes to a first output and ends it. Returns whether a second one was refused until then.
+fn second_is_refused(
+    rt: &HostRuntime,
+    first: &mut DiskSink<HostRuntime>,
+    path: &str,
+) -> Result<bool, Fail> {
+    let reason = "test_files_second/a.store.part is being written by another";
+    first.write_all(b"first")?;
+    let is_refused = is_refused(rt, path, reason)?;
+    first.terminate()?;
+    Ok(is_refused)
+}
+
+#[test]
+fn a_second_output_of_a_name_is_refused(rt: HostRuntime) -> Result<(), Fail> {
+    let path = "test_files_second/a.store";
+    make(&rt, "test_files_second")?;
+    let mut first = DiskSink::create(rt.alloc(), rt.clone()?, path)?;
+    let is_refused = second_is_refused(&rt, &mut first, path);
+    drop(first);
+    assert!(rt; is_refused? && holds(&rt, path, b"first")?);
+    Ok(remove(&rt, "test_files_second")?)
+}
+
 // How an output stands after the call of the system of this number failed.
 #[derive(Clone, Copy, Debug, PartialEq, Eq)]
 enum End {

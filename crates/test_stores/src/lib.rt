@@ -1,16 +1,12 @@
-//! Does a store give back what was written, are its own numbers right, and is it stacked, merged and exported whole?
+//! Does a store give back what was written, are its own numbers right, and is it stacked and merged whole?
 #![tactic(auto)]
 
 #[cfg(test)]
 mod describing;
 #[cfg(test)]
-mod exporting;
-#[cfg(test)]
 mod lists;
 #[cfg(test)]
 mod merging;
-#[cfg(test)]
-mod parts;
 #[cfg(test)]
 mod records;
 #[cfg(test)]

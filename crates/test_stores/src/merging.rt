@@ -7,8 +7,8 @@ use store_merge::{MergeError, merge};
 use test_support::making::{closed, is_found, opened_bytes, written};
 use test_support::merge_inputs::{inputs, six_blocks};
 
-/// The file of a writer after a merge that ended well.
-pub fn file_of(
+// The file of a writer after a merge that ended well.
+fn file_of(
     writer: StoreWriter<MemSink>,
     merged: Result<(), MergeError>,
 ) -> Result<Vec<u8>, StoreError> {
