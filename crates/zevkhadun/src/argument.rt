@@ -8,7 +8,7 @@ use std::alloc::{AllocError, Global};
 pub enum Takes {
     /// A word, by its place among the words.
     Word,
-    /// At least so many words, by their place.
+    /// At least this many words, by their place.
     Words(usize),
     /// Nothing: `--ID` is there or not.
     Nothing,
