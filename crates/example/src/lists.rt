@@ -40,10 +40,15 @@ fn answered(alloc: Global, reader: &mut Reader) -> Result<(usize, bool), StoreEr
     Ok((answers.len(), any_lacks_memory(&answers)))
 }
 
+// The same of the file of the two documents.
+fn answered_of_two(alloc: Global) -> Result<(usize, bool), StoreError> {
+    let file = listed(alloc, commands(alloc)?)?;
+    answered(alloc, &mut opened(alloc, file)?)
+}
+
 /// Prints how many calls of a list were answered.
 pub fn print_answers(rt: &HostRuntime) -> anyhow::Result<()> {
-    let file = listed(rt.alloc(), commands(rt.alloc())?)?;
-    let (count, is_short) = answered(rt.alloc(), &mut opened(rt.alloc(), file)?)?;
+    let (count, is_short) = answered_of_two(rt.alloc())?;
     println!(rt; "{count} answers, memory was short: {is_short}")?;
     Ok(())
 }

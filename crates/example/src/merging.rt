@@ -4,7 +4,7 @@ ghost use Rattle.std.specs.List.{AllByRecursion};
 ghost use Rattle.store_merge.specs.Inputs.{HasWholeSet};
 
 use crate::in_memory::{opened, print_text, written};
-use docstore::{AliveBitSet, Compressor, MemFile, MemSink, StoreError, StoreWriter};
+use docstore::{AliveBitSet, Compressor, MemFile, MemSink, OwnedBytes, StoreError, StoreWriter};
 use std::alloc::Global;
 use store_merge::{MergeInput, merge};
 
@@ -39,9 +39,14 @@ fn inputs(alloc: Global) -> Result<Vec<MergeInput<MemFile>>, StoreError>
     Ok(inputs)
 }
 
-/// Prints how many documents a merge has, and the last one.
+// The last document of a merge.
+fn last_document(alloc: Global) -> Result<OwnedBytes, StoreError> {
+    let file = merged(alloc, &mut inputs(alloc)?)?;
+    opened(alloc, file)?.get_document_bytes(alloc, 1)
+}
+
+/// Prints the last document of a merge.
 pub fn print_merged(rt: &HostRuntime) -> anyhow::Result<()> {
-    let file = merged(rt.alloc(), &mut inputs(rt.alloc())?)?;
-    let cherry = opened(rt.alloc(), file)?.get_document_bytes(rt.alloc(), 1)?;
+    let cherry = last_document(rt.alloc())?;
     print_text(rt, "merged", cherry.as_slice())
 }

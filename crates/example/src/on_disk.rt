@@ -1,7 +1,7 @@
 //! Writes a store to a file, and gets a document of it.
 
 use crate::in_memory::print_text;
-use docstore::{Compressor, FileSlice, StoreReader, StoreWriter};
+use docstore::{Compressor, DocId, FileSlice, OwnedBytes, StoreReader, StoreWriter};
 use std::fs;
 use store_files::{DiskFile, DiskSink, OsFile};
 
@@ -25,11 +25,16 @@ fn open(rt: &HostRuntime, path: &str) -> anyhow::Result<Reader> {
     Ok(opened.map_err(|refusal| refusal.error)?)
 }
 
+// Opens a store to get one document of it.
+fn document(rt: &HostRuntime, path: &str, doc_id: DocId) -> anyhow::Result<OwnedBytes> {
+    Ok(open(rt, path)?.get_document_bytes(rt.alloc(), doc_id)?)
+}
+
 /// Writes a store to a file of the current folder, removes it, and prints a document that it had.
 pub fn write_and_read(rt: &HostRuntime) -> anyhow::Result<()> {
     let path = "fruits.store";
     write(rt, path, &["apple", "banana", "cherry"])?;
-    let cherry = open(rt, path)?.get_document_bytes(rt.alloc(), 2)?;
+    let cherry = document(rt, path, 2)?;
     fs::remove_file(rt, path)?;
     print_text(rt, "on disk", cherry.as_slice())
 }

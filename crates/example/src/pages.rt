@@ -25,9 +25,13 @@ fn print_documents<R: Print>(rt: &R, documents: &[OwnedBytes]) -> anyhow::Result
     Ok(())
 }
 
+// A page of two documents.
+fn page_of_two(alloc: Global) -> Result<Vec<OwnedBytes>, StoreError> {
+    let file = written(alloc, &["apple", "banana", "cherry"])?;
+    page(alloc, &mut opened(alloc, file)?, &[2, 0])
+}
+
 /// Prints a page of two documents.
 pub fn print_page(rt: &HostRuntime) -> anyhow::Result<()> {
-    let file = written(rt.alloc(), &["apple", "banana", "cherry"])?;
-    let documents = page(rt.alloc(), &mut opened(rt.alloc(), file)?, &[2, 0])?;
-    print_documents(rt, &documents)
+    print_documents(rt, &page_of_two(rt.alloc())?)
 }

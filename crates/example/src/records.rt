@@ -12,15 +12,26 @@ fn record(alloc: Global, field: u32, bytes: &[u8]) -> Result<RecordDocument, NoM
     Ok(record)
 }
 
-// A store of one record. Another, whose field is not in the schema, is refused and leaves the writer as it was.
-fn records(alloc: Global) -> Result<Vec<u8>, StoreError> {
+// Stores a record. Another, whose field is not in the schema, is refused and leaves the writer as it was.
+fn store(alloc: Global, writer: &mut StoreWriter<MemSink>) -> Result<(), StoreError> {
     let schema = Schema::with_fields(1);
-    let mut writer = StoreWriter::new(alloc, MemSink::new(alloc), Compressor::None, 16384);
     writer.store(&record(alloc, 0, b"plum")?, &schema)?;
-    if writer.store(&record(alloc, 5, b"z")?, &schema) != Err(StoreError::Unserializable) {
-        return Err(StoreError::BadDocument);
+    match writer.store(&record(alloc, 5, b"z")?, &schema) {
+        Err(StoreError::Unserializable) => Ok(()),
+        _ => Err(StoreError::BadDocument),
     }
+}
+
+// The file of that record.
+fn records(alloc: Global) -> Result<Vec<u8>, StoreError> {
+    let mut writer = StoreWriter::new(alloc, MemSink::new(alloc), Compressor::None, 16384);
+    store(alloc, &mut writer)?;
     Ok(writer.close()?.into_bytes())
+}
+
+// The first record of a file.
+fn first_record(alloc: Global, file: Vec<u8>) -> Result<RecordDocument, StoreError> {
+    opened(alloc, file)?.get::<RecordDocument>(alloc, 0)
 }
 
 fn print_fields<R: Print>(rt: &R, record: &RecordDocument) -> anyhow::Result<()> {
@@ -36,7 +47,6 @@ fn print_fields<R: Print>(rt: &R, record: &RecordDocument) -> anyhow::Result<()>
 
 /// Prints the fields of a record.
 pub fn write_and_read(rt: &HostRuntime) -> anyhow::Result<()> {
-    let file = records(rt.alloc())?;
-    let plum = opened(rt.alloc(), file)?.get::<RecordDocument>(rt.alloc(), 0)?;
+    let plum = first_record(rt.alloc(), records(rt.alloc())?)?;
     print_fields(rt, &plum)
 }
