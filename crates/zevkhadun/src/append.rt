@@ -4,17 +4,16 @@ ghost use Rattle.std.specs.Prelude.{IfOk, OnOk};
 ghost use Rattle.store_published.specs.Filling.{IsSameFile};
 ghost use Rattle.store_commands.specs.Appending.{CopiesStore};
 
-use crate::argument::{Argument, WORD};
-use crate::arguments::{BLOCK_SIZE, FRAMING, QUIET, block_size_of, framing_of, word};
-use crate::command_words::CommandWords;
+use crate::arguments::{self, block_size_of, framing_of, word};
 use crate::failure::{Failure, FailureCause, with_file};
-use crate::input_files::{FILES_FROM, INPUTS, names_of, split_names};
+use crate::input_files::{files_from, inputs, names_of, split_names};
 use crate::merge::PART_BYTES;
 use crate::pack::Packing;
 use crate::store_file::{DiskReader, StorePath};
 use crate::store_output::{end_output, output_place};
-use clap::ArgMatches;
+use clap::{Arg, ArgAction, ArgMatches, Command};
 use docstore::{DocStoreVersion, StoreError, StoreWriter, TerminatingWrite};
+use std::alloc::{AllocError, Global};
 use store_commands::StoreShape;
 use store_commands::appended_store::copy_store;
 use store_published::Filling;
@@ -28,19 +27,28 @@ Example:
   zevkhadun append words.store more.txt     a document for each line, after those of the store";
 
 // The store that grows.
-const STORE: Argument = Argument {
-    id: "STORE",
-    help: "The store that the documents are added to; it must exist",
-    ..WORD
-};
+fn store<'a>(alloc: Global) -> Arg<'a> {
+    Arg::new(alloc, "STORE")
+        .required(true)
+        .action(ArgAction::Set)
+        .help("The store that the documents are added to; it must exist")
+}
 
 /// The words of `append`.
-pub const COMMAND: CommandWords = CommandWords {
-    name: "append",
-    about: "Add the documents in files or standard input to a store",
-    after_help: EXAMPLE,
-    arguments: &[STORE, INPUTS, FILES_FROM, FRAMING, BLOCK_SIZE, QUIET],
-};
+pub fn command<'a>(alloc: Global) -> Result<Command<'a>, AllocError> {
+    let args = vec![in alloc;
+        store(alloc),
+        inputs(alloc),
+        files_from(alloc),
+        arguments::framing(alloc),
+        arguments::block_size(alloc),
+        arguments::quiet(alloc),
+    ]?;
+    Command::new(alloc, "append")
+        .about("Add the documents in files or standard input to a store")
+        .after_help(EXAMPLE)
+        .args(args)
+}
 
 // The store to which documents are appended.
 #[derive(Clone, Copy, Drop)]
@@ -140,7 +148,7 @@ pub fn run(rt: &HostRuntime, matches: &ArgMatches<'_>) -> Result<(), Failure> {
     let framing = framing_of(alloc, matches)?;
     let text = names_of(rt, matches)?;
     let names = with_file(alloc, path, split_names(alloc, text.as_deref()))?;
-    let is_quiet = matches.get_flag(QUIET.id);
+    let is_quiet = matches.get_flag("quiet");
     let mut appending = Appending {
         store: OldStore { rt, path },
         documents: Packing::of_files(rt, path, names.as_deref(), framing, is_quiet),

@@ -1,16 +1,14 @@
 //! `cat`: prints all documents in order.
 
-use crate::argument::{Argument, FLAG, Takes};
-use crate::arguments::{FRAMING, INPUT, TANTIVY};
+use crate::arguments::{self, flag, option};
 use crate::block_walk::write_documents;
-use crate::command_words::CommandWords;
-use crate::document_output::{DocumentForm, JSON, NUMBER, form_of, standard_output};
+use crate::document_output::{self, DocumentForm, form_of, standard_output};
 use crate::failure::{Failure, FailureCause, to_output, with_file};
 use crate::status::Status;
 use crate::store_file::{DiskReader, StorePath, store_path};
 use crate::word_files::{id_words, words_in};
-use clap::ArgMatches;
-use std::alloc::Global;
+use clap::{Arg, ArgAction, ArgMatches, Command};
+use std::alloc::{AllocError, Global};
 use std::io::Write;
 use store_commands::damaged_documents::damaged_documents;
 use store_commands::left_out::{IdSpan, joined, left_out};
@@ -22,27 +20,37 @@ Examples:
   zevkhadun cat --keep-going damaged.store > saved.txt     what can still be read";
 
 // Documents to leave out.
-const WITHOUT: Argument = Argument {
-    id: "without",
-    takes: Takes::Values("IDS"),
-    help: "Documents to leave out, as 0,3..9, or @FILE with such words on its lines; may be given several times",
-    ..FLAG
-};
-
-// That damaged documents are left out.
-const KEEP_GOING: Argument = Argument {
-    id: "keep-going",
-    help: "Skip damaged documents; their numbers go to standard error, and the exit status is 1",
-    ..FLAG
-};
+fn without<'a>(alloc: Global) -> Arg<'a> {
+    option(
+        alloc,
+        "without",
+        "IDS",
+        "Documents to leave out, as 0,3..9, or @FILE with such words on its lines; may be given several times",
+    )
+    .action(ArgAction::Append)
+}
 
 /// The words of `cat`.
-pub const COMMAND: CommandWords = CommandWords {
-    name: "cat",
-    about: "Print all documents in order",
-    after_help: EXAMPLE,
-    arguments: &[INPUT, WITHOUT, KEEP_GOING, NUMBER, JSON, FRAMING, TANTIVY],
-};
+pub fn command<'a>(alloc: Global) -> Result<Command<'a>, AllocError> {
+    let json = document_output::json(alloc)?;
+    let args = vec![in alloc;
+        arguments::input(alloc),
+        without(alloc),
+        flag(
+            alloc,
+            "keep-going",
+            "Skip damaged documents; their numbers go to standard error, and the exit status is 1",
+        ),
+        document_output::number(alloc),
+        json,
+        arguments::framing(alloc),
+        arguments::tantivy(alloc),
+    ]?;
+    Command::new(alloc, "cat")
+        .about("Print all documents in order")
+        .after_help(EXAMPLE)
+        .args(args)
+}
 
 // What is printed of a store.
 #[derive(Clone, Copy)]
@@ -100,12 +108,12 @@ pub fn run(rt: &HostRuntime, matches: &ArgMatches<'_>) -> Result<(), Failure> {
     let alloc = rt.alloc();
     let store = store_path(rt, matches)?;
     let form = form_of(alloc, matches)?;
-    let read = id_words(rt, matches.get_strs(WITHOUT.id).unwrap_or(&[]))?;
+    let read = id_words(rt, matches.get_strs("without").unwrap_or(&[]))?;
     let without = with_file(alloc, store.path, words_in(alloc, &read))?;
     let printing = Printing {
         form,
         without: &without,
-        keeps_going: matches.get_flag(KEEP_GOING.id),
+        keeps_going: matches.get_flag("keep-going"),
     };
     let damaged = with_file(alloc, store.path, printing.print(rt, store))?;
     report_skipped(rt, store.path, &damaged)

@@ -1,10 +1,9 @@
 //! The standard output, for documents: how each is printed.
 
-use crate::argument::{Argument, FLAG};
-use crate::arguments::{FRAMING, framing_of, wrong_words};
+use crate::arguments::{framing_of, wrong_words};
 use crate::failure::{Failure, FailureCause, to_output};
 use base64::engine::general_purpose::STANDARD;
-use clap::ArgMatches;
+use clap::{Arg, ArgMatches};
 use document_framing::Framing;
 use serde_json::json;
 use std::alloc::{AllocError, Global};
@@ -34,27 +33,32 @@ pub enum DocumentForm {
 }
 
 /// Whether a document follows its number.
-pub const NUMBER: Argument = Argument {
-    id: "number",
-    help: "Print the number of each document and a tab before it",
-    ..FLAG
-};
+pub fn number<'a>(alloc: Global) -> Arg<'a> {
+    crate::arguments::flag(
+        alloc,
+        "number",
+        "Print the number of each document and a tab before it",
+    )
+}
 
 /// Whether documents are printed as JSON.
-pub const JSON: Argument = Argument {
-    id: "json",
-    help: "Print a JSON object for each document, one per line: its id and its text, or base64 if it isn't UTF-8",
-    conflicts: &["framing", "number"],
-    ..FLAG
-};
+pub fn json<'a>(alloc: Global) -> Result<Arg<'a>, AllocError> {
+    crate::arguments::flag(
+        alloc,
+        "json",
+        "Print a JSON object for each document, one per line: its id and its text, or base64 if it isn't UTF-8",
+    )
+    .conflicts_with("framing")?
+    .conflicts_with("number")
+}
 
 /// How the words say that documents are printed.
 pub fn form_of(alloc: Global, matches: &ArgMatches<'_>) -> Result<DocumentForm, Failure> {
     let framing = framing_of(alloc, matches)?;
-    if matches.get_flag(JSON.id) {
+    if matches.get_flag("json") {
         return Ok(DocumentForm::Json);
     }
-    if !matches.get_flag(NUMBER.id) {
+    if !matches.get_flag("number") {
         return Ok(DocumentForm::Framed(framing));
     }
     if framing == Framing::Lengths {

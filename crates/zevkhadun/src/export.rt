@@ -1,15 +1,13 @@
 //! `export`: writes the documents of a store as a file that another program reads.
 
-use crate::argument::{Argument, FLAG, Presence};
-use crate::arguments::{INPUT, OUTPUT, QUIET, input_path, output_path};
-use crate::command_words::CommandWords;
+use crate::arguments::{self, input_path, output_path};
 use crate::failure::{Failure, FailureCause, with_file};
 use crate::progress::Progress;
 use crate::store_file::StorePath;
 use crate::store_output::{OutputPlace, output_place, summarize};
-use clap::ArgMatches;
+use clap::{Arg, ArgAction, ArgMatches, Command};
 use docstore::StoreError;
-use std::alloc::Global;
+use std::alloc::{AllocError, Global};
 use store_published::{FillError, NotPublished, publish_export};
 
 // How many bytes of the store are in memory at a time.
@@ -23,20 +21,27 @@ Example:
   zevkhadun export --tantivy segment.store words.store";
 
 // That tantivy reads the file. It is required, so that other forms can be added.
-const FOR_TANTIVY: Argument = Argument {
-    id: "tantivy",
-    presence: Presence::Required,
-    help: "Write a file of version 2, which tantivy's store reader opens",
-    ..FLAG
-};
+fn for_tantivy<'a>(alloc: Global) -> Arg<'a> {
+    Arg::new(alloc, "tantivy")
+        .long("tantivy")
+        .action(ArgAction::SetTrue)
+        .required(true)
+        .help("Write a file of version 2, which tantivy's store reader opens")
+}
 
 /// The words of `export`.
-pub const COMMAND: CommandWords = CommandWords {
-    name: "export",
-    about: "Write a store as a file that tantivy opens",
-    after_help: EXAMPLE,
-    arguments: &[OUTPUT, INPUT, FOR_TANTIVY, QUIET],
-};
+pub fn command<'a>(alloc: Global) -> Result<Command<'a>, AllocError> {
+    let args = vec![in alloc;
+        arguments::output(alloc),
+        arguments::input(alloc),
+        for_tantivy(alloc),
+        arguments::quiet(alloc),
+    ]?;
+    Command::new(alloc, "export")
+        .about("Write a store as a file that tantivy opens")
+        .after_help(EXAMPLE)
+        .args(args)
+}
 
 // The failure of an export: of the store that is read, or of the file that is written.
 fn failure_of(alloc: Global, input: &str, out: &str, error: FillError<StoreError>) -> Failure {
@@ -58,7 +63,7 @@ pub fn run(rt: &HostRuntime, matches: &ArgMatches<'_>) -> Result<(), Failure> {
         is_tantivy: false,
     };
     let out = output_path(alloc, matches)?;
-    let progress = Progress::begin(rt, matches.get_flag(QUIET.id), None);
+    let progress = Progress::begin(rt, matches.get_flag("quiet"), None);
     let mut reader = with_file(alloc, store.path, store.reader(rt))?;
     let OutputPlace { folder, name } = output_place(rt, out)?;
     match publish_export(alloc, folder, name.as_str(), &mut reader, PART_BYTES) {

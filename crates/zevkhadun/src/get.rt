@@ -1,16 +1,12 @@
 //! `get`: prints documents by their numbers.
 
-use crate::argument::{Argument, WORDS};
-use crate::arguments::{FRAMING, INPUT, TANTIVY};
-use crate::command_words::CommandWords;
-use crate::document_output::{
-    DocumentForm, DocumentOutput, JSON, NUMBER, form_of, standard_output,
-};
+use crate::arguments;
+use crate::document_output::{self, DocumentForm, DocumentOutput, form_of, standard_output};
 use crate::failure::{Failure, FailureCause, to_output, with_file};
 use crate::listed_numbers::{NumberPrinter, print_listed};
 use crate::store_file::{DiskReader, StorePath, store_path};
-use clap::ArgMatches;
-use std::alloc::Global;
+use clap::{ArgMatches, Command};
+use std::alloc::{AllocError, Global};
 use std::io::Write;
 use store_commands::id_range::range_of;
 use store_commands::{IdRange, ranges_of};
@@ -20,21 +16,27 @@ Examples:
   zevkhadun get words.store 7 3..9 100..     documents 7, 3 to 8, and 100 to the last
   sort -n ids.txt | zevkhadun get words.store -     the documents whose numbers are on the lines of ids.txt";
 
-// The documents that are printed.
-const IDS: Argument = Argument {
-    id: "ID",
-    help: "Documents to print: numbers from 0 on, or ranges that exclude their end: 3..9, 5.. or ..9; \
-           '-' alone reads them from standard input, one on each line",
-    ..WORDS
-};
-
 /// The words of `get`.
-pub const COMMAND: CommandWords = CommandWords {
-    name: "get",
-    about: "Print documents by their numbers",
-    after_help: EXAMPLE,
-    arguments: &[INPUT, IDS, NUMBER, JSON, FRAMING, TANTIVY],
-};
+pub fn command<'a>(alloc: Global) -> Result<Command<'a>, AllocError> {
+    let json = document_output::json(alloc)?;
+    let args = vec![in alloc;
+        arguments::input(alloc),
+        arguments::several(
+            alloc,
+            "ID",
+            "Documents to print: numbers from 0 on, or ranges that exclude their end: 3..9, 5.. or ..9; \
+             '-' alone reads them from standard input, one on each line",
+        ),
+        document_output::number(alloc),
+        json,
+        arguments::framing(alloc),
+        arguments::tantivy(alloc),
+    ]?;
+    Command::new(alloc, "get")
+        .about("Print documents by their numbers")
+        .after_help(EXAMPLE)
+        .args(args)
+}
 
 // An opened store, and the output for its documents.
 #[derive(Drop)]
@@ -116,7 +118,7 @@ fn print_named(
 pub fn run(rt: &HostRuntime, matches: &ArgMatches<'_>) -> Result<(), Failure> {
     let store = store_path(rt, matches)?;
     let form = form_of(rt.alloc(), matches)?;
-    let printed = match matches.get_strs(IDS.id).unwrap_or(&[]) {
+    let printed = match matches.get_strs("ID").unwrap_or(&[]) {
         ["-"] => print_numbers(rt, store, form),
         words => print_named(rt, store, form, words),
     };

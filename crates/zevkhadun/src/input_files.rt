@@ -1,27 +1,30 @@
 //! The files whose documents are packed.
 
-use crate::argument::{Argument, FLAG, Takes};
+use crate::arguments::option;
 use crate::failure::{Failure, FailureCause};
 use crate::word_files::text_in;
-use clap::ArgMatches;
+use clap::{Arg, ArgAction, ArgMatches};
 use std::alloc::{AllocError, Global};
 use std::fs;
 
 /// The argument for files.
-pub const INPUTS: Argument = Argument {
-    id: "INPUT",
-    takes: Takes::Words(0),
-    help: "Input files; '-' or no file means standard input",
-    ..FLAG
-};
+pub fn inputs<'a>(alloc: Global) -> Arg<'a> {
+    Arg::new(alloc, "INPUT")
+        .num_args(0..)
+        .action(ArgAction::Append)
+        .help("Input files; '-' or no file means standard input")
+}
 
 /// The option for a list of files.
-pub const FILES_FROM: Argument = Argument {
-    id: "files-from",
-    takes: Takes::Value("LIST"),
-    help: "Take further input files from the lines of LIST, after the others; '-' is standard input",
-    ..FLAG
-};
+pub fn files_from<'a>(alloc: Global) -> Arg<'a> {
+    option(
+        alloc,
+        "files-from",
+        "LIST",
+        "Take further input files from the lines of LIST, after the others; '-' is standard input",
+    )
+    .action(ArgAction::Set)
+}
 
 // Adds a name, and a byte 0, which no name has, after it.
 fn add_name(names: &mut String, name: &str) -> Result<(), AllocError> {
@@ -47,11 +50,11 @@ fn joined_names(alloc: Global, words: &[&str], list: &str) -> Result<String, All
 /// The names of the files, with a byte 0 after each; `None` where neither words nor a list name some, which means the
 /// standard input.
 pub fn names_of(rt: &HostRuntime, matches: &ArgMatches<'_>) -> Result<Option<String>, Failure> {
-    let list = match matches.get_str(FILES_FROM.id) {
+    let list = match matches.get_str("files-from") {
         Some(path) => Some(text_in(rt, path)?),
         None => None,
     };
-    let words = matches.get_strs(INPUTS.id);
+    let words = matches.get_strs("INPUT");
     if words.is_none() && list.is_none() {
         return Ok(None);
     }

@@ -1,13 +1,11 @@
 //! `inspect`: prints what a store has, or draws it on a page of HTML.
 
-use crate::argument::{Argument, FLAG, Takes};
-use crate::arguments::{INPUT, TANTIVY};
-use crate::command_words::CommandWords;
+use crate::arguments::{self, option};
 use crate::failure::{Failure, FailureCause, with_file};
 use crate::inspect_words::print_store;
 use crate::replacing::check_page;
 use crate::store_file::{DiskReader, StorePath, store_path};
-use clap::ArgMatches;
+use clap::{Arg, ArgAction, ArgMatches, Command};
 use docstore::{DataPart, FOOTER_LEN, StoreError, TerminatingWrite, block_read_index};
 use std::alloc::{AllocError, Global};
 use std::fs;
@@ -25,29 +23,33 @@ Examples:
   zevkhadun inspect words.store words.html     one self-contained file, for any browser";
 
 // The page to write.
-const PAGE: Argument = Argument {
-    id: "OUT",
-    takes: Takes::Word,
-    help: "Page of HTML to write. It replaces an existing page of HTML or empty file, never any other file",
-    ..FLAG
-};
+fn page<'a>(alloc: Global) -> Arg<'a> {
+    Arg::new(alloc, "OUT").action(ArgAction::Set).help(
+        "Page of HTML to write. It replaces an existing page of HTML or empty file, never any other file",
+    )
+}
 
 // The page to write, as an option.
-const HTML: Argument = Argument {
-    id: "html",
-    takes: Takes::Value("OUT"),
-    help: "The same as OUT",
-    conflicts: &["OUT"],
-    ..FLAG
-};
+fn html<'a>(alloc: Global) -> Result<Arg<'a>, AllocError> {
+    option(alloc, "html", "OUT", "The same as OUT")
+        .action(ArgAction::Set)
+        .conflicts_with("OUT")
+}
 
 /// The words of `inspect`.
-pub const COMMAND: CommandWords = CommandWords {
-    name: "inspect",
-    about: "Print what a store has, or draw it on a page of HTML",
-    after_help: EXAMPLE,
-    arguments: &[INPUT, PAGE, HTML, TANTIVY],
-};
+pub fn command<'a>(alloc: Global) -> Result<Command<'a>, AllocError> {
+    let html = html(alloc)?;
+    let args = vec![in alloc;
+        arguments::input(alloc),
+        page(alloc),
+        html,
+        arguments::tantivy(alloc),
+    ]?;
+    Command::new(alloc, "inspect")
+        .about("Print what a store has, or draw it on a page of HTML")
+        .after_help(EXAMPLE)
+        .args(args)
+}
 
 // The documents of a store: how their sizes spread, how many are damaged, and how the first one of each block begins.
 #[derive(Drop)]
@@ -217,7 +219,7 @@ fn write_page(rt: &HostRuntime, path: &str, page: &str) -> Result<(), FailureCau
 pub fn run(rt: &HostRuntime, matches: &ArgMatches<'_>) -> Result<(), Failure> {
     let alloc = rt.alloc();
     let store = store_path(rt, matches)?;
-    let Some(out) = matches.get_str(HTML.id).or(matches.get_str(PAGE.id)) else {
+    let Some(out) = matches.get_str("html").or(matches.get_str("OUT")) else {
         return with_file(alloc, store.path, print_store(rt, store));
     };
     let page = with_file(alloc, store.path, page_of(rt, store))?;

@@ -5,12 +5,10 @@
 #![tactic(auto)]
 
 mod append;
-mod argument;
 mod arguments;
 mod block_walk;
 mod byte_size;
 mod cat;
-mod command_words;
 mod document_output;
 mod export;
 mod failure;

@@ -3,15 +3,13 @@
 ghost use Rattle.std.specs.Prelude.{OnOk};
 ghost use Rattle.store_published.specs.Filling.{IsSameFile};
 
-use crate::argument::{Argument, FLAG, Takes, WORDS};
-use crate::arguments::{BLOCK_SIZE, OUTPUT, PERIOD, QUIET, TANTIVY, output_path, shape_of};
-use crate::command_words::CommandWords;
+use crate::arguments::{self, option, output_path, shape_of};
 use crate::failure::{Failure, FailureCause, with_file};
 use crate::progress::Progress;
 use crate::store_file::{DiskReader, StorePath};
 use crate::store_output::{end_output, output_place};
 use crate::word_files::IdWord;
-use clap::ArgMatches;
+use clap::{Arg, ArgAction, ArgMatches, Command};
 use docstore::{DocStoreVersion, FileHandle, StoreError, StoreWriter, TerminatingWrite};
 use std::alloc::{AllocError, Global};
 use store_commands::StoreShape;
@@ -28,29 +26,34 @@ Stores of at least six blocks that keep all documents are copied block by block;
 Example:
   zevkhadun merge all.store a.store b.store --without a.store=0,3..9";
 
-// The stores that are merged.
-const INPUTS: Argument = Argument {
-    id: "INPUT",
-    help: "The stores to merge",
-    ..WORDS
-};
-
 // Documents of an input to leave out.
-const WITHOUT: Argument = Argument {
-    id: "without",
-    takes: Takes::Values("INPUT=IDS"),
-    help: "Documents of an input to leave out, as a.store=0,3..9, or a.store=@FILE with such words on its lines; \
-           may be given several times",
-    ..FLAG
-};
+fn without<'a>(alloc: Global) -> Arg<'a> {
+    option(
+        alloc,
+        "without",
+        "INPUT=IDS",
+        "Documents of an input to leave out, as a.store=0,3..9, or a.store=@FILE with such words on its lines; \
+         may be given several times",
+    )
+    .action(ArgAction::Append)
+}
 
 /// The words of `merge`.
-pub const COMMAND: CommandWords = CommandWords {
-    name: "merge",
-    about: "Write a store of the documents of other stores, in order",
-    after_help: EXAMPLE,
-    arguments: &[OUTPUT, INPUTS, WITHOUT, BLOCK_SIZE, PERIOD, TANTIVY, QUIET],
-};
+pub fn command<'a>(alloc: Global) -> Result<Command<'a>, AllocError> {
+    let args = vec![in alloc;
+        arguments::output(alloc),
+        arguments::several(alloc, "INPUT", "The stores to merge"),
+        without(alloc),
+        arguments::block_size(alloc),
+        arguments::period(alloc),
+        arguments::tantivy(alloc),
+        arguments::quiet(alloc),
+    ]?;
+    Command::new(alloc, "merge")
+        .about("Write a store of the documents of other stores, in order")
+        .after_help(EXAMPLE)
+        .args(args)
+}
 
 // A word like `INPUT=IDS`, of which the documents may be in a file: `INPUT=@FILE`.
 #[derive(Clone, Copy)]
@@ -258,15 +261,15 @@ fn merge_stores<'a, 'm, 'w>(
 /// Writes the store.
 pub fn run(rt: &HostRuntime, matches: &ArgMatches<'_>) -> Result<(), Failure> {
     let shape = shape_of(rt.alloc(), matches)?;
-    let paths = matches.get_strs(INPUTS.id).unwrap_or(&[]);
-    let words = matches.get_strs(WITHOUT.id).unwrap_or(&[]);
+    let paths = matches.get_strs("INPUT").unwrap_or(&[]);
+    let words = matches.get_strs("without").unwrap_or(&[]);
     let left_out = left_out_of(rt, paths, words)?;
     let merging = Merging {
         paths,
         without: &left_out,
-        is_tantivy: matches.get_flag(TANTIVY.id),
+        is_tantivy: matches.get_flag("tantivy"),
     };
     let out = output_path(rt.alloc(), matches)?;
-    let progress = Progress::begin(rt, matches.get_flag(QUIET.id), None);
+    let progress = Progress::begin(rt, matches.get_flag("quiet"), None);
     merge_stores(rt, out, shape, merging, progress)
 }

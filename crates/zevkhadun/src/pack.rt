@@ -3,17 +3,15 @@
 ghost use Rattle.std.specs.Prelude.{OnOk};
 ghost use Rattle.store_published.specs.Filling.{AddsSome};
 
-use crate::arguments::{
-    BLOCK_SIZE, FRAMING, OUTPUT, PERIOD, QUIET, framing_of, output_path, shape_of,
-};
-use crate::command_words::CommandWords;
+use crate::arguments::{self, framing_of, output_path, shape_of};
 use crate::failure::{Failure, with_file};
-use crate::input_files::{FILES_FROM, INPUTS, names_of, split_names, total_bytes};
+use crate::input_files::{files_from, inputs, names_of, split_names, total_bytes};
 use crate::progress::Progress;
 use crate::store_output::{end_output, output_place};
-use clap::ArgMatches;
+use clap::{ArgMatches, Command};
 use docstore::{StoreWriter, TerminatingWrite};
 use document_framing::{Framing, split_after};
+use std::alloc::{AllocError, Global};
 use std::fs::File;
 use std::io::{BufRead, BufReader, IsTerminal};
 use store_published::{Filling, store_document};
@@ -34,14 +32,21 @@ Examples:
   find notes -type f | zevkhadun pack --framing files --files-from - notes.store";
 
 /// The words of `pack`.
-pub const COMMAND: CommandWords = CommandWords {
-    name: "pack",
-    about: "Write a store of the documents in files or standard input",
-    after_help: EXAMPLE,
-    arguments: &[
-        OUTPUT, INPUTS, FILES_FROM, FRAMING, BLOCK_SIZE, PERIOD, QUIET,
-    ],
-};
+pub fn command<'a>(alloc: Global) -> Result<Command<'a>, AllocError> {
+    let args = vec![in alloc;
+        arguments::output(alloc),
+        inputs(alloc),
+        files_from(alloc),
+        arguments::framing(alloc),
+        arguments::block_size(alloc),
+        arguments::period(alloc),
+        arguments::quiet(alloc),
+    ]?;
+    Command::new(alloc, "pack")
+        .about("Write a store of the documents in files or standard input")
+        .after_help(EXAMPLE)
+        .args(args)
+}
 
 /// What is packed: documents of files or of the standard input.
 #[derive(Drop)]
@@ -256,7 +261,7 @@ pub fn run(rt: &HostRuntime, matches: &ArgMatches<'_>) -> Result<(), Failure> {
     let shape = shape_of(alloc, matches)?;
     let text = names_of(rt, matches)?;
     let names = with_file(alloc, out, split_names(alloc, text.as_deref()))?;
-    let is_quiet = matches.get_flag(QUIET.id);
+    let is_quiet = matches.get_flag("quiet");
     let mut packing = Packing::of_files(rt, out, names.as_deref(), framing, is_quiet);
     let outcome = output_place(rt, out)?.publish(alloc, shape, &mut packing);
     end_output(rt, out, outcome, &packing.progress)

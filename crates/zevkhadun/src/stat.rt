@@ -1,13 +1,12 @@
 //! `stat`: prints counts and sizes of stores.
 
-use crate::argument::{Argument, FLAG, WORDS};
-use crate::arguments::TANTIVY;
-use crate::command_words::CommandWords;
+use crate::arguments;
 use crate::failure::{Failure, FailureCause};
 use crate::findings::Findings;
 use crate::stat_output::{StatForm, print_heads, print_lines, print_object, print_row};
 use crate::store_file::StorePath;
-use clap::ArgMatches;
+use clap::{ArgMatches, Command};
+use std::alloc::{AllocError, Global};
 use store_commands::store_numbers::{StoreNumbers, numbers_in};
 
 const EXAMPLE: &str = "\
@@ -16,27 +15,22 @@ For several stores the numbers are in a table, with a line for each store.
 Example:
   zevkhadun stat --json words.store     documents, blocks, layers and bytes";
 
-/// The stores that are read.
-pub const STORES: Argument = Argument {
-    id: "FILE",
-    help: "The stores",
-    ..WORDS
-};
-
-// Whether the numbers are JSON.
-const JSON: Argument = Argument {
-    id: "json",
-    help: "Print a JSON object for each store, one per line",
-    ..FLAG
-};
-
 /// The words of `stat`.
-pub const COMMAND: CommandWords = CommandWords {
-    name: "stat",
-    about: "Print counts and sizes of stores",
-    after_help: EXAMPLE,
-    arguments: &[STORES, JSON, TANTIVY],
-};
+pub fn command<'a>(alloc: Global) -> Result<Command<'a>, AllocError> {
+    let args = vec![in alloc;
+        arguments::several(alloc, "FILE", "The stores"),
+        arguments::flag(
+            alloc,
+            "json",
+            "Print a JSON object for each store, one per line",
+        ),
+        arguments::tantivy(alloc),
+    ]?;
+    Command::new(alloc, "stat")
+        .about("Print counts and sizes of stores")
+        .after_help(EXAMPLE)
+        .args(args)
+}
 
 // The numbers of a store.
 fn numbers_at(rt: &HostRuntime, store: StorePath<'_>) -> Result<StoreNumbers, FailureCause> {
@@ -56,9 +50,9 @@ fn print_store(rt: &HostRuntime, store: StorePath<'_>, form: StatForm) -> Result
 
 /// Prints the numbers of each store. It goes on after one that can't be read, and fails at the end.
 pub fn run(rt: &HostRuntime, matches: &ArgMatches<'_>) -> Result<(), Failure> {
-    let paths = matches.get_strs(STORES.id).unwrap_or(&[]);
-    let is_tantivy = matches.get_flag(TANTIVY.id);
-    let form = match matches.get_flag(JSON.id) {
+    let paths = matches.get_strs("FILE").unwrap_or(&[]);
+    let is_tantivy = matches.get_flag("tantivy");
+    let form = match matches.get_flag("json") {
         true => StatForm::Json,
         false if paths.len() > 1 => StatForm::Table,
         false => StatForm::Lines,

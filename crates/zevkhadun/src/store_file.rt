@@ -1,6 +1,6 @@
 //! A store's file on disk, opened to be read.
 
-use crate::arguments::{TANTIVY, input_path};
+use crate::arguments::input_path;
 use crate::failure::{Failure, FailureCause};
 use clap::ArgMatches;
 use docstore::{FileSlice, OpenError, StoreReader};
@@ -68,6 +68,6 @@ pub fn store_path<'a>(
 ) -> Result<StorePath<'a>, Failure> {
     Ok(StorePath {
         path: input_path(rt.alloc(), matches)?,
-        is_tantivy: matches.get_flag(TANTIVY.id),
+        is_tantivy: matches.get_flag("tantivy"),
     })
 }

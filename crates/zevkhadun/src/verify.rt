@@ -1,16 +1,14 @@
 //! `verify`: reads stores whole, and reports what breaks a promise of the format.
 
-use crate::argument::{Argument, FLAG};
-use crate::arguments::{TANTIVY, wrong_words};
-use crate::command_words::CommandWords;
+use crate::arguments::{self, flag, wrong_words};
 use crate::failure::{Failure, FailureCause};
 use crate::findings::Findings;
 use crate::progress::Progress;
-use crate::stat::STORES;
 use crate::status::Status;
 use crate::store_file::{DiskReader, StorePath, reader_of};
 use crate::verify_output::{Found, ReportForm};
-use clap::ArgMatches;
+use clap::{Arg, ArgMatches, Command};
+use std::alloc::{AllocError, Global};
 use store_commands::broken_part::{BrokenPart, broken_part};
 use store_commands::checking::check_blocks;
 use store_commands::damaged_documents::damaged_documents;
@@ -28,36 +26,40 @@ Examples:
   zevkhadun verify --list a.store > damaged.ids; zevkhadun cat a.store --without @damaged.ids";
 
 // That each damaged document is listed.
-const LIST: Argument = Argument {
-    id: "list",
-    help: "Print the numbers of all damaged documents of one store, as --without takes them, \
-           and the fault on standard error",
-    conflicts: &["json"],
-    ..FLAG
-};
-
-// Whether the reports are JSON.
-const JSON: Argument = Argument {
-    id: "json",
-    help: "Print a JSON object for each store, one per line, with all its damaged documents",
-    ..FLAG
-};
-
-// Whether only broken stores are reported.
-const QUIET: Argument = Argument {
-    id: "quiet",
-    short: Some('q'),
-    help: "Print broken stores only, and show no progress",
-    ..FLAG
-};
+fn list<'a>(alloc: Global) -> Result<Arg<'a>, AllocError> {
+    flag(
+        alloc,
+        "list",
+        "Print the numbers of all damaged documents of one store, as --without takes them, \
+         and the fault on standard error",
+    )
+    .conflicts_with("json")
+}
 
 /// The words of `verify`.
-pub const COMMAND: CommandWords = CommandWords {
-    name: "verify",
-    about: "Check stores completely and report the first violation of the format",
-    after_help: EXAMPLE,
-    arguments: &[STORES, LIST, JSON, TANTIVY, QUIET],
-};
+pub fn command<'a>(alloc: Global) -> Result<Command<'a>, AllocError> {
+    let list = list(alloc)?;
+    let args = vec![in alloc;
+        arguments::several(alloc, "FILE", "The stores"),
+        list,
+        flag(
+            alloc,
+            "json",
+            "Print a JSON object for each store, one per line, with all its damaged documents",
+        ),
+        arguments::tantivy(alloc),
+        flag(
+            alloc,
+            "quiet",
+            "Print broken stores only, and show no progress",
+        )
+        .short('q'),
+    ]?;
+    Command::new(alloc, "verify")
+        .about("Check stores completely and report the first violation of the format")
+        .after_help(EXAMPLE)
+        .args(args)
+}
 
 /// How stores are verified, by the words.
 #[derive(Clone, Copy)]
@@ -123,13 +125,13 @@ impl Verifying {
 
 // How the words say that stores are reported.
 fn form_of(rt: &HostRuntime, matches: &ArgMatches<'_>) -> Result<ReportForm, Failure> {
-    if matches.get_flag(JSON.id) {
+    if matches.get_flag("json") {
         return Ok(ReportForm::Json);
     }
-    if !matches.get_flag(LIST.id) {
+    if !matches.get_flag("list") {
         return Ok(ReportForm::Lines);
     }
-    match matches.get_strs(STORES.id).unwrap_or(&[]).get(1) {
+    match matches.get_strs("FILE").unwrap_or(&[]).get(1) {
         Some(path) => Err(wrong_words(rt.alloc(), "'--list' takes one store", path)),
         None => Ok(ReportForm::List),
     }
@@ -139,10 +141,10 @@ fn form_of(rt: &HostRuntime, matches: &ArgMatches<'_>) -> Result<ReportForm, Fai
 pub fn run(rt: &HostRuntime, matches: &ArgMatches<'_>) -> Result<(), Failure> {
     let verifying = Verifying {
         form: form_of(rt, matches)?,
-        is_tantivy: matches.get_flag(TANTIVY.id),
-        is_quiet: matches.get_flag(QUIET.id),
+        is_tantivy: matches.get_flag("tantivy"),
+        is_quiet: matches.get_flag("quiet"),
     };
-    let findings = verifying.verify_all(rt, matches.get_strs(STORES.id).unwrap_or(&[]))?;
+    let findings = verifying.verify_all(rt, matches.get_strs("FILE").unwrap_or(&[]))?;
     if verifying.form.has_note() && !verifying.is_quiet {
         let _ = eprintln!(rt; "{BLIND_SPOT}");
     }

@@ -1,6 +1,5 @@
 //! The words that the program takes.
 
-use crate::command_words::CommandGroup;
 use crate::failure::{Failure, FailureCause};
 use crate::{append, cat, export, get, inspect, log, merge, pack, stat, verify};
 use clap::{ArgMatches, Command, Error};
@@ -18,31 +17,39 @@ command takes; 2 for a usage error; 3 if the system refused a call: no such file
 Example:
   zevkhadun pack words.store words.txt && zevkhadun get words.store 7";
 
-// The commands on stores.
-const PROGRAM: CommandGroup = CommandGroup {
-    name: "zevkhadun",
-    about: "Write-once files of documents, read back by number",
-    after_help: AFTER_HELP,
-    commands: &[
-        pack::COMMAND,
-        append::COMMAND,
-        get::COMMAND,
-        cat::COMMAND,
-        stat::COMMAND,
-        verify::COMMAND,
-        merge::COMMAND,
-        export::COMMAND,
-        inspect::COMMAND,
-    ],
-};
-
-// The program's command, with those of logs last.
-fn command<'a>(alloc: Global) -> Result<Command<'a>, AllocError> {
-    PROGRAM
-        .command(alloc)?
+// The program's command, without its subcommands.
+fn bare_command<'a>(alloc: Global) -> Result<Command<'a>, AllocError> {
+    Command::new(alloc, "zevkhadun")
         .version("0.2.0 (writes format 3, reads formats 1 to 3)")
-        .bin_name("zevkhadun")?
-        .subcommand(log::GROUP.command(alloc)?)
+        .about("Write-once files of documents, read back by number")
+        .after_help(AFTER_HELP)
+        .subcommand_required(true)
+        .arg_required_else_help(true)
+        .bin_name("zevkhadun")
+}
+
+/// A command with one more subcommand.
+pub fn with<'a>(
+    command: Result<Command<'a>, AllocError>,
+    subcommand: Result<Command<'a>, AllocError>,
+) -> Result<Command<'a>, AllocError> {
+    command?.subcommand(subcommand?)
+}
+
+// The program's command, with its subcommands.
+fn command<'a>(alloc: Global) -> Result<Command<'a>, AllocError> {
+    let writing = with(
+        with(bare_command(alloc), pack::command(alloc)),
+        append::command(alloc),
+    );
+    let reading = with(with(writing, get::command(alloc)), cat::command(alloc));
+    let telling = with(with(reading, stat::command(alloc)), verify::command(alloc));
+    let joining = with(telling, merge::command(alloc));
+    let showing = with(
+        with(joining, export::command(alloc)),
+        inspect::command(alloc),
+    );
+    with(showing, log::command(alloc))
 }
 
 // What keeps the words from being read.

@@ -1,23 +1,20 @@
 //! `log append`: puts records after those of a log.
 
-use crate::argument::{Argument, FLAG, Takes};
-use crate::arguments::{FRAMING, QUIET, framing_of, word, wrong_words};
+use crate::arguments::{self, flag, framing_of, option, word, wrong_words};
 use crate::byte_size::parse_size;
-use crate::command_words::CommandWords;
 use crate::document_output::standard_output;
 use crate::failure::{Failure, with_file};
-use crate::input_files::{FILES_FROM, INPUTS, names_of, split_names, total_bytes};
-use crate::log::NEW_FOLDER;
+use crate::input_files::{files_from, inputs, names_of, split_names, total_bytes};
 use crate::log::log_folder::SystemCause;
 use crate::log::opened_log::TailOptions;
 use crate::log::places::open_or_begin;
 use crate::log::records::Appending;
-use crate::log::sync_policy::{SYNC, SyncPolicy, policy_of};
+use crate::log::sync_policy::{SyncPolicy, policy_of, sync};
 use crate::progress::Progress;
-use clap::ArgMatches;
+use clap::{Arg, ArgMatches, Command};
 use document_framing::Framing;
 use segmented_log::Commit;
-use std::alloc::Global;
+use std::alloc::{AllocError, Global};
 
 const EXAMPLE: &str = "\
 The log is begun if FOLDER is missing or empty. Once 'append' ends with status 0, all records are on the disk. A crash
@@ -32,7 +29,7 @@ Examples:
 
 // The sizes past which a tail is sealed if the words name none: one to which batches are appended, and one that is
 // replaced at each sync.
-const USUAL_SEAL_SIZE: usize = 1 << 26;
+const SEAL_SIZE: usize = 1 << 26;
 
 const SMALL_SEAL_SIZE: usize = 1 << 20;
 
@@ -42,46 +39,58 @@ A crash leaves no torn batch, so no bytes can be taken for records that were not
 Each sync writes the whole tail, so keep '--seal-size' small";
 
 // The size past which a tail is sealed.
-const SEAL_SIZE: Argument = Argument {
-    id: "seal-size",
-    takes: Takes::Value("BYTES"),
-    help: "Put the tail's records into a segment once it exceeds BYTES (64M, or 1M with '--two-syncs'); \
-           suffixes K, M, G",
-    ..FLAG
-};
+fn seal_size<'a>(alloc: Global) -> Arg<'a> {
+    option(
+        alloc,
+        "seal-size",
+        "BYTES",
+        "Put the tail's records into a segment once it exceeds BYTES (64M, or 1M with '--two-syncs'); suffixes K, M, G",
+    )
+}
 
 // How a sync puts a batch on the disk.
-const TWO_SYNCS: Argument = Argument {
-    id: "two-syncs",
-    help: "Put each batch on the disk with two syncs, so that a crash leaves no torn one",
-    long_help: Some(TWO_SYNCS_HELP),
-    ..FLAG
-};
-
-// That the numbers are printed.
-const NUMBER: Argument = Argument {
-    id: "number",
-    help: "Print the number of each record, one per line, once it is on the disk",
-    ..FLAG
-};
+fn two_syncs<'a>(alloc: Global) -> Arg<'a> {
+    flag(
+        alloc,
+        "two-syncs",
+        "Put each batch on the disk with two syncs, so that a crash leaves no torn one",
+    )
+    .long_help(TWO_SYNCS_HELP)
+}
 
 /// The words of `log append`.
-pub const COMMAND: CommandWords = CommandWords {
-    name: "append",
-    about: "Add the records in files or standard input to a log",
-    after_help: EXAMPLE,
-    arguments: &[
-        NEW_FOLDER, INPUTS, FILES_FROM, SYNC, NUMBER, FRAMING, SEAL_SIZE, TWO_SYNCS, QUIET,
-    ],
-};
+pub fn command<'a>(alloc: Global) -> Result<Command<'a>, AllocError> {
+    let args = vec![in alloc;
+        crate::log::folder(
+            alloc,
+            "The log's folder; a missing or empty one becomes a log",
+        ),
+        inputs(alloc),
+        files_from(alloc),
+        sync(alloc),
+        flag(
+            alloc,
+            "number",
+            "Print the number of each record, one per line, once it is on the disk",
+        ),
+        arguments::framing(alloc),
+        seal_size(alloc),
+        two_syncs(alloc),
+        arguments::quiet(alloc),
+    ]?;
+    Command::new(alloc, "append")
+        .about("Add the records in files or standard input to a log")
+        .after_help(EXAMPLE)
+        .args(args)
+}
 
 // How the words say that the tail is written.
 fn tail_options_of(alloc: Global, matches: &ArgMatches<'_>) -> Result<TailOptions, Failure> {
-    let (commit, default_size) = match matches.get_flag(TWO_SYNCS.id) {
+    let (commit, default_size) = match matches.get_flag("two-syncs") {
         true => (Commit::TwoSyncs, SMALL_SEAL_SIZE),
-        false => (Commit::OneSync, USUAL_SEAL_SIZE),
+        false => (Commit::OneSync, SEAL_SIZE),
     };
-    let seal_size = match matches.get_str(SEAL_SIZE.id) {
+    let seal_size = match matches.get_str("seal-size") {
         Some(size) => {
             parse_size(size).ok_or_else(|| wrong_words(alloc, "invalid seal size", size))?
         }
@@ -106,8 +115,8 @@ fn options_of(alloc: Global, matches: &ArgMatches<'_>) -> Result<AppendOptions, 
         policy: policy_of(alloc, matches)?,
         framing: framing_of(alloc, matches)?,
         tail: tail_options_of(alloc, matches)?,
-        prints_numbers: matches.get_flag(NUMBER.id),
-        is_quiet: matches.get_flag(QUIET.id),
+        prints_numbers: matches.get_flag("number"),
+        is_quiet: matches.get_flag("quiet"),
     })
 }
 
@@ -187,7 +196,7 @@ fn append<'a>(
 /// Appends the records.
 pub fn run(rt: &HostRuntime, matches: &ArgMatches<'_>) -> Result<(), Failure> {
     let alloc = rt.alloc();
-    let path = word(alloc, matches, NEW_FOLDER.id)?;
+    let path = word(alloc, matches, crate::log::FOLDER)?;
     let options = options_of(alloc, matches)?;
     let cause = SystemCause::new();
     let text = names_of(rt, matches)?;

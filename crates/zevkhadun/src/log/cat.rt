@@ -1,19 +1,14 @@
 //! `log cat`: prints all records in order.
 
-use crate::argument::{Argument, FLAG, Presence, Takes, Values};
-use crate::arguments::{self, FRAMING};
-use crate::command_words::CommandWords;
-use crate::document_output::{
-    DocumentForm, DocumentOutput, JSON, NUMBER, form_of, standard_output,
-};
+use crate::arguments::{self, option};
+use crate::document_output::{self, DocumentForm, DocumentOutput, form_of, standard_output};
 use crate::failure::{Failure, FailureCause, to_output, with_file};
-use crate::log::FOLDER;
 use crate::log::log_folder::SystemCause;
 use crate::log::opened_log::OpenedLog;
 use crate::log::places::open_to_read;
-use clap::ArgMatches;
+use clap::{Arg, ArgMatches, Command, value_parser};
 use segmented_log::LogError;
-use std::alloc::Global;
+use std::alloc::{AllocError, Global};
 use std::io::Write;
 
 const EXAMPLE: &str = "\
@@ -23,22 +18,32 @@ Example:
   zevkhadun log cat events --from 1000     the records from number 1000 on";
 
 // The record at which it begins.
-const FROM: Argument = Argument {
-    id: "from",
-    takes: Takes::Value("NUMBER"),
-    presence: Presence::Default("0"),
-    values: Values::Number,
-    help: "Begin at the record of this number, or at the first one if that is later",
-    ..FLAG
-};
+fn from<'a>(alloc: Global) -> Arg<'a> {
+    option(
+        alloc,
+        "from",
+        "NUMBER",
+        "Begin at the record of this number, or at the first one if that is later",
+    )
+    .value_parser(value_parser!(u64))
+    .default_value("0")
+}
 
 /// The words of `log cat`.
-pub const COMMAND: CommandWords = CommandWords {
-    name: "cat",
-    about: "Print all records in order",
-    after_help: EXAMPLE,
-    arguments: &[FOLDER, FROM, NUMBER, JSON, FRAMING],
-};
+pub fn command<'a>(alloc: Global) -> Result<Command<'a>, AllocError> {
+    let json = document_output::json(alloc)?;
+    let args = vec![in alloc;
+        crate::log::log(alloc),
+        from(alloc),
+        document_output::number(alloc),
+        json,
+        arguments::framing(alloc),
+    ]?;
+    Command::new(alloc, "cat")
+        .about("Print all records in order")
+        .after_help(EXAMPLE)
+        .args(args)
+}
 
 // Prints the records of an opened log from a number on.
 fn print_records(
@@ -72,8 +77,8 @@ fn print(rt: &HostRuntime, path: &str, form: DocumentForm, from: u64) -> Result<
 /// Prints the records.
 pub fn run(rt: &HostRuntime, matches: &ArgMatches<'_>) -> Result<(), Failure> {
     let alloc = rt.alloc();
-    let path = arguments::word(alloc, matches, FOLDER.id)?;
+    let path = arguments::word(alloc, matches, crate::log::FOLDER)?;
     let form = form_of(alloc, matches)?;
-    let from = matches.get_one::<u64>(FROM.id).unwrap_or(0);
+    let from = matches.get_one::<u64>("from").unwrap_or(0);
     with_file(alloc, path, print(rt, path, form, from))
 }

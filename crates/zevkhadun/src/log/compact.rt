@@ -1,15 +1,15 @@
 //! `log compact`: joins segments.
 
-use crate::argument::{Argument, FLAG, Presence, Takes};
-use crate::arguments::{self, wrong_words};
+use crate::arguments::{self, option, wrong_words};
 use crate::byte_size::parse_size;
-use crate::command_words::CommandWords;
 use crate::failure::{Failure, FailureCause, with_file};
-use crate::log::FOLDER;
 use crate::log::log_folder::SystemCause;
 use crate::log::places::open_to_write;
-use clap::ArgMatches;
-use std::alloc::Global;
+use clap::{Arg, ArgMatches, Command};
+use std::alloc::{AllocError, Global};
+
+// The name of the argument for the size of a joined segment.
+const SIZE: &str = "size";
 
 const EXAMPLE: &str = "\
 The records and their numbers stay. A joined segment is the store that 'merge' writes of its segments, and takes the
@@ -19,25 +19,28 @@ Example:
   zevkhadun log compact --size 1G events";
 
 // How many bytes joined segments have at most.
-const SIZE: Argument = Argument {
-    id: "size",
-    takes: Takes::Value("BYTES"),
-    presence: Presence::Default("256M"),
-    help: "Join neighbouring segments while their data has at most BYTES; suffixes K, M, G",
-    ..FLAG
-};
+fn size<'a>(alloc: Global) -> Arg<'a> {
+    option(
+        alloc,
+        SIZE,
+        "BYTES",
+        "Join neighbouring segments while their data has at most BYTES; suffixes K, M, G",
+    )
+    .default_value("256M")
+}
 
 /// The words of `log compact`.
-pub const COMMAND: CommandWords = CommandWords {
-    name: "compact",
-    about: "Join neighbouring segments",
-    after_help: EXAMPLE,
-    arguments: &[FOLDER, SIZE],
-};
+pub fn command<'a>(alloc: Global) -> Result<Command<'a>, AllocError> {
+    Command::new(alloc, "compact")
+        .about("Join neighbouring segments")
+        .after_help(EXAMPLE)
+        .arg(crate::log::log(alloc))?
+        .arg(size(alloc))
+}
 
 // The size that the words give, in bytes.
 fn size_of(alloc: Global, matches: &ArgMatches<'_>) -> Result<u64, Failure> {
-    let text = arguments::word(alloc, matches, SIZE.id)?;
+    let text = arguments::word(alloc, matches, SIZE)?;
     match parse_size(text) {
         Some(size) => Ok(size as u64),
         None => Err(wrong_words(alloc, "invalid size", text)),
@@ -54,7 +57,7 @@ fn compact(rt: &HostRuntime, path: &str, size: u64) -> Result<(), FailureCause> 
 /// Joins the segments.
 pub fn run(rt: &HostRuntime, matches: &ArgMatches<'_>) -> Result<(), Failure> {
     let alloc = rt.alloc();
-    let path = arguments::word(alloc, matches, FOLDER.id)?;
+    let path = arguments::word(alloc, matches, crate::log::FOLDER)?;
     let size = size_of(alloc, matches)?;
     with_file(alloc, path, compact(rt, path, size))
 }

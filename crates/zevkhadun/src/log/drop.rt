@@ -1,14 +1,14 @@
 //! `log drop`: removes the oldest records.
 
-use crate::argument::{Argument, FLAG, Presence, Takes};
-use crate::arguments::{self, wrong_words};
-use crate::command_words::CommandWords;
+use crate::arguments::{self, option, wrong_words};
 use crate::failure::{Failure, FailureCause, with_file};
-use crate::log::FOLDER;
 use crate::log::log_folder::SystemCause;
 use crate::log::places::open_to_write;
-use clap::ArgMatches;
-use std::alloc::Global;
+use clap::{Arg, ArgMatches, Command};
+use std::alloc::{AllocError, Global};
+
+// The name of the argument for the first number that stays.
+const BEFORE: &str = "before";
 
 const EXAMPLE: &str = "\
 A segment is removed where all its records have smaller numbers, the oldest first. So records before NUMBER may stay:
@@ -18,25 +18,28 @@ Example:
   zevkhadun log drop events --before 1000000";
 
 // The number before which records go.
-const BEFORE: Argument = Argument {
-    id: "before",
-    takes: Takes::Value("NUMBER"),
-    presence: Presence::Required,
-    help: "Remove segments whose records all have smaller numbers",
-    ..FLAG
-};
+fn before<'a>(alloc: Global) -> Arg<'a> {
+    option(
+        alloc,
+        BEFORE,
+        "NUMBER",
+        "Remove segments whose records all have smaller numbers",
+    )
+    .required(true)
+}
 
 /// The words of `log drop`.
-pub const COMMAND: CommandWords = CommandWords {
-    name: "drop",
-    about: "Remove the segments before a record",
-    after_help: EXAMPLE,
-    arguments: &[FOLDER, BEFORE],
-};
+pub fn command<'a>(alloc: Global) -> Result<Command<'a>, AllocError> {
+    Command::new(alloc, "drop")
+        .about("Remove the segments before a record")
+        .after_help(EXAMPLE)
+        .arg(crate::log::log(alloc))?
+        .arg(before(alloc))
+}
 
 // The number that the words give.
 fn number_of(alloc: Global, matches: &ArgMatches<'_>) -> Result<u64, Failure> {
-    let text = arguments::word(alloc, matches, BEFORE.id)?;
+    let text = arguments::word(alloc, matches, BEFORE)?;
     match text.parse::<u64>() {
         Ok(number) => Ok(number),
         Err(_) => Err(wrong_words(alloc, "invalid record number", text)),
@@ -53,7 +56,7 @@ fn drop_before(rt: &HostRuntime, path: &str, number: u64) -> Result<(), FailureC
 /// Removes the segments.
 pub fn run(rt: &HostRuntime, matches: &ArgMatches<'_>) -> Result<(), Failure> {
     let alloc = rt.alloc();
-    let path = arguments::word(alloc, matches, FOLDER.id)?;
+    let path = arguments::word(alloc, matches, crate::log::FOLDER)?;
     let number = number_of(alloc, matches)?;
     with_file(alloc, path, drop_before(rt, path, number))
 }

@@ -1,20 +1,15 @@
 //! `log get`: prints records by their numbers.
 
-use crate::argument::{Argument, WORDS};
-use crate::arguments::{self, FRAMING};
-use crate::command_words::CommandWords;
-use crate::document_output::{
-    DocumentForm, DocumentOutput, JSON, NUMBER, form_of, standard_output,
-};
+use crate::arguments;
+use crate::document_output::{self, DocumentForm, DocumentOutput, form_of, standard_output};
 use crate::failure::{Failure, FailureCause, to_output, with_file};
 use crate::listed_numbers::{NumberPrinter, print_listed};
-use crate::log::FOLDER;
 use crate::log::log_folder::SystemCause;
 use crate::log::number_range::NumberRange;
 use crate::log::opened_log::OpenedLog;
 use crate::log::places::open_to_read;
-use clap::ArgMatches;
-use std::alloc::Global;
+use clap::{ArgMatches, Command};
+use std::alloc::{AllocError, Global};
 use std::io::Write;
 
 const EXAMPLE: &str = "\
@@ -24,21 +19,26 @@ Examples:
   zevkhadun log get events 7 3..9 100..     records 7, 3 to 8, and 100 to the last
   sort -n numbers.txt | zevkhadun log get events -     the records whose numbers are on the lines of numbers.txt";
 
-// The records that are printed.
-const NUMBERS: Argument = Argument {
-    id: "NUMBER",
-    help: "Records to print: numbers, or ranges that exclude their end: 3..9, 5.. or ..9; \
-           '-' alone reads them from standard input, one on each line",
-    ..WORDS
-};
-
 /// The words of `log get`.
-pub const COMMAND: CommandWords = CommandWords {
-    name: "get",
-    about: "Print records by their numbers",
-    after_help: EXAMPLE,
-    arguments: &[FOLDER, NUMBERS, NUMBER, JSON, FRAMING],
-};
+pub fn command<'a>(alloc: Global) -> Result<Command<'a>, AllocError> {
+    let json = document_output::json(alloc)?;
+    let args = vec![in alloc;
+        crate::log::log(alloc),
+        arguments::several(
+            alloc,
+            "NUMBER",
+            "Records to print: numbers, or ranges that exclude their end: 3..9, 5.. or ..9; \
+             '-' alone reads them from standard input, one on each line",
+        ),
+        document_output::number(alloc),
+        json,
+        arguments::framing(alloc),
+    ]?;
+    Command::new(alloc, "get")
+        .about("Print records by their numbers")
+        .after_help(EXAMPLE)
+        .args(args)
+}
 
 // An opened log, and the output for its records.
 #[derive(Drop)]
@@ -121,8 +121,8 @@ fn print(
 /// Prints the records.
 pub fn run(rt: &HostRuntime, matches: &ArgMatches<'_>) -> Result<(), Failure> {
     let alloc = rt.alloc();
-    let path = arguments::word(alloc, matches, FOLDER.id)?;
+    let path = arguments::word(alloc, matches, crate::log::FOLDER)?;
     let form = form_of(alloc, matches)?;
-    let words = matches.get_strs(NUMBERS.id).unwrap_or(&[]);
+    let words = matches.get_strs("NUMBER").unwrap_or(&[]);
     with_file(alloc, path, print(rt, path, form, words))
 }

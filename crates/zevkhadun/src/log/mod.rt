@@ -17,31 +17,14 @@ mod stat;
 mod sync_policy;
 mod verify;
 
-use crate::argument::{Argument, Takes, WORD};
 use crate::arguments::wrong_words;
-use crate::command_words::CommandGroup;
 use crate::failure::Failure;
-use clap::ArgMatches;
+use crate::words::with;
+use clap::{Arg, ArgAction, ArgMatches, Command};
+use std::alloc::{AllocError, Global};
 
-/// The folder of a log that is there.
-const FOLDER: Argument = Argument {
-    id: "FOLDER",
-    help: "The log's folder",
-    ..WORD
-};
-
-/// The folder of a log that may be begun.
-const NEW_FOLDER: Argument = Argument {
-    help: "The log's folder; a missing or empty one becomes a log",
-    ..FOLDER
-};
-
-/// The folders of logs.
-const FOLDERS: Argument = Argument {
-    takes: Takes::Words(1),
-    help: "The logs' folders",
-    ..FOLDER
-};
+/// The name of the argument for the folder.
+const FOLDER: &str = "FOLDER";
 
 const AFTER_HELP: &str = "\
 A log is a folder: sealed segments, which are ordinary stores, and a tail. A record is any bytes, and its number stays.
@@ -51,22 +34,38 @@ nothing.
 Example:
   zevkhadun log append events new.txt && zevkhadun log get events 0";
 
+// The command `log`, without its subcommands.
+fn bare_command<'a>(alloc: Global) -> Result<Command<'a>, AllocError> {
+    Ok(
+        Command::new(alloc, "log")
+            .about("Keep a log: records that are on the disk once they are acknowledged")
+            .after_help(AFTER_HELP)
+            .subcommand_required(true)
+            .arg_required_else_help(true),
+    )
+}
+
 /// The words of `log`.
-pub const GROUP: CommandGroup = CommandGroup {
-    name: "log",
-    about: "Keep a log: records that are on the disk once they are acknowledged",
-    after_help: AFTER_HELP,
-    commands: &[
-        append::COMMAND,
-        get::COMMAND,
-        cat::COMMAND,
-        stat::COMMAND,
-        verify::COMMAND,
-        seal::COMMAND,
-        compact::COMMAND,
-        drop::COMMAND,
-    ],
-};
+pub fn command<'a>(alloc: Global) -> Result<Command<'a>, AllocError> {
+    let writing = with(bare_command(alloc), append::command(alloc));
+    let reading = with(with(writing, get::command(alloc)), cat::command(alloc));
+    let telling = with(with(reading, stat::command(alloc)), verify::command(alloc));
+    let joining = with(with(telling, seal::command(alloc)), compact::command(alloc));
+    with(joining, drop::command(alloc))
+}
+
+/// The folder of a log.
+fn folder<'a>(alloc: Global, help: &'a str) -> Arg<'a> {
+    Arg::new(alloc, FOLDER)
+        .required(true)
+        .action(ArgAction::Set)
+        .help(help)
+}
+
+/// The folder of a log that is there.
+fn log<'a>(alloc: Global) -> Arg<'a> {
+    folder(alloc, "The log's folder")
+}
 
 /// Does what the words ask.
 pub fn run(rt: &HostRuntime, matches: &ArgMatches<'_>) -> Result<(), Failure> {

@@ -1,12 +1,11 @@
 //! `log seal`: puts the tail's records into a segment.
 
 use crate::arguments;
-use crate::command_words::CommandWords;
 use crate::failure::{Failure, FailureCause, with_file};
-use crate::log::FOLDER;
 use crate::log::log_folder::SystemCause;
 use crate::log::places::open_to_write;
-use clap::ArgMatches;
+use clap::{ArgMatches, Command};
+use std::alloc::{AllocError, Global};
 
 const EXAMPLE: &str = "\
 'append' seals a tail by itself once it is large. The records and their numbers stay. Other commands read the segment,
@@ -16,12 +15,12 @@ Example:
   zevkhadun log seal events";
 
 /// The words of `log seal`.
-pub const COMMAND: CommandWords = CommandWords {
-    name: "seal",
-    about: "Put the records of the tail into a segment, which is a store",
-    after_help: EXAMPLE,
-    arguments: &[FOLDER],
-};
+pub fn command<'a>(alloc: Global) -> Result<Command<'a>, AllocError> {
+    Command::new(alloc, "seal")
+        .about("Put the records of the tail into a segment, which is a store")
+        .after_help(EXAMPLE)
+        .arg(crate::log::log(alloc))
+}
 
 // Seals the log at a path.
 fn seal(rt: &HostRuntime, path: &str) -> Result<(), FailureCause> {
@@ -33,6 +32,6 @@ fn seal(rt: &HostRuntime, path: &str) -> Result<(), FailureCause> {
 /// Seals the log.
 pub fn run(rt: &HostRuntime, matches: &ArgMatches<'_>) -> Result<(), Failure> {
     let alloc = rt.alloc();
-    let path = arguments::word(alloc, matches, FOLDER.id)?;
+    let path = arguments::word(alloc, matches, crate::log::FOLDER)?;
     with_file(alloc, path, seal(rt, path))
 }

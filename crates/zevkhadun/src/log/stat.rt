@@ -1,35 +1,32 @@
 //! `log stat`: prints counts and sizes of logs.
 
-use crate::argument::{Argument, FLAG};
-use crate::command_words::CommandWords;
+use crate::arguments;
 use crate::failure::{Failure, FailureCause, to_output};
 use crate::findings::Findings;
-use crate::log::FOLDERS;
 use crate::log::places::{file_in, record_numbers, tail_bytes};
 use crate::log::segments::segment_numbers;
-use clap::ArgMatches;
+use clap::{ArgMatches, Command};
 use segmented_log::segment_file;
 use serde_json::json;
+use std::alloc::{AllocError, Global};
 use std::fs;
 
 const EXAMPLE: &str = "\
 Example:
   zevkhadun log stat --json events     records, their numbers, segments and bytes";
 
-// Whether the numbers are JSON.
-const JSON: Argument = Argument {
-    id: "json",
-    help: "Print a JSON object for each log, one per line",
-    ..FLAG
-};
-
 /// The words of `log stat`.
-pub const COMMAND: CommandWords = CommandWords {
-    name: "stat",
-    about: "Print counts and sizes of logs",
-    after_help: EXAMPLE,
-    arguments: &[FOLDERS, JSON],
-};
+pub fn command<'a>(alloc: Global) -> Result<Command<'a>, AllocError> {
+    Command::new(alloc, "stat")
+        .about("Print counts and sizes of logs")
+        .after_help(EXAMPLE)
+        .arg(arguments::several(alloc, crate::log::FOLDER, "The logs' folders"))?
+        .arg(arguments::flag(
+            alloc,
+            "json",
+            "Print a JSON object for each log, one per line",
+        ))
+}
 
 // Counts and sizes of a log.
 #[derive(Clone, Copy)]
@@ -115,9 +112,9 @@ fn print(rt: &HostRuntime, path: &str, is_json: bool) -> Result<(), FailureCause
 
 /// Prints the numbers of each log. It goes on after one that can't be read, and fails at the end.
 pub fn run(rt: &HostRuntime, matches: &ArgMatches<'_>) -> Result<(), Failure> {
-    let is_json = matches.get_flag(JSON.id);
+    let is_json = matches.get_flag("json");
     let mut findings = Findings::new();
-    for path in matches.get_strs(FOLDERS.id).unwrap_or(&[]) {
+    for path in matches.get_strs(crate::log::FOLDER).unwrap_or(&[]) {
         if let Err(cause) = print(rt, path, is_json) {
             findings.add_failed(rt, path, cause)?;
         }

@@ -1,9 +1,8 @@
 //! When appended records are put on the disk.
 
-use crate::argument::{Argument, FLAG, Presence, Takes, Values};
-use crate::arguments::{word, wrong_words};
+use crate::arguments::{option, word, wrong_words};
 use crate::failure::Failure;
-use clap::ArgMatches;
+use clap::{Arg, ArgMatches};
 use std::alloc::Global;
 
 /// When appended records are put on the disk, and so acknowledged.
@@ -32,19 +31,16 @@ batch: once they take 1 MiB, and before waiting for more input, as from a pipe o
 end: once, after the last one; until then they are in memory, and a crash leaves all of them or none";
 
 /// The argument for it.
-pub const SYNC: Argument = Argument {
-    id: "sync",
-    takes: Takes::Value("WHEN"),
-    presence: Presence::Default(BATCH),
-    values: Values::Names(&POLICIES),
-    help: "When records are put on the disk",
-    long_help: Some(HELP),
-    ..FLAG
-};
+pub fn sync<'a>(alloc: Global) -> Arg<'a> {
+    option(alloc, "sync", "WHEN", "When records are put on the disk")
+        .value_parser(POLICIES.as_slice())
+        .default_value(BATCH)
+        .long_help(HELP)
+}
 
 /// The policy that the words name.
 pub fn policy_of(alloc: Global, matches: &ArgMatches<'_>) -> Result<SyncPolicy, Failure> {
-    match word(alloc, matches, SYNC.id)? {
+    match word(alloc, matches, "sync")? {
         EVERY => Ok(SyncPolicy::Every),
         BATCH => Ok(SyncPolicy::Batch),
         END => Ok(SyncPolicy::End),

@@ -1,19 +1,18 @@
 //! `log verify`: reads logs whole, and reports what is broken.
 
-use crate::argument::{Argument, FLAG};
-use crate::command_words::CommandWords;
+use crate::arguments::{self, flag};
 use crate::failure::{Failure, FailureCause, to_output};
 use crate::findings::Findings;
-use crate::log::FOLDERS;
 use crate::log::places::{check_log, file_in, record_numbers};
 use crate::log::segments::segment_numbers;
 use crate::status::Status;
 use crate::store_file::StorePath;
 use crate::verify::{BLIND_SPOT, Verifying};
 use crate::verify_output::ReportForm;
-use clap::ArgMatches;
+use clap::{ArgMatches, Command};
 use record_log::TailView;
 use segmented_log::{LogError, TAIL, segment_file};
+use std::alloc::{AllocError, Global};
 use std::fs;
 
 const EXAMPLE: &str = "\
@@ -24,21 +23,19 @@ the next 'append' or 'seal' cuts them off. The exit status is then 1, as for a b
 Example:
   zevkhadun log verify events";
 
-// Whether only broken logs are reported.
-const QUIET: Argument = Argument {
-    id: "quiet",
-    short: Some('q'),
-    help: "Print what is broken only, and show no progress",
-    ..FLAG
-};
-
 /// The words of `log verify`.
-pub const COMMAND: CommandWords = CommandWords {
-    name: "verify",
-    about: "Check logs completely, and report what is broken",
-    after_help: EXAMPLE,
-    arguments: &[FOLDERS, QUIET],
-};
+pub fn command<'a>(alloc: Global) -> Result<Command<'a>, AllocError> {
+    Command::new(alloc, "verify")
+        .about("Check logs completely, and report what is broken")
+        .after_help(EXAMPLE)
+        .arg(arguments::several(alloc, crate::log::FOLDER, "The logs' folders"))?
+        .arg(flag(
+            alloc,
+            "quiet",
+            "Print what is broken only, and show no progress",
+        )
+        .short('q'))
+}
 
 // Whether all segments of a log are sound. Each other one is reported.
 fn check_segments(
@@ -129,9 +126,9 @@ fn verify(rt: &HostRuntime, path: &str, is_quiet: bool) -> Result<bool, FailureC
 
 /// Prints what is found in each log. It goes on after one that can't be read, and fails at the end.
 pub fn run(rt: &HostRuntime, matches: &ArgMatches<'_>) -> Result<(), Failure> {
-    let is_quiet = matches.get_flag(QUIET.id);
+    let is_quiet = matches.get_flag("quiet");
     let mut findings = Findings::new();
-    for path in matches.get_strs(FOLDERS.id).unwrap_or(&[]) {
+    for path in matches.get_strs(crate::log::FOLDER).unwrap_or(&[]) {
         match verify(rt, path, is_quiet) {
             Ok(true) => (),
             Ok(false) => findings.add(Status::Broken),
