@@ -1,10 +1,11 @@
 -- Errors that a call passes on.
-use Rattle.std.proofs.Common.{◌≡◌, ⊎_elim, ℕ, ◌<◌, List, [], ◌∷◌, None, subst, arith}
+use Rattle.std.proofs.Common.{◌≡◌, ⊎_elim, ℕ, ◌<◌, List, [], ◌∷◌, None, sym, ◌∙◌, subst, arith}
 use Rattle.std.specs.List.{AllByRecursion, Contains}
 use Rattle.std.specs.Prelude.{Result, Ok, Err, IfErr, IsErrOf}
+use Rattle.std.specs.Result.{IsErrAnd}
 use Rattle.store_folder.specs.Folder.{Look}
 use Rattle.record_log.specs.declared.error.LogError.{LogError}
-use Rattle.record_log.specs.declared.error.LogError.TheVariants.{Memory, Failed}
+use Rattle.record_log.specs.declared.error.LogError.TheVariants.{Memory, Failed, Full, Broken}
 use Rattle.segmented_log.specs.Names.{segment_name}
 use Rattle.segmented_log.specs.Parts.{Part, end_from, AreParts}
 use Rattle.segmented_log.specs.Log.{Holds}
@@ -27,6 +28,35 @@ if_seals (Err e) of = seals_of e of
 pub never : {T : Type 0} (P : LogError → Type 0) (e : LogError) → (P e → ⊥) → (r : Result T LogError) → IfErr r P → IsErrOf r e → ⊥
 never P e empty (Ok x) of is = let none : ⊥ = cc is in absurd none
 never P e empty (Err d) of is = let same : d ≡ e = cc is in empty (subst P same of)
+
+-- An error is one error alone.
+err_is : {T : Type 0} (d e : LogError) → ◌≡◌ {A = Result T LogError} (Err d) (Err e) → d ≡ e
+err_is d e is = cc is
+
+-- no result is both Ok and this error
+pub ok_alone : {T : Type 0} (e : LogError) (x : T) → IsErrOf (Ok x) e → ⊥
+ok_alone e x is = cc is
+
+pub err_alone : {T : Type 0} (d e : LogError) → (d ≡ e → ⊥) → IsErrOf {T = T} (Err d) e → ⊥
+err_alone d e other is = other (err_is d e is)
+
+-- A `?` after a call that fails for lack of memory returns no other error.
+pub memory_alone : {T : Type 0} (e : LogError) → (e ≡ Memory → ⊥) → (r : Result T LogError) → IsErrAnd r (λ d. d ≡ Memory) → IsErrOf r e → ⊥
+memory_alone e other (Ok x) failed is = failed
+memory_alone e other (Err d) failed is = other (sym (err_is d e is) ∙ failed)
+
+-- errors that differ
+pub failed_memory : Failed ≡ Memory → ⊥
+failed_memory is = cc is
+
+pub full_memory : Full ≡ Memory → ⊥
+full_memory is = cc is
+
+pub broken_failed : Broken ≡ Failed → ⊥
+broken_failed is = cc is
+
+pub broken_full : Broken ≡ Full → ⊥
+broken_full is = cc is
 
 not_among : (k : ℕ) (parts : List Part) → AllByRecursion (λ part. part.first < k) parts → Contains (firsts parts) k → ⊥
 not_among k [] below among = absurd (omega (arith, among.1))

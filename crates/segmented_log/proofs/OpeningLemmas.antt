@@ -1,21 +1,22 @@
 -- What a crash leaves while a log is opened.
-use Rattle.std.proofs.Common.{◌≡◌, inl, inr, ⊎_elim, ℕ, ◌-◌, List, [], ◌++◌, length, map, Some, None, refl, sym, ◌∙◌, ap, arith}
+use Rattle.std.proofs.Common.{◌≡◌, inl, inr, ⊎_elim, ℕ, ◌-◌, ◌^◌, ◌<◌, ◌≤◌, List, [], ◌∷◌, ◌++◌, length, map, Some, None, refl, sym, ◌∙◌, ap, arith}
+use Rattle.std.specs.List.{slice_get}
 use Rattle.std.proofs.lemmas.List.{append-nil, drop_all}
 use Rattle.store_folder.specs.Folder.{Look}
 use Rattle.store_folder.specs.Publishing.{part, IsOldOrWhole}
 use Rattle.store_format.specs.Block.{Slot, doc}
 use Rattle.record_log.specs.Tail.{records_of, first_of, IsTail}
 use Rattle.segmented_log.specs.Names.{segment_name, tail_name}
-use Rattle.segmented_log.specs.Parts.{log_slots}
+use Rattle.segmented_log.specs.Parts.{Part, first_in, end_from, tail_end, log_slots, AreInLine, Ascend, AreParts}
 use Rattle.segmented_log.specs.Log.{IsLog, IsBlank, KeepsLog}
 use Rattle.segmented_log.proofs.NameLemmas.{segment_no_tail, segment_no_tail_beside}
 use Rattle.segmented_log.proofs.HoldLemmas.{other_tail}
 use Rattle.segmented_log.proofs.PartLemmas.{more_parts, more_slots}
 
-some_is : (a b : List ℕ) → Some a ≡ Some b → a ≡ b
+some_is : {A : Type 0} (a b : A) → Some a ≡ Some b → a ≡ b
 some_is a b e = cc e
 
-none_some : (a : List ℕ) → None ≡ Some a → ⊥
+none_some : {A : Type 0} (a : A) → None ≡ Some a → ⊥
 none_some a e = cc e
 
 -- the same log in another look, with this tail
@@ -86,3 +87,29 @@ module _ (seen : Look) (before : Look → Type 0) (restarted : (c : Look) → be
         (λ old. inl (record { no_segments = λ k low. segments_same file c o k ∙ blank.no_segments k low; no_tail = old ∙ restarted o.old o.was tail_name ∙ had }))
         (λ whole. inr (new_log seen c file blank (segments_same file c o) whole is_tail first none)) o.at_name;
   }
+
+-- Segments and a tail that an opening found to be in line, by the numbers that it compared.
+pub parts_found : (first sealed : ℕ) (segments : List Part) (tail : List ℕ) → first ≡ first_in segments (first_of tail) → AreInLine first segments → Ascend first segments → sealed ≡ end_from first segments
+    → sealed < 2 ^ 64 → IsTail tail → first_of tail ≤ sealed → sealed ≤ tail_end tail → AreParts first segments tail
+parts_found first sealed segments tail first_is in_line ascend sealed_is fits is_tail low high = record {
+  first_is = first_is;
+  in_line = in_line;
+  ascend = ascend;
+  fits = omega (arith, sealed_is, fits);
+  is_tail = is_tail;
+  meets = omega (arith, sealed_is, low);
+  reaches = omega (arith, sealed_is, high);
+}
+
+-- Parts in line begin at the number that was found of these segments and this tail.
+pub first_same : (first found tail_first : ℕ) (segments : List Part) (tail : List ℕ) → AreParts first segments tail → tail_first ≡ first_of tail → found ≡ first_in segments tail_first → first ≡ found
+first_same first found tail_first segments tail parts at is = parts.first_is ∙ ap (λ n. first_in segments n) (sym at) ∙ sym is
+
+-- the first number of segments, by the first of them
+pub first_found : {S : Type 0} (f : S → Part) (n : ℕ) (s : S) (list : List S) → Some s ≡ slice_get list 0 → (f s).first ≡ first_in (map f list) n
+first_found f n s [] is = absurd (none_some s (sym is))
+first_found f n s (x ∷ list) is = ap (λ y. (f y).first) (some_is s x is)
+
+pub first_missing : {S : Type 0} (f : S → Part) (n : ℕ) (list : List S) → None ≡ slice_get list 0 → n ≡ first_in (map f list) n
+first_missing f n [] is = refl
+first_missing f n (x ∷ list) is = absurd (none_some x is)

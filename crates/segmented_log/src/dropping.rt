@@ -6,27 +6,17 @@ ghost use Rattle.store_base.specs.Counts.{HasRisen};
 ghost use Rattle.store_folder.specs.Moments.{ComesFrom, LeavesOnly};
 ghost use Rattle.store_folder.specs.Folder.{Elsewhere, FilesElsewhere, LosesFile, Keeps};
 ghost use Rattle.segmented_log.specs.Names.{segment_name};
-ghost use Rattle.segmented_log.specs.Parts.{part_of, first_in};
+ghost use Rattle.segmented_log.specs.Parts.{part_of};
 ghost use Rattle.segmented_log.specs.Dropping.{CanGo, IsRest, DropsTo, LosesSegment, RemovesOnly, IsDropped};
 ghost use Rattle.record_log.specs.Causes.{IsFault};
 
 use crate::log::SegmentedLog;
 use crate::names::segment_file;
-use crate::segment::Segment;
+use crate::segment::{Segment, first_number};
 use docstore::FileHandle;
 use record_log::LogError;
 use std::alloc::Global;
 use store_folder::{Folder, ReadableFolder};
-
-// The first number of these segments, or that of the tail where there are none.
-fn first_number<H: FileHandle>(segments: &[Segment<H>], tail_first: u64) -> u64
-    ensures { result ≡ first_in (map (λ s. part_of s.first s.reader) segments.now) tail_first }
-{
-    match segments.first() {
-        Some(segment) => segment.first,
-        None => tail_first,
-    }
-}
 
 // Where the first of these segments ends, if it can be removed.
 fn end_of_first<H: FileHandle>(

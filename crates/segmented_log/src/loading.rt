@@ -20,7 +20,7 @@ ghost use Rattle.record_log.specs.Causes.{IsOfOpenings};
 use crate::log::SegmentedLog;
 use crate::names::TAIL;
 use crate::opening::{end_of_segments, numbers_in, open_segments};
-use crate::segment::Segment;
+use crate::segment::{Segment, first_number};
 use crate::tail::{Tail, begin_tail, repair_tail};
 use crate::tail_buffer::TailBuffer;
 use docstore::{FileHandle, laws};
@@ -90,10 +90,7 @@ fn assemble<H: FileHandle>(segments: Vec<Segment<H>>, tail: Tail) -> Result<Part
     ensures failed { IsErrOf result LogError.Failed → ⊥ }
     ensures kind { IfErr result IsOfOpenings }
 {
-    let first = match segments.first() {
-        Some(segment) => segment.first,
-        None => tail.first,
-    };
+    let first = first_number(&segments, tail.first);
     let Some(sealed) = end_of_segments(&segments, first) else {
         return Err(LogError::NoLog);
     };

@@ -1,14 +1,14 @@
 //! Segments: the stores of a log's folder.
 
 ghost use Rattle.std.specs.Prelude.{◌≡◌, ◌≢◌, ◌⊎◌, ◌≤◌, ◌++◌, ℕ, List, length, All, IsTrue, IsSome, IfOk, IfErr, OnOk};
-ghost use Rattle.std.specs.Prelude.{IsErrOf};
+ghost use Rattle.std.specs.Prelude.{IsErrOf, map};
 ghost use Rattle.store_base.specs.Counts.{HasRisen};
 ghost use Rattle.store_folder.specs.Moments.{ComesFrom, LeavesOnly};
 ghost use Rattle.store_folder.specs.Folder.{ElsewhereOfBoth, FilesElsewhereOfBoth};
 ghost use Rattle.store_folder.specs.Publishing.{part};
 ghost use Rattle.record_log.specs.Place.{contents, EndsBy};
 ghost use Rattle.segmented_log.specs.Names.{segment_name};
-ghost use Rattle.segmented_log.specs.Parts.{part_of};
+ghost use Rattle.segmented_log.specs.Parts.{part_of, first_in};
 ghost use Rattle.segmented_log.specs.Log.{HasSegment};
 ghost use Rattle.segmented_log.specs.Settled.{part_at, AddsSegment};
 ghost use Rattle.segmented_log.specs.Opening.{IsNoSegment};
@@ -30,6 +30,16 @@ const CACHED_BLOCKS: usize = 4;
 pub(crate) struct Segment<H: FileHandle> {
     pub(crate) first: u64,
     pub(crate) reader: StoreReader<H>,
+}
+
+/// The first number of these segments, or that of the tail where there are none.
+pub(crate) fn first_number<H: FileHandle>(segments: &[Segment<H>], tail_first: u64) -> u64
+    ensures { result ≡ first_in (map (λ s. part_of s.first s.reader) segments.now) tail_first }
+{
+    match segments.first() {
+        Some(segment) => segment.first,
+        None => tail_first,
+    }
 }
 
 // Why a segment could not be opened.

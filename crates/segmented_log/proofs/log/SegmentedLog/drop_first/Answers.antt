@@ -12,6 +12,8 @@ use Rattle.segmented_log.specs.Dropping.{CanGo, IsRest, DropsTo, LosesSegment, R
 use Rattle.segmented_log.proofs.SyncLemmas.{log_stays}
 use Rattle.segmented_log.proofs.DropLemmas.{rest_itself, drops_none, dropped_rest, dropped_log, dropped_folder, dropped_names, dropped_later, some_can}
 use Rattle.segmented_log.proofs.log.SegmentedLog.drop_first.Goals.{In-Some}
+use Rattle.segmented_log.proofs.CauseLemmas.{ok_alone}
+use Rattle.record_log.specs.declared.error.LogError.TheVariants.{Failed}
 use Rattle.segmented_log.proofs.log.SegmentedLog.drop_first.Goals as goal
 
 pub returns-in_default-clause-rest : goal.returns-in_default-clause-rest
@@ -144,3 +146,9 @@ invariant_of-self-2 g c =
             (All-drop (λ x. IsTrue x.reader.file.honest) 1 log.segments.items (known.1 h).1),
       ),
     )
+
+pub returns-in_default-clause-failed : goal.returns-in_default-clause-failed
+returns-in_default-clause-failed g c = λ is. absurd (ok_alone Failed _ is)
+
+pub returns-clause-failed : goal.returns-clause-failed
+returns-clause-failed g c = λ is. absurd (ok_alone Failed _ is)

@@ -4,9 +4,9 @@ use Rattle.store_format.specs.Block.{doc}
 use Rattle.segmented_log.specs.Parts.{part_of, sealed_of, parts_of, tail_end, end_from}
 use Rattle.record_log.specs.Place.{content}
 use Rattle.segmented_log.specs.Log.{slot_at, Gives}
-use Rattle.record_log.specs.declared.error.LogError.TheVariants.{Broken}
+use Rattle.record_log.specs.declared.error.LogError.TheVariants.{Broken, Failed}
 use Rattle.segmented_log.specs.Causes.{IsOfReads}
-use Rattle.segmented_log.proofs.CauseLemmas.{never}
+use Rattle.segmented_log.proofs.CauseLemmas.{never, ok_alone, err_alone, memory_alone, failed_memory, broken_failed}
 use Rattle.segmented_log.proofs.RunOfParts.{view_parts}
 use Rattle.segmented_log.proofs.SyncLemmas.{tail_is_there}
 use Rattle.segmented_log.proofs.ReadLemmas.{slot_after, slot_sealed, slot_read}
@@ -64,3 +64,33 @@ returns-clause-found g c = λ h.
     subst (λ v. slot_at v.first v.slots number ≡ Some (doc bytes.items)) c.self.view_is
     (slot_read log.first (map (λ x. part_of x.first x.reader) log.segments.items) log.tail.bytes f.parts log.places.items place bytes.items number s.records (omega (arith, f.sealed_is))
     (omega (arith, s.first_is)) (is ∙ ap (λ n. get_or log.places.items (number - n) place) s.first_is) copied)
+
+pub returns-then-self-clause-failed : goal.returns-then-self-clause-failed
+returns-then-self-clause-failed g c = λ h is. absurd (err_alone Broken Failed broken_failed is)
+
+pub returns-then-self-clause-sealed : goal.returns-then-self-clause-sealed
+returns-then-self-clause-sealed g c = λ h is. absurd (err_alone Broken Failed broken_failed is)
+
+pub returns-then-number-self-clause-failed : goal.returns-then-number-self-clause-failed
+returns-then-number-self-clause-failed g c = λ h is. absurd (ok_alone Failed _ is)
+
+pub returns-then-number-self-clause-sealed : goal.returns-then-number-self-clause-sealed
+returns-then-number-self-clause-sealed g c = λ h is. absurd (ok_alone Failed _ is)
+
+pub returns-then-index-len-clause-failed : goal.returns-then-index-len-clause-failed
+returns-then-index-len-clause-failed g c = λ h is. absurd (ok_alone Failed _ is)
+
+pub returns-then-index-len-clause-sealed : goal.returns-then-index-len-clause-sealed
+returns-then-index-len-clause-sealed g c = λ h is. absurd (ok_alone Failed _ is)
+
+pub returns-clause-failed : goal.returns-clause-failed
+returns-clause-failed g c = λ h is. absurd (ok_alone Failed _ is)
+
+pub returns-clause-sealed : goal.returns-clause-sealed
+returns-clause-sealed g c = λ h is. absurd (ok_alone Failed _ is)
+
+pub returns-in_err-copy_record-clause-failed : goal.returns-in_err-copy_record-clause-failed
+returns-in_err-copy_record-clause-failed g c = λ h is. absurd (memory_alone Failed failed_memory _ c.from_residual.ensures.1 is)
+
+pub returns-in_err-copy_record-clause-sealed : goal.returns-in_err-copy_record-clause-sealed
+returns-in_err-copy_record-clause-sealed g c = λ h is. absurd (memory_alone Failed failed_memory _ c.from_residual.ensures.1 is)

@@ -18,6 +18,8 @@ use Rattle.segmented_log.proofs.CompactLemmas.{changes_removed, segment_there}
 use Rattle.segmented_log.proofs.RunOfParts.{covered_moved, view_parts, covered_is, covered_left, without, covered_same, covered_log, covered_folder}
 use Rattle.segmented_log.proofs.SlotLemmas.{in_left}
 use Rattle.segmented_log.proofs.log.SegmentedLog.remove_covered.Goals.{After-remove_segment, After-remove}
+use Rattle.segmented_log.proofs.CauseLemmas.{ok_alone}
+use Rattle.record_log.specs.declared.error.LogError.TheVariants.{Failed}
 use Rattle.segmented_log.proofs.log.SegmentedLog.remove_covered.Goals as goal
 
 -- what the log knows of its folder
@@ -135,3 +137,6 @@ invariant_of-self-2 g c = (
             (All-take (λ s. IsTrue s.reader.file.honest) place log.segments.items honest) (All-drop (λ s. IsTrue s.reader.file.honest) (suc place) log.segments.items honest)),
       ),
 )
+
+pub returns-clause-failed : goal.returns-clause-failed
+returns-clause-failed g c = λ is. absurd (ok_alone Failed _ is)

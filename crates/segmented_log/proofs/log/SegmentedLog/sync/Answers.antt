@@ -5,13 +5,13 @@ use Rattle.std.proofs.lemmas.Result.{on_ok_weaker}
 use Rattle.store_folder.proofs.Steps.{joined, weaker}
 use Rattle.store_format.specs.Block.{doc}
 use Rattle.store_base.proofs.ListLemmas.{risen_later}
-use Rattle.record_log.specs.declared.error.LogError.TheVariants.{Failed, Full}
+use Rattle.record_log.specs.declared.error.LogError.TheVariants.{Failed, Full, Broken}
 use Rattle.record_log.specs.Causes.{IsFault}
 use Rattle.segmented_log.specs.Names.{segment_name}
 use Rattle.segmented_log.specs.Causes.{HasNoRoomForLast}
 use Rattle.segmented_log.specs.Log.{IsLog, KeepsOrAdds}
 use Rattle.segmented_log.proofs.NameLemmas.{segment_no_tail, segment_no_tail_beside}
-use Rattle.segmented_log.proofs.CauseLemmas.{never}
+use Rattle.segmented_log.proofs.CauseLemmas.{never, err_alone, broken_failed, broken_full}
 use Rattle.segmented_log.proofs.SyncLemmas.{nothing_pending, always_ok}
 use Rattle.segmented_log.proofs.log.SegmentedLog.sync.Goals as goal
 
@@ -66,3 +66,9 @@ returns-clause-failed g c = λ h is.
 
 pub returns-clause-full : goal.returns-clause-full
 returns-clause-full g c = λ h is. subst (λ a. HasNoRoomForLast a) (c.in_ok-write_pending.ensures.acknowledged h) (c.seal_large-2.ensures.full h is)
+
+pub returns-then-self-clause-failed : goal.returns-then-self-clause-failed
+returns-then-self-clause-failed g c = λ h is. absurd (err_alone Broken Failed broken_failed is)
+
+pub returns-then-self-clause-full : goal.returns-then-self-clause-full
+returns-then-self-clause-full g c = λ h is. absurd (err_alone Broken Full broken_full is)
