@@ -5,13 +5,14 @@ ghost use Rattle.store_published.specs.Filling.{IsSameFile};
 ghost use Rattle.store_commands.specs.Appending.{CopiesStore};
 
 use crate::arguments::{self, block_size_of, framing_of, word};
+use crate::command_words::{Argument, command_of};
 use crate::failure::{Failure, FailureCause, with_file};
 use crate::input_files::{files_from, inputs, names_of, split_names};
 use crate::merge::PART_BYTES;
 use crate::pack::Packing;
 use crate::store_file::{DiskReader, StorePath};
 use crate::store_output::{end_output, output_place};
-use clap::{Arg, ArgAction, ArgMatches, Command};
+use clap::{ArgMatches, Command};
 use docstore::{DocStoreVersion, StoreError, StoreWriter, TerminatingWrite};
 use std::alloc::{AllocError, Global};
 use store_commands::StoreShape;
@@ -26,28 +27,25 @@ then the new store is in place. It keeps its period.
 Example:
   zevkhadun append words.store more.txt     a document for each line, after those of the store";
 
-// The store that grows.
-fn store<'a>(alloc: Global) -> Arg<'a> {
-    Arg::new(alloc, "STORE")
-        .required(true)
-        .action(ArgAction::Set)
-        .help("The store that the documents are added to; it must exist")
-}
-
 /// The words of `append`.
 pub fn command<'a>(alloc: Global) -> Result<Command<'a>, AllocError> {
-    let args = vec![in alloc;
-        store(alloc),
-        inputs(alloc),
-        files_from(alloc),
-        arguments::framing(alloc),
-        arguments::block_size(alloc),
-        arguments::quiet(alloc),
-    ]?;
-    Command::new(alloc, "append")
-        .about("Add the documents in files or standard input to a store")
-        .after_help(EXAMPLE)
-        .args(args)
+    command_of(
+        alloc,
+        "append",
+        "Add the documents in files or standard input to a store",
+        EXAMPLE,
+        &[
+            Argument::Word {
+                id: "STORE",
+                help: "The store that the documents are added to; it must exist",
+            },
+            inputs(),
+            files_from(),
+            arguments::framing(),
+            arguments::block_size(),
+            arguments::quiet(),
+        ],
+    )
 }
 
 // The store to which documents are appended.

@@ -1,8 +1,9 @@
 //! Arguments that several commands have.
 
 use crate::byte_size::parse_size;
+use crate::command_words::Argument;
 use crate::failure::{Failure, FailureCause};
-use clap::{Arg, ArgAction, ArgMatches, value_parser};
+use clap::ArgMatches;
 use document_framing::Framing;
 use document_framing::framing::{FRAMING_HELP, FRAMINGS};
 use std::alloc::{AllocError, Global};
@@ -14,98 +15,60 @@ const OUTPUT: &str = "OUT";
 /// The name of the argument for the file that is read.
 const INPUT_FILE: &str = "FILE";
 
-// A file that has to be named.
-fn file<'a>(alloc: Global, id: &'a str, help: &'a str) -> Arg<'a> {
-    Arg::new(alloc, id)
-        .required(true)
-        .action(ArgAction::Set)
-        .help(help)
-}
-
 /// The store that is read.
-pub fn input<'a>(alloc: Global) -> Arg<'a> {
-    file(alloc, INPUT_FILE, "The store")
+pub fn input<'a>() -> Argument<'a> {
+    Argument::Word {
+        id: INPUT_FILE,
+        help: "The store",
+    }
 }
 
 /// The store that is written.
-pub fn output<'a>(alloc: Global) -> Arg<'a> {
-    file(
-        alloc,
-        OUTPUT,
-        "Output file. It replaces an existing store or empty file when writing succeeds, never any other file",
-    )
-}
-
-/// One or more words that have to be there.
-pub fn several<'a>(alloc: Global, id: &'a str, help: &'a str) -> Arg<'a> {
-    Arg::new(alloc, id)
-        .required(true)
-        .num_args(1..)
-        .action(ArgAction::Append)
-        .help(help)
-}
-
-/// A word that is there or not.
-pub fn flag<'a>(alloc: Global, id: &'a str, help: &'a str) -> Arg<'a> {
-    Arg::new(alloc, id)
-        .long(id)
-        .action(ArgAction::SetTrue)
-        .help(help)
+pub fn output<'a>() -> Argument<'a> {
+    Argument::Word {
+        id: OUTPUT,
+        help: "Output file. It replaces an existing store or empty file when writing succeeds, never any other file",
+    }
 }
 
 /// That files have to be as tantivy's directory leaves them.
-pub fn tantivy<'a>(alloc: Global) -> Arg<'a> {
-    flag(
-        alloc,
-        "tantivy",
-        "Require the footer that tantivy's directory adds to a segment's .store file; it is recognized without this",
-    )
+pub fn tantivy<'a>() -> Argument<'a> {
+    Argument::Flag {
+        id: "tantivy",
+        help: "Require the footer that tantivy's directory adds to a segment's .store file; \
+               it is recognized without this",
+    }
 }
 
 /// That nothing but errors is printed on the standard error.
-pub fn quiet<'a>(alloc: Global) -> Arg<'a> {
-    flag(
-        alloc,
-        "quiet",
-        "Show no progress and no summary on standard error",
-    )
-    .short('q')
-}
-
-/// An option `--id VALUE`.
-pub fn option<'a>(alloc: Global, id: &'a str, value: &'a str, help: &'a str) -> Arg<'a> {
-    Arg::new(alloc, id).long(id).value_name(value).help(help)
+pub fn quiet<'a>() -> Argument<'a> {
+    Argument::ShortFlag {
+        id: "quiet",
+        short: 'q',
+        help: "Show no progress and no summary on standard error",
+    }
 }
 
 /// How documents are delimited.
-pub fn framing<'a>(alloc: Global) -> Arg<'a> {
-    option(alloc, "framing", "FRAMING", "How documents are delimited")
-        .value_parser(FRAMINGS.as_slice())
-        .default_value("lines")
-        .long_help(FRAMING_HELP)
+pub fn framing<'a>() -> Argument<'a> {
+    Argument::ChoiceOr {
+        id: "framing",
+        value: "FRAMING",
+        choices: FRAMINGS.as_slice(),
+        default: "lines",
+        help: "How documents are delimited",
+        long_help: FRAMING_HELP,
+    }
 }
 
 /// The block size.
-pub fn block_size<'a>(alloc: Global) -> Arg<'a> {
-    option(
-        alloc,
-        "block-size",
-        "BYTES",
-        "Write a block once its documents plus 8 bytes each exceed BYTES; suffixes K, M, G (powers of 1024)",
-    )
-    .default_value("16K")
-}
-
-/// How many checkpoints a full block of the index has.
-pub fn period<'a>(alloc: Global) -> Arg<'a> {
-    option(
-        alloc,
-        "period",
-        "COUNT",
-        "Entries per index run, 2 to 64; rarely worth changing, gets don't depend on it",
-    )
-    .value_parser(value_parser!(u8).range(2..=64))
-    .default_value("8")
+pub fn block_size<'a>() -> Argument<'a> {
+    Argument::OptionOr {
+        id: "block-size",
+        value: "BYTES",
+        default: "16K",
+        help: "Write a block once its documents plus 8 bytes each exceed BYTES; suffixes K, M, G (powers of 1024)",
+    }
 }
 
 /// The word of an argument that is required or has a default.

@@ -1,13 +1,14 @@
 //! `cat`: prints all documents in order.
 
-use crate::arguments::{self, flag, option};
+use crate::arguments;
 use crate::block_walk::write_documents;
+use crate::command_words::{Argument, command_of};
 use crate::document_output::{self, DocumentForm, form_of, standard_output};
 use crate::failure::{Failure, FailureCause, to_output, with_file};
 use crate::status::Status;
 use crate::store_file::{DiskReader, StorePath, store_path};
 use crate::word_files::{id_words, words_in};
-use clap::{Arg, ArgAction, ArgMatches, Command};
+use clap::{ArgMatches, Command};
 use std::alloc::{AllocError, Global};
 use std::io::Write;
 use store_commands::damaged_documents::damaged_documents;
@@ -19,37 +20,31 @@ Examples:
   zevkhadun cat --number words.store | grep tree     the documents with 'tree', and their numbers
   zevkhadun cat --keep-going damaged.store > saved.txt     what can still be read";
 
-// Documents to leave out.
-fn without<'a>(alloc: Global) -> Arg<'a> {
-    option(
-        alloc,
-        "without",
-        "IDS",
-        "Documents to leave out, as 0,3..9, or @FILE with such words on its lines; may be given several times",
-    )
-    .action(ArgAction::Append)
-}
-
 /// The words of `cat`.
 pub fn command<'a>(alloc: Global) -> Result<Command<'a>, AllocError> {
-    let json = document_output::json(alloc)?;
-    let args = vec![in alloc;
-        arguments::input(alloc),
-        without(alloc),
-        flag(
-            alloc,
-            "keep-going",
-            "Skip damaged documents; their numbers go to standard error, and the exit status is 1",
-        ),
-        document_output::number(alloc),
-        json,
-        arguments::framing(alloc),
-        arguments::tantivy(alloc),
-    ]?;
-    Command::new(alloc, "cat")
-        .about("Print all documents in order")
-        .after_help(EXAMPLE)
-        .args(args)
+    command_of(
+        alloc,
+        "cat",
+        "Print all documents in order",
+        EXAMPLE,
+        &[
+            arguments::input(),
+            Argument::Options {
+                id: "without",
+                value: "IDS",
+                help: "Documents to leave out, as 0,3..9, or @FILE with such words on its lines; \
+                       may be given several times",
+            },
+            Argument::Flag {
+                id: "keep-going",
+                help: "Skip damaged documents; their numbers go to standard error, and the exit status is 1",
+            },
+            document_output::number(),
+            document_output::json(),
+            arguments::framing(),
+            arguments::tantivy(),
+        ],
+    )
 }
 
 // What is printed of a store.

@@ -1,9 +1,10 @@
 //! The standard output, for documents: how each is printed.
 
 use crate::arguments::{framing_of, wrong_words};
+use crate::command_words::Argument;
 use crate::failure::{Failure, FailureCause, to_output};
 use base64::engine::general_purpose::STANDARD;
-use clap::{Arg, ArgMatches};
+use clap::ArgMatches;
 use document_framing::Framing;
 use serde_json::json;
 use std::alloc::{AllocError, Global};
@@ -33,23 +34,20 @@ pub enum DocumentForm {
 }
 
 /// Whether a document follows its number.
-pub fn number<'a>(alloc: Global) -> Arg<'a> {
-    crate::arguments::flag(
-        alloc,
-        "number",
-        "Print the number of each document and a tab before it",
-    )
+pub fn number<'a>() -> Argument<'a> {
+    Argument::Flag {
+        id: "number",
+        help: "Print the number of each document and a tab before it",
+    }
 }
 
 /// Whether documents are printed as JSON.
-pub fn json<'a>(alloc: Global) -> Result<Arg<'a>, AllocError> {
-    crate::arguments::flag(
-        alloc,
-        "json",
-        "Print a JSON object for each document, one per line: its id and its text, or base64 if it isn't UTF-8",
-    )
-    .conflicts_with("framing")?
-    .conflicts_with("number")
+pub fn json<'a>() -> Argument<'a> {
+    Argument::FlagAgainst {
+        id: "json",
+        others: &["framing", "number"],
+        help: "Print a JSON object for each document, one per line: its id and its text, or base64 if it isn't UTF-8",
+    }
 }
 
 /// How the words say that documents are printed.

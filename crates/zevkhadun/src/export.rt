@@ -1,11 +1,12 @@
 //! `export`: writes the documents of a store as a file that another program reads.
 
 use crate::arguments::{self, input_path, output_path};
+use crate::command_words::{Argument, command_of};
 use crate::failure::{Failure, FailureCause, with_file};
 use crate::progress::Progress;
 use crate::store_file::StorePath;
 use crate::store_output::{OutputPlace, output_place, summarize};
-use clap::{Arg, ArgAction, ArgMatches, Command};
+use clap::{ArgMatches, Command};
 use docstore::StoreError;
 use std::alloc::{AllocError, Global};
 use store_published::{FillError, NotPublished, publish_export};
@@ -20,27 +21,24 @@ adds after a store on disk are not written.
 Example:
   zevkhadun export --tantivy segment.store words.store";
 
-// That tantivy reads the file. It is required, so that other forms can be added.
-fn for_tantivy<'a>(alloc: Global) -> Arg<'a> {
-    Arg::new(alloc, "tantivy")
-        .long("tantivy")
-        .action(ArgAction::SetTrue)
-        .required(true)
-        .help("Write a file of version 2, which tantivy's store reader opens")
-}
-
 /// The words of `export`.
 pub fn command<'a>(alloc: Global) -> Result<Command<'a>, AllocError> {
-    let args = vec![in alloc;
-        arguments::output(alloc),
-        arguments::input(alloc),
-        for_tantivy(alloc),
-        arguments::quiet(alloc),
-    ]?;
-    Command::new(alloc, "export")
-        .about("Write a store as a file that tantivy opens")
-        .after_help(EXAMPLE)
-        .args(args)
+    command_of(
+        alloc,
+        "export",
+        "Write a store as a file that tantivy opens",
+        EXAMPLE,
+        &[
+            arguments::output(),
+            arguments::input(),
+            // It is required, so that other forms can be added.
+            Argument::RequiredFlag {
+                id: "tantivy",
+                help: "Write a file of version 2, which tantivy's store reader opens",
+            },
+            arguments::quiet(),
+        ],
+    )
 }
 
 // The failure of an export: of the store that is read, or of the file that is written.

@@ -12,7 +12,7 @@ use store_commands::RequestError;
 use store_files::CreateError;
 
 /// What went wrong.
-#[derive(Debug, Drop)]
+#[derive(Drop)]
 pub enum FailureCause {
     /// The words of the command line are wrong.
     Words(String),
@@ -237,7 +237,7 @@ impl<T: Drop> From<AllocFailed<T>> for FailureCause {
 }
 
 /// What went wrong, and at which file, if at one.
-#[derive(Debug, Drop)]
+#[derive(Drop)]
 pub struct Failure {
     file: Option<String>,
     cause: FailureCause,

@@ -1,6 +1,7 @@
 //! `get`: prints documents by their numbers.
 
 use crate::arguments;
+use crate::command_words::{Argument, command_of};
 use crate::document_output::{self, DocumentForm, DocumentOutput, form_of, standard_output};
 use crate::failure::{Failure, FailureCause, to_output, with_file};
 use crate::listed_numbers::{NumberPrinter, print_listed};
@@ -18,24 +19,24 @@ Examples:
 
 /// The words of `get`.
 pub fn command<'a>(alloc: Global) -> Result<Command<'a>, AllocError> {
-    let json = document_output::json(alloc)?;
-    let args = vec![in alloc;
-        arguments::input(alloc),
-        arguments::several(
-            alloc,
-            "ID",
-            "Documents to print: numbers from 0 on, or ranges that exclude their end: 3..9, 5.. or ..9; \
-             '-' alone reads them from standard input, one on each line",
-        ),
-        document_output::number(alloc),
-        json,
-        arguments::framing(alloc),
-        arguments::tantivy(alloc),
-    ]?;
-    Command::new(alloc, "get")
-        .about("Print documents by their numbers")
-        .after_help(EXAMPLE)
-        .args(args)
+    command_of(
+        alloc,
+        "get",
+        "Print documents by their numbers",
+        EXAMPLE,
+        &[
+            arguments::input(),
+            Argument::Words {
+                id: "ID",
+                help: "Documents to print: numbers from 0 on, or ranges that exclude their end: 3..9, 5.. or ..9; \
+                       '-' alone reads them from standard input, one on each line",
+            },
+            document_output::number(),
+            document_output::json(),
+            arguments::framing(),
+            arguments::tantivy(),
+        ],
+    )
 }
 
 // An opened store, and the output for its documents.

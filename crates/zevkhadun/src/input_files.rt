@@ -1,29 +1,27 @@
 //! The files whose documents are packed.
 
-use crate::arguments::option;
+use crate::command_words::Argument;
 use crate::failure::{Failure, FailureCause};
 use crate::word_files::text_in;
-use clap::{Arg, ArgAction, ArgMatches};
+use clap::ArgMatches;
 use std::alloc::{AllocError, Global};
 use std::fs;
 
 /// The argument for files.
-pub fn inputs<'a>(alloc: Global) -> Arg<'a> {
-    Arg::new(alloc, "INPUT")
-        .num_args(0..)
-        .action(ArgAction::Append)
-        .help("Input files; '-' or no file means standard input")
+pub fn inputs<'a>() -> Argument<'a> {
+    Argument::OptionalWords {
+        id: "INPUT",
+        help: "Input files; '-' or no file means standard input",
+    }
 }
 
 /// The option for a list of files.
-pub fn files_from<'a>(alloc: Global) -> Arg<'a> {
-    option(
-        alloc,
-        "files-from",
-        "LIST",
-        "Take further input files from the lines of LIST, after the others; '-' is standard input",
-    )
-    .action(ArgAction::Set)
+pub fn files_from<'a>() -> Argument<'a> {
+    Argument::Option {
+        id: "files-from",
+        value: "LIST",
+        help: "Take further input files from the lines of LIST, after the others; '-' is standard input",
+    }
 }
 
 // Adds a name, and a byte 0, which no name has, after it.

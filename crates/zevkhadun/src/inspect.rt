@@ -1,11 +1,12 @@
 //! `inspect`: prints what a store has, or draws it on a page of HTML.
 
-use crate::arguments::{self, option};
+use crate::arguments;
+use crate::command_words::{Argument, command_of};
 use crate::failure::{Failure, FailureCause, with_file};
 use crate::inspect_words::print_store;
 use crate::replacing::check_page;
 use crate::store_file::{DiskReader, StorePath, store_path};
-use clap::{Arg, ArgAction, ArgMatches, Command};
+use clap::{ArgMatches, Command};
 use docstore::{DataPart, FOOTER_LEN, StoreError, TerminatingWrite, block_read_index};
 use std::alloc::{AllocError, Global};
 use std::fs;
@@ -22,33 +23,28 @@ Examples:
   zevkhadun inspect words.store | less
   zevkhadun inspect words.store words.html     one self-contained file, for any browser";
 
-// The page to write.
-fn page<'a>(alloc: Global) -> Arg<'a> {
-    Arg::new(alloc, "OUT").action(ArgAction::Set).help(
-        "Page of HTML to write. It replaces an existing page of HTML or empty file, never any other file",
-    )
-}
-
-// The page to write, as an option.
-fn html<'a>(alloc: Global) -> Result<Arg<'a>, AllocError> {
-    option(alloc, "html", "OUT", "The same as OUT")
-        .action(ArgAction::Set)
-        .conflicts_with("OUT")
-}
-
 /// The words of `inspect`.
 pub fn command<'a>(alloc: Global) -> Result<Command<'a>, AllocError> {
-    let html = html(alloc)?;
-    let args = vec![in alloc;
-        arguments::input(alloc),
-        page(alloc),
-        html,
-        arguments::tantivy(alloc),
-    ]?;
-    Command::new(alloc, "inspect")
-        .about("Print what a store has, or draw it on a page of HTML")
-        .after_help(EXAMPLE)
-        .args(args)
+    command_of(
+        alloc,
+        "inspect",
+        "Print what a store has, or draw it on a page of HTML",
+        EXAMPLE,
+        &[
+            arguments::input(),
+            Argument::OptionalWord {
+                id: "OUT",
+                help: "Page of HTML to write. It replaces an existing page of HTML or empty file, never any other file",
+            },
+            Argument::OptionAgainst {
+                id: "html",
+                value: "OUT",
+                others: &["OUT"],
+                help: "The same as OUT",
+            },
+            arguments::tantivy(),
+        ],
+    )
 }
 
 // The documents of a store: how their sizes spread, how many are damaged, and how the first one of each block begins.

@@ -9,6 +9,7 @@ mod arguments;
 mod block_walk;
 mod byte_size;
 mod cat;
+mod command_words;
 mod document_output;
 mod export;
 mod failure;

@@ -3,13 +3,14 @@
 ghost use Rattle.std.specs.Prelude.{OnOk};
 ghost use Rattle.store_published.specs.Filling.{IsSameFile};
 
-use crate::arguments::{self, option, output_path, shape_of};
+use crate::arguments::{self, output_path, shape_of};
+use crate::command_words::{Argument, command_of};
 use crate::failure::{Failure, FailureCause, with_file};
 use crate::progress::Progress;
 use crate::store_file::{DiskReader, StorePath};
 use crate::store_output::{end_output, output_place};
 use crate::word_files::IdWord;
-use clap::{Arg, ArgAction, ArgMatches, Command};
+use clap::{ArgMatches, Command};
 use docstore::{DocStoreVersion, FileHandle, StoreError, StoreWriter, TerminatingWrite};
 use std::alloc::{AllocError, Global};
 use store_commands::StoreShape;
@@ -26,33 +27,31 @@ Stores of at least six blocks that keep all documents are copied block by block;
 Example:
   zevkhadun merge all.store a.store b.store --without a.store=0,3..9";
 
-// Documents of an input to leave out.
-fn without<'a>(alloc: Global) -> Arg<'a> {
-    option(
-        alloc,
-        "without",
-        "INPUT=IDS",
-        "Documents of an input to leave out, as a.store=0,3..9, or a.store=@FILE with such words on its lines; \
-         may be given several times",
-    )
-    .action(ArgAction::Append)
-}
-
 /// The words of `merge`.
 pub fn command<'a>(alloc: Global) -> Result<Command<'a>, AllocError> {
-    let args = vec![in alloc;
-        arguments::output(alloc),
-        arguments::several(alloc, "INPUT", "The stores to merge"),
-        without(alloc),
-        arguments::block_size(alloc),
-        arguments::period(alloc),
-        arguments::tantivy(alloc),
-        arguments::quiet(alloc),
-    ]?;
-    Command::new(alloc, "merge")
-        .about("Write a store of the documents of other stores, in order")
-        .after_help(EXAMPLE)
-        .args(args)
+    command_of(
+        alloc,
+        "merge",
+        "Write a store of the documents of other stores, in order",
+        EXAMPLE,
+        &[
+            arguments::output(),
+            Argument::Words {
+                id: "INPUT",
+                help: "The stores to merge",
+            },
+            Argument::Options {
+                id: "without",
+                value: "INPUT=IDS",
+                help: "Documents of an input to leave out, as a.store=0,3..9, or a.store=@FILE with such words on its \
+                       lines; may be given several times",
+            },
+            arguments::block_size(),
+            Argument::Period,
+            arguments::tantivy(),
+            arguments::quiet(),
+        ],
+    )
 }
 
 // A word like `INPUT=IDS`, of which the documents may be in a file: `INPUT=@FILE`.

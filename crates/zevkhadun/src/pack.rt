@@ -4,6 +4,7 @@ ghost use Rattle.std.specs.Prelude.{OnOk};
 ghost use Rattle.store_published.specs.Filling.{AddsSome};
 
 use crate::arguments::{self, framing_of, output_path, shape_of};
+use crate::command_words::{Argument, command_of};
 use crate::failure::{Failure, with_file};
 use crate::input_files::{files_from, inputs, names_of, split_names, total_bytes};
 use crate::progress::Progress;
@@ -33,19 +34,21 @@ Examples:
 
 /// The words of `pack`.
 pub fn command<'a>(alloc: Global) -> Result<Command<'a>, AllocError> {
-    let args = vec![in alloc;
-        arguments::output(alloc),
-        inputs(alloc),
-        files_from(alloc),
-        arguments::framing(alloc),
-        arguments::block_size(alloc),
-        arguments::period(alloc),
-        arguments::quiet(alloc),
-    ]?;
-    Command::new(alloc, "pack")
-        .about("Write a store of the documents in files or standard input")
-        .after_help(EXAMPLE)
-        .args(args)
+    command_of(
+        alloc,
+        "pack",
+        "Write a store of the documents in files or standard input",
+        EXAMPLE,
+        &[
+            arguments::output(),
+            inputs(),
+            files_from(),
+            arguments::framing(),
+            arguments::block_size(),
+            Argument::Period,
+            arguments::quiet(),
+        ],
+    )
 }
 
 /// What is packed: documents of files or of the standard input.

@@ -1,6 +1,7 @@
 //! `stat`: prints counts and sizes of stores.
 
 use crate::arguments;
+use crate::command_words::{Argument, command_of};
 use crate::failure::{Failure, FailureCause};
 use crate::findings::Findings;
 use crate::stat_output::{StatForm, print_heads, print_lines, print_object, print_row};
@@ -17,19 +18,23 @@ Example:
 
 /// The words of `stat`.
 pub fn command<'a>(alloc: Global) -> Result<Command<'a>, AllocError> {
-    let args = vec![in alloc;
-        arguments::several(alloc, "FILE", "The stores"),
-        arguments::flag(
-            alloc,
-            "json",
-            "Print a JSON object for each store, one per line",
-        ),
-        arguments::tantivy(alloc),
-    ]?;
-    Command::new(alloc, "stat")
-        .about("Print counts and sizes of stores")
-        .after_help(EXAMPLE)
-        .args(args)
+    command_of(
+        alloc,
+        "stat",
+        "Print counts and sizes of stores",
+        EXAMPLE,
+        &[
+            Argument::Words {
+                id: "FILE",
+                help: "The stores",
+            },
+            Argument::Flag {
+                id: "json",
+                help: "Print a JSON object for each store, one per line",
+            },
+            arguments::tantivy(),
+        ],
+    )
 }
 
 // The numbers of a store.

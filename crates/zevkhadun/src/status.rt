@@ -3,7 +3,7 @@
 use std::process::ExitCode;
 
 /// Why a command fails.
-#[derive(Clone, Copy, Debug)]
+#[derive(Clone, Copy)]
 pub enum Status {
     /// A store is broken, or a file is not what the command takes: status 1.
     Broken,

@@ -1,13 +1,14 @@
 //! `verify`: reads stores whole, and reports what breaks a promise of the format.
 
-use crate::arguments::{self, flag, wrong_words};
+use crate::arguments::{self, wrong_words};
+use crate::command_words::{Argument, command_of};
 use crate::failure::{Failure, FailureCause};
 use crate::findings::Findings;
 use crate::progress::Progress;
 use crate::status::Status;
 use crate::store_file::{DiskReader, StorePath, reader_of};
 use crate::verify_output::{Found, ReportForm};
-use clap::{Arg, ArgMatches, Command};
+use clap::{ArgMatches, Command};
 use std::alloc::{AllocError, Global};
 use store_commands::broken_part::{BrokenPart, broken_part};
 use store_commands::checking::check_blocks;
@@ -25,40 +26,36 @@ Examples:
   zevkhadun verify *.store     one line for each store, with its first fault
   zevkhadun verify --list a.store > damaged.ids; zevkhadun cat a.store --without @damaged.ids";
 
-// That each damaged document is listed.
-fn list<'a>(alloc: Global) -> Result<Arg<'a>, AllocError> {
-    flag(
-        alloc,
-        "list",
-        "Print the numbers of all damaged documents of one store, as --without takes them, \
-         and the fault on standard error",
-    )
-    .conflicts_with("json")
-}
-
 /// The words of `verify`.
 pub fn command<'a>(alloc: Global) -> Result<Command<'a>, AllocError> {
-    let list = list(alloc)?;
-    let args = vec![in alloc;
-        arguments::several(alloc, "FILE", "The stores"),
-        list,
-        flag(
-            alloc,
-            "json",
-            "Print a JSON object for each store, one per line, with all its damaged documents",
-        ),
-        arguments::tantivy(alloc),
-        flag(
-            alloc,
-            "quiet",
-            "Print broken stores only, and show no progress",
-        )
-        .short('q'),
-    ]?;
-    Command::new(alloc, "verify")
-        .about("Check stores completely and report the first violation of the format")
-        .after_help(EXAMPLE)
-        .args(args)
+    command_of(
+        alloc,
+        "verify",
+        "Check stores completely and report the first violation of the format",
+        EXAMPLE,
+        &[
+            Argument::Words {
+                id: "FILE",
+                help: "The stores",
+            },
+            Argument::FlagAgainst {
+                id: "list",
+                others: &["json"],
+                help: "Print the numbers of all damaged documents of one store, as --without takes them, \
+                       and the fault on standard error",
+            },
+            Argument::Flag {
+                id: "json",
+                help: "Print a JSON object for each store, one per line, with all its damaged documents",
+            },
+            arguments::tantivy(),
+            Argument::ShortFlag {
+                id: "quiet",
+                short: 'q',
+                help: "Print broken stores only, and show no progress",
+            },
+        ],
+    )
 }
 
 /// How stores are verified, by the words.

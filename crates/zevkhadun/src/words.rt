@@ -1,5 +1,6 @@
 //! The words that the program takes.
 
+use crate::command_words::add;
 use crate::failure::{Failure, FailureCause};
 use crate::{append, cat, export, get, inspect, log, merge, pack, stat, verify};
 use clap::{ArgMatches, Command, Error};
@@ -28,28 +29,26 @@ fn bare_command<'a>(alloc: Global) -> Result<Command<'a>, AllocError> {
         .bin_name("zevkhadun")
 }
 
-/// A command with one more subcommand.
-pub fn with<'a>(
-    command: Result<Command<'a>, AllocError>,
-    subcommand: Result<Command<'a>, AllocError>,
-) -> Result<Command<'a>, AllocError> {
-    command?.subcommand(subcommand?)
+// The subcommands of the program, in the order of the help.
+fn subcommands<'a>(alloc: Global) -> Result<Vec<Command<'a>>, AllocError> {
+    let mut commands = Vec::new(alloc);
+    add(&mut commands, pack::command(alloc))?;
+    add(&mut commands, append::command(alloc))?;
+    add(&mut commands, get::command(alloc))?;
+    add(&mut commands, cat::command(alloc))?;
+    add(&mut commands, stat::command(alloc))?;
+    add(&mut commands, verify::command(alloc))?;
+    add(&mut commands, merge::command(alloc))?;
+    add(&mut commands, export::command(alloc))?;
+    add(&mut commands, inspect::command(alloc))?;
+    add(&mut commands, log::command(alloc))?;
+    Ok(commands)
 }
 
 // The program's command, with its subcommands.
 fn command<'a>(alloc: Global) -> Result<Command<'a>, AllocError> {
-    let writing = with(
-        with(bare_command(alloc), pack::command(alloc)),
-        append::command(alloc),
-    );
-    let reading = with(with(writing, get::command(alloc)), cat::command(alloc));
-    let telling = with(with(reading, stat::command(alloc)), verify::command(alloc));
-    let joining = with(telling, merge::command(alloc));
-    let showing = with(
-        with(joining, export::command(alloc)),
-        inspect::command(alloc),
-    );
-    with(showing, log::command(alloc))
+    let subcommands = subcommands(alloc)?;
+    bare_command(alloc)?.subcommands(subcommands)
 }
 
 // What keeps the words from being read.

@@ -1,17 +1,19 @@
 //! `log append`: puts records after those of a log.
 
-use crate::arguments::{self, flag, framing_of, option, word, wrong_words};
+use crate::arguments::{self, framing_of, word, wrong_words};
 use crate::byte_size::parse_size;
+use crate::command_words::{Argument, command_of};
 use crate::document_output::standard_output;
 use crate::failure::{Failure, with_file};
 use crate::input_files::{files_from, inputs, names_of, split_names, total_bytes};
+use crate::log::FOLDER;
 use crate::log::log_folder::SystemCause;
 use crate::log::opened_log::TailOptions;
 use crate::log::places::open_or_begin;
 use crate::log::records::Appending;
 use crate::log::sync_policy::{SyncPolicy, policy_of, sync};
 use crate::progress::Progress;
-use clap::{Arg, ArgMatches, Command};
+use clap::{ArgMatches, Command};
 use document_framing::Framing;
 use segmented_log::Commit;
 use std::alloc::{AllocError, Global};
@@ -38,50 +40,40 @@ Put each batch on the disk with two syncs: a tail that has it too is written bes
 A crash leaves no torn batch, so no bytes can be taken for records that were not appended
 Each sync writes the whole tail, so keep '--seal-size' small";
 
-// The size past which a tail is sealed.
-fn seal_size<'a>(alloc: Global) -> Arg<'a> {
-    option(
-        alloc,
-        "seal-size",
-        "BYTES",
-        "Put the tail's records into a segment once it exceeds BYTES (64M, or 1M with '--two-syncs'); suffixes K, M, G",
-    )
-}
-
-// How a sync puts a batch on the disk.
-fn two_syncs<'a>(alloc: Global) -> Arg<'a> {
-    flag(
-        alloc,
-        "two-syncs",
-        "Put each batch on the disk with two syncs, so that a crash leaves no torn one",
-    )
-    .long_help(TWO_SYNCS_HELP)
-}
-
 /// The words of `log append`.
 pub fn command<'a>(alloc: Global) -> Result<Command<'a>, AllocError> {
-    let args = vec![in alloc;
-        crate::log::folder(
-            alloc,
-            "The log's folder; a missing or empty one becomes a log",
-        ),
-        inputs(alloc),
-        files_from(alloc),
-        sync(alloc),
-        flag(
-            alloc,
-            "number",
-            "Print the number of each record, one per line, once it is on the disk",
-        ),
-        arguments::framing(alloc),
-        seal_size(alloc),
-        two_syncs(alloc),
-        arguments::quiet(alloc),
-    ]?;
-    Command::new(alloc, "append")
-        .about("Add the records in files or standard input to a log")
-        .after_help(EXAMPLE)
-        .args(args)
+    command_of(
+        alloc,
+        "append",
+        "Add the records in files or standard input to a log",
+        EXAMPLE,
+        &[
+            Argument::Word {
+                id: FOLDER,
+                help: "The log's folder; a missing or empty one becomes a log",
+            },
+            inputs(),
+            files_from(),
+            sync(),
+            Argument::Flag {
+                id: "number",
+                help: "Print the number of each record, one per line, once it is on the disk",
+            },
+            arguments::framing(),
+            Argument::Option {
+                id: "seal-size",
+                value: "BYTES",
+                help: "Put the tail's records into a segment once it exceeds BYTES (64M, or 1M with '--two-syncs'); \
+                       suffixes K, M, G",
+            },
+            Argument::ExplainedFlag {
+                id: "two-syncs",
+                help: "Put each batch on the disk with two syncs, so that a crash leaves no torn one",
+                long_help: TWO_SYNCS_HELP,
+            },
+            arguments::quiet(),
+        ],
+    )
 }
 
 // How the words say that the tail is written.
@@ -196,7 +188,7 @@ fn append<'a>(
 /// Appends the records.
 pub fn run(rt: &HostRuntime, matches: &ArgMatches<'_>) -> Result<(), Failure> {
     let alloc = rt.alloc();
-    let path = word(alloc, matches, crate::log::FOLDER)?;
+    let path = word(alloc, matches, FOLDER)?;
     let options = options_of(alloc, matches)?;
     let cause = SystemCause::new();
     let text = names_of(rt, matches)?;

@@ -1,12 +1,14 @@
 //! `log cat`: prints all records in order.
 
-use crate::arguments::{self, option};
+use crate::arguments;
+use crate::command_words::{Argument, command_of};
 use crate::document_output::{self, DocumentForm, DocumentOutput, form_of, standard_output};
 use crate::failure::{Failure, FailureCause, to_output, with_file};
 use crate::log::log_folder::SystemCause;
 use crate::log::opened_log::OpenedLog;
 use crate::log::places::open_to_read;
-use clap::{Arg, ArgMatches, Command, value_parser};
+use crate::log::{FOLDER, folder};
+use clap::{ArgMatches, Command};
 use segmented_log::LogError;
 use std::alloc::{AllocError, Global};
 use std::io::Write;
@@ -17,32 +19,26 @@ It takes no lock, so a writer may go on. It shows the log as it was when it was 
 Example:
   zevkhadun log cat events --from 1000     the records from number 1000 on";
 
-// The record at which it begins.
-fn from<'a>(alloc: Global) -> Arg<'a> {
-    option(
-        alloc,
-        "from",
-        "NUMBER",
-        "Begin at the record of this number, or at the first one if that is later",
-    )
-    .value_parser(value_parser!(u64))
-    .default_value("0")
-}
-
 /// The words of `log cat`.
 pub fn command<'a>(alloc: Global) -> Result<Command<'a>, AllocError> {
-    let json = document_output::json(alloc)?;
-    let args = vec![in alloc;
-        crate::log::log(alloc),
-        from(alloc),
-        document_output::number(alloc),
-        json,
-        arguments::framing(alloc),
-    ]?;
-    Command::new(alloc, "cat")
-        .about("Print all records in order")
-        .after_help(EXAMPLE)
-        .args(args)
+    command_of(
+        alloc,
+        "cat",
+        "Print all records in order",
+        EXAMPLE,
+        &[
+            folder(),
+            Argument::NumberOr {
+                id: "from",
+                value: "NUMBER",
+                default: "0",
+                help: "Begin at the record of this number, or at the first one if that is later",
+            },
+            document_output::number(),
+            document_output::json(),
+            arguments::framing(),
+        ],
+    )
 }
 
 // Prints the records of an opened log from a number on.
@@ -77,7 +73,7 @@ fn print(rt: &HostRuntime, path: &str, form: DocumentForm, from: u64) -> Result<
 /// Prints the records.
 pub fn run(rt: &HostRuntime, matches: &ArgMatches<'_>) -> Result<(), Failure> {
     let alloc = rt.alloc();
-    let path = arguments::word(alloc, matches, crate::log::FOLDER)?;
+    let path = arguments::word(alloc, matches, FOLDER)?;
     let form = form_of(alloc, matches)?;
     let from = matches.get_one::<u64>("from").unwrap_or(0);
     with_file(alloc, path, print(rt, path, form, from))

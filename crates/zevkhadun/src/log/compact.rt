@@ -1,11 +1,13 @@
 //! `log compact`: joins segments.
 
-use crate::arguments::{self, option, wrong_words};
+use crate::arguments::{self, wrong_words};
 use crate::byte_size::parse_size;
+use crate::command_words::{Argument, command_of};
 use crate::failure::{Failure, FailureCause, with_file};
 use crate::log::log_folder::SystemCause;
 use crate::log::places::open_to_write;
-use clap::{Arg, ArgMatches, Command};
+use crate::log::{FOLDER, folder};
+use clap::{ArgMatches, Command};
 use std::alloc::{AllocError, Global};
 
 // The name of the argument for the size of a joined segment.
@@ -18,24 +20,23 @@ name of the first one. It is in memory while it is written.
 Example:
   zevkhadun log compact --size 1G events";
 
-// How many bytes joined segments have at most.
-fn size<'a>(alloc: Global) -> Arg<'a> {
-    option(
-        alloc,
-        SIZE,
-        "BYTES",
-        "Join neighbouring segments while their data has at most BYTES; suffixes K, M, G",
-    )
-    .default_value("256M")
-}
-
 /// The words of `log compact`.
 pub fn command<'a>(alloc: Global) -> Result<Command<'a>, AllocError> {
-    Command::new(alloc, "compact")
-        .about("Join neighbouring segments")
-        .after_help(EXAMPLE)
-        .arg(crate::log::log(alloc))?
-        .arg(size(alloc))
+    command_of(
+        alloc,
+        "compact",
+        "Join neighbouring segments",
+        EXAMPLE,
+        &[
+            folder(),
+            Argument::OptionOr {
+                id: SIZE,
+                value: "BYTES",
+                default: "256M",
+                help: "Join neighbouring segments while their data has at most BYTES; suffixes K, M, G",
+            },
+        ],
+    )
 }
 
 // The size that the words give, in bytes.
@@ -57,7 +58,7 @@ fn compact(rt: &HostRuntime, path: &str, size: u64) -> Result<(), FailureCause> 
 /// Joins the segments.
 pub fn run(rt: &HostRuntime, matches: &ArgMatches<'_>) -> Result<(), Failure> {
     let alloc = rt.alloc();
-    let path = arguments::word(alloc, matches, crate::log::FOLDER)?;
+    let path = arguments::word(alloc, matches, FOLDER)?;
     let size = size_of(alloc, matches)?;
     with_file(alloc, path, compact(rt, path, size))
 }

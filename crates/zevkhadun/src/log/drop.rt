@@ -1,10 +1,12 @@
 //! `log drop`: removes the oldest records.
 
-use crate::arguments::{self, option, wrong_words};
+use crate::arguments::{self, wrong_words};
+use crate::command_words::{Argument, command_of};
 use crate::failure::{Failure, FailureCause, with_file};
 use crate::log::log_folder::SystemCause;
 use crate::log::places::open_to_write;
-use clap::{Arg, ArgMatches, Command};
+use crate::log::{FOLDER, folder};
+use clap::{ArgMatches, Command};
 use std::alloc::{AllocError, Global};
 
 // The name of the argument for the first number that stays.
@@ -17,24 +19,22 @@ those of the segment that has it, and those of the tail, which 'seal' puts into 
 Example:
   zevkhadun log drop events --before 1000000";
 
-// The number before which records go.
-fn before<'a>(alloc: Global) -> Arg<'a> {
-    option(
-        alloc,
-        BEFORE,
-        "NUMBER",
-        "Remove segments whose records all have smaller numbers",
-    )
-    .required(true)
-}
-
 /// The words of `log drop`.
 pub fn command<'a>(alloc: Global) -> Result<Command<'a>, AllocError> {
-    Command::new(alloc, "drop")
-        .about("Remove the segments before a record")
-        .after_help(EXAMPLE)
-        .arg(crate::log::log(alloc))?
-        .arg(before(alloc))
+    command_of(
+        alloc,
+        "drop",
+        "Remove the segments before a record",
+        EXAMPLE,
+        &[
+            folder(),
+            Argument::RequiredOption {
+                id: BEFORE,
+                value: "NUMBER",
+                help: "Remove segments whose records all have smaller numbers",
+            },
+        ],
+    )
 }
 
 // The number that the words give.
@@ -56,7 +56,7 @@ fn drop_before(rt: &HostRuntime, path: &str, number: u64) -> Result<(), FailureC
 /// Removes the segments.
 pub fn run(rt: &HostRuntime, matches: &ArgMatches<'_>) -> Result<(), Failure> {
     let alloc = rt.alloc();
-    let path = arguments::word(alloc, matches, crate::log::FOLDER)?;
+    let path = arguments::word(alloc, matches, FOLDER)?;
     let number = number_of(alloc, matches)?;
     with_file(alloc, path, drop_before(rt, path, number))
 }

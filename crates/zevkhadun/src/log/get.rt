@@ -1,6 +1,7 @@
 //! `log get`: prints records by their numbers.
 
 use crate::arguments;
+use crate::command_words::{Argument, command_of};
 use crate::document_output::{self, DocumentForm, DocumentOutput, form_of, standard_output};
 use crate::failure::{Failure, FailureCause, to_output, with_file};
 use crate::listed_numbers::{NumberPrinter, print_listed};
@@ -8,6 +9,7 @@ use crate::log::log_folder::SystemCause;
 use crate::log::number_range::NumberRange;
 use crate::log::opened_log::OpenedLog;
 use crate::log::places::open_to_read;
+use crate::log::{FOLDER, folder};
 use clap::{ArgMatches, Command};
 use std::alloc::{AllocError, Global};
 use std::io::Write;
@@ -21,23 +23,23 @@ Examples:
 
 /// The words of `log get`.
 pub fn command<'a>(alloc: Global) -> Result<Command<'a>, AllocError> {
-    let json = document_output::json(alloc)?;
-    let args = vec![in alloc;
-        crate::log::log(alloc),
-        arguments::several(
-            alloc,
-            "NUMBER",
-            "Records to print: numbers, or ranges that exclude their end: 3..9, 5.. or ..9; \
-             '-' alone reads them from standard input, one on each line",
-        ),
-        document_output::number(alloc),
-        json,
-        arguments::framing(alloc),
-    ]?;
-    Command::new(alloc, "get")
-        .about("Print records by their numbers")
-        .after_help(EXAMPLE)
-        .args(args)
+    command_of(
+        alloc,
+        "get",
+        "Print records by their numbers",
+        EXAMPLE,
+        &[
+            folder(),
+            Argument::Words {
+                id: "NUMBER",
+                help: "Records to print: numbers, or ranges that exclude their end: 3..9, 5.. or ..9; \
+                       '-' alone reads them from standard input, one on each line",
+            },
+            document_output::number(),
+            document_output::json(),
+            arguments::framing(),
+        ],
+    )
 }
 
 // An opened log, and the output for its records.
@@ -121,7 +123,7 @@ fn print(
 /// Prints the records.
 pub fn run(rt: &HostRuntime, matches: &ArgMatches<'_>) -> Result<(), Failure> {
     let alloc = rt.alloc();
-    let path = arguments::word(alloc, matches, crate::log::FOLDER)?;
+    let path = arguments::word(alloc, matches, FOLDER)?;
     let form = form_of(alloc, matches)?;
     let words = matches.get_strs("NUMBER").unwrap_or(&[]);
     with_file(alloc, path, print(rt, path, form, words))

@@ -18,9 +18,9 @@ mod sync_policy;
 mod verify;
 
 use crate::arguments::wrong_words;
+use crate::command_words::{Argument, add};
 use crate::failure::Failure;
-use crate::words::with;
-use clap::{Arg, ArgAction, ArgMatches, Command};
+use clap::{ArgMatches, Command};
 use std::alloc::{AllocError, Global};
 
 /// The name of the argument for the folder.
@@ -35,36 +35,40 @@ Example:
   zevkhadun log append events new.txt && zevkhadun log get events 0";
 
 // The command `log`, without its subcommands.
-fn bare_command<'a>(alloc: Global) -> Result<Command<'a>, AllocError> {
-    Ok(
-        Command::new(alloc, "log")
-            .about("Keep a log: records that are on the disk once they are acknowledged")
-            .after_help(AFTER_HELP)
-            .subcommand_required(true)
-            .arg_required_else_help(true),
-    )
+fn bare_command<'a>(alloc: Global) -> Command<'a> {
+    Command::new(alloc, "log")
+        .about("Keep a log: records that are on the disk once they are acknowledged")
+        .after_help(AFTER_HELP)
+        .subcommand_required(true)
+        .arg_required_else_help(true)
+}
+
+// The subcommands of `log`, in the order of the help.
+fn subcommands<'a>(alloc: Global) -> Result<Vec<Command<'a>>, AllocError> {
+    let mut commands = Vec::new(alloc);
+    add(&mut commands, append::command(alloc))?;
+    add(&mut commands, get::command(alloc))?;
+    add(&mut commands, cat::command(alloc))?;
+    add(&mut commands, stat::command(alloc))?;
+    add(&mut commands, verify::command(alloc))?;
+    add(&mut commands, seal::command(alloc))?;
+    add(&mut commands, compact::command(alloc))?;
+    add(&mut commands, drop::command(alloc))?;
+    Ok(commands)
 }
 
 /// The words of `log`.
 pub fn command<'a>(alloc: Global) -> Result<Command<'a>, AllocError> {
-    let writing = with(bare_command(alloc), append::command(alloc));
-    let reading = with(with(writing, get::command(alloc)), cat::command(alloc));
-    let telling = with(with(reading, stat::command(alloc)), verify::command(alloc));
-    let joining = with(with(telling, seal::command(alloc)), compact::command(alloc));
-    with(joining, drop::command(alloc))
-}
-
-/// The folder of a log.
-fn folder<'a>(alloc: Global, help: &'a str) -> Arg<'a> {
-    Arg::new(alloc, FOLDER)
-        .required(true)
-        .action(ArgAction::Set)
-        .help(help)
+    let subcommands = subcommands(alloc)?;
+    bare_command(alloc).subcommands(subcommands)
 }
 
 /// The folder of a log that is there.
-fn log<'a>(alloc: Global) -> Arg<'a> {
-    folder(alloc, "The log's folder")
+fn folder<'a>() -> Argument<'a> {
+    Argument::Word {
+        id: FOLDER,
+        help: "The log's folder",
+    }
 }
 
 /// Does what the words ask.

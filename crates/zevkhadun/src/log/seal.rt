@@ -1,9 +1,11 @@
 //! `log seal`: puts the tail's records into a segment.
 
 use crate::arguments;
+use crate::command_words::command_of;
 use crate::failure::{Failure, FailureCause, with_file};
 use crate::log::log_folder::SystemCause;
 use crate::log::places::open_to_write;
+use crate::log::{FOLDER, folder};
 use clap::{ArgMatches, Command};
 use std::alloc::{AllocError, Global};
 
@@ -16,10 +18,13 @@ Example:
 
 /// The words of `log seal`.
 pub fn command<'a>(alloc: Global) -> Result<Command<'a>, AllocError> {
-    Command::new(alloc, "seal")
-        .about("Put the records of the tail into a segment, which is a store")
-        .after_help(EXAMPLE)
-        .arg(crate::log::log(alloc))
+    command_of(
+        alloc,
+        "seal",
+        "Put the records of the tail into a segment, which is a store",
+        EXAMPLE,
+        &[folder()],
+    )
 }
 
 // Seals the log at a path.
@@ -32,6 +37,6 @@ fn seal(rt: &HostRuntime, path: &str) -> Result<(), FailureCause> {
 /// Seals the log.
 pub fn run(rt: &HostRuntime, matches: &ArgMatches<'_>) -> Result<(), Failure> {
     let alloc = rt.alloc();
-    let path = arguments::word(alloc, matches, crate::log::FOLDER)?;
+    let path = arguments::word(alloc, matches, FOLDER)?;
     with_file(alloc, path, seal(rt, path))
 }

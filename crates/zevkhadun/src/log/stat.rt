@@ -1,8 +1,9 @@
 //! `log stat`: prints counts and sizes of logs.
 
-use crate::arguments;
+use crate::command_words::{Argument, command_of};
 use crate::failure::{Failure, FailureCause, to_output};
 use crate::findings::Findings;
+use crate::log::FOLDER;
 use crate::log::places::{file_in, record_numbers, tail_bytes};
 use crate::log::segments::segment_numbers;
 use clap::{ArgMatches, Command};
@@ -17,15 +18,22 @@ Example:
 
 /// The words of `log stat`.
 pub fn command<'a>(alloc: Global) -> Result<Command<'a>, AllocError> {
-    Command::new(alloc, "stat")
-        .about("Print counts and sizes of logs")
-        .after_help(EXAMPLE)
-        .arg(arguments::several(alloc, crate::log::FOLDER, "The logs' folders"))?
-        .arg(arguments::flag(
-            alloc,
-            "json",
-            "Print a JSON object for each log, one per line",
-        ))
+    command_of(
+        alloc,
+        "stat",
+        "Print counts and sizes of logs",
+        EXAMPLE,
+        &[
+            Argument::Words {
+                id: FOLDER,
+                help: "The logs' folders",
+            },
+            Argument::Flag {
+                id: "json",
+                help: "Print a JSON object for each log, one per line",
+            },
+        ],
+    )
 }
 
 // Counts and sizes of a log.
@@ -114,7 +122,7 @@ fn print(rt: &HostRuntime, path: &str, is_json: bool) -> Result<(), FailureCause
 pub fn run(rt: &HostRuntime, matches: &ArgMatches<'_>) -> Result<(), Failure> {
     let is_json = matches.get_flag("json");
     let mut findings = Findings::new();
-    for path in matches.get_strs(crate::log::FOLDER).unwrap_or(&[]) {
+    for path in matches.get_strs(FOLDER).unwrap_or(&[]) {
         if let Err(cause) = print(rt, path, is_json) {
             findings.add_failed(rt, path, cause)?;
         }

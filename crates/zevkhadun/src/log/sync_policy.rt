@@ -1,8 +1,9 @@
 //! When appended records are put on the disk.
 
-use crate::arguments::{option, word, wrong_words};
+use crate::arguments::{word, wrong_words};
+use crate::command_words::Argument;
 use crate::failure::Failure;
-use clap::{Arg, ArgMatches};
+use clap::ArgMatches;
 use std::alloc::Global;
 
 /// When appended records are put on the disk, and so acknowledged.
@@ -31,11 +32,15 @@ batch: once they take 1 MiB, and before waiting for more input, as from a pipe o
 end: once, after the last one; until then they are in memory, and a crash leaves all of them or none";
 
 /// The argument for it.
-pub fn sync<'a>(alloc: Global) -> Arg<'a> {
-    option(alloc, "sync", "WHEN", "When records are put on the disk")
-        .value_parser(POLICIES.as_slice())
-        .default_value(BATCH)
-        .long_help(HELP)
+pub fn sync<'a>() -> Argument<'a> {
+    Argument::ChoiceOr {
+        id: "sync",
+        value: "WHEN",
+        choices: POLICIES.as_slice(),
+        default: BATCH,
+        help: "When records are put on the disk",
+        long_help: HELP,
+    }
 }
 
 /// The policy that the words name.

@@ -1,8 +1,9 @@
 //! `log verify`: reads logs whole, and reports what is broken.
 
-use crate::arguments::{self, flag};
+use crate::command_words::{Argument, command_of};
 use crate::failure::{Failure, FailureCause, to_output};
 use crate::findings::Findings;
+use crate::log::FOLDER;
 use crate::log::places::{check_log, file_in, record_numbers};
 use crate::log::segments::segment_numbers;
 use crate::status::Status;
@@ -25,16 +26,23 @@ Example:
 
 /// The words of `log verify`.
 pub fn command<'a>(alloc: Global) -> Result<Command<'a>, AllocError> {
-    Command::new(alloc, "verify")
-        .about("Check logs completely, and report what is broken")
-        .after_help(EXAMPLE)
-        .arg(arguments::several(alloc, crate::log::FOLDER, "The logs' folders"))?
-        .arg(flag(
-            alloc,
-            "quiet",
-            "Print what is broken only, and show no progress",
-        )
-        .short('q'))
+    command_of(
+        alloc,
+        "verify",
+        "Check logs completely, and report what is broken",
+        EXAMPLE,
+        &[
+            Argument::Words {
+                id: FOLDER,
+                help: "The logs' folders",
+            },
+            Argument::ShortFlag {
+                id: "quiet",
+                short: 'q',
+                help: "Print what is broken only, and show no progress",
+            },
+        ],
+    )
 }
 
 // Whether all segments of a log are sound. Each other one is reported.
@@ -128,7 +136,7 @@ fn verify(rt: &HostRuntime, path: &str, is_quiet: bool) -> Result<bool, FailureC
 pub fn run(rt: &HostRuntime, matches: &ArgMatches<'_>) -> Result<(), Failure> {
     let is_quiet = matches.get_flag("quiet");
     let mut findings = Findings::new();
-    for path in matches.get_strs(crate::log::FOLDER).unwrap_or(&[]) {
+    for path in matches.get_strs(FOLDER).unwrap_or(&[]) {
         match verify(rt, path, is_quiet) {
             Ok(true) => (),
             Ok(false) => findings.add(Status::Broken),
