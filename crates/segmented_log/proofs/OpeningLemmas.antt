@@ -89,8 +89,9 @@ module _ (seen : Look) (before : Look → Type 0) (restarted : (c : Look) → be
   }
 
 -- Segments and a tail that an opening found to be in line, by the numbers that it compared.
-pub parts_found : (first sealed : ℕ) (segments : List Part) (tail : List ℕ) → first ≡ first_in segments (first_of tail) → AreInLine first segments → Ascend first segments → sealed ≡ end_from first segments
-    → sealed < 2 ^ 64 → IsTail tail → first_of tail ≤ sealed → sealed ≤ tail_end tail → AreParts first segments tail
+pub parts_found : (first sealed : ℕ) (segments : List Part) (tail : List ℕ) → first ≡ first_in segments (first_of tail)
+    → AreInLine first segments → Ascend first segments → sealed ≡ end_from first segments → sealed < 2 ^ 64
+    → IsTail tail → first_of tail ≤ sealed → sealed ≤ tail_end tail → AreParts first segments tail
 parts_found first sealed segments tail first_is in_line ascend sealed_is fits is_tail low high = record {
   first_is = first_is;
   in_line = in_line;

@@ -45,7 +45,8 @@ returns-then-sealed-tail-clause-no_log g c = λ is first parts.
     let list = map (λ s. part_of s.first s.reader) c.args.segments.items in
     let first_is = subst (λ l. c.first_number-first.result ≡ first_in (map (λ s. part_of s.first s.reader) l) c.args.tail.first) c.deref.ensures.value c.first_number-first.ensures in
     let same = first_same first c.first_number-first.result _ list _ parts c.requires.tail.2 first_is in
-    let sealed_is : c.in-Some.sealed ≡ end_from first list = subst (λ l. c.in-Some.sealed ≡ end_from c.first_number-first.result (map (λ s. part_of s.first s.reader) l)) c.deref-2.ensures.value c.in-Some.ensures.end
+    let sealed_is : c.in-Some.sealed ≡ end_from first list =
+    subst (λ l. c.in-Some.sealed ≡ end_from c.first_number-first.result (map (λ s. part_of s.first s.reader) l)) c.deref-2.ensures.value c.in-Some.ensures.end
     ∙ ap (λ n. end_from n list) (sym same) in
     let many = count _ _ c.requires.records in
     ⊎_elim (λ low. omega (arith, sealed_is, low, parts.meets, c.requires.tail.2))
