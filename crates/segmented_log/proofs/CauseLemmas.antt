@@ -49,9 +49,6 @@ memory_alone e other (Err d) failed is = other (sym (err_is d e is) ∙ failed)
 pub failed_memory : Failed ≡ Memory → ⊥
 failed_memory is = cc is
 
-pub full_memory : Full ≡ Memory → ⊥
-full_memory is = cc is
-
 pub broken_failed : Broken ≡ Failed → ⊥
 broken_failed is = cc is
 

@@ -13,7 +13,7 @@ use Rattle.segmented_log.specs.Compacting.{slots_in, CoversNext, CanBecomeOne, A
 use Rattle.segmented_log.proofs.SyncLemmas.{log_stays}
 use Rattle.segmented_log.proofs.CompactLemmas.{changes_none, changes_more}
 use Rattle.segmented_log.proofs.RunOfParts.{view_parts}
-use Rattle.segmented_log.proofs.CauseLemmas.{never, ok_alone}
+use Rattle.segmented_log.proofs.CauseLemmas.{never}
 use Rattle.segmented_log.proofs.SlotLemmas.{in_joined}
 use Rattle.segmented_log.proofs.StepLemmas.{step_within, next_covered, joined_covers}
 use Rattle.segmented_log.proofs.log.SegmentedLog.compact_next.Goals.{In-Some, After-join}
@@ -184,30 +184,3 @@ pub returns-in_err-remove_covered-2-clause-full : goal.returns-in_err-remove_cov
 returns-in_err-remove_covered-2-clause-full g c = λ h is.
     let refused : IsErrOf c.remove_covered-2.result Full = search rules in
     absurd (never IsFault Full (λ of. of) c.remove_covered-2.result c.remove_covered-2.ensures.kind refused)
-
-pub returns-in_default-clause-failed : goal.returns-in_default-clause-failed
-returns-in_default-clause-failed g c = λ h is. absurd (ok_alone Failed _ is)
-
-pub returns-in_default-clause-damaged : goal.returns-in_default-clause-damaged
-returns-in_default-clause-damaged g c = λ h is. absurd (ok_alone Damaged _ is)
-
-pub returns-in_default-clause-full : goal.returns-in_default-clause-full
-returns-in_default-clause-full g c = λ h is. absurd (ok_alone Full _ is)
-
-pub returns-then-step-eq0-clause-failed : goal.returns-then-step-eq0-clause-failed
-returns-then-step-eq0-clause-failed g c = λ h is. absurd (ok_alone Failed _ is)
-
-pub returns-then-step-eq0-clause-damaged : goal.returns-then-step-eq0-clause-damaged
-returns-then-step-eq0-clause-damaged g c = λ h is. absurd (ok_alone Damaged _ is)
-
-pub returns-then-step-eq0-clause-full : goal.returns-then-step-eq0-clause-full
-returns-then-step-eq0-clause-full g c = λ h is. absurd (ok_alone Full _ is)
-
-pub returns-clause-failed : goal.returns-clause-failed
-returns-clause-failed g c = λ h is. absurd (ok_alone Failed _ is)
-
-pub returns-clause-damaged : goal.returns-clause-damaged
-returns-clause-damaged g c = λ h is. absurd (ok_alone Damaged _ is)
-
-pub returns-clause-full : goal.returns-clause-full
-returns-clause-full g c = λ h is. absurd (ok_alone Full _ is)

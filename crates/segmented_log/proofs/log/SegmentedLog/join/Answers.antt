@@ -20,7 +20,6 @@ use Rattle.segmented_log.proofs.SlotLemmas.{in_part}
 use Rattle.segmented_log.proofs.StepLemmas.{run_taken}
 use Rattle.segmented_log.proofs.RunOfParts.{one_of, run_moved, moved_joined, view_parts, run_within, parts_there, head_is, run_part, run_slots, run_set, run_log, run_same, run_folder}
 use Rattle.segmented_log.proofs.log.SegmentedLog.join.Goals.{After-join_segments}
-use Rattle.segmented_log.proofs.CauseLemmas.{ok_alone}
 use Rattle.segmented_log.proofs.log.SegmentedLog.join.Goals as goal
 
 pub overflow_add-end : goal.overflow_add-end
@@ -244,9 +243,3 @@ invariant_of-self-2 g c = (
         All-set (λ s. IsTrue s.reader.file.honest) log.segments.items c.args.place y (subst (λ s. IsTrue s.reader.file.honest) (sym c.replace.ensures.after) (c.in_ok-joined.ensures.honest h)) kept.1,
       ),
 )
-
-pub returns-clause-damaged : goal.returns-clause-damaged
-returns-clause-damaged g c = λ h is. absurd (ok_alone Damaged _ is)
-
-pub returns-clause-full : goal.returns-clause-full
-returns-clause-full g c = λ h is. absurd (ok_alone Full _ is)

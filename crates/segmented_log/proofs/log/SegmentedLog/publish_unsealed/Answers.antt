@@ -14,7 +14,7 @@ use Rattle.segmented_log.specs.Log.{HasSegment, IsLog}
 use Rattle.segmented_log.specs.Settled.{part_at, AddsSegment, IsSettledTail, IsSettledFolder}
 use Rattle.record_log.specs.declared.error.LogError.TheVariants.{Failed, Full}
 use Rattle.segmented_log.specs.Causes.{HasNoRoom, HasNoRoomForLast, HasNewSegment}
-use Rattle.segmented_log.proofs.CauseLemmas.{none_sealed, ok_alone, memory_alone, failed_memory, full_memory}
+use Rattle.segmented_log.proofs.CauseLemmas.{none_sealed}
 use Rattle.segmented_log.proofs.SyncLemmas.{log_stays}
 use Rattle.segmented_log.proofs.SegmentLemmas.{part_is, settled_segment, segment_log, slots_segment, folder_segment}
 use Rattle.segmented_log.proofs.log.SegmentedLog.publish_unsealed.Goals.{After-deref}
@@ -154,21 +154,3 @@ returns-in_err-segment-clause-full g c = λ h is.
       ap (λ (p : Part). joined log.first parts ++ p.slots) (sym last),
       subst (λ t. HasNoRoom (contents t (rest g here))) c.bytes.ensures (c.add_segment.ensures.full failed),
     )
-
-pub returns-then-self-end-clause-failed : goal.returns-then-self-end-clause-failed
-returns-then-self-end-clause-failed g c = λ h is. absurd (ok_alone Failed _ is)
-
-pub returns-then-self-end-clause-full : goal.returns-then-self-end-clause-full
-returns-then-self-end-clause-full g c = λ h is. absurd (ok_alone Full _ is)
-
-pub returns-clause-failed : goal.returns-clause-failed
-returns-clause-failed g c = λ h is. absurd (ok_alone Failed _ is)
-
-pub returns-clause-full : goal.returns-clause-full
-returns-clause-full g c = λ h is. absurd (ok_alone Full _ is)
-
-pub returns-in_err-push-clause-failed : goal.returns-in_err-push-clause-failed
-returns-in_err-push-clause-failed g c = λ h is. absurd (memory_alone Failed failed_memory _ c.from_residual-in_err-push.ensures.1 is)
-
-pub returns-in_err-push-clause-full : goal.returns-in_err-push-clause-full
-returns-in_err-push-clause-full g c = λ h is. absurd (memory_alone Full full_memory _ c.from_residual-in_err-push.ensures.1 is)
