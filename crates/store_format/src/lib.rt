@@ -2,8 +2,8 @@
 //! read in one place; and the definitions of blocks, slots and whole files, with their laws.
 #![tactic(auto)]
 
+pub mod block_layout;
 pub mod block_size;
-pub mod block_table;
 pub mod file_reading;
 pub mod footer;
 pub mod footer_reading;
@@ -12,8 +12,8 @@ pub mod laws;
 pub mod open_error;
 pub mod version;
 
+pub use block_layout::{append_table, block_read_index, likely_read_index, part, u32_at};
 pub use block_size::{BLOCK_LIMIT, block_len, table_len, weight_of};
-pub use block_table::{append_table, block_read_index, likely_read_index, part, u32_at};
 pub use file_reading::read_part;
 pub use footer::DocStoreFooter;
 pub use footer_reading::{FOOTER_LEN, footer_in, read_footer};

@@ -1,4 +1,4 @@
-//! The table after a block's documents: where each begins, and how many there are.
+//! The layout of a block: its documents, and after them the table of where each begins and how many there are.
 
 ghost use Rattle.std.specs.Prelude.{◌≡◌, ◌≤◌, ◌<◌, ◌+◌, ◌*◌, ◌^◌, ◌++◌, length, slice_range, MatchOption, IfSome};
 ghost use Rattle.std.specs.Prelude.{vec_len, vec_capacity};
