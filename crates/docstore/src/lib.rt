@@ -12,7 +12,7 @@ pub mod writer;
 
 pub use close_error::CloseError;
 pub use layered_index::{
-    CHECKPOINT_PERIOD, Checkpoint, CheckpointBlock, CheckpointRange, IndexFault, IndexHead,
+    CHECKPOINT_PERIOD, Checkpoint, CheckpointBlock, CheckpointRange, IndexFault,
     IndexSlice, LayerCursor, Looks, SkipIndex, SkipIndexBuilder, Steps, USUAL_PERIOD, seek_near,
     seek_over,
 };
@@ -32,7 +32,7 @@ pub use store_format::{
 pub use store_reader::{
     AliveDocuments, AliveSliceDocuments, Answer, BlockSlice, BlockSlices, CacheStats,
     DOCSTORE_CACHE_CAPACITY, DataPart, DocIter, DocWalk, Documents, Items, RawIter, ReadCall,
-    SeekingReader, SliceDocuments, StorePart, StoreReader, StoreSlice, StoreTail, StoreView,
+    SliceDocuments, StorePart, StoreReader, StoreSlice, StoreTail, StoreView,
     TailError, Walk, answer_all, any_lacks_memory, check_index, document_at,
 };
 pub use writer::StoreWriter;

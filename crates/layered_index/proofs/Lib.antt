@@ -34,11 +34,5 @@ pub mod SoughtLemmas
 pub mod IndexHeadLemmas
 pub mod RestOfLayerLemmas
 pub mod DescentLemmas
-pub mod FoundLemmas
-pub mod CutOffLemmas
-pub mod FileHeadLemmas
-pub mod FoundAnswerLemmas
-pub mod FileSeekLemmas
-pub mod FileTopLemmas
 pub mod OuterLayersLemmas
 pub mod LineLemmas

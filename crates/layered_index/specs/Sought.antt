@@ -1,9 +1,8 @@
 -- Seeks that decode one run of each layer: what a run tells, the layers that are left, and what was found above them.
-use Rattle.std.specs.Prelude.{◌≡◌, ℕ, zero, suc, ◌-◌, ◌^◌, ◌<◌, ◌≤◌, Bool, true, false, ◌&&◌, nat_lt, ◌==◌, if◌then◌else◌, List, [], ◌∷◌, length, take, drop}
-use Rattle.std.specs.Prelude.{Option, Some, None, Result, Ok, Err}
-use Rattle.std.specs.Option.{option_or, option_map_or}
+use Rattle.std.specs.Prelude.{◌≡◌, ℕ, zero, suc, ◌-◌, ◌^◌, ◌<◌, ◌≤◌, nat_lt, ◌==◌, if◌then◌else◌, List, [], ◌∷◌, length, take, drop}
+use Rattle.std.specs.Prelude.{Option, Some, None}
+use Rattle.std.specs.Option.{option_or}
 use Rattle.store_base.specs.VInt.{◌>>=◌, number_below}
-use Rattle.store_base.specs.declared.error.StoreError.{StoreError}
 use Rattle.layered_index.specs.declared.checkpoint.Checkpoint.{Checkpoint}
 use Rattle.layered_index.specs.declared.run_seek.Sought.{Sought}
 use Rattle.layered_index.specs.Checkpoint.{docs_end, IsInLine, checkpoint_block, first_past}
@@ -37,30 +36,6 @@ unfoldable pub scanned_at : ℕ → ℕ → List ℕ → Option (Option Checkpoi
 scanned_at most target bytes =
     heading_at bytes >>= λ h. if nat_lt most h.0.count then None else
     (scanned target h.0.count h.0.doc h.0.byte h.1 >>= λ found. Some (found, h.0.doc))
-
--- What is found in a layer that is one run. A whole run is read to its end, any other up to what is sought.
-abbrev pub found_on_top : Bool → ℕ → ℕ → List ℕ → Option (Option Checkpoint)
-found_on_top true most target layer = sought_at most target layer >>= λ s. Some s.found
-found_on_top false most target layer = scanned_at most target layer >>= λ s. Some s.0
-
--- What is found in the run of a pointer. It is checked that the run's documents begin where the pointer's do; of a whole
--- run also that they end where those do.
-abbrev pub found_in_run : Bool → ℕ → ℕ → Checkpoint → List ℕ → Option (Option Checkpoint)
-found_in_run true most target p run =
-    sought_at most target run >>= λ s. if (s.doc == p.doc_range.start) && (s.doc_end == p.doc_range.end) then Some s.found
-    else None
-found_in_run false most target p run =
-    scanned_at most target run >>= λ s. if s.1 == p.doc_range.start then Some s.0 else None
-
--- What is found in a layer, by the pointer that was found above it. It is checked that the pointer's bytes are of the
--- layer.
-abbrev pub found_in : Bool → ℕ → ℕ → Option Checkpoint → List ℕ → Option (Option Checkpoint)
-found_in whole most target None layer = found_on_top whole most target layer
-found_in whole most target (Some p) layer =
-    if nat_lt p.byte_range.end p.byte_range.start
-    then None
-    else (if nat_lt (length layer) p.byte_range.end then None else found_in_run whole most target p
-    (take (p.byte_range.end - p.byte_range.start) (drop p.byte_range.start layer)))
 
 -- neither range is reversed, and the documents end past the target
 pub record IsPast (target : ℕ) (c : Checkpoint) : Type 0 where
@@ -111,28 +86,9 @@ next_layer place ends texts =
     else (if nat_lt (length texts) (n.0 - place) then None else Some
     (take (n.0 - place) texts, n.0, n.1, drop (n.0 - place) texts))
 
--- What is found in the lowest of this many layers, where this was found above them. Where a layer has nothing past the
--- target, the layers below it are not read; else no byte may follow the lowest.
-unfoldable pub found_down : Bool → ℕ → ℕ → ℕ → ℕ → List ℕ → List ℕ → Option Checkpoint → Option (Option Checkpoint)
-found_down whole most target zero place ends texts found = if length texts == 0 then Some found else None
-found_down whole most target (suc more) place ends texts found =
-    next_layer place ends texts >>= λ n. found_in whole most target found n.0 >>= λ next. option_map_or
-    (λ c. found_down whole most target more n.1 n.2 n.3 (Some c)) next (Some None)
-
 -- the bytes after these numbers
 abbrev pub after_numbers : ℕ → List ℕ → Option (List ℕ)
 after_numbers count bytes = numbers_at count bytes >>= λ ns. Some ns.1
-
--- What a seek finds in any bytes, or `None` where a check that it makes fails.
-unfoldable pub found_in_index : Bool → ℕ → ℕ → List ℕ → Option (Option Checkpoint)
-found_in_index whole most target bytes =
-    number_below 65 bytes >>= λ count. after_numbers count.0 count.1 >>= λ texts. found_down whole most target count.0 0
-    count.1 texts None
-
--- The answer of a seek is what is found; it is refused exactly where nothing is.
-abbrev pub Answers : Option (Option Checkpoint) → Result (Option Checkpoint) StoreError → Type 0
-Answers found (Ok c) = found ≡ Some c
-Answers found (Err e) = found ≡ None
 
 -- an index whose layers were not decoded, as its callers see it
 pub record IndexBytes : Type 0 where

@@ -1,6 +1,5 @@
 //! Seeks in the bytes of an index: no table is made of them, and nothing takes memory.
-ghost use Rattle.std.specs.Prelude.{◌≡◌, ◌≤◌, ◌+◌, ◌*◌, List, length, Ok, IfOk, IfErr, IfSome, IsOkAnd};
-ghost use Rattle.std.specs.Prelude.{Some, None, true, false, MatchResult};
+ghost use Rattle.std.specs.Prelude.{◌≡◌, ◌≤◌, ◌+◌, ◌*◌, List, length, Ok, IfOk, IfErr, IfSome, IsOkAnd, None};
 ghost use Rattle.std.specs.Option.{option_map};
 ghost use Rattle.store_base.specs.Counts.{raised};
 ghost use Rattle.layered_index.specs.declared.checkpoint.Checkpoint.{Checkpoint};
@@ -8,7 +7,7 @@ ghost use Rattle.layered_index.specs.Checkpoint.{docs_end, first_past};
 ghost use Rattle.layered_index.specs.Layers.{digit_count};
 ghost use Rattle.layered_index.specs.IndexReading.{IsIndexPart, HasIndex};
 ghost use Rattle.layered_index.specs.Sought.{next_layer, after_numbers, from_pointer, past_on, AreOn};
-ghost use Rattle.layered_index.specs.Sought.{IsPast, IndexBytes, found_in_index, Answers};
+ghost use Rattle.layered_index.specs.Sought.{IsPast, IndexBytes};
 
 use crate::checkpoint::Checkpoint;
 use crate::layer_cursor::LayerCursor;
@@ -129,12 +128,11 @@ impl<'a> IndexSlice<'a> {
         self.period
     }
 
-    // The first checkpoint whose documents end past the target. It decodes one run of each layer: the whole run, or the
-    // run up to what it seeks. It counts each checkpoint that it decodes.
+    // The first checkpoint whose documents end past the target. It decodes one run of each layer up to what
+    // it seeks, and counts each checkpoint that it decodes.
     #[inline(always)]
     fn descend(
         &self,
-        whole: bool,
         target: DocId,
         steps: &mut Steps,
     ) -> Result<Descent<'a>, StoreError>
@@ -145,9 +143,6 @@ impl<'a> IndexSlice<'a> {
         ensures most { (cs : List Checkpoint) → IsIndexPart self.now.period self.now.bytes cs
             → steps.new ≤ steps.old + self.now.period * digit_count self.now.period (length cs) }
         ensures always { steps.new ≤ steps.old + self.now.period * 64 }
-        ensures exact { MatchResult result
-            (λ d. found_in_index whole self.now.period target self.now.bytes ≡ Some d.found)
-            (λ _. found_in_index whole self.now.period target self.now.bytes ≡ None) }
         ensures past { IfOk result (λ d. IfSome d.found (IsPast target)) }
         ensures least { IfOk result (λ d. IfSome d.found (λ _. raised steps.old 1 ≤ steps.new)) }
         ensures refused { IfErr result (λ e. e ≡ StoreError.BadIndex) }
@@ -162,7 +157,7 @@ impl<'a> IndexSlice<'a> {
             let Some((layer, end, more_ends, more)) = next_layer(place, ends, texts) else {
                 return Err(StoreError::BadIndex);
             };
-            let Some(next) = seek_layer(whole, period, target, layer, &found, steps) else {
+            let Some(next) = seek_layer(period, target, layer, &found, steps) else {
                 return Err(StoreError::BadIndex);
             };
             run = from_pointer(layer, &found);
@@ -181,17 +176,15 @@ impl<'a> IndexSlice<'a> {
     }
 
     /// The first checkpoint whose documents end past the target, or `None` where there is none. It returns `BadIndex`
-    /// where a run is not where the layer above points. It decodes each run up to what it seeks. In any bytes it
-    /// returns what the definition `found_in_index` finds, which says each check that is made.
+    /// where a run is not where the layer above points. It decodes each run up to what it seeks.
     pub fn seek(&self, target: DocId) -> Result<Option<Checkpoint>, StoreError>
         ensures answer { (cs : List Checkpoint) → IsIndexPart self.now.period self.now.bytes cs
             → result ≡ Ok (first_past cs target) }
-        ensures exact { Answers (found_in_index false self.now.period target self.now.bytes) result }
         ensures past { IfOk result (λ found. IfSome found (IsPast target)) }
         ensures refused { IfErr result (λ e. e ≡ StoreError.BadIndex) }
     {
         let mut steps = Steps::new();
-        Ok(self.descend(false, target, &mut steps)?.found)
+        Ok(self.descend(target, &mut steps)?.found)
     }
 
     /// The first checkpoint whose documents end past the target, and a cursor over those after it; or `None` where
@@ -203,13 +196,11 @@ impl<'a> IndexSlice<'a> {
     ) -> Result<Option<(Checkpoint, LayerCursor<'a>)>, StoreError>
         ensures answer { (cs : List Checkpoint) → IsIndexPart self.now.period self.now.bytes cs
             → IsOkAnd result (λ found. found ≡ past_on cs target) }
-        ensures found { IfOk result (λ found. found_in_index false self.now.period target self.now.bytes
-            ≡ Some (option_map (λ x. x.0) found)) }
         ensures past { IfOk result (λ found. IfSome found (λ x. IsPast target x.0)) }
         ensures refused { IfErr result (λ e. e ≡ StoreError.BadIndex) }
     {
         let mut steps = Steps::new();
-        let descent = self.descend(false, target, &mut steps)?;
+        let descent = self.descend(target, &mut steps)?;
         let Some(found) = descent.found else {
             return Ok(None);
         };
@@ -234,32 +225,11 @@ impl<'a> IndexSlice<'a> {
         ensures most { (cs : List Checkpoint) → IsIndexPart self.now.period self.now.bytes cs
             → steps.new ≤ steps.old + self.now.period * digit_count self.now.period (length cs) }
         ensures always { steps.new ≤ steps.old + self.now.period * 64 }
-        ensures exact { Answers (found_in_index false self.now.period target self.now.bytes) result }
         ensures past { IfOk result (λ found. IfSome found (IsPast target)) }
         ensures least { IfOk result (λ found. IfSome found (λ _. raised steps.old 1 ≤ steps.new)) }
         ensures refused { IfErr result (λ e. e ≡ StoreError.BadIndex) }
     {
-        Ok(self.descend(false, target, steps)?.found)
-    }
-
-    /// Seeks as `seek_counted` does, but decodes each run to its end, and returns `BadIndex` where a run hasn't exactly
-    /// the documents and the bytes of its pointer. This finds more damage, and decodes about twice as many checkpoints.
-    pub fn seek_whole(
-        &self,
-        target: DocId,
-        steps: &mut Steps,
-    ) -> Result<Option<Checkpoint>, StoreError>
-        ensures answer { (cs : List Checkpoint) → IsIndexPart self.now.period self.now.bytes cs
-            → result ≡ Ok (first_past cs target) }
-        ensures most { (cs : List Checkpoint) → IsIndexPart self.now.period self.now.bytes cs
-            → steps.new ≤ steps.old + self.now.period * digit_count self.now.period (length cs) }
-        ensures always { steps.new ≤ steps.old + self.now.period * 64 }
-        ensures exact { Answers (found_in_index true self.now.period target self.now.bytes) result }
-        ensures past { IfOk result (λ found. IfSome found (IsPast target)) }
-        ensures least { IfOk result (λ found. IfSome found (λ _. raised steps.old 1 ≤ steps.new)) }
-        ensures refused { IfErr result (λ e. e ≡ StoreError.BadIndex) }
-    {
-        Ok(self.descend(true, target, steps)?.found)
+        Ok(self.descend(target, steps)?.found)
     }
 
     /// The id after the last document. It decodes the top layer, which is one run.

@@ -6,7 +6,6 @@ ghost use Rattle.layered_index.specs.declared.checkpoint.Checkpoint.{Checkpoint}
 ghost use Rattle.layered_index.specs.Checkpoint.{IsInLine, first_past};
 ghost use Rattle.layered_index.specs.Layers.{layer_text};
 ghost use Rattle.layered_index.specs.BlockReading.{steps_at};
-ghost use Rattle.layered_index.specs.Sought.{found_on_top, found_in_run, found_in};
 ghost use Rattle.layered_index.specs.Sought.{sought_from, sought_at, scanned, scanned_at};
 ghost use Rattle.layered_index.specs.Sought.{IsPast, IsRunAt, IsFoundAbove};
 
@@ -145,7 +144,6 @@ fn scan_block(
 
 // The first checkpoint past the target of a layer that has one block.
 pub(crate) fn seek_top(
-    whole: bool,
     period: usize,
     target: DocId,
     layer: &[u8],
@@ -155,23 +153,17 @@ pub(crate) fn seek_top(
     requires most { period ≤ 64 }
     ensures answer { (cs : List Checkpoint) → IsInLine cs → layer.now ≡ layer_text period cs
         → IsFoundAbove period target None cs → result ≡ Some (first_past cs target) }
-    ensures exact { result ≡ found_on_top whole period target layer.now }
     ensures past { IfSome result (λ found. IfSome found (IsPast target)) }
     ensures counted { steps.new ≤ steps.old + period }
     ensures more { steps.old ≤ steps.new }
     ensures least { IfSome result (λ found. IfSome found (λ _. raised steps.old 1 ≤ steps.new)) }
 {
-    if whole {
-        let sought = seek_block(period, target, layer, steps)?;
-        return Some(sought.found);
-    }
     let (found, _) = scan_block(period, target, layer, steps)?;
     Some(found)
 }
 
 // The first checkpoint past the target of the run that a pointer points to. The run has the pointer's documents.
 pub(crate) fn seek_pointed(
-    whole: bool,
     period: usize,
     target: DocId,
     block: &[u8],
@@ -180,19 +172,11 @@ pub(crate) fn seek_pointed(
 ) -> Option<Option<Checkpoint>>
     ensures answer { (run : List Checkpoint) → IsRunAt period run pointer.now block.now
         → result ≡ Some (first_past run target) }
-    ensures exact { result ≡ found_in_run whole period target pointer.now block.now }
     ensures past { IfSome result (λ found. IfSome found (IsPast target)) }
     ensures counted { steps.new ≤ steps.old + period }
     ensures more { steps.old ≤ steps.new }
     ensures least { IfSome result (λ found. IfSome found (λ _. raised steps.old 1 ≤ steps.new)) }
 {
-    if whole {
-        let sought = seek_block(period, target, block, steps)?;
-        if sought.doc != pointer.doc_range.start || sought.doc_end != pointer.doc_range.end {
-            return None;
-        }
-        return Some(sought.found);
-    }
     let (found, doc) = scan_block(period, target, block, steps)?;
     if doc != pointer.doc_range.start {
         return None;
@@ -202,7 +186,6 @@ pub(crate) fn seek_pointed(
 
 // The first checkpoint past the target of a layer, by the pointer that was found in the layer above.
 fn seek_below(
-    whole: bool,
     period: usize,
     target: DocId,
     layer: &[u8],
@@ -213,7 +196,6 @@ fn seek_below(
     requires most { period ≤ 64 }
     ensures answer { (cs : List Checkpoint) → IsInLine cs → layer.now ≡ layer_text period cs
         → IsFoundAbove period target (Some pointer.now) cs → result ≡ Some (first_past cs target) }
-    ensures exact { result ≡ found_in whole period target (Some pointer.now) layer.now }
     ensures past { IfSome result (λ found. IfSome found (IsPast target)) }
     ensures counted { steps.new ≤ steps.old + period }
     ensures more { steps.old ≤ steps.new }
@@ -224,15 +206,13 @@ fn seek_below(
     if end < start || layer.len() < end {
         return None;
     }
-    seek_pointed(whole, period, target, &layer[start..end], pointer, steps)
+    seek_pointed(period, target, &layer[start..end], pointer, steps)
 }
 
 /// The first checkpoint of a layer past the target, or none, by the pointer that was found in the layer above. The top
-/// layer has no pointer, and is one run. It returns `None` where the run isn't the one that the pointer points to. With
-/// `whole` the run is decoded to its end, and has to have the pointer's documents and fill its bytes; without, it is
-/// decoded up to what is sought.
+/// layer has no pointer, and is one run. It returns `None` where the run isn't the one that the pointer points to. It
+/// is decoded up to what is sought.
 pub(crate) fn seek_layer(
-    whole: bool,
     period: usize,
     target: DocId,
     layer: &[u8],
@@ -243,14 +223,13 @@ pub(crate) fn seek_layer(
     requires most { period ≤ 64 }
     ensures answer { (cs : List Checkpoint) → IsInLine cs → layer.now ≡ layer_text period cs
         → IsFoundAbove period target above.now cs → result ≡ Some (first_past cs target) }
-    ensures exact { result ≡ found_in whole period target above.now layer.now }
     ensures past { IfSome result (λ found. IfSome found (IsPast target)) }
     ensures counted { steps.new ≤ steps.old + period }
     ensures more { steps.old ≤ steps.new }
     ensures least { IfSome result (λ found. IfSome found (λ _. raised steps.old 1 ≤ steps.new)) }
 {
     match above {
-        None => seek_top(whole, period, target, layer, steps),
-        Some(pointer) => seek_below(whole, period, target, layer, pointer, steps),
+        None => seek_top(period, target, layer, steps),
+        Some(pointer) => seek_below(period, target, layer, pointer, steps),
     }
 }

@@ -38,9 +38,5 @@ pub fn is_stacked<H: FileHandle>(input: &MergeInput<H>) -> bool
     ensures count { num_docs input.now.reader ≡ length (slots (store_of input.now.reader)) }
 {
     let count = input.reader.num_docs();
-    let last_of_least = input
-        .reader
-        .block_checkpoints()
-        .nth(LEAST_STACKED_BLOCKS - 1);
-    last_of_least.is_some() && are_all_alive(input.alive.as_ref(), count)
+    input.reader.num_blocks() >= LEAST_STACKED_BLOCKS && are_all_alive(input.alive.as_ref(), count)
 }

@@ -33,4 +33,3 @@ pub mod AmidLemmas
 pub mod AliveSliceLemmas
 pub mod SliceGivenLemmas
 pub mod StoreTailLemmas
-pub mod SeekingLemmas

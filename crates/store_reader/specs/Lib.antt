@@ -21,4 +21,3 @@ pub mod StoreSlices
 pub mod SliceLaws
 pub mod IndexChecks
 pub mod StoreTails
-pub mod SeekingReaders

@@ -10,6 +10,5 @@ mod reads;
 #[cfg(test)]
 mod scripts;
 #[cfg(test)]
-mod seeking;
 #[cfg(test)]
 mod writes;

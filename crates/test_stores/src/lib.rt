@@ -10,6 +10,5 @@ mod merging;
 #[cfg(test)]
 mod records;
 #[cfg(test)]
-mod seeking;
 #[cfg(test)]
 mod viewing;

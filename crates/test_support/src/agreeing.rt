@@ -1,7 +1,6 @@
 //! A view of bytes beside a slice of them, and beside a reader of a file that holds them.
 
 use crate::making::opened;
-use crate::seeking::seeking_agrees;
 use docstore::{FileHandle, MemFile, StoreError, StoreReader, StoreSlice, StoreView};
 use std::alloc::Global;
 
@@ -128,7 +127,6 @@ fn reader_agrees<H: FileHandle>(
 pub fn agree_with<H: FileHandle>(alloc: Global, bytes: &[u8], file: H) -> bool {
     let viewed = StoreView::open(alloc, bytes);
     slice_agrees(alloc, bytes, &viewed) == Ok(true)
-        && seeking_agrees(alloc, bytes, &viewed) == Ok(true)
         && reader_agrees(alloc, bytes, &viewed, file)
 }
 

@@ -9,7 +9,6 @@ pub mod failing_sink;
 pub mod lying_file;
 pub mod making;
 pub mod merge_inputs;
-pub mod seeking;
 pub mod sparse_file;
 
 pub use failing_file::FailingFile;

@@ -1,19 +1,7 @@
-use Rattle.std.proofs.Common.{arith, refl, sym}
+use Rattle.std.proofs.Common.{arith, sym}
 use Rattle.store_base.specs.ReadingLemmas.{bytes_from}
-use Rattle.layered_index.proofs.SoughtLemmas.{top_sought, top_scanned, sought_past, scanned_past, read_nothing, found_is, pair_is}
+use Rattle.layered_index.proofs.SoughtLemmas.{top_scanned, scanned_past, read_nothing, pair_is}
 use Rattle.layered_index.proofs.run_seek.seek_top.Goals as goal
-
-pub returns-in_err-sought-clause-answer : goal.returns-in_err-sought-clause-answer
-returns-in_err-sought-clause-answer c cs h text above = absurd
-    (read_nothing _ c.in_err-sought.ensures.read (top_sought c.args.period c.args.target c.args.layer.now cs _ c.requires.most h text above refl))
-
-pub returns-then-whole-clause-answer : goal.returns-then-whole-clause-answer
-returns-then-whole-clause-answer c cs h text above =
-    found_is _ c.in_ok-sought.sought cs c.args.target _ _ c.in_ok-sought.ensures.read (top_sought c.args.period c.args.target c.args.layer.now cs _ c.requires.most h text above refl)
-
-pub returns-then-whole-clause-past : goal.returns-then-whole-clause-past
-returns-then-whole-clause-past c =
-    sought_past c.args.period c.args.target c.args.layer.now c.in_ok-sought.sought (bytes_from c.args.layer.now (λ i. omega (arith, c.type_inv.layer i))) (sym c.in_ok-sought.ensures.read)
 
 pub returns-in_err-found-clause-answer : goal.returns-in_err-found-clause-answer
 returns-in_err-found-clause-answer c cs h text above = absurd (read_nothing _ c.in_err-found.ensures.read (top_scanned c.args.period c.args.target c.args.layer.now cs c.requires.most h text above))

@@ -1,13 +1,12 @@
-use Rattle.std.proofs.Common.{ℕ, ◌≡◌, ◌≤◌, ◌+◌, ◌-◌, ◌*◌, List, length, Some, None, eqb, refl, sym, ◌∙◌, ap, subst, not, arith}
+use Rattle.std.proofs.Common.{ℕ, ◌≡◌, ◌≤◌, ◌+◌, ◌-◌, ◌*◌, List, length, None, refl, sym, ◌∙◌, ap, subst, not, arith}
 use Rattle.std.proofs.lemmas.Option.{IfSome_then}
-use Rattle.std.proofs.lemmas.Bool.{eqb-false, cond-true, cond-false}
+use Rattle.std.proofs.lemmas.Bool.{eqb-false}
 use Rattle.layered_index.specs.declared.checkpoint.Checkpoint.{Checkpoint}
 use Rattle.layered_index.specs.Layers.{digit_count}
 use Rattle.layered_index.specs.IndexReading.{IsIndexPart}
-use Rattle.layered_index.specs.Sought.{IndexBytes, IsHeaded, layers_left, found_in_index}
+use Rattle.layered_index.specs.Sought.{IndexBytes, IsHeaded, layers_left}
 use Rattle.layered_index.proofs.IndexHeadLemmas.{inside, head_few, head_digits}
 use Rattle.layered_index.proofs.DescentLemmas.{LeadsOn, leads_first, leads_next, leads_sought, leads_to_none, leads_on, leads_last, counted_within, one_more_counted}
-use Rattle.layered_index.proofs.FoundLemmas.{found_first, found_no_layer, found_next, found_nothing, found_goes_on, found_last}
 use Rattle.layered_index.proofs.index_slice.IndexSlice.descend.Goals as goal
 
 -- the looks at so many layers
@@ -31,7 +30,6 @@ loop-init c =
           (leads_first c.self.inside.period c.args.target c.self.inside.bytes.now c.self.inside.count c.self.inside.ends.now c.self.inside.texts.now cs c.self.inside.texts.now c.self.invariant
           (omega arith)
           (inside _ _ cs c.self.view_is is));
-      exact = found_first _ _ c.args.whole c.args.target c.self.inside.count c.self.inside.ends.now c.self.inside.texts.now c.self.view_is c.self.invariant;
       counted = omega arith;
       past = tt;
       more = omega arith;
@@ -89,10 +87,6 @@ loop-preserved c =
           c.in-Some.layer.now c.in-Some.end c.in-Some.more_ends.now c.in-Some.more.now c.loop-test.true (sym c.in-Some.ensures) (c.is_none.ensures
           ∙ ap not c.if-is_none.false) (l.invariant.leads cs is)
           c.in-Some-seek_layer.ensures.answer);
-      exact = found_goes_on c.args.whole c.self.inside.period c.args.target (c.self.inside.count - (l.counter + 1)) c.in-Some.end c.in-Some.more_ends.now c.in-Some.more.now
-          c.in-Some-seek_layer.next _ (c.is_none.ensures ∙ ap not c.if-is_none.false)
-          (found_next c.args.whole c.self.inside.period c.args.target c.self.inside.count l.counter l.place l.ends.now l.texts.now l.found _ c.in-Some.layer.now c.in-Some.end c.in-Some.more_ends.now
-          c.in-Some.more.now (Some c.in-Some-seek_layer.next) c.loop-test.true (sym c.in-Some.ensures) c.in-Some-seek_layer.ensures.exact l.invariant.exact);
       counted = one_more_counted _ l.steps c.args.steps.now c.self.inside.period l.counter c.seek_layer.ensures.counted l.invariant.counted;
       past = c.in-Some-seek_layer.ensures.past;
       more = omega (arith, c.seek_layer.ensures.more, l.invariant.more);
@@ -128,42 +122,3 @@ returns-clause-most c cs is = most _ _ _ _ _ _ _ c.loop.counter c.self.view_is c
 
 pub returns-clause-always : goal.returns-clause-always
 returns-clause-always c = always _ _ _ _ _ _ _ c.loop.counter c.self.view_is c.self.invariant (omega arith) c.loop.invariant.counted
-
-pub returns-in_default-clause-exact : goal.returns-in_default-clause-exact
-returns-in_default-clause-exact c =
-    let l = c.loop in
-    let total = found_in_index c.args.whole c.args.self.now.period c.args.target c.args.self.now.bytes in
-    found_no_layer c.args.whole c.self.inside.period c.args.target c.self.inside.count l.counter l.place l.ends.now l.texts.now l.found
-    total c.loop-test.true (sym c.in_default.ensures) l.invariant.exact
-
-pub returns-in_default-seek_layer-clause-exact : goal.returns-in_default-seek_layer-clause-exact
-returns-in_default-seek_layer-clause-exact c =
-    let l = c.loop in
-    let total = found_in_index c.args.whole c.args.self.now.period c.args.target c.args.self.now.bytes in
-    sym (found_next c.args.whole c.self.inside.period c.args.target c.self.inside.count l.counter l.place l.ends.now l.texts.now l.found
-    total c.in-Some.layer.now c.in-Some.end c.in-Some.more_ends.now c.in-Some.more.now
-    None c.loop-test.true (sym c.in-Some.ensures) c.in_default-seek_layer.ensures.exact l.invariant.exact)
-
-pub returns-then-is_none-clause-exact : goal.returns-then-is_none-clause-exact
-returns-then-is_none-clause-exact c =
-    let l = c.loop in
-    let total = found_in_index c.args.whole c.args.self.now.period c.args.target c.args.self.now.bytes in
-    found_nothing c.args.whole c.self.inside.period c.args.target (c.self.inside.count - (l.counter + 1)) c.in-Some.end c.in-Some.more_ends.now c.in-Some.more.now c.in-Some-seek_layer.next total
-    (c.is_none.ensures ∙ ap not c.if-is_none.true)
-    (found_next c.args.whole c.self.inside.period c.args.target c.self.inside.count l.counter l.place l.ends.now l.texts.now l.found
-    total c.in-Some.layer.now c.in-Some.end c.in-Some.more_ends.now c.in-Some.more.now
-    (Some c.in-Some-seek_layer.next) c.loop-test.true (sym c.in-Some.ensures) c.in-Some-seek_layer.ensures.exact l.invariant.exact)
-
-pub returns-then-not-is_empty-clause-exact : goal.returns-then-not-is_empty-clause-exact
-returns-then-not-is_empty-clause-exact c =
-    let l = c.loop in
-    let total = found_in_index c.args.whole c.args.self.now.period c.args.target c.args.self.now.bytes in
-    found_last c.args.whole c.self.inside.period c.args.target c.self.inside.count l.counter l.place l.ends.now l.texts.now l.found
-    total c.loop-test.false l.invariant.exact ∙ cond-false (eqb (length l.texts.now) 0) (Some l.found) None (sym c.if-not-is_empty.ensures)
-
-pub returns-clause-exact : goal.returns-clause-exact
-returns-clause-exact c =
-    let l = c.loop in
-    let total = found_in_index c.args.whole c.args.self.now.period c.args.target c.args.self.now.bytes in
-    found_last c.args.whole c.self.inside.period c.args.target c.self.inside.count l.counter l.place l.ends.now l.texts.now l.found
-    total c.loop-test.false l.invariant.exact ∙ cond-true (eqb (length l.texts.now) 0) (Some l.found) None (sym c.if-not-is_empty.ensures)
