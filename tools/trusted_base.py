@@ -51,7 +51,7 @@ THEOREMS = (
     Theorem("a record that a sync acknowledged is never lost", "record_log",
             ("sync", "call_all", "open_and_call"), ("memory aside", "usize", "true device")),
     Theorem("a folder's log keeps each record that a sync acknowledged", "segmented_log",
-            ("open", "sync", "seal", "compact", "call_all", "open_and_call", "crashes_lose_nothing"),
+            ("open", "sync", "seal", "compact", "call_all", "open_and_call", "ends_lose_nothing"),
             ("memory aside", "usize", "honest folder")),
     Theorem("a call from C gives the document of the bytes", "store_c",
             ("zevk_get", "zevk_locate", "zevk_writer_close"), ("memory aside", "usize", "rules of zevkhadun.h")),

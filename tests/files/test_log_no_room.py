@@ -20,6 +20,19 @@ rm full
 "$2" log cat events
 """
 
+# Appends more to a log of segments and a tail than a device has room for, and then drops its old records.
+DROPPED_ON_DEVICE = """
+cd "$1"
+for record in 1 2 3; do echo $record | "$2" log append -q events; "$2" log seal events; done
+head -c 300000 "$3" | "$2" log append -q events
+head -c 1000000 /dev/zero >full
+"$2" log append -q events "$3" 2>/dev/null
+echo $?
+"$2" log drop events --before 2
+echo $?
+"$2" log cat events --from 2 | head -n 1
+"""
+
 
 class NoRoom(ProgramCase):
     def test_a_limit_on_the_size_of_files_leaves_what_was_acknowledged(self):
@@ -46,3 +59,8 @@ class NoRoom(ProgramCase):
         self.assertEqual(status, b"3")
         self.assertTrue((b"old\n" + TEXT).startswith(text))
         self.assertGreater(len(text), 100_000)
+
+    def test_old_records_are_dropped_where_a_device_is_full(self):
+        text = self.write("text", TEXT)
+        done = self.on_device(DROPPED_ON_DEVICE, self.program.path, text)
+        self.assertEqual(done.stdout, b"3\n0\n3\n", done.stderr)

@@ -7,6 +7,7 @@ then opens what is left, to read it and to write it: it has the first records, a
 
 from __future__ import annotations
 
+import itertools
 import shutil
 from pathlib import Path
 
@@ -80,6 +81,32 @@ class LogReplay:
         return faults, looks
 
 
+class KilledReplay(LogReplay):
+    """Calls on the folder of a log whose writer was killed before them, and the machine was not.
+
+    The first line of the text is the record that the later writer appends; records are acknowledged by number.
+    """
+
+    def has(self, left: dict[str, bytes], acknowledged: dict[int, bytes]) -> bool:
+        """Whether a folder has these records under their numbers."""
+        text = self.records(left)
+        lines = [] if text is None else text.splitlines()
+        return text is not None and all(lines[number:number + 1] == [line] for number, line in acknowledged.items())
+
+    def losses(self, disk: Disk, calls: list[tuple], acknowledged: dict[int, bytes]) -> list[int]:
+        """After how many calls a crash may lose a record."""
+        known = dict(acknowledged)
+        losses = []
+        for done, call in enumerate([("print", b""), *calls]):
+            if call[0] == "print":
+                known.update((int(number), self.text.splitlines()[0]) for number in call[1].split())
+            else:
+                disk.do(call)
+            if not all(self.has(left, known) for left in disk.left()):
+                losses.append(done)
+        return losses
+
+
 class DropReplay(LogReplay):
     """Calls on the folder of a log that lose its first segments, one after another.
 
@@ -118,7 +145,11 @@ class Logs(ProgramCase):
         return replay, calls
 
     def check_syncs(self, replay: LogReplay, calls: list[tuple], needless: int) -> None:
-        """A crash loses a record if a sync is left out, whichever it is, but for this many."""
+        """A crash loses a record if a sync is left out, whichever it is, but for this many.
+
+        Nor is one missed of those by which the opening puts on the disk what it finds, since all is there at first.
+        """
+        needless += 1 + len([name for name in replay.files if name == "tail.log" or name.endswith(".store")])
         syncs = [place for place, call in enumerate(calls) if call[0] == "sync"]
         unnoticed = [place for place in syncs if not replay.faults(calls[:place] + calls[place + 1:])[0]]
         self.assertEqual(len(unnoticed), needless, [(place, calls[place]) for place in unnoticed])
@@ -184,6 +215,43 @@ class Logs(ProgramCase):
         new = self.write("new.txt", numbers(4, 3))
         replay, calls = self.check(2, numbers(4), "log", "append", self.log, new, "--sync", "every", "--number")
         self.check_syncs(replay, calls, 0)
+
+    def check_killed(self, count: int, *words: str | Path) -> None:
+        """Kills a command after each of its calls, on a log that has this many records, and then runs two others.
+
+        Each begins with the folder as a look sees it. Nothing was synced by the kill.
+        """
+        files = self.files()
+        first = dict(enumerate(numbers(count).splitlines()))
+        replay = KilledReplay(self.program, files, count, b"next\n")
+        killed = [call for call in recorded(self.program.path, self.log, *words, kind=LogRecording)
+                  if call[0] != "print"]
+        new = self.write("next.txt", replay.text)
+        for done, later in itertools.product(range(len(killed) + 1), (("append", "--sync", "every", "--number"), ("seal",))):
+            disk = Disk(files)
+            for call in killed[:done]:
+                disk.do(call)
+            folder = self.new_folder() / "events"
+            folder.mkdir()
+            for name, file in disk.names.items():
+                (folder / name).write_bytes(file.now())
+            inputs = (new,) if later[0] == "append" else ()
+            calls = recorded(self.program.path, folder, "log", later[0], folder, *inputs, *later[1:], kind=LogRecording)
+            self.assertEqual(replay.losses(disk, calls, first), [], f"killed after {killed[:done]}, then {calls}")
+
+    def test_a_writer_is_killed_and_then_the_power_fails(self):
+        self.program.gives("log", "append", self.log, input=numbers(2))
+        new = self.write("new.txt", numbers(3, 3))
+        self.check_killed(2, "log", "append", self.log, new)
+
+    def test_a_writer_with_two_syncs_is_killed_and_then_the_power_fails(self):
+        self.program.gives("log", "append", self.log, input=numbers(2))
+        new = self.write("new.txt", numbers(3, 3))
+        self.check_killed(2, "log", "append", self.log, new, "--two-syncs")
+
+    def test_a_seal_is_killed_and_then_the_power_fails(self):
+        self.program.gives("log", "append", self.log, input=numbers(2))
+        self.check_killed(2, "log", "seal", self.log)
 
     def test_numbers_that_are_printed_too_early_are_noticed(self):
         new = self.write("new.txt", numbers(3))

@@ -1,5 +1,5 @@
 -- What processes leave of a log, one after another.
-use Rattle.std.proofs.Common.{◌≡◌, ◌≤◌, inl, inr, ⊎_elim, ℕ, ◌+◌, max, List, [], ◌∷◌, ◌++◌, length, map, refl, sym, ◌∙◌, ap, subst, arith, append_assoc}
+use Rattle.std.proofs.Common.{◌≡◌, ◌⊎◌, ◌≤◌, inl, inr, ⊎_elim, ℕ, ◌+◌, max, List, [], ◌∷◌, ◌++◌, length, map, refl, sym, ◌∙◌, ap, subst, arith, append_assoc}
 use Rattle.std.proofs.lemmas.List.{append-nil, map-append}
 use Rattle.store_folder.specs.Folder.{Look}
 use Rattle.store_format.specs.Block.{Slot, doc}
@@ -9,23 +9,46 @@ use Rattle.record_log.specs.Tail.{records_from}
 use Rattle.segmented_log.specs.declared.runs.Call.{Call}
 use Rattle.segmented_log.specs.Log.{IsLog, IsBlank}
 use Rattle.segmented_log.specs.Dropping.{IsRest, DropsTo}
-use Rattle.segmented_log.specs.Runs.{batches_by, pending_by, slots_of, dropped_by}
-use Rattle.segmented_log.specs.Laws.{Process, IsLeftOf, IsLeftByAll, MayFollow, HaveAllOf, slots_by, dropped_in}
-use Rattle.segmented_log.specs.Laws.{OpeningsAreOfProcesses, CallsAreOfProcesses, CrashesLoseNothing, CrashesLoseNothingOfNewLogs}
+use Rattle.segmented_log.specs.Runs.{batches_by, pending_by, slots_of, dropped_by, Makes}
+use Rattle.segmented_log.specs.Laws.{Process, IsLeftOf, IsLeftBy, MayBeLeft, IsLeftByAll, MayFollow, HaveAllOf, slots_by, dropped_in}
+use Rattle.segmented_log.specs.Laws.{OpeningsAreOfProcesses, CallsAreOfProcesses, RestartsAreEnds, EndsLoseNothing, EndsLoseNothingOfNewLogs}
 use Rattle.segmented_log.proofs.DropLemmas.{drops_none}
 use Rattle.segmented_log.proofs.RestLemmas.{rest_more, rest_grows, rest_after, rest_ends, drops_more}
-use Rattle.segmented_log.proofs.RunLemmas.{Records, batches_by-append, slots_of-append, dropped_by-more, makes_none, makes_more}
+use Rattle.segmented_log.proofs.RunLemmas.{Records, batches_by-append, slots_of-append, dropped_by-more, makes_none, makes_more, has_itself}
 
-pub openings_are_of_processes : OpeningsAreOfProcesses
-openings_are_of_processes commit calls old new keeps = record {
-  same = λ first kept log. record { number = first; slots = kept; makes = makes_none [] first kept; beginning = keeps.same first kept log };
-  begun = λ blank. ⊎_elim (λ none. inl (none, refl)) (λ has. inr (record { number = 0; slots = []; makes = makes_none [] 0 []; beginning = has })) (keeps.begun blank);
-}
+module _ {F : Type 0} (seen : F → Look) (may_leave : F → Look → Type 0) where
+  pub openings_are_of_processes : OpeningsAreOfProcesses seen may_leave
+  openings_are_of_processes commit calls old c = ⊎_elim (λ before. inl (before, refl)) (λ keeps. inr (record {
+    same = λ first kept log. record { number = first; slots = kept; makes = makes_none [] first kept; beginning = keeps.same first kept log };
+    begun = λ blank. ⊎_elim (λ none. inl (none, refl)) (λ has. inr (record { number = 0; slots = []; makes = makes_none [] 0 []; beginning = has })) (keeps.begun blank);
+  }))
 
-pub calls_are_of_processes : CallsAreOfProcesses
-calls_are_of_processes commit made others old new number slots found has = record {
-  same = λ first kept log. record { number = number; slots = slots; makes = found.same first kept log; beginning = has };
-  begun = λ blank. inr (record { number = number; slots = slots; makes = found.begun blank; beginning = has });
+  pub calls_are_of_processes : CallsAreOfProcesses seen may_leave
+  calls_are_of_processes commit made others old c number slots found has = inr (record {
+    same = λ first kept log. record { number = number; slots = slots; makes = found.same first kept log; beginning = has };
+    begun = λ blank. inr (record { number = number; slots = slots; makes = found.begun blank; beginning = has });
+  })
+
+  pub restarts_are_ends : RestartsAreEnds seen may_leave
+  restarts_are_ends process old end c left one d is = subst (λ (l : Look). MayBeLeft process (may_leave old) (seen old) l) (sym (one d is)) left
+
+-- ---- one outcome of each folder
+
+-- what processes leave, one after another, of what each sees
+abbrev AreLeftByAll : List Process → Look → Look → Type 0
+AreLeftByAll [] old new = new ≡ old
+AreLeftByAll (process ∷ later) old new = (left : Look) × IsLeftBy process old left × AreLeftByAll later left new
+
+-- a process none of whose calls returned Ok may leave what there was
+nothing_made : (process : Process) (c : Look) → process.made ≡ [] → IsLeftBy process c c
+nothing_made process c none = record {
+  same = λ first kept log. record {
+    number = first;
+    slots = kept;
+    makes = subst (λ (calls : List Call). Makes calls [] first kept first kept) (sym none) (makes_none [] first kept);
+    beginning = has_itself process.commit first kept (pending_by [] process.made) process.others c log;
+  };
+  begun = λ blank. inl (blank, none);
 }
 
 -- what a process leaves: its slots after those that it found, but some of the first
@@ -95,7 +118,7 @@ module _ (process : Process) (first : ℕ) (kept : List Slot) (c : Look) (left :
 abbrev AllLeft : List Process → Look → ℕ → List Slot → ℕ → Type 0
 AllLeft processes new first all low = (number : ℕ) × (last : List Slot) × HaveAllOf first processes all number last × DropsTo first last (max low number) new
 
-goes_on : (processes : List Process) (old new : Look) (first low : ℕ) (all : List Slot) → DropsTo first all low old → IsLeftByAll processes old new → AllLeft processes new first all low
+goes_on : (processes : List Process) (old new : Look) (first low : ℕ) (all : List Slot) → DropsTo first all low old → AreLeftByAll processes old new → AllLeft processes new first all low
 goes_on [] old new first low all drops same = (0, all, (refl, refl), subst (λ (c : Look). DropsTo first all (max low 0) c) (sym same) (drops_more first low (max low 0) all old drops (omega arith)))
 goes_on (process ∷ later) old new first low all drops by =
     let found = more_after process drops.new_first drops.rest by.0 (by.1.same drops.new_first drops.rest drops.log) in
@@ -109,17 +132,14 @@ goes_on (process ∷ later) old new first low all drops by =
     let rest = goes_on later by.0 new first (max low dropped) (all ++ slots) (record { new_first = left.new_first; rest = left.rest; is_rest = is_rest; log = left.log }) by.2 in
     (max dropped rest.0, rest.1, (found.0, rest.0, found.1, refl, rest.2), drops_more first (max (max low dropped) rest.0) (max low (max dropped rest.0)) rest.1 new rest.3 (omega arith))
 
-pub crashes_lose_nothing : CrashesLoseNothing
-crashes_lose_nothing processes old new first kept log by =
-    let rest = goes_on processes old new first 0 kept (drops_none first 0 kept old log) by in
-    (rest.0, rest.1, rest.2, drops_more first (max 0 rest.0) rest.0 rest.1 new rest.3 (omega arith))
-
-pub new_logs_lose_nothing : CrashesLoseNothingOfNewLogs
-new_logs_lose_nothing [] old new blank same = (0, [], (refl, refl), inr (subst (λ (c : Look). IsBlank c) (sym same) blank, refl))
-new_logs_lose_nothing (process ∷ later) old new blank by =
+-- what they leave of a blank folder
+new_log : (processes : List Process) (old new : Look) → IsBlank old → AreLeftByAll processes old new
+    → (number : ℕ) × (all : List Slot) × HaveAllOf 0 processes [] number all × (DropsTo 0 all number new ⊎ (IsBlank new × (all ≡ [])))
+new_log [] old new blank same = (0, [], (refl, refl), inr (subst (λ (c : Look). IsBlank c) (sym same) blank, refl))
+new_log (process ∷ later) old new blank by =
     ⊎_elim
     (λ none.
-    let rest = new_logs_lose_nothing later by.0 new none.0 by.2 in
+    let rest = new_log later by.0 new none.0 by.2 in
     let dropped = dropped_in 0 process in (
       max dropped rest.0,
       rest.1,
@@ -139,3 +159,24 @@ new_logs_lose_nothing (process ∷ later) old new blank by =
     let rest = goes_on later by.0 new 0 dropped (slots_by process found.0) found.2 by.2 in
     (max dropped rest.0, rest.1, (found.0, rest.0, found.1, refl, rest.2), inl rest.3))
     (by.1.begun blank)
+
+module _ {F : Type 0} (seen : F → Look) (may_leave : F → Look → Type 0) (possible : (f : F) → may_leave f (seen f)) where
+  -- what a crash may leave in the end comes from what it could leave at first
+  come_from : (processes : List Process) (old new : F) → IsLeftByAll seen may_leave processes old new → (c : Look) → may_leave new c
+      → (d : Look) × may_leave old d × AreLeftByAll processes d c
+  come_from [] old new same c left = (c, subst (λ (f : F). may_leave f c) same left, refl)
+  come_from (process ∷ later) old new by c left =
+      let rest = come_from later by.0 new by.2 c left in
+      ⊎_elim (λ before. (rest.0, before.0, (rest.0, nothing_made process rest.0 before.1, rest.2)))
+      (λ after. (seen old, possible old, (rest.0, after, rest.2))) (by.1 rest.0 rest.1)
+
+  pub ends_lose_nothing : EndsLoseNothing seen may_leave
+  ends_lose_nothing processes old new first kept logs by c left =
+      let path = come_from processes old new by c left in
+      let rest = goes_on processes path.0 c first 0 kept (drops_none first 0 kept path.0 (logs path.0 path.1)) path.2 in
+      (rest.0, rest.1, rest.2, drops_more first (max 0 rest.0) rest.0 rest.1 c rest.3 (omega arith))
+
+  pub new_logs_lose_nothing : EndsLoseNothingOfNewLogs seen may_leave
+  new_logs_lose_nothing processes old new blank by c left =
+      let path = come_from processes old new by c left in
+      new_log processes path.0 c (blank path.0 path.1) path.2

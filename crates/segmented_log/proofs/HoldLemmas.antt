@@ -1,5 +1,5 @@
 -- A folder's segments and its tail, after changes of other files.
-use Rattle.std.proofs.Common.{◌≡◌, inl, inr, ⊎_elim, ℕ, ◌<◌, ◌^◌, List, [], ◌∷◌, map, Some, ◌∙◌}
+use Rattle.std.proofs.Common.{◌≡◌, inl, inr, ⊎_elim, ℕ, ◌<◌, ◌^◌, List, [], ◌∷◌, map, Some, ◌∙◌, arith}
 use Rattle.std.specs.List.{AllByRecursion}
 use Rattle.store_folder.specs.Folder.{Look}
 use Rattle.segmented_log.specs.Names.{segment_name, tail_name}
@@ -10,7 +10,7 @@ abbrev pub firsts : List Part → List ℕ
 firsts parts = map (λ part. part.first) parts
 
 module _ (old c : Look) where
-  each_stays : (parts : List Part) → AllByRecursion (λ part. c (segment_name part.first) ≡ old (segment_name part.first)) parts → AllByRecursion (HasSegment old) parts
+  pub each_stays : (parts : List Part) → AllByRecursion (λ part. c (segment_name part.first) ≡ old (segment_name part.first)) parts → AllByRecursion (HasSegment old) parts
       → AllByRecursion (HasSegment c) parts
   each_stays [] same all = tt
   each_stays (part ∷ parts) same all = ((all.0.0, all.0.1, same.0 ∙ all.0.2), each_stays parts same.1 all.1)
@@ -18,6 +18,12 @@ module _ (old c : Look) where
   all_same : (parts : List Part) → ((k : ℕ) → c (segment_name k) ≡ old (segment_name k)) → AllByRecursion (λ part. c (segment_name part.first) ≡ old (segment_name part.first)) parts
   all_same [] same = tt
   all_same (part ∷ parts) same = (same part.first, all_same parts same)
+
+  -- the same of numbers that names have
+  pub all_same_below : (end : ℕ) (parts : List Part) → end < 2 ^ 64 → AllByRecursion (λ part. part.first < end) parts → ((k : ℕ) → k < 2 ^ 64 → c (segment_name k) ≡ old (segment_name k))
+      → AllByRecursion (λ part. c (segment_name part.first) ≡ old (segment_name part.first)) parts
+  all_same_below end [] low below same = tt
+  all_same_below end (part ∷ parts) low below same = (same part.first (omega (arith, low, below.0)), all_same_below end parts low below.1 same)
 
   -- nothing changed under the names of segments
   pub same_segments : (segments : List Part) (tail file : List ℕ) → Holds segments tail old → AllByRecursion (λ part. c (segment_name part.first) ≡ old (segment_name part.first)) segments

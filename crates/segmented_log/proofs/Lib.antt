@@ -3,6 +3,7 @@ pub mod CauseLemmas
 pub mod CompactLemmas
 pub mod CrashLemmas
 pub mod DropLemmas
+pub mod FoundLemmas
 pub mod GrowLemmas
 pub mod HoldLemmas
 pub mod JoinLemmas

@@ -10,8 +10,9 @@ use Rattle.segmented_log.specs.Names.{segment_name, tail_name}
 use Rattle.segmented_log.specs.Parts.{Part, first_in, end_from, tail_end, log_slots, AreInLine, Ascend, AreParts}
 use Rattle.segmented_log.specs.Log.{IsLog, IsBlank, KeepsLog}
 use Rattle.segmented_log.proofs.NameLemmas.{segment_no_tail, segment_no_tail_beside}
-use Rattle.segmented_log.proofs.HoldLemmas.{other_tail}
-use Rattle.segmented_log.proofs.PartLemmas.{more_parts, more_slots}
+use Rattle.segmented_log.specs.Opening.{IsOfLog}
+use Rattle.segmented_log.proofs.HoldLemmas.{same_segments, all_same_below}
+use Rattle.segmented_log.proofs.PartLemmas.{more_parts, more_slots, begin_before}
 
 some_is : {A : Type 0} (a b : A) → Some a ≡ Some b → a ≡ b
 some_is a b e = cc e
@@ -21,7 +22,7 @@ none_some a e = cc e
 
 -- the same log in another look, with this tail
 pub log_with_tail : (first : ℕ) (all : List Slot) (d c : Look) (bytes file : List ℕ) → d tail_name ≡ Some bytes → IsTail file → first_of file ≡ first_of bytes → records_of file ≡ records_of bytes
-    → ((k : ℕ) → c (segment_name k) ≡ d (segment_name k)) → c tail_name ≡ Some file → IsLog first all d → IsLog first all c
+    → ((k : ℕ) → k < 2 ^ 64 → c (segment_name k) ≡ d (segment_name k)) → c tail_name ≡ Some file → IsLog first all d → IsLog first all c
 log_with_tail first all d c bytes file had is_tail first_same records same is log =
     let tails : log.tail ≡ bytes = some_is log.tail bytes (sym log.holds.tail_is ∙ had) in
     let first_now : first_of file ≡ first_of log.tail = first_same ∙ ap first_of (sym tails) in
@@ -31,22 +32,23 @@ log_with_tail first all d c bytes file had is_tail first_same records same is lo
       tail = file;
       parts = more_parts first log.segments log.tail log.parts file [] is_tail first_now records_now;
       slots_are = log.slots_are ∙ sym (append-nil (log_slots first log.segments log.tail)) ∙ sym (more_slots first log.segments log.tail log.parts file [] first_now records_now);
-      holds = other_tail log.segments log.tail file d c log.holds same is;
+      holds = same_segments d c log.segments log.tail file log.holds
+          (all_same_below d c (end_from first log.segments) log.segments log.parts.fits (begin_before first log.segments log.parts.in_line) same) same is;
     }
 
 -- the same look
-log_same : (first : ℕ) (all : List Slot) (d c : Look) → ((n : List ℕ) → c n ≡ d n) → IsLog first all d → IsLog first all c
+log_same : (first : ℕ) (all : List Slot) (d c : Look) → ((n : List ℕ) → IsOfLog n → c n ≡ d n) → IsLog first all d → IsLog first all c
 log_same first all d c same log =
-    log_with_tail first all d c log.tail log.tail log.holds.tail_is log.parts.is_tail refl refl (λ k. same (segment_name k)) (same tail_name ∙ log.holds.tail_is) log
+    log_with_tail first all d c log.tail log.tail log.holds.tail_is log.parts.is_tail refl refl (λ k low. same (segment_name k) (inr (k, low, refl))) (same tail_name (inl refl) ∙ log.holds.tail_is) log
 
-blank_same : (d c : Look) → ((n : List ℕ) → c n ≡ d n) → IsBlank d → IsBlank c
-blank_same d c same blank = record { no_segments = λ k low. same (segment_name k) ∙ blank.no_segments k low; no_tail = same tail_name ∙ blank.no_tail }
+blank_same : (d c : Look) → ((n : List ℕ) → IsOfLog n → c n ≡ d n) → IsBlank d → IsBlank c
+blank_same d c same blank = record { no_segments = λ k low. same (segment_name k) (inr (k, low, refl)) ∙ blank.no_segments k low; no_tail = same tail_name (inl refl) ∙ blank.no_tail }
 
-pub keeps_same : (seen c : Look) → ((n : List ℕ) → c n ≡ seen n) → KeepsLog seen c
+pub keeps_same : (seen c : Look) → ((n : List ℕ) → IsOfLog n → c n ≡ seen n) → KeepsLog seen c
 keeps_same seen c same = record { same = λ first all log. log_same first all seen c same log; begun = λ blank. inl (blank_same seen c same blank) }
 
 -- a log of no records
-new_log : (d c : Look) (file : List ℕ) → IsBlank d → ((k : ℕ) → c (segment_name k) ≡ d (segment_name k)) → c tail_name ≡ Some file → IsTail file → first_of file ≡ 0 → records_of file ≡ []
+new_log : (d c : Look) (file : List ℕ) → IsBlank d → ((k : ℕ) → k < 2 ^ 64 → c (segment_name k) ≡ d (segment_name k)) → c tail_name ≡ Some file → IsTail file → first_of file ≡ 0 → records_of file ≡ []
     → IsLog 0 [] c
 new_log d c file blank same is is_tail first none = record {
   segments = [];
@@ -61,19 +63,19 @@ new_log d c file blank same is is_tail first none = record {
     reaches = omega arith;
   };
   slots_are = sym (drop_all (0 - first_of file) (map doc (records_of file)) (omega (arith, ap (λ (l : List (List ℕ)). length (map doc l)) none)));
-  holds = record { each = tt; no_others = λ k low. inl (same k ∙ blank.no_segments k low); tail_is = is };
+  holds = record { each = tt; no_others = λ k low. inl (same k low ∙ blank.no_segments k low); tail_is = is };
 }
 
-module _ (seen : Look) (before : Look → Type 0) (restarted : (c : Look) → before c → (n : List ℕ) → c n ≡ seen n) where
-  segments_same : (file : List ℕ) (c : Look) (o : IsOldOrWhole before (tail_name ++ part) tail_name (Some file) c) (k : ℕ) → c (segment_name k) ≡ seen (segment_name k)
-  segments_same file c o k = o.elsewhere (segment_name k) (segment_no_tail_beside k) (segment_no_tail k) ∙ restarted o.old o.was (segment_name k)
+module _ (seen : Look) (before : Look → Type 0) (synced : (c : Look) → before c → (n : List ℕ) → IsOfLog n → c n ≡ seen n) where
+  segments_same : (file : List ℕ) (c : Look) (o : IsOldOrWhole before (tail_name ++ part) tail_name (Some file) c) (k : ℕ) → k < 2 ^ 64 → c (segment_name k) ≡ seen (segment_name k)
+  segments_same file c o k low = o.elsewhere (segment_name k) (segment_no_tail_beside k) (segment_no_tail k) ∙ synced o.old o.was (segment_name k) (inr (k, low, refl))
 
   -- the tail is replaced by one of the same records
   pub keeps_replaced : (bytes file : List ℕ) → seen tail_name ≡ Some bytes → IsTail bytes → IsTail file → first_of file ≡ first_of bytes → records_of file ≡ records_of bytes
       → (c : Look) → IsOldOrWhole before (tail_name ++ part) tail_name (Some file) c → KeepsLog seen c
   keeps_replaced bytes file had was_tail is_tail first records c o = record {
     same = λ n all log. ⊎_elim
-        (λ old. log_with_tail n all seen c bytes bytes had was_tail refl refl (segments_same file c o) (old ∙ restarted o.old o.was tail_name ∙ had) log)
+        (λ old. log_with_tail n all seen c bytes bytes had was_tail refl refl (segments_same file c o) (old ∙ synced o.old o.was tail_name (inl refl) ∙ had) log)
         (λ whole. log_with_tail n all seen c bytes file had is_tail first records (segments_same file c o) whole log) o.at_name;
     begun = λ blank. absurd (none_some bytes (sym blank.no_tail ∙ had));
   }
@@ -84,7 +86,7 @@ module _ (seen : Look) (before : Look → Type 0) (restarted : (c : Look) → be
   keeps_begun file had is_tail first none c o = record {
     same = λ n all log. absurd (none_some log.tail (sym had ∙ log.holds.tail_is));
     begun = λ blank. ⊎_elim
-        (λ old. inl (record { no_segments = λ k low. segments_same file c o k ∙ blank.no_segments k low; no_tail = old ∙ restarted o.old o.was tail_name ∙ had }))
+        (λ old. inl (record { no_segments = λ k low. segments_same file c o k low ∙ blank.no_segments k low; no_tail = old ∙ synced o.old o.was tail_name (inl refl) ∙ had }))
         (λ whole. inr (new_log seen c file blank (segments_same file c o) whole is_tail first none)) o.at_name;
   }
 

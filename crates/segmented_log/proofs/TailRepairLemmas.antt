@@ -1,5 +1,5 @@
 -- A tail whose torn end is cut off.
-use Rattle.std.proofs.Common.{◌≡◌, ℕ, List, [], length, take, Some, refl, sym, ◌∙◌, ap, subst, arith}
+use Rattle.std.proofs.Common.{◌≡◌, inl, ℕ, List, [], length, take, Some, refl, sym, ◌∙◌, ap, subst, arith}
 use Rattle.std.specs.Prelude.{All}
 use Rattle.std.proofs.lemmas.List.{append-nil, take-take, length-take-le}
 use Rattle.store_folder.specs.Moments.{ComesFrom}
@@ -10,20 +10,17 @@ use Rattle.record_log.specs.Tail.{records_of, first_of, IsTail, IsWholeTo}
 use Rattle.record_log.proofs.Tails.{same_with, cut_at_rest}
 use Rattle.record_log.proofs.Logs.{keeps_records, contents_same}
 use Rattle.segmented_log.specs.Names.{tail_name}
-use Rattle.segmented_log.specs.Opening.{IsRestarted}
+use Rattle.segmented_log.specs.Opening.{IsSynced}
 use Rattle.segmented_log.specs.Settled.{TailIsKept}
 
-some_is : (a b : List ℕ) → Some a ≡ Some b → a ≡ b
-some_is a b e = cc e
-
--- the tail that is there, after a restart
-pub kept_restarted : (seen : Look) (may_hold : List ℕ → List ℕ → Type 0) (may_leave : Look → Type 0) (entry_kept : List ℕ → Type 0) (bytes : List ℕ) → IsRestarted seen may_hold may_leave entry_kept
+-- the tail that is there, on the disk
+pub kept_synced : (seen : Look) (may_hold : List ℕ → List ℕ → Type 0) (may_leave : Look → Type 0) (entry_kept : List ℕ → Type 0) (bytes : List ℕ) → IsSynced seen may_hold may_leave entry_kept
     → seen tail_name ≡ Some bytes
     → TailIsKept may_hold may_leave entry_kept bytes
-kept_restarted seen may_hold may_leave entry_kept bytes r is = record {
-  file = λ all held. some_is all bytes (sym (r.files tail_name all held) ∙ is);
-  entry = r.entries tail_name;
-  outcomes = λ c left. r.outcomes c left tail_name ∙ is;
+kept_synced seen may_hold may_leave entry_kept bytes s is = record {
+  file = λ all held. s.tail_file bytes all is held;
+  entry = s.tail_entry;
+  outcomes = λ c left. s.outcomes c left tail_name (inl refl) ∙ is;
 }
 
 -- nothing changed

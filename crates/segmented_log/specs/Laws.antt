@@ -1,6 +1,7 @@
 -- What holds of every log in a folder, whatever is called.
 use Rattle.std.specs.Prelude.{◌≡◌, ◌⊎◌, ℕ, ◌+◌, max, List, [], ◌∷◌, ◌++◌, length, map}
 use Rattle.store_folder.specs.Folder.{Look}
+use Rattle.store_folder.specs.Moments.{LeavesOnly}
 use Rattle.store_format.specs.Block.{Slot, doc}
 use Rattle.record_log.specs.declared.tail.Commit.{Commit}
 use Rattle.record_log.specs.declared.tail.Commit.TheVariants.{TwoSyncs}
@@ -8,7 +9,7 @@ use Rattle.record_log.specs.Runs.{joined}
 use Rattle.segmented_log.specs.declared.runs.Call.{Call}
 use Rattle.segmented_log.specs.Log.{IsLog, IsBlank}
 use Rattle.segmented_log.specs.Dropping.{DropsTo}
-use Rattle.segmented_log.specs.Runs.{batches_by, pending_by, slots_of, dropped_by, Drops, Makes, HasBeginning, KeepsAndAdds}
+use Rattle.segmented_log.specs.Runs.{batches_by, pending_by, slots_of, dropped_by, Drops, Makes, HasBeginning, IsOldOrCalled}
 
 -- A folder is one log at most: it has one first number and one list of slots.
 abbrev pub FoldersAreOneLog : Type 0
@@ -25,7 +26,7 @@ OnlyDropsRemove = (calls : List Call) (pending : List (List ℕ)) (first : ℕ) 
     → (Drops calls → ⊥) → Makes calls pending first kept new_first rest
     → (new_first ≡ first) × (rest ≡ kept ++ slots_of (batches_by pending calls))
 
--- a process, from its opening of a log to a crash: how it commits, the calls that returned Ok, and those that it was to make
+-- a process, from its opening of a log to its end: how it commits, the calls that returned Ok, and those that it was to make
 -- next
 pub record Process : Type 0 where
   pub commit : Commit
@@ -40,7 +41,7 @@ pub record IsLeftOf (process : Process) (first : ℕ) (kept : List Slot) (c : Lo
   pub makes : Makes process.made [] first kept number slots
   pub beginning : HasBeginning process.commit number slots (pending_by [] process.made) process.others c
 
--- What the crash of a process leaves of the folder that it opened, whatever log that was. A blank folder is so, if no call
+-- What a process leaves of the folder that it saw as it opened it, whatever log that was. A blank folder is so, if no call
 -- returned Ok, or it is what the process leaves of a log without slots, whose first number is 0.
 pub record IsLeftBy (process : Process) (old new : Look) : Type 0 where
   pub same : (first : ℕ) (kept : List Slot) → IsLog first kept old → IsLeftOf process first kept new
@@ -52,21 +53,42 @@ pub record IsFoundWith (made : List Call) (old : Look) (number : ℕ) (slots : L
   pub same : (first : ℕ) (kept : List Slot) → IsLog first kept old → Makes made [] first kept number slots
   pub begun : IsBlank old → Makes made [] 0 [] number slots
 
--- What a crash leaves while a log is opened and called is what such a process leaves; no call has returned Ok yet.
-abbrev pub OpeningsAreOfProcesses : Type 0
-OpeningsAreOfProcesses = (commit : Commit) (calls : List Call) (old new : Look)
-    → KeepsAndAdds commit calls old new → IsLeftBy (record { commit = commit; made = []; others = calls }) old new
+-- What a crash leaves of a process: what a crash could leave before it, if no call returned Ok; or what it leaves of the
+-- folder that it saw.
+abbrev pub MayBeLeft : Process → (Look → Type 0) → Look → Look → Type 0
+MayBeLeft process before seen c = (before c × (process.made ≡ [])) ⊎ IsLeftBy process seen c
+
+-- The process has ended, alone or by a crash of the machine: whatever a crash leaves now is left of it. A look sees what a
+-- crash may leave.
+abbrev pub IsEndOf : Process → (Look → Type 0) → Look → (Look → Type 0) → Type 0
+IsEndOf process before seen after = (c : Look) → after c → MayBeLeft process before seen c
+
+-- What a crash leaves while a log is opened and called is left of such a process; no call has returned Ok yet.
+abbrev pub OpeningsAreOfProcesses : {F : Type 0} → (F → Look) → (F → Look → Type 0) → Type 0
+OpeningsAreOfProcesses {F = F} seen may_leave = (commit : Commit) (calls : List Call) (old : F) (c : Look)
+    → IsOldOrCalled commit calls (may_leave old) (seen old) c → MayBeLeft (record { commit = commit; made = []; others = calls }) (may_leave old) (seen old) c
 
 -- So is what a crash leaves while further calls are made to the log that was opened.
-abbrev pub CallsAreOfProcesses : Type 0
-CallsAreOfProcesses = (commit : Commit) (made others : List Call) (old new : Look) (number : ℕ) (slots : List Slot)
-    → IsFoundWith made old number slots → HasBeginning commit number slots (pending_by [] made) others new
-    → IsLeftBy (record { commit = commit; made = made; others = others }) old new
+abbrev pub CallsAreOfProcesses : {F : Type 0} → (F → Look) → (F → Look → Type 0) → Type 0
+CallsAreOfProcesses {F = F} seen may_leave = (commit : Commit) (made others : List Call) (old : F) (c : Look) (number : ℕ) (slots : List Slot)
+    → IsFoundWith made (seen old) number slots → HasBeginning commit number slots (pending_by [] made) others c
+    → MayBeLeft (record { commit = commit; made = made; others = others }) (may_leave old) (seen old) c
 
--- What processes leave, one after another: each opens what the crash of the one before it left.
-abbrev pub IsLeftByAll : List Process → Look → Look → Type 0
-IsLeftByAll [] old new = new ≡ old
-IsLeftByAll (process ∷ later) old new = (left : Look) × IsLeftBy process old left × IsLeftByAll later left new
+-- A process may end at each moment of its calls: the folder that it leaves is then as it was at that moment.
+abbrev pub EachMomentMayBeTheEnd : {F : Type 0} → (F → Look) → (F → Look → Type 0) → (F → ℕ) → (F → ℕ → Look → Type 0) → Type 0
+EachMomentMayBeTheEnd {F = F} seen may_leave moment left_since = (process : Process) (old from now end : F)
+    → LeavesOnly moment left_since from now (MayBeLeft process (may_leave old) (seen old))
+    → ((c : Look) → may_leave end c → left_since now (moment from) c) → IsEndOf process (may_leave old) (seen old) (may_leave end)
+
+-- So is a restart of the machine after a crash: then there is one folder alone that a crash leaves.
+abbrev pub RestartsAreEnds : {F : Type 0} → (F → Look) → (F → Look → Type 0) → Type 0
+RestartsAreEnds {F = F} seen may_leave = (process : Process) (old end : F) (c : Look)
+    → MayBeLeft process (may_leave old) (seen old) c → ((d : Look) → may_leave end d → d ≡ c) → IsEndOf process (may_leave old) (seen old) (may_leave end)
+
+-- What processes leave, one after another: each opens the folder that the one before it left, as a look sees it.
+abbrev pub IsLeftByAll : {F : Type 0} → (F → Look) → (F → Look → Type 0) → List Process → F → F → Type 0
+IsLeftByAll seen may_leave [] old new = new ≡ old
+IsLeftByAll {F = F} seen may_leave (process ∷ later) old new = (left : F) × IsEndOf process (may_leave old) (seen old) (may_leave left) × IsLeftByAll seen may_leave later left new
 
 -- The records of a process whose sync had not returned can be these: those of the first batches of its next calls, and then
 -- maybe forged ones, but none if it commits with two syncs.
@@ -93,14 +115,15 @@ HaveAllOf first [] kept number all = (number ≡ 0) × (all ≡ kept)
 HaveAllOf first (process ∷ later) kept number all = (more : List (List ℕ)) × (n : ℕ) × MayFollow process more
     × (number ≡ max (dropped_in (first + length kept) process) n) × HaveAllOf first later (kept ++ slots_by process more) n all
 
--- Over any number of crashes a log keeps its slots and all acknowledged records, in order, under their numbers, but those
--- that were dropped.
-abbrev pub CrashesLoseNothing : Type 0
-CrashesLoseNothing = (processes : List Process) (old new : Look) (first : ℕ) (kept : List Slot)
-    → IsLog first kept old → IsLeftByAll processes old new
-    → (number : ℕ) × (all : List Slot) × HaveAllOf first processes kept number all × DropsTo first all number new
+-- Over any number of processes, each of which ended alone or by a crash, a log keeps its slots and all acknowledged records,
+-- in order, under their numbers, but those that were dropped: a crash leaves them, and so a look sees them.
+abbrev pub EndsLoseNothing : {F : Type 0} → (F → Look) → (F → Look → Type 0) → Type 0
+EndsLoseNothing {F = F} seen may_leave = (processes : List Process) (old new : F) (first : ℕ) (kept : List Slot)
+    → ((d : Look) → may_leave old d → IsLog first kept d) → IsLeftByAll seen may_leave processes old new → (c : Look) → may_leave new c
+    → (number : ℕ) × (all : List Slot) × HaveAllOf first processes kept number all × DropsTo first all number c
 
 -- So it does from a blank folder on. It is blank in the end only if nothing was acknowledged.
-abbrev pub CrashesLoseNothingOfNewLogs : Type 0
-CrashesLoseNothingOfNewLogs = (processes : List Process) (old new : Look) → IsBlank old → IsLeftByAll processes old new
-    → (number : ℕ) × (all : List Slot) × HaveAllOf 0 processes [] number all × (DropsTo 0 all number new ⊎ (IsBlank new × (all ≡ [])))
+abbrev pub EndsLoseNothingOfNewLogs : {F : Type 0} → (F → Look) → (F → Look → Type 0) → Type 0
+EndsLoseNothingOfNewLogs {F = F} seen may_leave = (processes : List Process) (old new : F)
+    → ((d : Look) → may_leave old d → IsBlank d) → IsLeftByAll seen may_leave processes old new → (c : Look) → may_leave new c
+    → (number : ℕ) × (all : List Slot) × HaveAllOf 0 processes [] number all × (DropsTo 0 all number c ⊎ (IsBlank c × (all ≡ [])))

@@ -3,6 +3,7 @@
 
 mod compacting;
 mod dropping;
+mod found_files;
 mod joining;
 pub mod laws;
 mod loading;

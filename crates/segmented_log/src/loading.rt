@@ -1,10 +1,10 @@
 //! A log that is opened.
 
-ghost use Rattle.std.specs.Prelude.{◌≡◌, false, ◌≤◌, ◌<◌, ◌^◌, ◌+◌, ◌++◌, ℕ, List, [], None, length, map, All};
+ghost use Rattle.std.specs.Prelude.{◌≡◌, false, ◌≤◌, ◌<◌, ◌^◌, ◌+◌, ◌++◌, ℕ, List, [], None, length, map, All, string_bytes, OnOk};
 ghost use Rattle.std.specs.Prelude.{◌⊎◌, IsTrue, IfOk, IfErr, IsErrOf};
 ghost use Rattle.store_base.specs.Counts.{HasRisen};
 ghost use Rattle.store_folder.specs.Moments.{ComesFrom, LeavesOnly};
-ghost use Rattle.store_folder.specs.Folder.{ElsewhereOfBoth};
+ghost use Rattle.store_folder.specs.Folder.{ElsewhereOfBoth, AreNames};
 ghost use Rattle.store_folder.specs.Publishing.{part};
 ghost use Rattle.store_format.specs.Block.{Slot};
 ghost use Rattle.record_log.specs.Place.{contents, EndsBy};
@@ -12,11 +12,12 @@ ghost use Rattle.record_log.specs.Tail.{records_of, first_of, IsTail, IsWholeTo}
 ghost use Rattle.segmented_log.specs.Names.{tail_name};
 ghost use Rattle.segmented_log.specs.Parts.{part_of, tail_end, end_from, AreParts};
 ghost use Rattle.segmented_log.specs.Log.{IsLog, IsBlank, KeepsLog};
-ghost use Rattle.segmented_log.specs.Opening.{IsRestarted, IsNoLog, HasFullTail, HasSegments, IsTailOf, IsNoTail};
+ghost use Rattle.segmented_log.specs.Opening.{IsSynced, IsOldOrSeen, IsNoLog, HasFullTail, HasSegments, IsTailOf, IsNoTail};
 ghost use Rattle.segmented_log.specs.Settled.{TailIsKept, IsSettledTail, IsSettledFolder};
 ghost use Rattle.segmented_log.specs.Causes.{IsOfFiles};
 ghost use Rattle.record_log.specs.Causes.{IsOfOpenings};
 
+use crate::found_files::sync_found_files;
 use crate::log::SegmentedLog;
 use crate::names::TAIL;
 use crate::opening::{end_of_segments, numbers_in, open_segments};
@@ -44,7 +45,7 @@ fn load_tail<F: ReadableFolder>(
     folder: &mut F,
     is_blank: bool,
 ) -> Result<Tail, LogError>
-    requires { IsTrue F.honest → IsRestarted (F.seen folder.old) (F.may_hold folder.old)
+    requires { IsTrue F.honest → IsSynced (F.seen folder.old) (F.may_hold folder.old)
         (F.may_leave folder.old) (F.entry_kept folder.old) }
     ensures tail { IfOk result (λ t. IsTail t.bytes.items × IsWholeTo (length t.bytes.items) t.bytes.items
         × (t.first ≡ first_of t.bytes.items)) }
@@ -109,10 +110,15 @@ fn assemble<H: FileHandle>(segments: Vec<Segment<H>>, tail: Tail) -> Result<Part
     })
 }
 
-// Reads a log's folder, and repairs its tail.
-fn load<F: ReadableFolder>(alloc: Global, folder: &mut F) -> Result<Parts<F::File>, LogError>
-    requires { IsTrue F.honest → IsRestarted (F.seen folder.old) (F.may_hold folder.old)
+// Reads a log's folder, which has these names and is on the disk, and repairs its tail.
+fn load_synced<F: ReadableFolder>(
+    alloc: Global,
+    folder: &mut F,
+    names: &[String],
+) -> Result<Parts<F::File>, LogError>
+    requires synced { IsTrue F.honest → IsSynced (F.seen folder.old) (F.may_hold folder.old)
         (F.may_leave folder.old) (F.entry_kept folder.old) }
+    requires names { IsTrue F.honest → AreNames (F.seen folder.old) (map string_bytes names.now) }
     ensures settled { IfOk result (λ p. IsSettledTail p.sealed p.tail.first p.next p.tail.bytes.items
         p.tail.places.items []) }
     ensures folder { IsTrue F.honest → IfOk result (λ p. IsSettledFolder (F.may_hold folder.new)
@@ -129,8 +135,7 @@ fn load<F: ReadableFolder>(alloc: Global, folder: &mut F) -> Result<Parts<F::Fil
     ensures kind { IfErr result IsOfOpenings }
 {
     laws::stores_are_apart();
-    let names = folder.names(alloc)?;
-    let numbers = numbers_in(alloc, &names)?;
+    let numbers = numbers_in(alloc, names)?;
     let segments = open_segments(alloc, folder, &numbers)?;
     let is_blank = segments.is_empty();
     let tail = load_tail(alloc, folder, is_blank)?;
@@ -138,10 +143,37 @@ fn load<F: ReadableFolder>(alloc: Global, folder: &mut F) -> Result<Parts<F::Fil
     Ok(parts)
 }
 
+// Puts on the disk what a look sees of a log's folder, reads it, and repairs its tail.
+fn load<F: ReadableFolder>(alloc: Global, folder: &mut F) -> Result<Parts<F::File>, LogError>
+    ensures settled { IfOk result (λ p. IsSettledTail p.sealed p.tail.first p.next p.tail.bytes.items
+        p.tail.places.items []) }
+    ensures folder { IsTrue F.honest → IfOk result (λ p. IsSettledFolder (F.may_hold folder.new)
+        (F.may_leave folder.new) (F.entry_kept folder.new) p.first p.sealed
+        (map (λ s. part_of s.first s.reader) p.segments.items) p.tail.bytes.items) }
+    ensures honest { IsTrue F.honest → IfOk result (λ p. All (λ s. IsTrue s.reader.file.honest) p.segments.items) }
+    ensures any_moment { IsTrue F.honest → LeavesOnly F.moment F.left_since folder.old folder.new
+        (IsOldOrSeen (F.may_leave folder.old) (F.seen folder.old)) }
+
+    // After an Ok each crash leaves the log that was seen.
+    ensures kept { IsTrue F.honest → OnOk result ((c : List ℕ → _) → F.may_leave folder.new c
+        → KeepsLog (F.seen folder.old) c) }
+    ensures no_log { IsTrue F.honest → IsErrOf result LogError.NoLog → IsNoLog (F.seen folder.old) }
+    ensures full { IsTrue F.honest → IsErrOf result LogError.Full → HasFullTail (F.seen folder.old) }
+    ensures failures { F.failures folder.old ≤ F.failures folder.new }
+    ensures failed { IsTrue F.honest → IsTrue F.is_readable → IsErrOf result LogError.Failed
+        → HasRisen (F.failures folder.old) (F.failures folder.new) ⊎ HasSegments (F.seen folder.old) }
+    ensures kind { IfErr result IsOfOpenings }
+{
+    let names = folder.names(alloc)?;
+    sync_found_files(folder, &names)?;
+    load_synced(alloc, folder, &names)
+}
+
 impl<F: ReadableFolder> SegmentedLog<F> {
     /// Opens the log of a folder, or makes a new one, whose first record has the number 0, in a folder that has no file
-    /// of a log. A torn end of the tail is cut off. A crash during it leaves the same log. A tail that grows past the
-    /// seal size, in bytes, is sealed by `sync`.
+    /// of a log. What it finds is put on the disk first, as the process that wrote it may have ended before its syncs;
+    /// then a torn end of the tail is cut off. A crash during it leaves the same log, or what it could leave before. A
+    /// tail that grows past the seal size, in bytes, is sealed by `sync`.
     ///
     /// With `Commit::OneSync` a sync appends to the tail. With `Commit::TwoSyncs` it replaces the tail by one that has
     /// the records too, so a crash leaves all of them or none, whatever their sum is; as it then writes the whole tail,
@@ -155,9 +187,6 @@ impl<F: ReadableFolder> SegmentedLog<F> {
         seal_size: usize,
         commit: Commit,
     ) -> Result<SegmentedLog<F>, (LogError, F)>
-        // After a restart, what a look sees is what is on the disk.
-        requires { IsTrue F.honest → IsRestarted (F.seen folder) (F.may_hold folder) (F.may_leave folder)
-            (F.entry_kept folder) }
         ensures works { IfOk result (λ log. log.is_broken ≡ false) }
         ensures commit { IfOk result (λ log. log.commit ≡ commit) }
         ensures seal_size { IfOk result (λ log. log.seal_size ≡ seal_size) }
@@ -169,11 +198,12 @@ impl<F: ReadableFolder> SegmentedLog<F> {
         ensures begun { IsTrue F.honest → IfOk result (λ log. IsBlank (F.seen folder)
             → (log.first ≡ 0) × (log.slots ≡ [])) }
 
-        // A crash at any moment leaves the same log; where there was none, none or the new one.
+        // A crash at any moment leaves what it could leave before, or the same log; where there was none, none or the
+        // new one. After an Ok it leaves the log.
         ensures any_moment { IsTrue F.honest → IfOk result (λ log. LeavesOnly F.moment F.left_since folder log.folder
-            (KeepsLog (F.seen folder))) }
+            (IsOldOrSeen (F.may_leave folder) (F.seen folder))) }
         ensures any_moment_err { IsTrue F.honest → IfErr result (λ e. LeavesOnly F.moment F.left_since folder e.1
-            (KeepsLog (F.seen folder))) }
+            (IsOldOrSeen (F.may_leave folder) (F.seen folder))) }
 
         // A log is not refused, nor a folder where one can begin. Where the folder is read, a call of it failed, or the
         // file of a segment.

@@ -5,7 +5,7 @@ ghost use Rattle.std.specs.Prelude.{OnOk, OnErr, IfOk, IfErr, IsErrOf, IsTrue};
 ghost use Rattle.store_folder.specs.Moments.{LeavesOnly};
 ghost use Rattle.store_format.specs.Block.{Slot};
 ghost use Rattle.segmented_log.specs.Log.{IsLog, IsBlank};
-ghost use Rattle.segmented_log.specs.Opening.{IsRestarted};
+ghost use Rattle.segmented_log.specs.Runs.{IsOldOrCalled};
 ghost use Rattle.record_log.specs.Causes.{IsOfOpenings};
 ghost use Rattle.segmented_log.specs.Runs.{pending_by, dropped_by, Drops, Makes, HasBeginning, KeepsAndAdds};
 ghost use Rattle.segmented_log.specs.Runs.{HasMadeFirst, IsOfCalls};
@@ -116,10 +116,6 @@ pub fn open_and_call<F: ReadableFolder>(
     commit: Commit,
     calls: &[Call],
 ) -> Result<SegmentedLog<F>, (LogError, F)>
-    // After a restart, what a look sees is what is on the disk.
-    requires { IsTrue F.honest → IsRestarted (F.seen folder) (F.may_hold folder) (F.may_leave folder)
-        (F.entry_kept folder) }
-
     ensures works { IfOk result (λ log. log.is_broken ≡ false) }
     ensures commit { IfOk result (λ log. log.commit ≡ commit) }
     ensures acknowledged { IsTrue F.honest → IfOk result (λ log. (first : ℕ) (kept : List Slot)
@@ -128,9 +124,9 @@ pub fn open_and_call<F: ReadableFolder>(
         → Makes calls.now [] 0 [] log.first log.slots) }
     ensures pending { IfOk result (λ log. log.pending ≡ pending_by [] calls.now) }
     ensures any_moment { IsTrue F.honest → IfOk result (λ log. LeavesOnly F.moment F.left_since folder log.folder
-        (KeepsAndAdds commit calls.now (F.seen folder))) }
+        (IsOldOrCalled commit calls.now (F.may_leave folder) (F.seen folder))) }
     ensures any_moment_err { IsTrue F.honest → IfErr result (λ e. LeavesOnly F.moment F.left_since folder e.1
-        (KeepsAndAdds commit calls.now (F.seen folder))) }
+        (IsOldOrCalled commit calls.now (F.may_leave folder) (F.seen folder))) }
     ensures kind { IfErr result (λ e. IsOfOpenings e.0 ⊎ IsOfCalls calls.now e.0) }
 {
     let mut log = match SegmentedLog::open(alloc, folder, seal_size, commit) {

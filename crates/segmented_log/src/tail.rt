@@ -10,7 +10,7 @@ ghost use Rattle.record_log.specs.Place.{contents, EndsBy};
 ghost use Rattle.record_log.specs.Tail.{records_of, first_of, IsTail, IsWholeTo};
 ghost use Rattle.segmented_log.specs.Names.{tail_name};
 ghost use Rattle.segmented_log.specs.Log.{KeepsLog};
-ghost use Rattle.segmented_log.specs.Opening.{IsRestarted, IsTailOf};
+ghost use Rattle.segmented_log.specs.Opening.{IsSynced, IsTailOf};
 ghost use Rattle.segmented_log.specs.Settled.{TailIsKept};
 ghost use Rattle.segmented_log.specs.Causes.{IsOfFiles};
 ghost use Rattle.record_log.specs.Causes.{IsFault};
@@ -36,7 +36,7 @@ pub(crate) fn repair_tail<F: Folder>(
     folder: &mut F,
     bytes: Vec<u8>,
 ) -> Result<Tail, LogError>
-    requires restarted { IsTrue F.honest → IsRestarted (F.seen folder.old) (F.may_hold folder.old)
+    requires synced { IsTrue F.honest → IsSynced (F.seen folder.old) (F.may_hold folder.old)
         (F.may_leave folder.old) (F.entry_kept folder.old) }
     requires file { IsTrue F.honest → F.seen folder.old tail_name ≡ Some bytes.items }
     ensures tail { IfOk result (λ t. IsTail t.bytes.items × IsWholeTo (length t.bytes.items) t.bytes.items
@@ -79,7 +79,7 @@ pub(crate) fn repair_tail<F: Folder>(
 
 /// The tail of a new log, which is put into a folder that has no log.
 pub(crate) fn begin_tail<F: Folder>(alloc: Global, folder: &mut F) -> Result<Tail, LogError>
-    requires restarted { IsTrue F.honest → IsRestarted (F.seen folder.old) (F.may_hold folder.old)
+    requires synced { IsTrue F.honest → IsSynced (F.seen folder.old) (F.may_hold folder.old)
         (F.may_leave folder.old) (F.entry_kept folder.old) }
     requires none { IsTrue F.honest → F.seen folder.old tail_name ≡ None }
     ensures tail { IfOk result (λ t. IsTail t.bytes.items × IsWholeTo (length t.bytes.items) t.bytes.items

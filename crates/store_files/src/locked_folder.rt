@@ -43,6 +43,21 @@ struct WrittenFile<F> {
     file: F,
 }
 
+impl<F: OpenFile + Write> WrittenFile<F> {
+    // Writes bytes at the end. What was written of them is cut off where a write fails: on a full device a torn end
+    // would take room, and the next opening of a log would need more, to write the whole tail without it.
+    fn write(&mut self, bytes: &[u8]) -> io::Result<()> {
+        let length = self.file.metadata()?.len();
+        match self.file.write_all(bytes) {
+            Ok(()) => Ok(()),
+            Err(error) => {
+                let _ = self.file.set_len(length);
+                Err(error)
+            }
+        }
+    }
+}
+
 // Refuses what is no name of a file in the folder, and the name of the lock.
 fn check_name(name: &str) -> io::Result<()> {
     if name.is_empty() || name == "." || name == ".." || name == LOCK || name.contains('/') {
@@ -167,7 +182,7 @@ where
     {
         self.open_to_append(name)?;
         match &mut self.written {
-            Some(written) => written.file.write_all(bytes),
+            Some(written) => written.write(bytes),
             None => Err(ErrorKind::NotFound.into()),
         }
     }

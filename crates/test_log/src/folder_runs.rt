@@ -1,7 +1,8 @@
-//! Lists of calls on logs in folders that crash, from restart to restart, beside a plain list.
+//! Lists of calls on logs in folders, by processes that crash or are killed, one after another, beside a plain list.
 
 use crate::crash::Dice;
 use crate::torn_drops::has_from;
+use crate::torn_kills::killed;
 use crate::torn_logs::{Log, SEAL_SIZE, crashed};
 use crate::watched::Watched;
 use segmented_log::{Call, Commit, call_all, open_and_call};
@@ -138,7 +139,16 @@ impl Run {
         Ok(true)
     }
 
-    // Opens what a crash leaves after some of these calls, and notes what there is of the records.
+    // The folder as it is once the process ends after this many calls: by a crash of the machine, or alone.
+    fn ended(&mut self, events: &[Event], count: usize) -> Result<Watched, Fail> {
+        match self.dice.roll(2) {
+            0 => crashed(self.alloc, events, count, &mut self.dice),
+            _ => Ok(killed(self.alloc, events, count)?),
+        }
+    }
+
+    // Opens what is left of some of these calls, and notes what there is of the records. Each crash while it is opened
+    // leaves them, or what it could leave before.
     fn restart(
         &mut self,
         events: &[Event],
@@ -146,17 +156,22 @@ impl Run {
         to: usize,
     ) -> Result<Option<Watched>, Fail> {
         let count = from.saturating_add(self.dice.roll(to.saturating_sub(from)));
-        let folder = crashed(self.alloc, events, count, &mut self.dice)?;
+        let folder = self.ended(events, count)?;
+        let start = folder.events().len();
         let mut log = called(self.alloc, folder, Commit::OneSync, &[])?;
-        let Some(found) = self.found(&mut log, 0) else {
+        let (first, found) = (log.first(), self.found(&mut log, 0));
+        let folder = log.into_folder();
+        let end = folder.events().len();
+        let survives = self.survive_all(folder.events(), start, end.saturating_add(1), 0)?;
+        let Some(found) = found else {
             return Ok(None);
         };
         self.records.truncate(found);
         self.ends.clear();
         self.ends.push(found)?;
-        self.first = log.first();
-        self.limit = self.first;
-        Ok(Some(log.into_folder()))
+        self.first = first;
+        self.limit = first;
+        Ok(if survives { Some(folder) } else { None })
     }
 
     // A process, of which every crash is played. The folder that one of them left, if each left what it may.
@@ -180,7 +195,7 @@ impl Run {
     }
 }
 
-// Runs processes, each on what a crash of the one before it left. How many crashes left some of the batches, and how
+// Runs processes, each on what the one before it left. How many crashes left some of the batches, and how
 // many a log without some of its first records.
 fn play(alloc: Global, seed: u64) -> Result<Option<(usize, usize)>, Fail> {
     let mut run = Run {
@@ -205,7 +220,7 @@ fn play(alloc: Global, seed: u64) -> Result<Option<(usize, usize)>, Fail> {
 }
 
 #[test]
-fn processes_that_crash_leave_whole_batches(rt: HostRuntime) -> Result<(), Fail> {
+fn processes_that_crash_or_are_killed_leave_whole_batches(rt: HostRuntime) -> Result<(), Fail> {
     for seed in 0..2 {
         let left = play(rt.alloc(), seed)?;
         assert!(rt;

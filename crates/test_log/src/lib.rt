@@ -20,6 +20,8 @@ mod torn_drops;
 #[cfg(test)]
 mod torn_files;
 #[cfg(test)]
+mod torn_kills;
+#[cfg(test)]
 mod torn_logs;
 #[cfg(test)]
 mod watched;

@@ -131,7 +131,8 @@ fn survives(
 // Whether just the segments before a number are removed, and each crash meanwhile leaves what it may.
 fn drops(alloc: Global, number: u64, dice: &mut Dice) -> Result<bool, Fail> {
     let (folder, plain) = filled(alloc)?;
-    let from = folder.events().len();
+    // After the calls of the opening: it syncs each segment, the tail and the folder.
+    let from = folder.events().len().saturating_add(SEGMENTS + 2);
     let mut log = opened(alloc, folder)?;
     done(log.drop_before(number))?;
     let count = plain.count_before(number);

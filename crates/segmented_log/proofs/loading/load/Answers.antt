@@ -1,114 +1,64 @@
-use Rattle.std.proofs.Common.{rules, ◌≡◌, inr, ◌<◌, [], length, ◌==◌, arith, map, refl, sym, ◌∙◌, ap, subst, string_bytes}
-use Rattle.std.specs.Prelude.{All, IsTrue, IsErrOf}
-use Rattle.std.specs.List.{Contains}
-use Rattle.std.proofs.lemmas.List.{length-map}
-use Rattle.std.proofs.lemmas.List.Elements.{All-map, recursion_from_All}
-use Rattle.store_folder.proofs.Steps.{started}
-use Rattle.segmented_log.specs.Parts.{part_of}
-use Rattle.segmented_log.specs.Log.{HasSegment}
-use Rattle.segmented_log.specs.Opening.{AreNumbersIn}
-use Rattle.segmented_log.specs.Settled.{TailIsKept}
-use Rattle.record_log.specs.declared.error.LogError.TheVariants.{Failed, Full, NoLog}
-use Rattle.segmented_log.proofs.OpeningLemmas.{keeps_same}
-use Rattle.segmented_log.proofs.LoadLemmas.{loaded_outcomes, firsts_of}
-use Rattle.segmented_log.proofs.NoLogLemmas.{no_store, some_segment, no_tail, not_in_line, full_tail}
+use Rattle.std.proofs.Common.{◌≡◌, inl, inr, map, string_bytes, sym, subst}
+use Rattle.std.specs.Prelude.{IsTrue}
+use Rattle.store_folder.specs.Folder.{AreNames}
+use Rattle.store_folder.specs.Moments.{LeavesOnly}
+use Rattle.store_folder.proofs.Steps.{started, weaker, joined}
+use Rattle.segmented_log.specs.Log.{KeepsLog}
+use Rattle.segmented_log.specs.Opening.{IsOldOrSeen, IsNoLog, HasFullTail}
+use Rattle.segmented_log.proofs.FoundLemmas.{one_look, always_ok}
+use Rattle.segmented_log.proofs.loading.load.Goals.{After-load_synced}
 use Rattle.segmented_log.proofs.loading.load.Goals as goal
+
+-- what a look sees stays while the files are synced
+same_look : (g : _) (c : After-load_synced g) → IsTrue g.F.Folder.honest → g.F.Folder.seen c.sync_found_files.new.folder ≡ g.F.Folder.seen c.args.folder.now
+same_look g c h = one_look _ _ (c.in_ok-sync_found_files.ensures.seen h)
+
+-- what a crash leaves once they are synced
+seen_log : (g : _) (c : After-load_synced g) → IsTrue g.F.Folder.honest
+    → LeavesOnly g.F.Folder.moment g.F.Folder.left_since c.sync_found_files.new.folder c.load_synced.new.folder (KeepsLog (g.F.Folder.seen c.args.folder.now))
+seen_log g c h =
+    let F = g.F.Folder in
+    subst (λ l. LeavesOnly F.moment F.left_since c.sync_found_files.new.folder c.load_synced.new.folder (KeepsLog l)) (same_look g c h) (c.load_synced.ensures.any_moment h)
 
 pub returns-in_err-names-clause-any_moment : goal.returns-in_err-names-clause-any_moment
 returns-in_err-names-clause-any_moment g c = λ h.
     let F = g.F.Folder in
     let old = c.args.folder.now in
-    started F.moment F.left_since old _ (λ l left. keeps_same (F.seen old) l ((c.requires h).outcomes l (g.met.F.Folder.only_now old l left)))
+    started F.moment F.left_since old _ (λ l left. inl (g.met.F.Folder.only_now old l left))
 
-pub returns-in_err-numbers-clause-any_moment : goal.returns-in_err-numbers-clause-any_moment
-returns-in_err-numbers-clause-any_moment g c = λ h.
+pub returns-in_err-sync_found_files-clause-any_moment : goal.returns-in_err-sync_found_files-clause-any_moment
+returns-in_err-sync_found_files-clause-any_moment g c = λ h.
+    let F = g.F.Folder in
+    weaker F.moment F.left_since c.args.folder.now c.sync_found_files.new.folder _ _ (λ l left. inl left) (c.sync_found_files.ensures.any_moment h)
+
+pub load_synced-requires-clause-names : goal.load_synced-requires-clause-names
+load_synced-requires-clause-names g c = λ h.
+    subst (λ l. AreNames l (map string_bytes c.deref-2.result.now)) (sym (one_look _ _ (c.in_ok-sync_found_files.ensures.seen h)))
+    (subst (λ l. AreNames (g.F.Folder.seen c.args.folder.now) (map string_bytes l)) (sym c.deref-2.ensures.value) (c.in_ok-names.ensures.names h))
+
+pub returns-clause-any_moment : goal.returns-clause-any_moment
+returns-clause-any_moment g c = λ h.
     let F = g.F.Folder in
     let old = c.args.folder.now in
-    started F.moment F.left_since old _ (λ l left. keeps_same (F.seen old) l ((c.requires h).outcomes l (g.met.F.Folder.only_now old l left)))
+    let mid = c.sync_found_files.new.folder in
+    let new = c.load_synced.new.folder in
+    let P = IsOldOrSeen (F.may_leave old) (F.seen old) in
+    joined F.moment F.left_since old mid new P
+    (weaker F.moment F.left_since old mid _ _ (λ l left. inl left) (c.sync_found_files.ensures.any_moment h))
+    (weaker F.moment F.left_since mid new _ _ (λ l keeps. inr keeps) (seen_log g (goal.at.returns-clause-any_moment g c).After-load_synced h))
 
-pub returns-in_err-segments-clause-any_moment : goal.returns-in_err-segments-clause-any_moment
-returns-in_err-segments-clause-any_moment g c = λ h.
+pub returns-clause-kept : goal.returns-clause-kept
+returns-clause-kept g c = λ h.
     let F = g.F.Folder in
-    let old = c.args.folder.now in
-    started F.moment F.left_since old _ (λ l left. keeps_same (F.seen old) l ((c.requires h).outcomes l (g.met.F.Folder.only_now old l left)))
+    let mid = c.sync_found_files.new.folder in
+    let new = c.load_synced.new.folder in
+    let run = seen_log g (goal.at.returns-clause-kept g c).After-load_synced h in
+    always_ok c.load_synced.result (λ l left. run.each l (g.met.F.Folder.counts_now new (F.moment mid) l run.later left))
 
-pub returns-clause-folder : goal.returns-clause-folder
-returns-clause-folder g c = λ h.
-    let F = g.F.Folder in
-    let old = c.args.folder.now in
-    let new = c.load_tail.new.folder in
-    let p = c.in_ok-parts.parts in
-    let numbers = c.in_ok-numbers.numbers.items in
-    let names = map string_bytes c.in_ok-names.names.items in
-    let numbered = subst (λ l. AreNumbersIn (map string_bytes l) numbers) c.deref.ensures.value c.in_ok-numbers.ensures.numbers in
-    let firsts_are = firsts_of (λ x. part_of x.first x.reader) (λ x. x.first) (λ x. refl) p.segments.items
-    ∙ ap (λ v. map (λ x. x.first) v.items) c.in_ok-parts.ensures.segments ∙ c.in_ok-segments.ensures.numbers ∙ c.deref-2.ensures.value in
-    let each = recursion_from_All (HasSegment (F.seen old)) (map (λ x. part_of x.first x.reader) p.segments.items)
-    (All-map (HasSegment (F.seen old)) (λ x. part_of x.first x.reader) p.segments.items
-    (subst (λ v. All (λ x. HasSegment (F.seen old) (part_of x.first x.reader)) v.items) (sym c.in_ok-parts.ensures.segments) (c.in_ok-segments.ensures.found h))) in
-    let kept = subst (λ t. TailIsKept (F.may_hold new) (F.may_leave new) (F.entry_kept new) t.bytes.items) (sym c.in_ok-parts.ensures.tail) (c.in_ok-tail.ensures.kept h) in
-    record {
-      parts = c.in_ok-parts.ensures.parts;
-      sealed_is = c.in_ok-parts.ensures.sealed;
-      on_disk = record {
-        outcomes = loaded_outcomes (F.seen old) names numbers (c.in_ok-names.ensures.names h) numbered (map (λ x. part_of x.first x.reader) p.segments.items) firsts_are p.tail.bytes.items
-            (F.may_leave old) (F.may_leave new)
-            (c.requires h).outcomes each (c.load_tail.ensures.crash h) kept.outcomes;
-        tail_kept = kept;
-      };
-    }
+pub returns-clause-no_log : goal.returns-clause-no_log
+returns-clause-no_log g c = λ h is.
+    subst IsNoLog (same_look g (goal.at.returns-clause-no_log g c).After-load_synced h) (c.load_synced.ensures.no_log h is)
 
-pub returns-clause-honest : goal.returns-clause-honest
-returns-clause-honest g c = λ h.
-    subst (λ v. All (λ x. IsTrue x.reader.file.honest) v.items) (sym c.in_ok-parts.ensures.segments) (c.in_ok-segments.ensures.honest h)
-
-pub returns-in_err-segments-clause-no_log : goal.returns-in_err-segments-clause-no_log
-returns-in_err-segments-clause-no_log g c = λ h is.
-    let seen = g.F.Folder.seen c.args.folder.now in
-    let numbers = c.in_ok-numbers.numbers.items in
-    let numbered = subst (λ l. AreNumbersIn (map string_bytes l) numbers) c.deref.ensures.value c.in_ok-numbers.ensures.numbers in
-    let failed : IsErrOf c.open_segments.result NoLog = search rules in
-    let bad = c.open_segments.ensures.no_log h failed in
-    no_store seen (map string_bytes c.in_ok-names.names.items) numbers (c.in_ok-names.ensures.names h) numbered bad.0 (subst (λ l. Contains l bad.0) c.deref-2.ensures.value bad.1) bad.2
-
-pub returns-in_err-segments-clause-failed : goal.returns-in_err-segments-clause-failed
-returns-in_err-segments-clause-failed g c = λ h readable is.
-    let seen = g.F.Folder.seen c.args.folder.now in
-    let numbers = c.in_ok-numbers.numbers.items in
-    let numbered = subst (λ l. AreNumbersIn (map string_bytes l) numbers) c.deref.ensures.value c.in_ok-numbers.ensures.numbers in
-    let failed : IsErrOf c.open_segments.result Failed = search rules in
-    inr (some_segment seen (map string_bytes c.in_ok-names.names.items) numbers (c.in_ok-names.ensures.names h) numbered
-    (subst (λ l. 0 < length l) c.deref-2.ensures.value (c.open_segments.ensures.failed failed)))
-
-pub returns-in_err-tail-clause-no_log : goal.returns-in_err-tail-clause-no_log
-returns-in_err-tail-clause-no_log g c = λ h is.
-    let seen = g.F.Folder.seen c.args.folder.now in
-    let numbers = c.in_ok-numbers.numbers.items in
-    let segments = c.in_ok-segments.segments in
-    let parts = map (λ x. part_of x.first x.reader) segments.items in
-    let numbered = subst (λ l. AreNumbersIn (map string_bytes l) numbers) c.deref.ensures.value c.in_ok-numbers.ensures.numbers in
-    let firsts_are = firsts_of (λ x. part_of x.first x.reader) (λ x. x.first) (λ x. refl) segments.items ∙ c.in_ok-segments.ensures.numbers ∙ c.deref-2.ensures.value in
-    let each = recursion_from_All (HasSegment seen) parts (All-map (HasSegment seen) (λ x. part_of x.first x.reader) segments.items (c.in_ok-segments.ensures.found h)) in
-    let failed : IsErrOf c.load_tail.result NoLog = search rules in
-    let none : parts ≡ [] → segments.len ≡ 0 = λ no. omega (arith, segments.ok.0, ap length no, length-map segments.items (λ x. part_of x.first x.reader)) in
-    no_tail seen (map string_bytes c.in_ok-names.names.items) numbers (c.in_ok-names.ensures.names h) numbered parts firsts_are each c.is_empty-is_blank.result
-    (λ no. c.is_empty-is_blank.ensures ∙ ap (λ n. n == 0) (none no)) (c.load_tail.ensures.no_log h failed)
-
-pub returns-in_err-parts-clause-no_log : goal.returns-in_err-parts-clause-no_log
-returns-in_err-parts-clause-no_log g c = λ h is.
-    let seen = g.F.Folder.seen c.args.folder.now in
-    let numbers = c.in_ok-numbers.numbers.items in
-    let segments = c.in_ok-segments.segments in
-    let tail = c.in_ok-tail.tail in
-    let parts = map (λ x. part_of x.first x.reader) segments.items in
-    let numbered = subst (λ l. AreNumbersIn (map string_bytes l) numbers) c.deref.ensures.value c.in_ok-numbers.ensures.numbers in
-    let firsts_are = firsts_of (λ x. part_of x.first x.reader) (λ x. x.first) (λ x. refl) segments.items ∙ c.in_ok-segments.ensures.numbers ∙ c.deref-2.ensures.value in
-    let each = recursion_from_All (HasSegment seen) parts (All-map (HasSegment seen) (λ x. part_of x.first x.reader) segments.items (c.in_ok-segments.ensures.found h)) in
-    let failed : IsErrOf c.assemble.result NoLog = search rules in
-    not_in_line seen (map string_bytes c.in_ok-names.names.items) numbers (c.in_ok-names.ensures.names h) numbered parts firsts_are each c.stores_are_apart.ensures
-    c.in_ok-numbers.ensures.ascend tail.bytes.items c.in_ok-tail.ensures.tail.0 (c.in_ok-tail.ensures.same h) (c.assemble.ensures.no_log failed)
-
-pub returns-in_err-parts-clause-full : goal.returns-in_err-parts-clause-full
-returns-in_err-parts-clause-full g c = λ h is.
-    let failed : IsErrOf c.assemble.result Full = search rules in
-    full_tail (g.F.Folder.seen c.args.folder.now) c.in_ok-tail.tail.bytes.items (c.in_ok-tail.ensures.same h) (c.assemble.ensures.full failed)
+pub returns-clause-full : goal.returns-clause-full
+returns-clause-full g c = λ h is.
+    subst HasFullTail (same_look g (goal.at.returns-clause-full g c).After-load_synced h) (c.load_synced.ensures.full h is)

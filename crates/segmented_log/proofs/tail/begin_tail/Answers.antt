@@ -20,7 +20,7 @@ begun_log g c new h replacing =
     let old = c.args.folder.now in
     let made = c.in_ok-bytes.ensures in
     weaker F.moment F.left_since old new _ _
-    (λ l o. keeps_begun (F.seen old) (F.may_leave old) (c.requires.restarted h).outcomes c.in_ok-bytes.bytes.items (c.requires.none h) made.0 made.1 (ap (λ b. flat_map records_in b) made.2) l
+    (λ l o. keeps_begun (F.seen old) (F.may_leave old) (c.requires.synced h).outcomes c.in_ok-bytes.bytes.items (c.requires.none h) made.0 made.1 (ap (λ b. flat_map records_in b) made.2) l
     (subst (λ b. IsOldOrWhole (F.may_leave old) (tail_name ++ part) tail_name (Some b) l) c.deref.ensures.value o)) replacing
 
 pub returns-in_err-replace_tail-clause-any_moment : goal.returns-in_err-replace_tail-clause-any_moment

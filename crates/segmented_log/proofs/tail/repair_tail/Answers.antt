@@ -18,7 +18,7 @@ untouched : (g : _) (c : In-Some g) → IsTrue g.F.Folder.honest
 untouched g c h =
     let F = g.F.Folder in
     let old = c.args.folder.now in
-    started F.moment F.left_since old _ (λ l left. keeps_same (F.seen old) l ((c.requires.restarted h).outcomes l (g.met.F.Folder.only_now old l left)))
+    started F.moment F.left_since old _ (λ l left. keeps_same (F.seen old) l ((c.requires.synced h).outcomes l (g.met.F.Folder.only_now old l left)))
 
 pub returns-in_err-found-clause-any_moment : goal.returns-in_err-found-clause-any_moment
 returns-in_err-found-clause-any_moment g c = λ h. untouched g (goal.at.returns-in_err-found-clause-any_moment g c).In-Some h
@@ -52,7 +52,7 @@ same_log g c new h replacing =
     let file = c.in_ok-whole.whole.items in
     let end = c.in_ok-found.found.end in
     weaker F.moment F.left_since old new _ _
-    (λ l o. keeps_replaced (F.seen old) (F.may_leave old) (c.requires.restarted h).outcomes bytes file (c.requires.file h) (was_tail g c)
+    (λ l o. keeps_replaced (F.seen old) (F.may_leave old) (c.requires.synced h).outcomes bytes file (c.requires.file h) (was_tail g c)
     (front_tail bytes file end (whole_is g c) (file_is g c) (was_tail g c))
     (front_first bytes file end (whole_is g c) (file_is g c)) (front_records bytes file end (whole_is g c) (file_is g c)) l
     (subst (λ b. IsOldOrWhole (F.may_leave old) (tail_name ++ part) tail_name (Some b) l) c.deref-4.ensures.value o)) replacing

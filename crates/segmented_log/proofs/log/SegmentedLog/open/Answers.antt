@@ -10,10 +10,8 @@ use Rattle.segmented_log.proofs.log.SegmentedLog.open.Goals as goal
 -- the log that is seen after the opening is the one that was seen before it
 kept_log : (g : _) (c : In-Ok g) → IsTrue g.F.Folder.honest → KeepsLog (g.F.Folder.seen c.args.folder) (g.F.Folder.seen c.load.new.folder)
 kept_log g c h =
-    let F = g.F.Folder in
     let new = c.load.new.folder in
-    let run = c.load.ensures.any_moment h in
-    run.each (F.seen new) (g.met.F.Folder.counts_now new (F.moment c.args.folder) (F.seen new) run.later (g.met.F.Folder.seen_may_be_left new h))
+    c.in-Ok.ensures.kept h (g.F.Folder.seen new) (g.met.F.Folder.seen_may_be_left new h)
 
 -- the tail in memory is the one that was read
 in_memory : (g : _) (c : After-new g) → log_slots c.in-Ok.parts.first (map (λ s. part_of s.first s.reader) c.in-Ok.parts.segments.items) c.new.result.bytes
