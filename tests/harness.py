@@ -45,6 +45,22 @@ LIBRARY = Built(
 BUILT = (PROGRAM, STORETOOL, LIBRARY)
 
 
+class Libraries:
+    """The libraries that `rt ci` proves, each in `out/rlib` of its crate."""
+
+    name = "libraries"
+
+    def lack(self) -> str:
+        """What is wrong if there are none of those that some crate with wrong bodies needs; nothing if there are."""
+        from planted.crates import planted
+
+        lacks = [crate.lack() for crate in planted()]
+        return "" if any(not lack for lack in lacks) else lacks[0]
+
+
+NEEDED = (*BUILT, Libraries())
+
+
 def numbers(last: int, first: int = 1) -> bytes:
     """The numbers from the first to the last, a line for each."""
     return b"".join(b"%d\n" % number for number in range(first, last + 1))

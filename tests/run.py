@@ -15,12 +15,12 @@ import sys
 import unittest
 from pathlib import Path
 
-from harness import BUILT
+from harness import BUILT, NEEDED
 
 TESTS = Path(__file__).resolve().parent
 SUITES = (
-    "documents", "scripts", "program", "files", "replay", "pages", "vectors", "lists", "sessions",
-    "library", "packages", "answers",
+    "documents", "scripts", "planted", "program", "files", "replay", "pages", "vectors", "lists",
+    "sessions", "library", "packages", "answers",
 )
 
 
@@ -57,7 +57,7 @@ class Result(unittest.TextTestResult):
 def missing(suite: str) -> str:
     """What a suite needs and isn't built; nothing if all of it is."""
     needs = importlib.import_module(suite).NEEDS
-    return "; ".join(filter(None, (thing.lack() for thing in BUILT if thing.name in needs)))
+    return "; ".join(filter(None, (thing.lack() for thing in NEEDED if thing.name in needs)))
 
 
 def chosen(names: list[str]) -> list[str]:

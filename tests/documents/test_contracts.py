@@ -11,6 +11,10 @@ from documents.case import Rules
 from documents.contracts import Group, Promise
 from documents.pages import at, text_of
 from harness import TOP
+from planted.bodies import body
+
+# The folders of a crate that have wrong bodies.
+BODIES = ("must-fail", "planted")
 
 
 def has_one(text: str, clauses: list[str]) -> bool:
@@ -65,11 +69,16 @@ def label_faults(page: Path) -> Iterator[str]:
     yield from (f"nothing uses [{label}]" for label in sorted(set(files) - used))
     for label, path in files.items():
         crate, _, rest = label.rpartition("/") if path.endswith(".edit") else label.partition("/")
-        wanted = f"crates/{crate or '*'}/" + (f"must-fail/{rest}.edit" if path.endswith(".edit") else f"src/{rest}")
-        if not Path(path).match(wanted):
+        kinds = [f"{folder}/{rest}.edit" for folder in BODIES] if path.endswith(".edit") else [f"src/{rest}"]
+        if not any(Path(path).match(f"crates/{crate or '*'}/{wanted}") for wanted in kinds):
             yield f"[{label}] leads to {path}"
         if not (page.parent / path).is_file():
             yield f"no file {path}"
+
+
+def wrong_bodies() -> list[Path]:
+    """The files of all wrong bodies."""
+    return [path for folder in BODIES for path in (TOP / "crates").glob(f"*/{folder}/*.edit")]
 
 
 class Contracts(Rules):
@@ -84,10 +93,15 @@ class Contracts(Rules):
         self.assert_no_faults(at(page, 1, fault) for page, fault in faults)
 
     def test_each_wrong_body_belongs_to_a_promise(self):
-        edits = {str(path.relative_to(TOP)) for path in (TOP / "crates").glob("*/must-fail/*.edit")}
+        edits = {str(path.relative_to(TOP)) for path in wrong_bodies()}
         named = {path[len("../../"):] for page in contracts.pages() for path in contracts.definitions(page).values()}
         self.assertEqual(sorted(edits - named), [])
         self.assert_looked_at(len(edits), 100, "edits")
+
+    def test_each_wrong_body_changes_one_function(self):
+        for path in wrong_bodies():
+            with self.subTest(f"{path.parent.parent.name}/{path.stem}"):
+                body(path)
 
     def test_the_index_names_each_page_and_no_page_is_long(self):
         index = text_of(TOP / "docs/CONTRACTS.md")
