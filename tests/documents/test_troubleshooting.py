@@ -13,7 +13,7 @@ ERRORS = TOP / "crates/store_base/src/error.rt"
 # The files whose attributes have the texts of errors, and those that write texts of errors and faults.
 DECLARED = (
     "store_commands/src/request_error.rt", "store_files/src/create_error.rt", "document_framing/src/fault.rt",
-    "record_log/src/error.rt",
+    "segmented_log/src/error.rt",
 )
 WRITTEN = {
     "zevkhadun/src/failure.rt": r'(?:write!\(\s*f,\s+|f\.write_str\()"([^"]+)"',

@@ -83,7 +83,7 @@ class TrustedBase(Rules):
     def test_it_takes_the_checks_of_all_crates_of_the_theorems(self):
         crates = [theorem.crate for theorem in tool.THEOREMS]
         self.assertEqual(len(set(crates)), len(crates))
-        for crate in ("main_theorem", "store_published", "record_log"):
+        for crate in ("main_theorem", "store_published", "segmented_log"):
             self.assertIn(crate, crates)
         done = printed_of(dict.fromkeys(crates, PRINTED_OF_NONE))
         self.assertEqual(done.returncode, 0, done.stderr)

@@ -3,13 +3,12 @@ use Rattle.std.proofs.Common.{◌≡◌, inl, inr, ⊎_elim, ◌⊎◌, ℕ, ◌
 use Rattle.std.proofs.lemmas.List.{append-nil}
 use Rattle.store_folder.specs.Folder.{Look}
 use Rattle.store_format.specs.Block.{Slot, doc}
-use Rattle.record_log.specs.declared.tail.Commit.{Commit}
-use Rattle.record_log.specs.declared.error.LogError.{LogError}
-use Rattle.record_log.specs.declared.error.LogError.TheVariants.{Memory, Failed, Full, BatchFull, TooLong, Broken, NoLog, Damaged}
+use Rattle.segmented_log.specs.declared.commit.Commit.{Commit}
+use Rattle.segmented_log.specs.declared.error.LogError.{LogError}
+use Rattle.segmented_log.specs.declared.error.LogError.TheVariants.{Memory, Failed, Full, BatchFull, TooLong, Broken, NoLog, Damaged}
 use Rattle.segmented_log.specs.declared.runs.Call.{Call}
 use Rattle.segmented_log.specs.declared.runs.Call.TheVariants.{Sync, Compact, DropBefore}
-use Rattle.record_log.specs.Causes.{IsFault, IsOfSyncs}
-use Rattle.segmented_log.specs.Causes.{IsOfJoins}
+use Rattle.segmented_log.specs.Causes.{IsFault, IsOfSyncs, IsOfJoins}
 use Rattle.segmented_log.specs.Dropping.{IsRest, DropsTo}
 use Rattle.segmented_log.specs.Log.{KeepsOrAdds}
 use Rattle.segmented_log.specs.Runs.{batches_by, slots_of, dropped_by, Makes, HasBeginning, IsOfCalls}

@@ -4,13 +4,12 @@ use Rattle.std.specs.List.{AllByRecursion, Contains}
 use Rattle.std.specs.Prelude.{Result, Ok, Err, IfErr, IsErrOf}
 use Rattle.std.specs.Result.{IsErrAnd}
 use Rattle.store_folder.specs.Folder.{Look}
-use Rattle.record_log.specs.declared.error.LogError.{LogError}
-use Rattle.record_log.specs.declared.error.LogError.TheVariants.{Memory, Failed, Full, Broken}
+use Rattle.segmented_log.specs.declared.error.LogError.{LogError}
+use Rattle.segmented_log.specs.declared.error.LogError.TheVariants.{Memory, Failed, Full, Broken}
 use Rattle.segmented_log.specs.Names.{segment_name}
 use Rattle.segmented_log.specs.Parts.{Part, end_from, AreParts}
 use Rattle.segmented_log.specs.Log.{Holds}
-use Rattle.segmented_log.specs.Causes.{IsOfSeals}
-use Rattle.record_log.specs.Causes.{IsFault}
+use Rattle.segmented_log.specs.Causes.{IsOfSeals, IsFault}
 use Rattle.segmented_log.proofs.HoldLemmas.{firsts}
 use Rattle.segmented_log.proofs.PartLemmas.{begin_before}
 use Rattle.segmented_log.proofs.UniqueLemmas.{among_cons}

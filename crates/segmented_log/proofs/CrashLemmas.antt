@@ -3,13 +3,12 @@ use Rattle.std.proofs.Common.{◌≡◌, ◌⊎◌, ◌≤◌, inl, inr, ⊎_eli
 use Rattle.std.proofs.lemmas.List.{append-nil, map-append}
 use Rattle.store_folder.specs.Folder.{Look}
 use Rattle.store_format.specs.Block.{Slot, doc}
-use Rattle.record_log.specs.declared.tail.Commit.TheVariants.{TwoSyncs}
-use Rattle.record_log.specs.Runs.{joined}
-use Rattle.record_log.specs.Tail.{records_from}
+use Rattle.segmented_log.specs.declared.commit.Commit.TheVariants.{TwoSyncs}
+use Rattle.segmented_log.specs.Runs.{joined, batches_by, pending_by, slots_of, dropped_by, Makes}
+use Rattle.log_tail.specs.Tail.{records_from}
 use Rattle.segmented_log.specs.declared.runs.Call.{Call}
 use Rattle.segmented_log.specs.Log.{IsLog, IsBlank}
 use Rattle.segmented_log.specs.Dropping.{IsRest, DropsTo}
-use Rattle.segmented_log.specs.Runs.{batches_by, pending_by, slots_of, dropped_by, Makes}
 use Rattle.segmented_log.specs.Laws.{Process, IsLeftOf, IsLeftBy, MayBeLeft, IsLeftByAll, MayFollow, HaveAllOf, slots_by, dropped_in}
 use Rattle.segmented_log.specs.Laws.{OpeningsAreOfProcesses, CallsAreOfProcesses, RestartsAreEnds, EndsLoseNothing, EndsLoseNothingOfNewLogs}
 use Rattle.segmented_log.proofs.DropLemmas.{drops_none}

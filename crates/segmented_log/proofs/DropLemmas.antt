@@ -8,7 +8,7 @@ use Rattle.store_folder.specs.Moments.{ComesFrom}
 use Rattle.store_folder.specs.Folder.{Look, Elsewhere, FilesElsewhere, LosesFile, LeadsTo}
 use Rattle.store_folder.proofs.NamesLemmas.{decided}
 use Rattle.store_format.specs.Block.{Slot}
-use Rattle.record_log.specs.Tail.{first_of}
+use Rattle.log_tail.specs.Tail.{first_of}
 use Rattle.segmented_log.specs.Names.{segment_name, tail_name}
 use Rattle.segmented_log.specs.Parts.{Part, end_of, tail_slots, first_in, end_from, joined, AreInLine, Ascend, log_slots, AreParts}
 use Rattle.segmented_log.specs.Log.{HasSegment, Holds, IsLog}

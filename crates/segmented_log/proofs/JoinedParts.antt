@@ -2,7 +2,7 @@
 use Rattle.std.proofs.Common.{◌≡◌, ℕ, zero, suc, ◌+◌, ◌-◌, ◌≤◌, max, List, [], ◌∷◌, ◌++◌, length, drop, refl, sym, ◌∙◌, ap, subst, arith, length-append, append_assoc}
 use Rattle.std.proofs.lemmas.List.{drop_all}
 use Rattle.store_format.specs.Block.{Slot}
-use Rattle.record_log.specs.Tail.{first_of}
+use Rattle.log_tail.specs.Tail.{first_of}
 use Rattle.segmented_log.specs.Parts.{Part, end_of, tail_slots, first_in, end_from, joined, AreInLine, Ascend, log_slots, AreParts}
 use Rattle.segmented_log.specs.Compacting.{slots_in, AreNext}
 

@@ -9,7 +9,7 @@ use Rattle.std.proofs.lemmas.Map.Keys.{sorted_tail, below_from_sorted, sorted_fr
 use Rattle.store_folder.specs.Folder.{Look, AreNames}
 use Rattle.store_format.specs.Block.{Slot}
 use Rattle.store_format.specs.Laws.{StoresAreApart}
-use Rattle.record_log.specs.Tail.{records_of, IsTail}
+use Rattle.log_tail.specs.Tail.{records_of, IsTail}
 use Rattle.segmented_log.specs.Names.{segment_name, tail_name}
 use Rattle.segmented_log.specs.Parts.{Part, tail_end, end_from, Ascend, AreParts}
 use Rattle.segmented_log.specs.Log.{HasSegment, IsLog, IsBlank}

@@ -5,7 +5,7 @@ use Rattle.std.proofs.lemmas.List.{append-nil, drop_all}
 use Rattle.store_folder.specs.Folder.{Look}
 use Rattle.store_folder.specs.Publishing.{part, IsOldOrWhole}
 use Rattle.store_format.specs.Block.{Slot, doc}
-use Rattle.record_log.specs.Tail.{records_of, first_of, IsTail}
+use Rattle.log_tail.specs.Tail.{records_of, first_of, IsTail}
 use Rattle.segmented_log.specs.Names.{segment_name, tail_name}
 use Rattle.segmented_log.specs.Parts.{Part, first_in, end_from, tail_end, log_slots, AreInLine, Ascend, AreParts}
 use Rattle.segmented_log.specs.Log.{IsLog, IsBlank, KeepsLog}

@@ -3,7 +3,7 @@ use Rattle.std.proofs.Common.{◌≡◌, ℕ, ◌+◌, ◌-◌, ◌^◌, ◌<◌
 use Rattle.std.proofs.lemmas.List.{append-nil, drop-append-le, drop_all, length-map, map-append}
 use Rattle.std.specs.List.{AllByRecursion}
 use Rattle.store_format.specs.Block.{Slot, doc}
-use Rattle.record_log.specs.Tail.{records_of, first_of, IsTail}
+use Rattle.log_tail.specs.Tail.{records_of, first_of, IsTail}
 use Rattle.segmented_log.specs.Parts.{Part, end_of, tail_slots, tail_end, first_in, end_from, joined, AreInLine, Ascend, log_slots, AreParts}
 
 pub joined-push : (n : ℕ) (parts : List Part) (part : Part) → joined n (parts ++ part ∷ []) ≡ joined n parts ++ drop (end_from n parts - part.first) part.slots

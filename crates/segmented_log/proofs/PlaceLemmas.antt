@@ -3,12 +3,12 @@ use Rattle.std.proofs.Common.{◌≡◌, ◌<◌, ◌^◌, ℕ, ◌+◌, ◌-◌
 use Rattle.std.proofs.lemmas.List.{take-take, take_at, take_all, drop_at, drop-drop, drop-take, map-append}
 use Rattle.std.proofs.lemmas.List.Elements.{All-nil, All-head, All-tail, All-push, All-append, All-map, All-weaker}
 use Rattle.std.specs.Prelude.{slice_range, All}
-use Rattle.record_log.specs.declared.batches.Place.{Place}
-use Rattle.record_log.specs.Place.{content, contents, EndsBy, AddsRecords}
-use Rattle.record_log.specs.Tail.{framed, four, records_in}
-use Rattle.record_log.proofs.Frames.{length-four}
-use Rattle.record_log.proofs.Logs.{contents_same, nothing_whole, one_more}
-use Rattle.record_log.proofs.Scans.{ends_later}
+use Rattle.log_tail.specs.declared.batches.Place.{Place}
+use Rattle.log_tail.specs.Place.{content, contents, EndsBy, AddsRecords}
+use Rattle.log_tail.specs.Tail.{framed, four, records_in}
+use Rattle.log_tail.proofs.Frames.{length-four}
+use Rattle.log_tail.proofs.Logs.{contents_same, nothing_whole, one_more}
+use Rattle.log_tail.proofs.Scans.{ends_later}
 use Rattle.segmented_log.specs.TailBuffer.{ArePlacesIn, moved}
 
 pub none_placed : (body : List ℕ) (places : List Place) → body ≡ [] → places ≡ [] → ArePlacesIn body places

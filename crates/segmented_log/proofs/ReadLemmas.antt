@@ -10,10 +10,10 @@ use Rattle.std.specs.List.{sum_by}
 use Rattle.std.proofs.lemmas.Option.{slice_get-map, slice_get_past, slice_get-get_or}
 use Rattle.std.proofs.lemmas.Bool.{cond-true, cond-false}
 use Rattle.store_base.specs.Counts.{HasRisen}
-use Rattle.record_log.proofs.Frames.{fits_le, short_le}
-use Rattle.record_log.specs.declared.batches.Place.{Place}
-use Rattle.record_log.specs.Place.{content, contents}
-use Rattle.record_log.specs.Tail.{records_of, first_of}
+use Rattle.log_tail.proofs.Frames.{fits_le, short_le}
+use Rattle.log_tail.specs.declared.batches.Place.{Place}
+use Rattle.log_tail.specs.Place.{content, contents}
+use Rattle.log_tail.specs.Tail.{records_of, first_of}
 use Rattle.store_format.specs.Block.{Slot, doc}
 use Rattle.segmented_log.specs.Parts.{Part, end_of, tail_slots, tail_end, end_from, joined, AreInLine, log_slots, AreParts}
 use Rattle.segmented_log.specs.Log.{slot_at}

@@ -8,17 +8,13 @@ use Rattle.std.proofs.lemmas.List.Concat.{flat_map-append}
 use Rattle.std.proofs.lemmas.List.Elements.{Contains-append_right}
 use Rattle.store_folder.specs.Folder.{Look}
 use Rattle.store_format.specs.Block.{Slot, doc}
-use Rattle.record_log.specs.declared.runs.Call.{Call as Write}
-use Rattle.record_log.specs.declared.runs.Call.TheVariants.{Append as AppendOf, Sync as SyncOf}
-use Rattle.record_log.specs.declared.tail.Commit.{Commit}
-use Rattle.record_log.specs.Runs.{batches_of, pending_after, joined}
-use Rattle.record_log.proofs.RunLemmas.{batches_of-append, pending_after-append}
-use Rattle.record_log.specs.declared.error.LogError.{LogError}
+use Rattle.segmented_log.specs.declared.commit.Commit.{Commit}
+use Rattle.segmented_log.specs.declared.error.LogError.{LogError}
 use Rattle.segmented_log.specs.declared.runs.Call.{Call}
 use Rattle.segmented_log.specs.declared.runs.Call.TheVariants.{Append, Sync, Seal, Compact, DropBefore}
 use Rattle.segmented_log.specs.Dropping.{IsRest}
 use Rattle.segmented_log.specs.Log.{IsLog, KeepsLog}
-use Rattle.segmented_log.specs.Runs.{writes_of, batches_by, pending_by, slots_of, dropped_by, Drops, Makes, HasBeginning, EndsInForged, KeepsAndAdds, IsOfCalls}
+use Rattle.segmented_log.specs.Runs.{joined, batches_by, pending_by, slots_of, dropped_by, Drops, Makes, HasBeginning, EndsInForged, KeepsAndAdds, IsOfCalls}
 use Rattle.segmented_log.specs.Laws.{OnlyDropsRemove}
 use Rattle.segmented_log.proofs.DropLemmas.{rest_itself}
 use Rattle.segmented_log.proofs.RestLemmas.{rest_after, rest_ends, rest_whole}
@@ -31,19 +27,21 @@ pub always_err : {T E P : Type 0} (r : Result T E) → P → OnErr r P
 always_err (Ok x) p = tt
 always_err (Err e) p = p
 
-writes_of-append : (a b : List Call) → writes_of (a ++ b) ≡ writes_of a ++ writes_of b
-writes_of-append [] b = refl
-writes_of-append (Append bytes ∷ a) b = ap (λ (l : List Write). AppendOf bytes ∷ l) (writes_of-append a b)
-writes_of-append (Sync ∷ a) b = ap (λ (l : List Write). SyncOf ∷ l) (writes_of-append a b)
-writes_of-append (Seal ∷ a) b = writes_of-append a b
-writes_of-append (Compact size ∷ a) b = writes_of-append a b
-writes_of-append (DropBefore number ∷ a) b = writes_of-append a b
-
 pub batches_by-append : (pending : Records) (a b : List Call) → batches_by pending (a ++ b) ≡ batches_by pending a ++ batches_by (pending_by pending a) b
-batches_by-append pending a b = ap (λ (l : List Write). batches_of pending l) (writes_of-append a b) ∙ batches_of-append pending (writes_of a) (writes_of b)
+batches_by-append pending [] b = refl
+batches_by-append pending (Append bytes ∷ a) b = batches_by-append (pending ++ bytes.items ∷ []) a b
+batches_by-append pending (Sync ∷ a) b = ap (λ (l : List Records). pending ∷ l) (batches_by-append [] a b)
+batches_by-append pending (Seal ∷ a) b = batches_by-append pending a b
+batches_by-append pending (Compact size ∷ a) b = batches_by-append pending a b
+batches_by-append pending (DropBefore number ∷ a) b = batches_by-append pending a b
 
 pub pending_by-append : (pending : Records) (a b : List Call) → pending_by pending (a ++ b) ≡ pending_by (pending_by pending a) b
-pending_by-append pending a b = ap (λ (l : List Write). pending_after pending l) (writes_of-append a b) ∙ pending_after-append pending (writes_of a) (writes_of b)
+pending_by-append pending [] b = refl
+pending_by-append pending (Append bytes ∷ a) b = pending_by-append (pending ++ bytes.items ∷ []) a b
+pending_by-append pending (Sync ∷ a) b = pending_by-append [] a b
+pending_by-append pending (Seal ∷ a) b = pending_by-append pending a b
+pending_by-append pending (Compact size ∷ a) b = pending_by-append pending a b
+pending_by-append pending (DropBefore number ∷ a) b = pending_by-append pending a b
 
 pub slots_of-append : (a b : List Records) → slots_of (a ++ b) ≡ slots_of a ++ slots_of b
 slots_of-append a b = ap (λ (l : Records). map doc l) (flat_map-append (λ (batch : Records). batch) a b) ∙ map-append doc (joined a) (joined b)

@@ -4,9 +4,9 @@ use Rattle.std.proofs.lemmas.List.{length-map}
 use Rattle.store_folder.specs.Moments.{ComesFrom}
 use Rattle.store_folder.specs.Folder.{Look, ElsewhereOfBoth, FilesElsewhereOfBoth}
 use Rattle.store_folder.specs.Publishing.{part}
-use Rattle.record_log.specs.declared.batches.Place.{Place}
-use Rattle.record_log.specs.Place.{content}
-use Rattle.record_log.specs.Tail.{records_of}
+use Rattle.log_tail.specs.declared.batches.Place.{Place}
+use Rattle.log_tail.specs.Place.{content}
+use Rattle.log_tail.specs.Tail.{records_of}
 use Rattle.segmented_log.specs.Names.{segment_name}
 use Rattle.segmented_log.specs.Parts.{Part, tail_end, end_from, log_slots, AreParts}
 use Rattle.segmented_log.specs.Log.{HasSegment, Holds, IsLog}

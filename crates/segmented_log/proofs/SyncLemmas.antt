@@ -5,20 +5,19 @@ use Rattle.std.proofs.lemmas.Bool.Decides.{nat_tests}
 use Rattle.std.specs.Bool.{OnFalse}
 use Rattle.std.proofs.lemmas.Bool.{OnFalse_from}
 use Rattle.std.proofs.Math.Seq.{take-append_seam, drop-append_seam}
-use Rattle.std.proofs.lemmas.List.{append-nil, take_all, length-map, nil_from_length}
+use Rattle.std.proofs.lemmas.List.{length-map, nil_from_length}
 use Rattle.store_folder.specs.Moments.{ComesFrom, LeavesOnly}
 use Rattle.store_folder.specs.Folder.{Look, ElsewhereOfBoth}
 use Rattle.store_folder.specs.Publishing.{part}
 use Rattle.store_folder.proofs.Steps.{started}
 use Rattle.store_format.specs.Block.{doc}
-use Rattle.record_log.specs.declared.batches.Place.{Place}
-use Rattle.record_log.specs.declared.tail.Commit.TheVariants.{OneSync}
-use Rattle.record_log.specs.Place.{content, contents, EndsBy, AddsRecords}
-use Rattle.record_log.specs.Tail.{sum_of, summed, records_in, records_of, first_of, IsTail, IsWholeTo, IsAtRest}
-use Rattle.record_log.proofs.Bodies.{length-summed}
-use Rattle.record_log.proofs.Scans.{ends_later}
-use Rattle.record_log.proofs.Tails.{once_file, once_bodies, once_at_rest}
-use Rattle.record_log.proofs.Logs.{records_more, contents_more, places_more, nothing_whole}
+use Rattle.log_tail.specs.declared.batches.Place.{Place}
+use Rattle.log_tail.specs.Place.{content, contents, EndsBy, AddsRecords}
+use Rattle.log_tail.specs.Tail.{sum_of, summed, records_in, records_of, first_of, IsTail, IsWholeTo}
+use Rattle.log_tail.proofs.Bodies.{length-summed}
+use Rattle.log_tail.proofs.Scans.{ends_later}
+use Rattle.log_tail.proofs.Tails.{written_bodies, written_whole}
+use Rattle.log_tail.proofs.Logs.{records_more, contents_more, places_more, nothing_whole}
 use Rattle.segmented_log.specs.Names.{tail_name}
 use Rattle.segmented_log.specs.Parts.{Part, tail_end, end_from, log_slots, AreParts}
 use Rattle.segmented_log.specs.Log.{IsLog}
@@ -28,9 +27,6 @@ use Rattle.segmented_log.proofs.PartLemmas.{more_parts, more_slots, emptied_part
 use Rattle.segmented_log.proofs.SealLemmas.{replaced_outcomes}
 use Rattle.segmented_log.proofs.TailLemmas.{grown_first, grown_tail}
 use Rattle.segmented_log.proofs.ReadLemmas.{slots_end}
-
-at_rest : (tail : List ℕ) → IsWholeTo (length tail) tail → IsAtRest OneSync (length tail) tail
-at_rest tail whole = record { whole = whole; ends = sym (take_all (length tail) tail (omega arith)) ∙ sym (append-nil (take (length tail) tail)) }
 
 -- a list that was put together, before and after the seam
 pub seam_front : (whole front back : List ℕ) (n : ℕ) → whole ≡ front ++ back → n ≡ length front → take n whole ≡ front
@@ -44,11 +40,8 @@ new_size tail body new new_is = omega (arith, ap length new_is, length-append ta
 
 module _ (sealed tail_first next : ℕ) (tail body new : List ℕ) (places : List Place) (s : IsSettledTail sealed tail_first next tail places body) (fits : sum_of body < 2 ^ 64)
     (new_is : new ≡ tail ++ 1 ∷ summed body) where
-  rest : IsAtRest OneSync (length tail) tail
-  rest = at_rest tail s.whole
-
   pub batch_records : records_of new ≡ records_of tail ++ records_in body
-  batch_records = records_more tail new body (once_bodies (length tail) tail body rest s.small fits new new_is)
+  batch_records = records_more tail new body (written_bodies tail body s.whole s.small fits new new_is)
 
   pub batch_first : first_of new ≡ first_of tail
   batch_first = ap first_of new_is ∙ grown_first tail (1 ∷ summed body) s.whole
@@ -59,12 +52,12 @@ module _ (sealed tail_first next : ℕ) (tail body new : List ℕ) (places : Lis
   pub settled_batch : (later : List Place) (pending : List ℕ) (end : ℕ) → AddsRecords body (length tail + 13) places later → All (EndsBy end) later → end ≤ length new → pending ≡ []
       → IsSettledTail sealed tail_first next new later pending
   settled_batch later pending end adds within le none =
-      let size = places_more OneSync (length tail) tail body new rest (once_file (length tail) tail body rest s.small fits new new_is) places later s.records s.within adds in
+      let size = places_more tail body new new_is places later s.records s.within adds in
       let empty = nothing_whole pending none in
       record {
         is_tail = subst (λ (l : List ℕ). IsTail l) (sym new_is) (grown_tail tail (1 ∷ summed body) s.whole s.is_tail);
-        whole = subst (λ (n : ℕ). IsWholeTo n new) (sym batch_size) (once_at_rest (length tail) tail body rest s.small fits new new_is).whole;
-        records = contents_more OneSync (length tail) tail body new rest (once_file (length tail) tail body rest s.small fits new new_is) places later s.records s.within adds batch_records;
+        whole = written_whole tail body s.whole s.small fits new new_is;
+        records = contents_more tail body new new_is places later s.records s.within adds batch_records;
         within = ends_later end (length new) later le within;
         first_is = s.first_is ∙ sym batch_first;
         low = s.low;

@@ -5,13 +5,12 @@ use Rattle.std.proofs.lemmas.List.Concat.{flat_map-append}
 use Rattle.std.specs.List.{flat_map}
 use Rattle.store_folder.specs.Folder.{Look}
 use Rattle.store_format.specs.Block.{Slot, doc}
-use Rattle.record_log.specs.Log.{IsWholeRecords}
-use Rattle.record_log.specs.declared.tail.Commit.{Commit}
-use Rattle.record_log.specs.declared.tail.Commit.TheVariants.{OneSync, TwoSyncs}
-use Rattle.record_log.specs.Tail.{sum_of, summed, records_in, records_of, records_from, first_of, bodies_of, bodies_after, IsTail, IsWholeTo}
+use Rattle.log_tail.specs.Tail.{IsWholeRecords, sum_of, summed, records_in, records_of, records_from, first_of, bodies_of, bodies_after, IsTail, IsWholeTo}
+use Rattle.segmented_log.specs.declared.commit.Commit.{Commit}
+use Rattle.segmented_log.specs.declared.commit.Commit.TheVariants.{OneSync, TwoSyncs}
 use Rattle.store_folder.proofs.NamesLemmas.{decided}
-use Rattle.record_log.proofs.Bodies.{summed_is, bodies_summed}
-use Rattle.record_log.proofs.Logs.{first_same}
+use Rattle.log_tail.proofs.Bodies.{summed_is, bodies_summed}
+use Rattle.log_tail.proofs.Logs.{first_same}
 use Rattle.segmented_log.specs.Names.{segment_name, tail_name}
 use Rattle.segmented_log.specs.Parts.{Part, log_slots, AreParts}
 use Rattle.segmented_log.specs.Log.{Holds, IsLog, IsForged, KeepsOrAdds}

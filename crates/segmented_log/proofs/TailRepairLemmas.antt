@@ -1,14 +1,15 @@
 -- A tail whose torn end is cut off.
-use Rattle.std.proofs.Common.{◌≡◌, inl, ℕ, List, [], length, take, Some, refl, sym, ◌∙◌, ap, subst, arith}
+use Rattle.std.proofs.Common.{◌≡◌, inl, ℕ, List, length, take, Some, refl, sym, ◌∙◌, ap, subst, arith}
 use Rattle.std.specs.Prelude.{All}
-use Rattle.std.proofs.lemmas.List.{append-nil, take-take, length-take-le}
+use Rattle.std.specs.List.{flat_map}
+use Rattle.std.proofs.lemmas.List.{take-take, length-take-le}
 use Rattle.store_folder.specs.Moments.{ComesFrom}
 use Rattle.store_folder.specs.Folder.{Look, ElsewhereOfBoth}
-use Rattle.record_log.specs.declared.batches.Place.{Place}
-use Rattle.record_log.specs.Place.{contents, EndsBy}
-use Rattle.record_log.specs.Tail.{records_of, first_of, IsTail, IsWholeTo}
-use Rattle.record_log.proofs.Tails.{same_with, cut_at_rest}
-use Rattle.record_log.proofs.Logs.{keeps_records, contents_same}
+use Rattle.log_tail.specs.declared.batches.Place.{Place}
+use Rattle.log_tail.specs.Place.{contents, EndsBy}
+use Rattle.log_tail.specs.Tail.{records_in, records_of, first_of, IsTail, IsWholeTo}
+use Rattle.log_tail.proofs.Tails.{cut_bodies, cut_whole}
+use Rattle.log_tail.proofs.Logs.{first_same, contents_same}
 use Rattle.segmented_log.specs.Names.{tail_name}
 use Rattle.segmented_log.specs.Opening.{IsSynced}
 use Rattle.segmented_log.specs.Settled.{TailIsKept}
@@ -36,13 +37,13 @@ module _ (bytes front : List ℕ) (end : ℕ) (whole : IsWholeTo end bytes) (fro
   size = ap length front_is ∙ length-take-le end bytes whole.within
 
   pub front_whole : IsWholeTo (length front) front
-  front_whole = subst (λ (n : ℕ). IsWholeTo n front) (sym size) (cut_at_rest end bytes front whole front_is).whole
+  front_whole = subst (λ (l : List ℕ). IsWholeTo (length l) l) (sym front_is) (cut_whole end bytes whole)
 
   pub front_first : first_of front ≡ first_of bytes
-  front_first = (keeps_records bytes front (same_with end bytes whole front [] (front_is ∙ sym (append-nil (take end bytes))) refl)).first
+  front_first = first_same bytes front (ap (λ (l : List ℕ). take 16 l) front_is ∙ take-take 16 end bytes whole.header)
 
   pub front_records : records_of front ≡ records_of bytes
-  front_records = (keeps_records bytes front (same_with end bytes whole front [] (front_is ∙ sym (append-nil (take end bytes))) refl)).records
+  front_records = ap records_of front_is ∙ ap (λ (l : List (List ℕ)). flat_map records_in l) (cut_bodies end bytes whole)
 
   pub front_tail : IsTail bytes → IsTail front
   front_tail is = record {

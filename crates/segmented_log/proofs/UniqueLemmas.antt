@@ -4,7 +4,7 @@ use Rattle.std.specs.List.{AllByRecursion, Contains}
 use Rattle.store_folder.specs.Folder.{Look}
 use Rattle.store_format.specs.Block.{Slot}
 use Rattle.store_format.specs.Laws.{StoresAreApart}
-use Rattle.record_log.specs.Tail.{first_of}
+use Rattle.log_tail.specs.Tail.{first_of}
 use Rattle.segmented_log.specs.Parts.{Part, first_in, end_from, Ascend, log_slots}
 use Rattle.segmented_log.specs.Log.{HasSegment, Holds, IsLog, IsBlank}
 use Rattle.segmented_log.proofs.HoldLemmas.{firsts}

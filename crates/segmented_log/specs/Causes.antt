@@ -1,14 +1,48 @@
 -- Which errors the calls of a log in a folder return, and why.
-use Rattle.std.specs.Prelude.{◌≡◌, ◌⊎◌, ℕ, ◌+◌, ◌≤◌, ◌^◌, List, ◌++◌, length, map, None, IsSome}
+use Rattle.std.specs.Prelude.{◌≡◌, ◌≢◌, ◌⊎◌, ℕ, ◌+◌, ◌≤◌, ◌^◌, List, ◌++◌, length, map, None, IsSome}
 use Rattle.std.specs.List.{Any, Contains}
+use Rattle.std.specs.declared.io.ErrorKind.{ErrorKind}
+use Rattle.std.specs.declared.io.ErrorKind.TheVariants.{OutOfMemory}
 use Rattle.store_base.specs.declared.error.StoreError.{StoreError}
 use Rattle.store_base.specs.declared.error.StoreError.TheVariants.{DamagedDocument}
 use Rattle.store_folder.specs.Folder.{Look}
 use Rattle.store_format.specs.Block.{Slot, doc}
-use Rattle.record_log.specs.declared.error.LogError.{LogError}
-use Rattle.record_log.specs.declared.error.LogError.TheVariants.{Full, NoLog, Damaged}
-use Rattle.record_log.specs.Causes.{IsFault}
+use Rattle.segmented_log.specs.declared.error.LogError.{LogError}
+use Rattle.segmented_log.specs.declared.error.LogError.TheVariants.{Memory, Failed, Full, BatchFull, TooLong, Broken, NoLog, Damaged}
 use Rattle.segmented_log.specs.Names.{segment_name}
+
+-- what an error of the system of this kind is
+abbrev pub IsOfKind : ErrorKind → LogError → Type 0
+IsOfKind kind Memory = kind ≡ OutOfMemory
+IsOfKind kind Failed = kind ≢ OutOfMemory
+IsOfKind kind _ = ⊥
+
+-- a fault: no memory, or a read or a write that failed
+abbrev pub IsFault : LogError → Type 0
+IsFault Memory = Unit {0}
+IsFault Failed = Unit {0}
+IsFault _ = ⊥
+
+-- those of an opening
+abbrev pub IsOfOpenings : LogError → Type 0
+IsOfOpenings Full = Unit {0}
+IsOfOpenings NoLog = Unit {0}
+IsOfOpenings e = IsFault e
+
+-- those of an append
+abbrev pub IsOfAppends : LogError → Type 0
+IsOfAppends Memory = Unit {0}
+IsOfAppends Full = Unit {0}
+IsOfAppends BatchFull = Unit {0}
+IsOfAppends TooLong = Unit {0}
+IsOfAppends Broken = Unit {0}
+IsOfAppends _ = ⊥
+
+-- those of a sync or a seal
+abbrev pub IsOfSyncs : LogError → Type 0
+IsOfSyncs Full = Unit {0}
+IsOfSyncs Broken = Unit {0}
+IsOfSyncs e = IsFault e
 
 -- those of a call that opens one of the log's files
 abbrev pub IsOfFiles : LogError → Type 0

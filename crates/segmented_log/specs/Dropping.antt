@@ -2,7 +2,7 @@
 use Rattle.std.specs.Prelude.{◌≡◌, ◌⊎◌, ℕ, ◌+◌, ◌-◌, ◌<◌, ◌≤◌, max, List, [], ◌∷◌, length, drop, None}
 use Rattle.store_folder.specs.Folder.{Look, LosesFile}
 use Rattle.store_format.specs.Block.{Slot}
-use Rattle.record_log.specs.Tail.{first_of}
+use Rattle.log_tail.specs.Tail.{first_of}
 use Rattle.segmented_log.specs.Names.{segment_name}
 use Rattle.segmented_log.specs.Parts.{Part, end_of, first_in, AreParts}
 use Rattle.segmented_log.specs.Log.{HasSegment, Holds, IsLog}

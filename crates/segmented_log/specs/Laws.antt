@@ -3,13 +3,12 @@ use Rattle.std.specs.Prelude.{◌≡◌, ◌⊎◌, ℕ, ◌+◌, max, List, [],
 use Rattle.store_folder.specs.Folder.{Look}
 use Rattle.store_folder.specs.Moments.{LeavesOnly}
 use Rattle.store_format.specs.Block.{Slot, doc}
-use Rattle.record_log.specs.declared.tail.Commit.{Commit}
-use Rattle.record_log.specs.declared.tail.Commit.TheVariants.{TwoSyncs}
-use Rattle.record_log.specs.Runs.{joined}
+use Rattle.segmented_log.specs.declared.commit.Commit.{Commit}
+use Rattle.segmented_log.specs.declared.commit.Commit.TheVariants.{TwoSyncs}
 use Rattle.segmented_log.specs.declared.runs.Call.{Call}
 use Rattle.segmented_log.specs.Log.{IsLog, IsBlank}
 use Rattle.segmented_log.specs.Dropping.{DropsTo}
-use Rattle.segmented_log.specs.Runs.{batches_by, pending_by, slots_of, dropped_by, Drops, Makes, HasBeginning, IsOldOrCalled}
+use Rattle.segmented_log.specs.Runs.{joined, batches_by, pending_by, slots_of, dropped_by, Drops, Makes, HasBeginning, IsOldOrCalled}
 
 -- A folder is one log at most: it has one first number and one list of slots.
 abbrev pub FoldersAreOneLog : Type 0

@@ -3,7 +3,7 @@ use Rattle.std.specs.Prelude.{◌≡◌, ◌⊎◌, ℕ, ◌≤◌, ◌<◌, ◌
 use Rattle.std.specs.List.{Contains}
 use Rattle.store_folder.specs.Folder.{Look}
 use Rattle.store_format.specs.Block.{Slot}
-use Rattle.record_log.specs.Tail.{records_of, first_of, IsTail}
+use Rattle.log_tail.specs.Tail.{records_of, first_of, IsTail}
 use Rattle.segmented_log.specs.Names.{segment_name, tail_name}
 use Rattle.segmented_log.specs.Parts.{tail_end}
 use Rattle.segmented_log.specs.Log.{HasSegment, IsLog, IsBlank, KeepsLog}

@@ -4,7 +4,7 @@ use Rattle.store_format.specs.Block.{Slot, doc}
 use Rattle.store_format.specs.Slots.{slots}
 use Rattle.store_format.specs.declared.version.DocStoreVersion.{DocStoreVersion}
 use Rattle.store_reader.specs.Reading.{Reading, store_of}
-use Rattle.record_log.specs.Tail.{records_of, first_of, IsTail}
+use Rattle.log_tail.specs.Tail.{records_of, first_of, IsTail}
 
 -- a part: the number of its first slot, and its slots
 pub record Part : Type 0 where

@@ -1,36 +1,37 @@
 -- What a list of calls does to a log in a folder.
 use Rattle.std.specs.Prelude.{◌≡◌, ◌⊎◌, ℕ, ◌+◌, min, max, List, [], ◌∷◌, ◌++◌, length, map}
-use Rattle.std.specs.List.{Contains}
+use Rattle.std.specs.List.{Contains, flat_map}
 use Rattle.store_folder.specs.Folder.{Look}
 use Rattle.store_format.specs.Block.{Slot, doc}
-use Rattle.record_log.specs.declared.runs.Call.{Call as Write}
-use Rattle.record_log.specs.declared.runs.Call.TheVariants.{Append as AppendOf, Sync as SyncOf}
-use Rattle.record_log.specs.declared.tail.Commit.{Commit}
-use Rattle.record_log.specs.declared.error.LogError.{LogError}
-use Rattle.record_log.specs.Causes.{IsOfAppends, IsOfSyncs}
-use Rattle.record_log.specs.Runs.{batches_of, pending_after, joined}
+use Rattle.segmented_log.specs.declared.commit.Commit.{Commit}
+use Rattle.segmented_log.specs.declared.error.LogError.{LogError}
 use Rattle.segmented_log.specs.declared.runs.Call.{Call}
 use Rattle.segmented_log.specs.declared.runs.Call.TheVariants.{Append, Sync, Seal, Compact, DropBefore}
-use Rattle.segmented_log.specs.Causes.{IsOfJoins}
+use Rattle.segmented_log.specs.Causes.{IsOfAppends, IsOfSyncs, IsOfJoins}
 use Rattle.segmented_log.specs.Dropping.{IsRest}
 use Rattle.segmented_log.specs.Log.{IsLog, IsBlank, AddsForged, LogView}
 
--- the calls that write records, as a log over one file takes them: the others change no record and no batch
-abbrev pub writes_of : List Call → List Write
-writes_of [] = []
-writes_of (Append bytes ∷ calls) = AppendOf bytes ∷ writes_of calls
-writes_of (Sync ∷ calls) = SyncOf ∷ writes_of calls
-writes_of (Seal ∷ calls) = writes_of calls
-writes_of (Compact size ∷ calls) = writes_of calls
-writes_of (DropBefore number ∷ calls) = writes_of calls
-
--- the batches that these calls sync, in order, where these records are pending at first
+-- the batches that these calls sync, in order, where these records are pending at first: the other calls change no batch
 abbrev pub batches_by : List (List ℕ) → List Call → List (List (List ℕ))
-batches_by pending calls = batches_of pending (writes_of calls)
+batches_by pending [] = []
+batches_by pending (Append bytes ∷ calls) = batches_by (pending ++ bytes.items ∷ []) calls
+batches_by pending (Sync ∷ calls) = pending ∷ batches_by [] calls
+batches_by pending (Seal ∷ calls) = batches_by pending calls
+batches_by pending (Compact size ∷ calls) = batches_by pending calls
+batches_by pending (DropBefore number ∷ calls) = batches_by pending calls
 
 -- what is pending after them
 abbrev pub pending_by : List (List ℕ) → List Call → List (List ℕ)
-pending_by pending calls = pending_after pending (writes_of calls)
+pending_by pending [] = pending
+pending_by pending (Append bytes ∷ calls) = pending_by (pending ++ bytes.items ∷ []) calls
+pending_by pending (Sync ∷ calls) = pending_by [] calls
+pending_by pending (Seal ∷ calls) = pending_by pending calls
+pending_by pending (Compact size ∷ calls) = pending_by pending calls
+pending_by pending (DropBefore number ∷ calls) = pending_by pending calls
+
+-- the records of batches, in order
+abbrev pub joined : List (List (List ℕ)) → List (List ℕ)
+joined batches = flat_map (λ batch. batch) batches
 
 -- the slots of the records of batches, in order
 abbrev pub slots_of : List (List (List ℕ)) → List Slot

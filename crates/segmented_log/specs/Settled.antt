@@ -3,12 +3,11 @@ use Rattle.std.specs.Prelude.{◌≡◌, ◌⊎◌, ℕ, ◌+◌, ◌<◌, ◌�
 use Rattle.store_folder.specs.Folder.{Look, Elsewhere, ElsewhereOfBoth, Keeps}
 use Rattle.store_folder.specs.Publishing.{part, IsOldOrWhole}
 use Rattle.store_format.specs.Block.{doc}
-use Rattle.record_log.specs.declared.batches.Place.{Place}
-use Rattle.record_log.specs.declared.tail.Commit.{Commit}
-use Rattle.record_log.specs.declared.tail.Commit.TheVariants.{OneSync, TwoSyncs}
-use Rattle.record_log.specs.Place.{contents, EndsBy}
-use Rattle.record_log.specs.Log.{IsWholeRecords}
-use Rattle.record_log.specs.Tail.{records_in, records_of, first_of, IsTail, IsWholeTo}
+use Rattle.log_tail.specs.declared.batches.Place.{Place}
+use Rattle.segmented_log.specs.declared.commit.Commit.{Commit}
+use Rattle.segmented_log.specs.declared.commit.Commit.TheVariants.{OneSync, TwoSyncs}
+use Rattle.log_tail.specs.Place.{contents, EndsBy}
+use Rattle.log_tail.specs.Tail.{IsWholeRecords, records_in, records_of, first_of, IsTail, IsWholeTo}
 use Rattle.segmented_log.specs.Names.{segment_name, tail_name}
 use Rattle.segmented_log.specs.Parts.{Part, end_from, AreParts}
 use Rattle.segmented_log.specs.Log.{HasSegment, Holds}

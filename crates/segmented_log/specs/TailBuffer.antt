@@ -1,9 +1,8 @@
 -- A tail in memory, and the batch that waits after it.
 use Rattle.std.specs.Prelude.{◌≡◌, ℕ, ◌+◌, List, length, All}
-use Rattle.record_log.specs.declared.batches.Place.{Place}
-use Rattle.record_log.specs.Log.{IsWholeRecords}
-use Rattle.record_log.specs.Place.{contents, EndsBy}
-use Rattle.record_log.specs.Tail.{records_in}
+use Rattle.log_tail.specs.declared.batches.Place.{Place}
+use Rattle.log_tail.specs.Tail.{IsWholeRecords, records_in}
+use Rattle.log_tail.specs.Place.{contents, EndsBy}
 
 -- the tail's bytes, and the body of the batch
 pub record TailView : Type 0 where

@@ -13,15 +13,14 @@ ghost use Rattle.segmented_log.specs.Compacting.{AreNext, IsRun, with_joined, Is
 ghost use Rattle.segmented_log.specs.Compacting.{CoversFirst, IsPassedByFirst, CanJoinFirst, CanBecomeOne, IsCompacted};
 ghost use Rattle.segmented_log.specs.Compacting.{slots_in, ChangesSegments, BringNoSlots};
 ghost use Rattle.segmented_log.specs.Opening.{HasSegments};
-ghost use Rattle.segmented_log.specs.Causes.{IsOfJoins, HasTooLong};
-ghost use Rattle.record_log.specs.Causes.{IsFault};
+ghost use Rattle.segmented_log.specs.Causes.{IsOfJoins, HasTooLong, IsFault};
 
 use crate::dropping::remove_segment;
+use crate::error::LogError;
 use crate::joining::join_segments;
 use crate::log::SegmentedLog;
 use crate::segment::Segment;
 use docstore::{DocStoreVersion, FileHandle};
-use record_log::LogError;
 use std::mem;
 use store_folder::ReadableFolder;
 

@@ -8,13 +8,13 @@ ghost use Rattle.store_folder.specs.Folder.{Elsewhere, FilesElsewhere, LosesFile
 ghost use Rattle.segmented_log.specs.Names.{segment_name};
 ghost use Rattle.segmented_log.specs.Parts.{part_of};
 ghost use Rattle.segmented_log.specs.Dropping.{CanGo, IsRest, DropsTo, LosesSegment, RemovesOnly, IsDropped};
-ghost use Rattle.record_log.specs.Causes.{IsFault};
+ghost use Rattle.segmented_log.specs.Causes.{IsFault};
 
+use crate::error::LogError;
 use crate::log::SegmentedLog;
 use crate::names::segment_file;
 use crate::segment::{Segment, first_number};
 use docstore::FileHandle;
-use record_log::LogError;
 use std::alloc::Global;
 use store_folder::{Folder, ReadableFolder};
 

@@ -6,11 +6,11 @@ ghost use Rattle.store_base.specs.Counts.{HasRisen};
 ghost use Rattle.store_folder.specs.Moments.{LeavesOnly, NoMore};
 ghost use Rattle.store_folder.specs.Folder.{AreNames};
 ghost use Rattle.segmented_log.specs.Opening.{IsOfLog, IsSynced};
-ghost use Rattle.record_log.specs.Causes.{IsFault};
+ghost use Rattle.segmented_log.specs.Causes.{IsFault};
 
+use crate::error::LogError;
 use crate::names::TAIL;
 use crate::numbers::segment_number;
-use record_log::LogError;
 use std::io;
 use store_folder::Folder;
 

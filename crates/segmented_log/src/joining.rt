@@ -15,14 +15,13 @@ ghost use Rattle.segmented_log.specs.Parts.{part_of};
 ghost use Rattle.segmented_log.specs.Log.{IsStoreWith, HasSegment};
 ghost use Rattle.segmented_log.specs.Settled.{AddsSegment};
 ghost use Rattle.segmented_log.specs.Compacting.{slots_in, IsWhole};
-ghost use Rattle.segmented_log.specs.Causes.{IsOfJoins, IsDamaged, HasTooLong};
-ghost use Rattle.record_log.specs.Causes.{IsFault};
+ghost use Rattle.segmented_log.specs.Causes.{IsOfJoins, IsDamaged, HasTooLong, IsFault};
 
+use crate::error::LogError;
 use crate::names::{name_beside, segment_file};
 use crate::sealing::BLOCK_SIZE;
 use crate::segment::{Segment, open_segment, reopen_error};
 use docstore::{Compressor, FileHandle, MemSink, StoreError, StoreWriter, laws};
-use record_log::LogError;
 use std::alloc::Global;
 use store_folder::{ReadableFolder, replace};
 use store_merge::{MergeInput, merge_in_parts};

@@ -1,8 +1,10 @@
 //! A log of records in a folder: sealed segments, which are ordinary stores, and one tail.
 #![tactic(auto)]
 
+pub mod commit;
 mod compacting;
 mod dropping;
+pub mod error;
 mod found_files;
 mod joining;
 pub mod laws;
@@ -21,9 +23,10 @@ mod tail;
 mod tail_buffer;
 mod tail_file;
 
+pub use commit::Commit;
+pub use error::LogError;
 pub use log::{MAX_RECORD, SegmentedLog};
 pub use names::{TAIL, segment_file};
 pub use numbers::segment_number;
-pub use record_log::{Commit, LogError};
 pub use records::Records;
 pub use runs::{Call, call_all, open_and_call};

@@ -6,15 +6,15 @@ ghost use Rattle.store_base.specs.Counts.{HasRisen};
 ghost use Rattle.store_folder.specs.Folder.{Look};
 ghost use Rattle.segmented_log.specs.Parts.{end_from, parts_of};
 ghost use Rattle.segmented_log.specs.Log.{IsLog, slot_at, Gives, IsOnlyRead};
-ghost use Rattle.segmented_log.specs.Causes.{IsOfReads};
-ghost use Rattle.record_log.specs.Causes.{IsOfAppends};
+ghost use Rattle.segmented_log.specs.Causes.{IsOfReads, IsOfAppends};
 
+use crate::commit::Commit;
+use crate::error::LogError;
 use crate::reading::{copy_record, get_from};
 use crate::sealing::BLOCK_SIZE;
 use crate::segment::Segment;
 use crate::tail_buffer::TailBuffer;
-use record_log::batches::{MAX_BODY, Place};
-use record_log::{Commit, LogError};
+use log_tail::batches::{MAX_BODY, Place};
 use std::alloc::Global;
 use std::marker::Model;
 use store_folder::ReadableFolder;
@@ -51,7 +51,7 @@ impl<F: ReadableFolder> Model for SegmentedLog<F> {
     ghost use Rattle.std.specs.Prelude.{◌+◌, ◌-◌, length, map, All, IsTrue};
     ghost use Rattle.std.specs.Bool.{OnFalse};
     ghost use Rattle.std.specs.List.{sum_by};
-    ghost use Rattle.record_log.specs.Tail.{records_in};
+    ghost use Rattle.log_tail.specs.Tail.{records_in};
     ghost use Rattle.segmented_log.specs.Parts.{part_of, sealed_of, log_slots};
     ghost use Rattle.segmented_log.specs.Log.{LogView};
     ghost use Rattle.segmented_log.specs.Settled.{IsSettledTail, IsSettledFolder};

@@ -9,10 +9,10 @@ ghost use Rattle.segmented_log.specs.Log.{HasSegment};
 ghost use Rattle.segmented_log.specs.Opening.{AreNumbersIn, IsNoSegment};
 ghost use Rattle.segmented_log.specs.Causes.{IsOfFiles};
 
+use crate::error::LogError;
 use crate::numbers::segment_number;
 use crate::segment::{Segment, open_segment};
 use docstore::FileHandle;
-use record_log::LogError;
 use std::alloc::{AllocError, Global};
 use store_folder::ReadableFolder;
 

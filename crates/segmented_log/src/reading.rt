@@ -7,11 +7,12 @@ ghost use Rattle.store_base.specs.Counts.{HasRisen};
 ghost use Rattle.segmented_log.specs.Parts.{part_of, sealed_of, end_of, end_from, joined, AreInLine};
 ghost use Rattle.segmented_log.specs.Log.{Gives};
 ghost use Rattle.segmented_log.specs.Causes.{IsOfReads, IsDamaged};
-ghost use Rattle.record_log.specs.Place.{content};
+ghost use Rattle.log_tail.specs.Place.{content};
 
+use crate::error::LogError;
 use crate::segment::Segment;
 use docstore::{FileHandle, StoreError};
-use record_log::{LogError, Place};
+use log_tail::Place;
 use std::alloc::{AllocError, Global};
 
 // Whether a segment ends after this number.

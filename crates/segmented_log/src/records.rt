@@ -2,8 +2,8 @@
 
 ghost use Rattle.std.specs.Prelude.{◌≡◌, ◌↔◌, false, max, IfOk, IfErr, IsErrOf, IsTrue};
 
+use crate::error::LogError;
 use crate::log::SegmentedLog;
-use record_log::LogError;
 use store_folder::ReadableFolder;
 
 /// The synced records of a log from a number on, each once. A record that can't be read is given as that error, and the
@@ -46,7 +46,7 @@ impl<'a, F: ReadableFolder> Iterator for Records<'a, F> {
     ghost use Rattle.std.specs.Prelude.{◌≡◌, ◌≤◌, ◌-◌, ◌^◌, false, IsTrue, IfSome, IsErrOf};
     ghost use Rattle.std.specs.Iterator.{at_most};
     ghost use Rattle.store_base.specs.Counts.{HasRisen};
-    ghost use Rattle.record_log.specs.declared.error.LogError.TheVariants.{Failed};
+    ghost use Rattle.segmented_log.specs.declared.error.LogError.TheVariants.{Failed};
     ghost use Rattle.segmented_log.specs.Log.{GivesNext, IsOnlyRead};
 
     type Item = Result<Vec<u8>, LogError>;

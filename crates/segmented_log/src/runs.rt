@@ -6,12 +6,13 @@ ghost use Rattle.store_folder.specs.Moments.{LeavesOnly};
 ghost use Rattle.store_format.specs.Block.{Slot};
 ghost use Rattle.segmented_log.specs.Log.{IsLog, IsBlank};
 ghost use Rattle.segmented_log.specs.Runs.{IsOldOrCalled};
-ghost use Rattle.record_log.specs.Causes.{IsOfOpenings};
+ghost use Rattle.segmented_log.specs.Causes.{IsOfOpenings};
 ghost use Rattle.segmented_log.specs.Runs.{pending_by, dropped_by, Drops, Makes, HasBeginning, KeepsAndAdds};
 ghost use Rattle.segmented_log.specs.Runs.{HasMadeFirst, IsOfCalls};
 
+use crate::commit::Commit;
+use crate::error::LogError;
 use crate::log::SegmentedLog;
-use record_log::{Commit, LogError};
 use std::alloc::Global;
 use store_folder::ReadableFolder;
 

@@ -4,13 +4,14 @@ ghost use Rattle.std.specs.Prelude.{◌≡◌, ◌⊎◌, ◌≤◌, ◌+◌, �
 ghost use Rattle.std.specs.List.{Any};
 ghost use Rattle.docstore.specs.Laws.{taken};
 ghost use Rattle.store_format.specs.Block.{doc};
-ghost use Rattle.record_log.specs.Place.{contents, EndsBy};
+ghost use Rattle.log_tail.specs.Place.{contents, EndsBy};
 ghost use Rattle.store_published.specs.Filling.{AddsDocuments};
 ghost use Rattle.segmented_log.specs.Log.{IsStoreWith};
 ghost use Rattle.segmented_log.specs.Causes.{IsOfSeals, HasNoRoom};
 
+use crate::error::LogError;
 use docstore::{Compressor, MemSink, StoreError, StoreWriter, TerminatingWrite, laws};
-use record_log::{LogError, Place};
+use log_tail::Place;
 use std::alloc::Global;
 use store_published::store_document;
 

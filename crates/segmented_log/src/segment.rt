@@ -6,19 +6,19 @@ ghost use Rattle.store_base.specs.Counts.{HasRisen};
 ghost use Rattle.store_folder.specs.Moments.{ComesFrom, LeavesOnly};
 ghost use Rattle.store_folder.specs.Folder.{ElsewhereOfBoth, FilesElsewhereOfBoth};
 ghost use Rattle.store_folder.specs.Publishing.{part};
-ghost use Rattle.record_log.specs.Place.{contents, EndsBy};
+ghost use Rattle.log_tail.specs.Place.{contents, EndsBy};
 ghost use Rattle.segmented_log.specs.Names.{segment_name};
 ghost use Rattle.segmented_log.specs.Parts.{part_of, first_in};
 ghost use Rattle.segmented_log.specs.Log.{HasSegment};
 ghost use Rattle.segmented_log.specs.Settled.{part_at, AddsSegment};
 ghost use Rattle.segmented_log.specs.Opening.{IsNoSegment};
-ghost use Rattle.segmented_log.specs.Causes.{IsOfFiles, IsOfSeals, HasNoRoom};
-ghost use Rattle.record_log.specs.Causes.{IsFault};
+ghost use Rattle.segmented_log.specs.Causes.{IsOfFiles, IsOfSeals, HasNoRoom, IsFault};
 
+use crate::error::LogError;
 use crate::names::{name_beside, segment_file};
 use crate::sealing::segment_bytes;
 use docstore::{FileHandle, FileSlice, StoreError, StoreReader, laws};
-use record_log::{LogError, Place};
+use log_tail::Place;
 use std::alloc::Global;
 use store_folder::{Folder, ReadableFolder, replace};
 

@@ -9,14 +9,14 @@ ghost use Rattle.segmented_log.specs.Log.{IsLog, KeepsOrAdds};
 ghost use Rattle.store_folder.specs.Folder.{ElsewhereOfBoth};
 ghost use Rattle.store_folder.specs.Publishing.{part};
 ghost use Rattle.segmented_log.specs.Names.{tail_name};
-ghost use Rattle.segmented_log.specs.Causes.{IsOfSeals, HasNewSegment, HasNoRoomForLast};
-ghost use Rattle.record_log.specs.Causes.{IsFault, IsOfSyncs};
+ghost use Rattle.segmented_log.specs.Causes.{IsOfSeals, HasNewSegment, HasNoRoomForLast, IsFault, IsOfSyncs};
 
+use crate::error::LogError;
 use crate::log::SegmentedLog;
 use crate::segment::add_segment;
 use crate::tail_file::{replace_tail, write_batch};
-use record_log::batches::HEADER;
-use record_log::{LogError, new_tail};
+use log_tail::batches::HEADER;
+use log_tail::new_tail;
 use store_folder::ReadableFolder;
 
 impl<F: ReadableFolder> SegmentedLog<F> {

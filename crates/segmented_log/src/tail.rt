@@ -6,19 +6,19 @@ ghost use Rattle.store_base.specs.Counts.{HasRisen};
 ghost use Rattle.store_folder.specs.Moments.{ComesFrom, LeavesOnly};
 ghost use Rattle.store_folder.specs.Folder.{ElsewhereOfBoth};
 ghost use Rattle.store_folder.specs.Publishing.{part};
-ghost use Rattle.record_log.specs.Place.{contents, EndsBy};
-ghost use Rattle.record_log.specs.Tail.{records_of, first_of, IsTail, IsWholeTo};
+ghost use Rattle.log_tail.specs.Place.{contents, EndsBy};
+ghost use Rattle.log_tail.specs.Tail.{records_of, first_of, IsTail, IsWholeTo};
 ghost use Rattle.segmented_log.specs.Names.{tail_name};
 ghost use Rattle.segmented_log.specs.Log.{KeepsLog};
 ghost use Rattle.segmented_log.specs.Opening.{IsSynced, IsTailOf};
 ghost use Rattle.segmented_log.specs.Settled.{TailIsKept};
-ghost use Rattle.segmented_log.specs.Causes.{IsOfFiles};
-ghost use Rattle.record_log.specs.Causes.{IsFault};
+ghost use Rattle.segmented_log.specs.Causes.{IsOfFiles, IsFault};
 
+use crate::error::LogError;
 use crate::tail_file::replace_tail;
-use record_log::batches::find_records;
-use record_log::tail::first_number;
-use record_log::{LogError, Place, new_tail};
+use log_tail::batches::find_records;
+use log_tail::tail::first_number;
+use log_tail::{Place, new_tail};
 use std::alloc::Global;
 use store_folder::Folder;
 

@@ -2,11 +2,11 @@
 
 ghost use Rattle.std.specs.Prelude.{◌≡◌, ◌⊎◌, ◌≤◌, ◌<◌, ◌+◌, ◌-◌, ◌^◌, ◌++◌, ◌∷◌, [], length, take, drop, map, All};
 ghost use Rattle.std.specs.Prelude.{OnOk, OnErr};
-ghost use Rattle.record_log.specs.Place.{EndsBy, AddsRecords};
-ghost use Rattle.record_log.specs.Tail.{framed, sum_of, summed};
+ghost use Rattle.log_tail.specs.Place.{EndsBy, AddsRecords};
+ghost use Rattle.log_tail.specs.Tail.{framed, sum_of, summed};
 ghost use Rattle.segmented_log.specs.TailBuffer.{moved};
 
-use record_log::batches::{BATCH_HEADER, Place, add_record, batch_header};
+use log_tail::batches::{BATCH_HEADER, Place, add_record, batch_header};
 use std::alloc::{AllocError, Global};
 use std::marker::Model;
 

@@ -8,10 +8,11 @@ ghost use Rattle.store_folder.specs.Folder.{Elsewhere, ElsewhereOfBoth};
 ghost use Rattle.store_folder.specs.Publishing.{part, IsOldOrWhole};
 ghost use Rattle.segmented_log.specs.Names.{tail_name};
 ghost use Rattle.segmented_log.specs.Settled.{TailIsKept, GrowsTail, PutsBatch};
-ghost use Rattle.record_log.specs.Causes.{IsFault};
+ghost use Rattle.segmented_log.specs.Causes.{IsFault};
 
+use crate::commit::Commit;
+use crate::error::LogError;
 use crate::names::{TAIL, TAIL_PART};
-use record_log::{Commit, LogError};
 use store_folder::{Folder, replace};
 
 // Appends a batch to the tail, with one sync.

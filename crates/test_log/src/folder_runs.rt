@@ -1,6 +1,6 @@
 //! Lists of calls on logs in folders, by processes that crash or are killed, one after another, beside a plain list.
 
-use crate::crash::Dice;
+use crate::dice::Dice;
 use crate::torn_drops::has_from;
 use crate::torn_kills::killed;
 use crate::torn_logs::{Log, SEAL_SIZE, crashed};

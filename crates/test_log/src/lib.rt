@@ -1,18 +1,16 @@
-//! Is a log what a crash at any moment leaves of it? Devices that tear, and tests of the log over them.
+//! Is a log what a crash at any moment leaves of it? Tests of the log over folders that tear.
 #![tactic(auto)]
 
 #[cfg(test)]
 mod bytes;
-pub mod crash;
+#[cfg(test)]
+mod dice;
 #[cfg(test)]
 mod folder_runs;
 #[cfg(test)]
 mod sealing;
 #[cfg(test)]
 mod segmented;
-#[cfg(test)]
-mod tests;
-pub mod torn;
 #[cfg(test)]
 mod torn_compactions;
 #[cfg(test)]
@@ -25,5 +23,3 @@ mod torn_kills;
 mod torn_logs;
 #[cfg(test)]
 mod watched;
-
-pub use torn::{Change, Kind, TornDevice};

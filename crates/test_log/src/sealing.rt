@@ -1,6 +1,6 @@
 //! When records go from the tail of a log to a segment.
 
-use record_log::TailView;
+use log_tail::TailView;
 use segmented_log::{Commit, LogError, SegmentedLog, TAIL, segment_number};
 use std::alloc::Global;
 use std::test::Fail;
@@ -17,14 +17,18 @@ struct Files {
 fn files_in(alloc: Global, folder: &MemFolder) -> Result<Files, Fail> {
     let names = folder.names(alloc)?;
     let tail = folder.read(alloc, TAIL)?.unwrap_or(Vec::new(alloc));
-    let view = TailView::new(alloc, &tail)?;
+    let tail_records = match TailView::new(alloc, &tail) {
+        Ok(Some(view)) => view.len(),
+        Ok(None) => 0,
+        Err(error) => return Err(error.into()),
+    };
     Ok(Files {
         segments: names
             .iter()
             .filter(|name| segment_number(name.as_str()).is_some())
             .count(),
         tail_bytes: tail.len(),
-        tail_records: view.len(),
+        tail_records,
     })
 }
 

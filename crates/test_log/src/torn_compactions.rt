@@ -1,6 +1,6 @@
 //! Logs whose segments are joined, in folders that crash at each moment, beside a plain list.
 
-use crate::crash::Dice;
+use crate::dice::Dice;
 use crate::torn_drops::{Plain, SEGMENTS, done, filled, has_from, opened};
 use crate::torn_logs::crashed;
 use crate::watched::Watched;

@@ -1,6 +1,6 @@
 //! Logs whose old segments are removed, in folders that crash at each moment, beside a plain list.
 
-use crate::crash::Dice;
+use crate::dice::Dice;
 use crate::torn_logs::{Log, crashed, is_record};
 use crate::watched::Watched;
 use segmented_log::{Commit, LogError, SegmentedLog};

@@ -1,6 +1,6 @@
 //! What a crash leaves of a folder, played over the calls that were made to it.
 
-use crate::crash::Dice;
+use crate::dice::Dice;
 use std::alloc::{AllocError, Global};
 use torn_folder::Event;
 

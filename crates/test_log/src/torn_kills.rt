@@ -1,6 +1,6 @@
 //! Logs whose process is killed at any call of the folder, and the machine not: the next one opens what a look sees.
 
-use crate::crash::Dice;
+use crate::dice::Dice;
 use crate::torn_logs::{Log, crashed, is_record, opened};
 use crate::watched::Watched;
 use segmented_log::Commit;

@@ -1,6 +1,6 @@
 //! Logs in folders that crash at each moment, beside a plain list.
 
-use crate::crash::Dice;
+use crate::dice::Dice;
 use crate::torn_files::{Disk, LeftFile};
 use crate::watched::Watched;
 use segmented_log::{Commit, SegmentedLog};

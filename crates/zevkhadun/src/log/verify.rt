@@ -11,8 +11,8 @@ use crate::store_file::StorePath;
 use crate::verify::{BLIND_SPOT, Verifying};
 use crate::verify_output::ReportForm;
 use clap::{ArgMatches, Command};
-use record_log::TailView;
-use segmented_log::{LogError, TAIL, segment_file};
+use log_tail::TailView;
+use segmented_log::{TAIL, segment_file};
 use std::alloc::{AllocError, Global};
 use std::fs;
 
@@ -81,12 +81,12 @@ fn check_tail(rt: &HostRuntime, folder: &str) -> Result<bool, FailureCause> {
     let path = file_in(alloc, folder, TAIL)?;
     let bytes = fs::read(rt, path.as_str())?;
     let view = match TailView::new(alloc, &bytes) {
-        Ok(view) => view,
-        Err(LogError::NoLog) => {
+        Ok(Some(view)) => view,
+        Ok(None) => {
             to_output(println!(rt; "{path}: broken: not a tail: its first bytes are others"))?;
             return Ok(false);
         }
-        Err(_) => return Err(FailureCause::Log(LogError::Memory)),
+        Err(error) => return Err(error.into()),
     };
     let (records, end) = (view.len(), view.whole_len());
     let rest = bytes.len().saturating_sub(end);

@@ -2,7 +2,7 @@ use Rattle.std.proofs.Common.{◌≡◌, None, ◌∙◌, subst}
 use Rattle.segmented_log.specs.Names.{segment_name}
 use Rattle.segmented_log.proofs.DropLemmas.{leads_to_none}
 use Rattle.segmented_log.proofs.CauseLemmas.{ok_alone}
-use Rattle.record_log.specs.declared.error.LogError.TheVariants.{Failed}
+use Rattle.segmented_log.specs.declared.error.LogError.TheVariants.{Failed}
 use Rattle.segmented_log.proofs.dropping.remove_segment.Goals as goal
 
 pub returns-clause-gone : goal.returns-clause-gone

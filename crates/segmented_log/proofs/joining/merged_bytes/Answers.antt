@@ -6,7 +6,7 @@ use Rattle.segmented_log.proofs.JoinLemmas.{merged_after, closed_file}
 use Rattle.store_base.specs.declared.error.StoreError.TheVariants.{DamagedDocument, TooManyDocs, BlockTooLarge, OldVersion}
 use Rattle.docstore.specs.BlockOutput.{AfterClose}
 use Rattle.docstore.specs.StackingInParts.{BeginsStack}
-use Rattle.record_log.specs.declared.error.LogError.TheVariants.{Full, Damaged}
+use Rattle.segmented_log.specs.declared.error.LogError.TheVariants.{Full, Damaged}
 use Rattle.store_merge.specs.Choice.{first_old}
 use Rattle.store_merge.specs.Merge.{IsEnded}
 use Rattle.segmented_log.proofs.RefusalLemmas.{ended_by, damaged_slot, too_many, too_long}

@@ -1,9 +1,9 @@
 use Rattle.std.proofs.Common.{rules, ◌≡◌, ◌<◌, ◌^◌, ℕ, List, length, map, sym, ◌∙◌, ap, subst, arith, ⊎_elim}
 use Rattle.std.proofs.lemmas.List.{length-map}
-use Rattle.record_log.specs.declared.error.LogError.TheVariants.{NoLog, Full}
-use Rattle.record_log.specs.declared.batches.Place.{Place}
-use Rattle.record_log.specs.Place.{content, contents}
-use Rattle.record_log.specs.Tail.{records_of}
+use Rattle.segmented_log.specs.declared.error.LogError.TheVariants.{NoLog, Full}
+use Rattle.log_tail.specs.declared.batches.Place.{Place}
+use Rattle.log_tail.specs.Place.{content, contents}
+use Rattle.log_tail.specs.Tail.{records_of}
 use Rattle.segmented_log.specs.Parts.{part_of, first_in, end_from, AreInLine, Ascend}
 use Rattle.segmented_log.proofs.CauseLemmas.{err_alone}
 use Rattle.segmented_log.proofs.OpeningLemmas.{parts_found, first_same}

@@ -7,7 +7,7 @@ use Rattle.store_folder.proofs.Steps.{started}
 use Rattle.segmented_log.specs.Parts.{part_of}
 use Rattle.segmented_log.specs.Log.{HasSegment}
 use Rattle.segmented_log.specs.Settled.{TailIsKept}
-use Rattle.record_log.specs.declared.error.LogError.TheVariants.{Failed, Full, NoLog}
+use Rattle.segmented_log.specs.declared.error.LogError.TheVariants.{Failed, Full, NoLog}
 use Rattle.segmented_log.proofs.OpeningLemmas.{keeps_same}
 use Rattle.segmented_log.proofs.LoadLemmas.{loaded_outcomes, firsts_of}
 use Rattle.segmented_log.proofs.PartLemmas.{begin_before}

@@ -5,7 +5,7 @@ use Rattle.std.proofs.lemmas.List.Elements.{All-push, All-same}
 use Rattle.segmented_log.specs.Parts.{part_of}
 use Rattle.segmented_log.specs.Log.{HasSegment}
 use Rattle.segmented_log.proofs.CauseLemmas.{ok_alone}
-use Rattle.record_log.specs.declared.error.LogError.TheVariants.{Failed, NoLog}
+use Rattle.segmented_log.specs.declared.error.LogError.TheVariants.{Failed, NoLog}
 use Rattle.segmented_log.proofs.opening.open_segments.Goals as goal
 
 pub loop-number-preserved : goal.loop-number-preserved

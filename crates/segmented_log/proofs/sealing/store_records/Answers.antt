@@ -3,8 +3,8 @@ use Rattle.std.specs.Prelude.{IsErrOf}
 use Rattle.std.specs.List.{Any}
 use Rattle.std.proofs.lemmas.List.{length-map, get_or-map}
 use Rattle.store_base.specs.declared.error.StoreError.TheVariants.{BlockTooLarge}
-use Rattle.record_log.specs.declared.batches.Place.{Place}
-use Rattle.record_log.specs.Place.{content, contents}
+use Rattle.log_tail.specs.declared.batches.Place.{Place}
+use Rattle.log_tail.specs.Place.{content, contents}
 use Rattle.segmented_log.proofs.sealing.store_records.Goals as goal
 
 too_large : (tail : List ℕ) (places : List Place) (i : ℕ) (d : Place) (size old : ℕ) → i < length places → size ≡ old → 2 ^ 32 ≤ size + length (content tail (get_or places i d)) + 8

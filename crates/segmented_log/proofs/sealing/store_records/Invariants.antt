@@ -1,5 +1,5 @@
 use Rattle.std.proofs.Common.{◌≡◌, take}
-use Rattle.record_log.specs.Place.{contents}
+use Rattle.log_tail.specs.Place.{contents}
 use Rattle.store_published.specs.Filling.{AddsDocuments}
 use Rattle.segmented_log.proofs.sealing.store_records.Given as goal
 

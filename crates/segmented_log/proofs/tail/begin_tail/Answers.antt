@@ -4,7 +4,7 @@ use Rattle.std.specs.List.{flat_map}
 use Rattle.store_folder.specs.Moments.{LeavesOnly}
 use Rattle.store_folder.specs.Publishing.{part, IsOldOrWhole}
 use Rattle.store_folder.proofs.Steps.{weaker}
-use Rattle.record_log.specs.Tail.{records_in}
+use Rattle.log_tail.specs.Tail.{records_in}
 use Rattle.segmented_log.specs.Names.{tail_name}
 use Rattle.segmented_log.specs.Log.{KeepsLog}
 use Rattle.segmented_log.proofs.OpeningLemmas.{keeps_begun}

@@ -3,8 +3,8 @@ use Rattle.std.specs.Prelude.{IsTrue}
 use Rattle.store_folder.specs.Moments.{LeavesOnly}
 use Rattle.store_folder.specs.Publishing.{part, IsOldOrWhole}
 use Rattle.store_folder.proofs.Steps.{started, weaker}
-use Rattle.record_log.specs.Place.{contents}
-use Rattle.record_log.specs.Tail.{records_of, first_of, IsTail, IsWholeTo}
+use Rattle.log_tail.specs.Place.{contents}
+use Rattle.log_tail.specs.Tail.{records_of, first_of, IsTail, IsWholeTo}
 use Rattle.segmented_log.specs.Names.{tail_name}
 use Rattle.segmented_log.specs.Log.{KeepsLog}
 use Rattle.segmented_log.proofs.OpeningLemmas.{keeps_same, keeps_replaced}

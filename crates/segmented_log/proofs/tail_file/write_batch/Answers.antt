@@ -4,7 +4,7 @@ use Rattle.std.proofs.lemmas.Result.{on_ok_weaker}
 use Rattle.std.proofs.lemmas.Slice.{between_to_end}
 use Rattle.store_folder.specs.Moments.{LeavesOnly}
 use Rattle.store_folder.specs.Publishing.{part, IsOldOrWhole}
-use Rattle.record_log.specs.declared.tail.Commit.{Commit}
+use Rattle.segmented_log.specs.declared.commit.Commit.{Commit}
 use Rattle.segmented_log.specs.Names.{tail_name}
 use Rattle.segmented_log.specs.Settled.{TailIsKept, PutsBatch}
 use Rattle.segmented_log.proofs.tail_file.write_batch.Goals as goal

@@ -1,11 +1,11 @@
 use Rattle.std.proofs.Common.{◌≡◌, ℕ, ◌+◌, ◌++◌, ◌∷◌, [], length, ◌∙◌, ap, arith, length-append, Result, Ok, Err}
 use Rattle.std.specs.Result.{IsErr, OnOk}
 use Rattle.std.proofs.lemmas.Bool.{OnFalse_at, false≢true}
-use Rattle.record_log.specs.declared.error.LogError.{LogError}
-use Rattle.record_log.specs.declared.error.LogError.TheVariants.{Broken, Full, TooLong, BatchFull, Memory}
-use Rattle.record_log.specs.Tail.{records_in, framed, four}
-use Rattle.record_log.proofs.Frames.{length-four}
-use Rattle.record_log.proofs.Logs.{one_more}
+use Rattle.segmented_log.specs.declared.error.LogError.{LogError}
+use Rattle.segmented_log.specs.declared.error.LogError.TheVariants.{Broken, Full, TooLong, BatchFull, Memory}
+use Rattle.log_tail.specs.Tail.{records_in, framed, four}
+use Rattle.log_tail.proofs.Frames.{length-four}
+use Rattle.log_tail.proofs.Logs.{one_more}
 use Rattle.segmented_log.specs.Settled.{IsSettledTail}
 use Rattle.segmented_log.proofs.CauseLemmas.{ok_alone, err_alone, memory_alone}
 use Rattle.segmented_log.proofs.SyncLemmas.{next_number, both_on_false}

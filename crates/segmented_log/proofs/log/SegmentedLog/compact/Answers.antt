@@ -2,7 +2,7 @@ use Rattle.std.proofs.Common.{rules, inl, inr, ⊎_elim, ◌≡◌, refl, sym, �
 use Rattle.std.specs.Prelude.{IsTrue, IsErrOf}
 use Rattle.store_base.proofs.ListLemmas.{risen_later}
 use Rattle.store_format.specs.Block.{doc, damaged}
-use Rattle.record_log.specs.declared.error.LogError.TheVariants.{Failed, Full, Damaged}
+use Rattle.segmented_log.specs.declared.error.LogError.TheVariants.{Failed, Full, Damaged}
 use Rattle.store_folder.specs.Moments.{LeavesOnly}
 use Rattle.store_folder.proofs.Steps.{started, weaker, joined}
 use Rattle.segmented_log.specs.Log.{IsLog}

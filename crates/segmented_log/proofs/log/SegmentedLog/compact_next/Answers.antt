@@ -5,8 +5,8 @@ use Rattle.std.proofs.lemmas.Bool.{OnFalse_at}
 use Rattle.std.proofs.lemmas.List.{length-map}
 use Rattle.store_folder.specs.Moments.{LeavesOnly}
 use Rattle.store_folder.proofs.Steps.{weaker, joined}
-use Rattle.record_log.specs.declared.error.LogError.TheVariants.{Failed, Full, Damaged}
-use Rattle.record_log.specs.Causes.{IsFault}
+use Rattle.segmented_log.specs.declared.error.LogError.TheVariants.{Failed, Full, Damaged}
+use Rattle.segmented_log.specs.Causes.{IsFault}
 use Rattle.segmented_log.specs.Parts.{Sealed, part_of, sealed_of, parts_of, AreParts}
 use Rattle.segmented_log.specs.Log.{Holds, IsLog}
 use Rattle.segmented_log.specs.Compacting.{slots_in, CoversNext, CanBecomeOne, AreApart, IsCompacted}

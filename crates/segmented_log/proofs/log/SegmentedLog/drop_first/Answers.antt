@@ -5,7 +5,7 @@ use Rattle.std.proofs.lemmas.List.{drop-map}
 use Rattle.std.proofs.lemmas.List.Elements.{All-drop, All-same}
 use Rattle.store_folder.specs.Moments.{LeavesOnly}
 use Rattle.store_folder.proofs.Steps.{weaker}
-use Rattle.record_log.specs.Tail.{first_of}
+use Rattle.log_tail.specs.Tail.{first_of}
 use Rattle.segmented_log.specs.Parts.{part_of, log_slots}
 use Rattle.segmented_log.specs.Settled.{IsSettledTail, IsSettledFolder}
 use Rattle.segmented_log.specs.Dropping.{CanGo, IsRest, DropsTo, LosesSegment, RemovesOnly, IsDropped}
@@ -13,7 +13,7 @@ use Rattle.segmented_log.proofs.SyncLemmas.{log_stays}
 use Rattle.segmented_log.proofs.DropLemmas.{rest_itself, drops_none, dropped_rest, dropped_log, dropped_folder, dropped_names, dropped_later, some_can}
 use Rattle.segmented_log.proofs.log.SegmentedLog.drop_first.Goals.{In-Some}
 use Rattle.segmented_log.proofs.CauseLemmas.{ok_alone}
-use Rattle.record_log.specs.declared.error.LogError.TheVariants.{Failed}
+use Rattle.segmented_log.specs.declared.error.LogError.TheVariants.{Failed}
 use Rattle.segmented_log.proofs.log.SegmentedLog.drop_first.Goals as goal
 
 pub returns-in_default-clause-rest : goal.returns-in_default-clause-rest

@@ -5,7 +5,7 @@ use Rattle.std.specs.List.{flat_map}
 use Rattle.store_folder.specs.Moments.{LeavesOnly}
 use Rattle.store_folder.proofs.Steps.{weaker}
 use Rattle.store_folder.specs.Publishing.{part, IsOldOrWhole}
-use Rattle.record_log.specs.Tail.{records_in, records_of}
+use Rattle.log_tail.specs.Tail.{records_in, records_of}
 use Rattle.segmented_log.specs.Names.{tail_name}
 use Rattle.segmented_log.specs.Parts.{part_of, tail_end, end_from, log_slots}
 use Rattle.segmented_log.specs.Log.{IsLog}
@@ -15,7 +15,7 @@ use Rattle.segmented_log.proofs.PartLemmas.{emptied_slots}
 use Rattle.segmented_log.proofs.SealLemmas.{replaced_log}
 use Rattle.segmented_log.proofs.log.SegmentedLog.empty_tail.Goals.{After-deref, After-restart}
 use Rattle.segmented_log.proofs.CauseLemmas.{ok_alone, memory_alone, failed_memory}
-use Rattle.record_log.specs.declared.error.LogError.TheVariants.{Failed}
+use Rattle.segmented_log.specs.declared.error.LogError.TheVariants.{Failed}
 use Rattle.segmented_log.proofs.log.SegmentedLog.empty_tail.Goals as goal
 
 pub returns-in_err-tail-clause-any_moment : goal.returns-in_err-tail-clause-any_moment

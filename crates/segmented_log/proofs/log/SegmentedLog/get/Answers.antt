@@ -2,9 +2,9 @@ use Rattle.std.proofs.Common.{◌≡◌, ◌≤◌, ◌<◌, ◌-◌, map, get_o
 use Rattle.std.proofs.lemmas.Bool.{OnFalse_at, false≢true}
 use Rattle.store_format.specs.Block.{doc}
 use Rattle.segmented_log.specs.Parts.{part_of, sealed_of, parts_of, tail_end, end_from}
-use Rattle.record_log.specs.Place.{content}
+use Rattle.log_tail.specs.Place.{content}
 use Rattle.segmented_log.specs.Log.{slot_at, Gives}
-use Rattle.record_log.specs.declared.error.LogError.TheVariants.{Broken, Failed}
+use Rattle.segmented_log.specs.declared.error.LogError.TheVariants.{Broken, Failed}
 use Rattle.segmented_log.specs.Causes.{IsOfReads}
 use Rattle.segmented_log.proofs.CauseLemmas.{never, ok_alone, err_alone, memory_alone, failed_memory, broken_failed}
 use Rattle.segmented_log.proofs.RunOfParts.{view_parts}

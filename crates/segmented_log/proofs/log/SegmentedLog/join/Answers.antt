@@ -8,7 +8,7 @@ use Rattle.store_folder.specs.Folder.{ElsewhereOfBoth, FilesElsewhereOfBoth}
 use Rattle.store_folder.specs.Publishing.{part}
 use Rattle.store_folder.proofs.Steps.{weaker}
 use Rattle.store_format.specs.Block.{Slot, doc, damaged}
-use Rattle.record_log.specs.declared.error.LogError.TheVariants.{Full, Damaged}
+use Rattle.segmented_log.specs.declared.error.LogError.TheVariants.{Full, Damaged}
 use Rattle.segmented_log.specs.Names.{segment_name}
 use Rattle.segmented_log.specs.Parts.{Part, part_of, sealed_of, parts_of, log_slots}
 use Rattle.segmented_log.specs.Log.{HasSegment, Holds, IsLog}

@@ -7,12 +7,12 @@ use Rattle.std.proofs.lemmas.List.Elements.{All-drop, All-push, All-same}
 use Rattle.store_folder.specs.Moments.{LeavesOnly}
 use Rattle.store_folder.proofs.Steps.{weaker}
 use Rattle.store_folder.specs.Folder.{Look}
-use Rattle.record_log.specs.declared.batches.Place.{Place}
-use Rattle.record_log.specs.Place.{contents, EndsBy}
+use Rattle.log_tail.specs.declared.batches.Place.{Place}
+use Rattle.log_tail.specs.Place.{contents, EndsBy}
 use Rattle.segmented_log.specs.Parts.{Part, part_of, joined, log_slots}
 use Rattle.segmented_log.specs.Log.{HasSegment, IsLog}
 use Rattle.segmented_log.specs.Settled.{part_at, AddsSegment, IsSettledTail, IsSettledFolder}
-use Rattle.record_log.specs.declared.error.LogError.TheVariants.{Failed, Full}
+use Rattle.segmented_log.specs.declared.error.LogError.TheVariants.{Failed, Full}
 use Rattle.segmented_log.specs.Causes.{HasNoRoom, HasNoRoomForLast, HasNewSegment}
 use Rattle.segmented_log.proofs.CauseLemmas.{none_sealed}
 use Rattle.segmented_log.proofs.SyncLemmas.{log_stays}

@@ -19,7 +19,7 @@ use Rattle.segmented_log.proofs.RunOfParts.{covered_moved, view_parts, covered_i
 use Rattle.segmented_log.proofs.SlotLemmas.{in_left}
 use Rattle.segmented_log.proofs.log.SegmentedLog.remove_covered.Goals.{After-remove_segment, After-remove}
 use Rattle.segmented_log.proofs.CauseLemmas.{ok_alone}
-use Rattle.record_log.specs.declared.error.LogError.TheVariants.{Failed}
+use Rattle.segmented_log.specs.declared.error.LogError.TheVariants.{Failed}
 use Rattle.segmented_log.proofs.log.SegmentedLog.remove_covered.Goals as goal
 
 -- what the log knows of its folder

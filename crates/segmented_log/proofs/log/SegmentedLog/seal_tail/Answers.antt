@@ -3,8 +3,8 @@ use Rattle.std.proofs.lemmas.Result.{on_ok_weaker}
 use Rattle.store_folder.specs.Moments.{LeavesOnly}
 use Rattle.store_folder.proofs.Steps.{joined}
 use Rattle.store_base.proofs.ListLemmas.{risen_later}
-use Rattle.record_log.specs.declared.error.LogError.TheVariants.{Full}
-use Rattle.record_log.specs.Causes.{IsFault}
+use Rattle.segmented_log.specs.declared.error.LogError.TheVariants.{Full}
+use Rattle.segmented_log.specs.Causes.{IsFault}
 use Rattle.segmented_log.specs.Log.{IsLog}
 use Rattle.segmented_log.proofs.CauseLemmas.{if_seals, never}
 use Rattle.segmented_log.proofs.log.SegmentedLog.seal_tail.Goals as goal

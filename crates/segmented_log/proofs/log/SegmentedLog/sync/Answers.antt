@@ -5,10 +5,9 @@ use Rattle.std.proofs.lemmas.Result.{on_ok_weaker}
 use Rattle.store_folder.proofs.Steps.{joined, weaker}
 use Rattle.store_format.specs.Block.{doc}
 use Rattle.store_base.proofs.ListLemmas.{risen_later}
-use Rattle.record_log.specs.declared.error.LogError.TheVariants.{Failed, Full, Broken}
-use Rattle.record_log.specs.Causes.{IsFault}
+use Rattle.segmented_log.specs.declared.error.LogError.TheVariants.{Failed, Full, Broken}
+use Rattle.segmented_log.specs.Causes.{IsFault, HasNoRoomForLast}
 use Rattle.segmented_log.specs.Names.{segment_name}
-use Rattle.segmented_log.specs.Causes.{HasNoRoomForLast}
 use Rattle.segmented_log.specs.Log.{IsLog, KeepsOrAdds}
 use Rattle.segmented_log.proofs.NameLemmas.{segment_no_tail, segment_no_tail_beside}
 use Rattle.segmented_log.proofs.CauseLemmas.{never, err_alone, broken_failed, broken_full}

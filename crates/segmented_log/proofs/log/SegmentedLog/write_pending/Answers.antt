@@ -6,9 +6,9 @@ use Rattle.store_folder.specs.Moments.{LeavesOnly}
 use Rattle.store_folder.specs.Publishing.{part}
 use Rattle.store_folder.proofs.Steps.{started, weaker}
 use Rattle.store_format.specs.Block.{doc}
-use Rattle.record_log.proofs.Scans.{ends_later}
-use Rattle.record_log.specs.Place.{EndsBy, AddsRecords}
-use Rattle.record_log.specs.Tail.{sum_of, summed}
+use Rattle.log_tail.proofs.Scans.{ends_later}
+use Rattle.log_tail.specs.Place.{EndsBy, AddsRecords}
+use Rattle.log_tail.specs.Tail.{sum_of, summed}
 use Rattle.segmented_log.specs.Names.{tail_name}
 use Rattle.segmented_log.specs.Parts.{part_of}
 use Rattle.segmented_log.specs.Log.{KeepsOrAdds}
@@ -17,7 +17,7 @@ use Rattle.segmented_log.proofs.SyncLemmas.{settled_batch, folder_batch, slots_b
 use Rattle.segmented_log.proofs.TailLemmas.{keeps_or_adds}
 use Rattle.segmented_log.proofs.log.SegmentedLog.write_pending.Goals.{After-place_batch, After-bytes}
 use Rattle.segmented_log.proofs.CauseLemmas.{ok_alone, memory_alone, failed_memory}
-use Rattle.record_log.specs.declared.error.LogError.TheVariants.{Failed}
+use Rattle.segmented_log.specs.declared.error.LogError.TheVariants.{Failed}
 use Rattle.segmented_log.proofs.log.SegmentedLog.write_pending.Goals as goal
 
 -- before the batch is written the log is as it was

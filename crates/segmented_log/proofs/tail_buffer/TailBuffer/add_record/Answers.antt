@@ -1,6 +1,6 @@
 use Rattle.std.proofs.Common.{◌≡◌, inr, ◌+◌, ◌-◌, ◌++◌, ◌∷◌, [], length, drop, ◌∙◌, ap, arith, length-drop, length-append}
 use Rattle.std.proofs.lemmas.List.{drop-append-le}
-use Rattle.record_log.specs.Tail.{framed}
+use Rattle.log_tail.specs.Tail.{framed}
 use Rattle.segmented_log.proofs.PlaceLemmas.{one_placed}
 use Rattle.segmented_log.proofs.tail_buffer.TailBuffer.add_record.Goals as goal
 

@@ -2,7 +2,7 @@ use Rattle.std.proofs.Common.{◌≡◌, ◌+◌, ◌++◌, length, take, drop, 
 use Rattle.std.specs.Prelude.{All, OnOk}
 use Rattle.std.proofs.lemmas.List.{length-take-le}
 use Rattle.std.proofs.lemmas.Result.{on_ok_weaker}
-use Rattle.record_log.specs.Place.{EndsBy, AddsRecords}
+use Rattle.log_tail.specs.Place.{EndsBy, AddsRecords}
 use Rattle.segmented_log.specs.TailBuffer.{moved}
 use Rattle.segmented_log.proofs.PlaceLemmas.{adds_moved, within_moved}
 use Rattle.segmented_log.proofs.tail_buffer.TailBuffer.place_batch.Goals.{After-add_moved}

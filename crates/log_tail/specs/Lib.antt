@@ -1,0 +1,3 @@
+pub mod Tail
+pub mod Place
+pub mod View

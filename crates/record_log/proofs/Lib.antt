@@ -1,8 +1,0 @@
-pub mod Bodies
-pub mod Frames
-pub mod Logs
-pub mod Moments
-pub mod RunLemmas
-pub mod Scans
-pub mod Steps
-pub mod Tails
