@@ -37,10 +37,6 @@ accepted_works (Some cause) x h = absurd cc
 
 -- ---- documents
 
-unread : (bytes : Option (List ℕ)) → effect_of (store bytes) read_failed ≡ no_effect
-unread None = refl
-unread (Some bytes) = refl
-
 unstored : (bytes : Option (List ℕ)) → effect_of (store bytes) no_memory ≡ no_effect
 unstored None = refl
 unstored (Some bytes) = refl

@@ -72,13 +72,6 @@ part_bytes cs total n m covers lt le =
     let here = block_at cs total n c.0 covers c.1 in
     omega (arith, here.byte_start, here.some_bytes, byte_order cs total n m c.0 covers c.1 lt)
 
-pub nothing_read : (size : ℕ) (reader : Reading) → IsReadUpTo size 0 reader reader
-nothing_read size reader = record {
-  times = 0;
-  read = record { content = refl; honest = refl; reads = refl; asked = refl; failures = omega arith; others = refl };
-  parts = omega arith;
-}
-
 -- one more part was read, whether it came or not
 pub part_read : (size n m : ℕ) (reader read new : Reading) → Covers reader.checkpoints (length reader.file.content) → IsReadUpTo size n reader read → EndsPart size read.checkpoints n m
     → IsReadOnce (byte_at m read.checkpoints - byte_at n read.checkpoints) read new → IsReadUpTo size m reader new
@@ -105,15 +98,6 @@ read_at_most size n reader read covers up = record {
   within = byte_within reader.checkpoints (length reader.file.content) n covers;
   read = up.read;
 }
-
-pub read_in_pieces : (size n : ℕ) (reader read : Reading) → Covers reader.checkpoints (length reader.file.content) → length reader.checkpoints ≤ n → IsReadUpTo size n reader read
-    → IsReadInPieces (number_of_parts size reader.checkpoints) reader read
-read_in_pieces size n reader read covers all up =
-    let cs = reader.checkpoints in
-    let none = none_following cs n all in
-    let times : up.times ≡ number_of_parts size cs = omega (arith, up.parts, ap (λ (xs : List Checkpoint). number_of_parts size xs) none) in
-    let end : byte_at n cs ≡ length reader.file.content = ap (bytes_end 0) (take_all n cs all) ∙ covers.end in
-    subst (λ (k : ℕ). IsReadTimes k (length reader.file.content) reader read) times (subst (λ (k : ℕ). IsReadTimes up.times k reader read) end up.read)
 
 -- ---- some of the checkpoints that follow one another
 
@@ -171,14 +155,6 @@ joined old bs cs n m =
     let text : (old.content ++ data_of bs) ++ data_of cs ≡ old.content ++ data_of (bs ++ cs) =
     append_assoc old.content (data_of bs) (data_of cs) ∙ ap (λ (x : List ℕ). old.content ++ x) (sym (data_of-append bs cs)) in
     λ i. record old { finished = append_assoc old.finished bs cs i; content = text i; failures = n }
-
-pub none_stacked : (reader : Reading) (out : BlockOutput) → StacksFirst reader 0 out out
-none_stacked reader out = record {
-  blocks = [];
-  places = refl;
-  honest = λ is. refl;
-  after = λ i. record out { finished = sym (append-nil out.finished) i; content = sym (append-nil out.content) i };
-}
 
 -- how many documents they have
 pub docs_stacked : (reader : Reading) (n m : ℕ) (old new : BlockOutput) → IsSlice reader.checkpoints n m → (p : StacksFirst reader n old new)
@@ -342,28 +318,7 @@ all_stacked reader n old new all p many = record {
   honest = λ is. p.honest is ∙ take_all n (store_of reader) (omega (arith, many, all));
 }
 
--- where one is left, the first ones came
-pub begins_stacking : (reader : Reading) (n : ℕ) (old new : BlockOutput) → old.failure ≡ None → n < length reader.checkpoints → StacksFirst reader n old new → BeginsStacking reader old new
-begins_stacking reader n old new works some p = record {
-  works = works;
-  blocks = p.blocks;
-  came = record { count = n; some_left = some; places = p.places; honest = p.honest };
-  after = p.after;
-}
-
 -- ---- a part that is refused
-
--- a read that failed
-pub refused_read : (reader read left : Reading) (n : ℕ) (old out : BlockOutput) (e : StoreError) → BeginsStacking reader old out → read.file.failures ≡ reader.file.failures
-    → (e ≡ Read) ⊎ (e ≡ Memory) → (e ≡ Read → HasRisen read.file.failures left.file.failures) → (e ≡ Read) ⊎ (left.file.failures ≡ read.file.failures)
-    → AfterStackingInParts reader left old out e
-refused_read reader read left n old out e begins steady (inl is) risen still = subst (AfterStackingInParts reader left old out) (sym is)
-    (begins, subst (λ (k : ℕ). HasRisen k left.file.failures) steady (risen is))
-refused_read reader read left n old out e begins steady (inr is) risen (inl other) = absurd (differ e is other)
-  where
-    differ : (e : StoreError) → e ≡ Memory → e ≡ Read → ⊥
-    differ e m r = cc
-refused_read reader read left n old out e begins steady (inr is) risen (inr same) = subst (AfterStackingInParts reader left old out) (sym is) (begins, same ∙ steady)
 
 -- a writer that fails after what was put has failed
 pub fails_after : (reader : Reading) (n : ℕ) (cause : Cause) (old mid new : BlockOutput) → old.failure ≡ None → StacksFirst reader n old mid → old.failures ≤ mid.failures → FailsFor cause mid new

@@ -28,9 +28,6 @@ groups-append {A} (suc runs) period (x ∷ xs) ys one whole =
     ∙ ap (λ (g : List (List A)). take period (x ∷ xs) ∷ g) (groups-append runs period rest ys one left)
     ∙ ap (λ (g : List (List A)). g ++ groups period ys) (sym (groups_more period x xs one))
 
-pub layer_text-append : (runs period : ℕ) (cs ds : List Checkpoint) → 1 ≤ period → length cs ≡ runs * period → layer_text period (cs ++ ds) ≡ layer_text period cs ++ layer_text period ds
-layer_text-append runs period cs ds one whole = ap (flat_map checkpoint_block) (groups-append runs period cs ds one whole) ∙ flat_map-append checkpoint_block (groups period cs) (groups period ds)
-
 pub pointers-append : (place : ℕ) (gs hs : List (List Checkpoint)) → pointers place (gs ++ hs) ≡ pointers place gs ++ pointers (place + length (flat_map checkpoint_block gs)) hs
 pointers-append place [] hs = ap (λ (p : ℕ). pointers p hs) (omega arith)
 pointers-append place (g ∷ gs) hs =
@@ -38,15 +35,3 @@ pointers-append place (g ∷ gs) hs =
     let places : after + length (flat_map checkpoint_block gs) ≡ place + length (flat_map checkpoint_block (g ∷ gs)) =
     omega (arith, length-append (checkpoint_block g) (flat_map checkpoint_block gs)) in
     ap (λ (ps : List Checkpoint). checkpoint (docs_start g) (docs_end 0 g) place after ∷ ps) (pointers-append after gs hs ∙ ap (λ (p : ℕ). pointers after gs ++ pointers p hs) places)
-
-pub layer_above-append : (runs period : ℕ) (cs ds : List Checkpoint) → 1 ≤ period → length cs ≡ runs * period
-    → layer_above period (cs ++ ds) ≡ layer_above period cs ++ pointers (length (layer_text period cs)) (groups period ds)
-layer_above-append runs period cs ds one whole = ap (pointers 0) (groups-append runs period cs ds one whole) ∙ pointers-append 0 (groups period cs) (groups period ds)
-    ∙ ap (λ (p : ℕ). layer_above period cs ++ pointers p (groups period ds)) (omega arith)
-
--- one more run after whole runs is one more pointer
-pub layer_above_one_more : (runs period : ℕ) (cs run : List Checkpoint) → length cs ≡ runs * period → 0 < length run → length run ≤ period
-    → layer_above period (cs ++ run) ≡ layer_above period cs ++ checkpoint (docs_start run) (docs_end 0 run) (length (layer_text period cs))
-    (length (layer_text period cs) + length (checkpoint_block run)) ∷ []
-layer_above_one_more runs period cs run whole some few = layer_above-append runs period cs run (omega arith) whole
-    ∙ ap (λ (g : List (List Checkpoint)). layer_above period cs ++ pointers (length (layer_text period cs)) g) (groups_one period run some few)

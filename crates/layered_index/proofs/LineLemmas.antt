@@ -64,10 +64,6 @@ pub bytes_end-put : (byte : ℕ) (cs : List Checkpoint) (c : Checkpoint)
 bytes_end-put byte [] c = refl
 bytes_end-put byte (x ∷ xs) c = bytes_end-put x.byte_range.end xs c
 
--- the empty list ends where all lists begin
-pub ends_none : EndsAt 0 0 []
-ends_none = record { in_line = tt; docs = refl; bytes = refl }
-
 -- one more checkpoint that begins at the ends
 pub ends_put : (doc byte : ℕ) (cs : List Checkpoint) (c : Checkpoint) → EndsAt doc byte cs → c.doc_range.start ≡ doc
     → c.byte_range.start ≡ byte → IsWithinLimits c → EndsAt c.doc_range.end c.byte_range.end (cs ++ c ∷ [])
@@ -80,18 +76,3 @@ ends_put doc byte cs c h d b within = record {
 -- what is known to end somewhere is in line
 pub ends_in_line : (doc byte : ℕ) (cs : List Checkpoint) → EndsAt doc byte cs → IsInLine cs
 ends_in_line doc byte cs h = in_line_from 0 0 cs h.in_line
-
--- one more of so many documents and bytes
-pub ends_more : (docs count start end len : ℕ) (cs : List Checkpoint) → EndsAt docs start cs → docs + count < 2 ^ 32
-    → end ≡ start + len → len < 2 ^ 32 → end < 2 ^ 64
-    → EndsAt (docs + count) end (cs ++ checkpoint docs (docs + count) start end ∷ [])
-ends_more docs count start end len cs h few is short fits =
-    ends_put docs start cs (checkpoint docs (docs + count) start end) h refl refl
-    (record {
-      doc_order = omega arith;
-      doc_end = few;
-      byte_order = omega arith;
-      byte_len = omega arith;
-      byte_end =
-          fits;
-    })

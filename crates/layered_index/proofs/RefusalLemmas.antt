@@ -11,8 +11,3 @@ use Rattle.layered_index.specs.Refusal.{refusal_of, answer_to, RefusesOnlyUnless
 pub refused : (good : Type 0) (fault : ReadFault) → FailsOnlyUnless good fault → RefusesOnlyUnless good (refusal_of fault)
 refused good Malformed h = inl (refl, h)
 refused good OutOfMemory h = inr refl
-
--- so is that of an index
-pub refused_index : (good : Type 0) (first : IndexFault → Type 0) (refusal : Refusal) → RefusedOnlyUnless good first refusal → RefusesOnlyUnless good (answer_to refusal)
-refused_index good first (refusal.Broken fault) h = inl (refl, h.0)
-refused_index good first refusal.OutOfMemory h = inr refl

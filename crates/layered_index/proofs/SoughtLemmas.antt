@@ -87,24 +87,6 @@ block_sought most target (c ∷ cs) some few small h =
     let steps : steps_at (length (c ∷ cs)) c.doc_range.start c.byte_range.start (flat_map step (c ∷ cs) ++ []) ≡ Some (c ∷ cs, []) = steps_again c.doc_range.start c.byte_range.start (c ∷ cs) [] h in
     rw (head, test, steps) refl
 
--- what is found in any block is past the target
-pub sought_past : (most target : ℕ) (bytes : List ℕ) (s : Sought) → IsBytes bytes → sought_at most target bytes ≡ Some s → IfSome s.found (IsPast target)
-unfolding sought_at
-sought_past most target bytes s fits e =
-    let a = bind_some (heading_at bytes) (λ h. cond (ltb most h.0.count) None (sought_from target None h.0.doc (steps_at h.0.count h.0.doc h.0.byte h.1) >>= λ x. cond (eqb (length x.2) 0)
-    (Some (record { found = x.0; doc = h.0.doc; doc_end = x.1 })) None)) s e in
-    let h = a.0.0 in
-    let p = pass_none (ltb most h.count) (sought_from target None h.doc (steps_at h.count h.doc h.byte a.0.1) >>= λ x. cond (eqb (length x.2) 0)
-    (Some (record { found = x.0; doc = h.doc; doc_end = x.1 })) None) s a.2 in
-    let b = bind_some (sought_from target None h.doc (steps_at h.count h.doc h.byte a.0.1)) (λ x. cond (eqb (length x.2) 0) (Some (record { found = x.0; doc = h.doc; doc_end = x.1 })) None) s p.1 in
-    let made : Sought = record { found = b.0.0; doc = h.doc; doc_end = b.0.1 } in
-    let q = pass_some (eqb (length b.0.2) 0) made s b.2 in
-    let d = bind_some (steps_at h.count h.doc h.byte a.0.1) (λ x. Some (first_past x.0 target, docs_end h.doc x.0, x.1)) b.0 b.1 in
-    let found : first_past d.0.0 target ≡ b.0.0 = ap (λ (x : Option Checkpoint × ℕ × List ℕ). x.0) (some_is (first_past d.0.0 target, docs_end h.doc d.0.0, d.0.1) b.0 d.2) in
-    let rest_fits : IsBytes a.0.1 = elim (heading_read bytes h a.0.1 fits a.1) [ inl none ↦ none.takes.rest_fits | inr more ↦ more.takes_byte.rest_fits ] in
-    let steps = steps_read h.count h.doc h.byte a.0.1 d.0.0 d.0.1 rest_fits d.1 in
-    subst (λ (x : Sought). IfSome x.found (IsPast target)) q.1 (subst (λ (o : Option Checkpoint). IfSome o (IsPast target)) found (found_past h.doc h.byte d.0.0 target steps.runs))
-
 -- ---- a layer
 
 -- a layer of one run is one block
@@ -143,13 +125,6 @@ below_sought period target layer p cs one small h text above =
       };
       first = is.first;
     }
-
--- what is read of the whole block
-pub pointed_sought : (period target : ℕ) (run : List Checkpoint) (p : Checkpoint) (block : List ℕ) → IsRunAt period run p block
-    → sought_at period target block ≡ Some (record { found = first_past run target; doc = p.doc_range.start; doc_end = p.doc_range.end })
-pointed_sought period target run p block is =
-    ap (sought_at period target) is.spells ∙ block_sought period target run is.some is.few is.small is.in_line
-    ∙ (λ i. Some (record { found = first_past run target; doc = sym is.docs_first i; doc_end = sym is.docs_last i }))
 
 -- ---- a block that is decoded up to what is sought
 
@@ -265,23 +240,7 @@ read_nothing read e f = nothing (e ∙ f)
     nothing : {A : Type 0} {x : A} → None ≡ Some x → ⊥
     nothing e = cc
 
-pub found_is : (read : Option Sought) (s : Sought) (cs : List Checkpoint) (target doc doc_end : ℕ) → Some s ≡ read → read ≡ Some (record { found = first_past cs target; doc = doc; doc_end = doc_end })
-    → Some s.found ≡ Some (first_past cs target)
-found_is read s cs target doc doc_end e f = ap (λ (x : Sought). Some x.found) (some_is s (record { found = first_past cs target; doc = doc; doc_end = doc_end }) (e ∙ f))
-
--- the documents of the block are those of the pointer
-pub documents_are : (read : Option Sought) (s : Sought) (found : Option Checkpoint) (doc doc_end : ℕ) → Some s ≡ read → read ≡ Some (record { found = found; doc = doc; doc_end = doc_end })
-    → (s.doc ≡ doc) × (s.doc_end ≡ doc_end)
-documents_are read s found doc doc_end e f =
-    let same = some_is s (record { found = found; doc = doc; doc_end = doc_end }) (e ∙ f) in
-    (ap (λ (x : Sought). x.doc) same, ap (λ (x : Sought). x.doc_end) same)
-
 -- a part of bytes is of bytes
 bytes_front : (xs ys : List ℕ) → IsBytes (xs ++ ys) → IsBytes xs
 bytes_front [] ys h = tt
 bytes_front (x ∷ xs) ys h = (h.0, bytes_front xs ys h.1)
-
-pub part_is_bytes : (bytes : List ℕ) (start end : ℕ) → IsBytes bytes → IsBytes (slice_range bytes start end)
-part_is_bytes bytes start end fits =
-    let following : IsBytes (drop start bytes) = bytes_after (take start bytes) (drop start bytes) (subst IsBytes (sym (take-append-drop start bytes)) fits) in
-    bytes_front (take (end - start) (drop start bytes)) (drop (end - start) (drop start bytes)) (subst IsBytes (sym (take-append-drop (end - start) (drop start bytes))) following)

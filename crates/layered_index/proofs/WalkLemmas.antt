@@ -56,10 +56,6 @@ run_none = refl
 abbrev pub plus : ℕ → Option ℕ → Option ℕ
 plus n o = o >>= λ m. Some (n + m)
 
-pub plus_zero : (o : Option ℕ) → plus 0 o ≡ o
-plus_zero (Some m) = ap (λ (k : ℕ). Some k) (omega arith)
-plus_zero None = refl
-
 pub plus_plus : (a b : ℕ) (o : Option ℕ) → plus a (plus b o) ≡ plus (a + b) o
 plus_plus a b (Some m) = ap (λ (k : ℕ). Some k) (omega arith)
 plus_plus a b None = refl
@@ -214,33 +210,11 @@ pointers_go_on place rest r after e = pointers_next place rest ∙ ap (pointers_
 pub heads : (x y : Checkpoint) (xs ys : List Checkpoint) → x ∷ xs ≡ y ∷ ys → x ≡ y
 heads x y xs ys e = cc
 
-pub tails : (x y : Checkpoint) (xs ys : List Checkpoint) → x ∷ xs ≡ y ∷ ys → xs ≡ ys
-tails x y xs ys e = cc
-
 pub none_some : {x : Checkpoint} {xs : List Checkpoint} → [] ≡ x ∷ xs → ⊥
 none_some e = cc
 
 pub not_true : (P : Type 0) → false ≡ true → P
 not_true P e = absurd cc
-
--- the layer above has none left
-pub none_points : (given after : List Checkpoint) (p : Checkpoint) (ps : List Checkpoint) → given ≡ [] → (IsTrue false × (after ≡ ps)) ↔ (given ≡ p ∷ ps)
-none_points given after p ps none = (λ h. not_true (given ≡ p ∷ ps) h.0, λ e. absurd (none_some (sym none ∙ e)))
-
--- it has this one
-pub one_points : (given after : List Checkpoint) (x p : Checkpoint) (ps : List Checkpoint) (b : Bool) → given ≡ x ∷ after → IsTrue b ↔ (x ≡ p) → (IsTrue b × (after ≡ ps)) ↔ (given ≡ p ∷ ps)
-one_points given after x p ps b some test = (
-  λ h. some ∙ (λ i. test.0 h.0 i ∷ h.1 i),
-  λ e. (test.1 (heads x p after ps (sym some ∙ e)), tails x p after ps (sym some ∙ e)),
-)
-
--- whether nothing is left
-pub ended : (given after : List Checkpoint) (o : Option Checkpoint) (b : Bool) → MatchOption o ((given ≡ []) × (after ≡ [])) (λ x. given ≡ x ∷ after) → b ≡ is_none o → IsTrue b ↔ (given ≡ [])
-ended given after None b none b_is = (λ t. none.0, λ p. b_is)
-ended given after (Some x) b some b_is = (
-  λ t. not_true (given ≡ []) (sym b_is ∙ t),
-  λ p. absurd (none_some (sym p ∙ some)),
-)
 
 pub positive : (n : ℕ) → (n ≡ 0 → ⊥) → 0 < n
 positive zero h = absurd (h refl)

@@ -39,14 +39,6 @@ short_le a b is = grind (arith, nat_tests)
 pub whole_fits : (bytes : List ℕ) → has_whole bytes ≡ true → 4 + four_in bytes ≤ length bytes
 whole_fits bytes whole = le_fits (4 + four_in bytes) (length bytes) whole
 
--- what is whole in a front is whole
-pub front_whole : (n : ℕ) (bytes : List ℕ) → has_whole (take n bytes) ≡ true → has_whole bytes ≡ true
-front_whole n bytes whole =
-    let fits = whole_fits (take n bytes) whole in
-    let long : 4 ≤ n = omega (arith, fits, length-take n bytes) in
-    let number : four_in (take n bytes) ≡ four_in bytes = four_in_front (take n bytes) bytes (take-take 4 n bytes long) in
-    fits_le (4 + four_in bytes) (length bytes) (omega (arith, fits, number, length-take n bytes))
-
 -- a whole record at the front
 pub records_whole : (bytes : List ℕ) → has_whole bytes ≡ true → records_in bytes ≡ front_item bytes ∷ records_in (drop (4 + four_in bytes) bytes)
 records_whole [] whole = absurd (omega (arith, whole_fits [] whole))

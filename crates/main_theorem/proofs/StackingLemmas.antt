@@ -24,11 +24,6 @@ use Rattle.main_theorem.specs.Want.{IsWant}
 pub no_rise : (a b : ℕ) → a ≡ 0 → b ≡ 0 → HasRisen a b → ⊥
 no_rise a b za zb h = let lt = h.risen (omega (arith, zb)) in omega (arith, lt, za, zb)
 
--- what is refused where the file is that of a store
-pub only_memory : (bytes : List ℕ) (bs : List StoreBlock) (e : StoreError) → IsNewStore bytes bs → (e ≡ Memory) ⊎ (IsSomeStore bytes → ⊥) → IsWant e
-only_memory bytes bs e new (inl memory) = inl memory
-only_memory bytes bs e new (inr never) = absurd (never (record { period = new.period; version = new.version; blocks = bs; store = new.store }))
-
 -- The reader has the file's store, which can be stacked.
 pub record IsThat (r : Reading) (bs : List StoreBlock) : Type 0 where
   pub same : store_of r ≡ bs

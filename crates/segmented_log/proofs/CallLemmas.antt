@@ -80,22 +80,3 @@ has_dropped commit first number kept pending c drops = record {
 }
 
 -- ---- errors
-
-faults_of_syncs : (e : LogError) → IsFault e → IsOfSyncs e
-faults_of_syncs Memory of = tt
-faults_of_syncs Failed of = tt
-faults_of_syncs Full of = tt
-faults_of_syncs BatchFull of = of
-faults_of_syncs TooLong of = of
-faults_of_syncs Broken of = tt
-faults_of_syncs NoLog of = of
-faults_of_syncs Damaged of = of
-
-broken_of_syncs : (e : LogError) → e ≡ Broken → IsOfSyncs e
-broken_of_syncs e is = subst (λ (x : LogError). IsOfSyncs x) (sym is) tt
-
-pub of_compaction : (call : Call) (size : ℕ) → call ≡ Compact size → (e : LogError) → (e ≡ Broken) ⊎ IsOfJoins e → IsOfCalls (call ∷ []) e
-of_compaction call size is e = ⊎_elim (λ broken. inr (inl (broken_of_syncs e broken))) (λ of. inr (inr ((size, (0, omega arith, is)), of)))
-
-pub of_drop : (calls : List Call) (e : LogError) → (e ≡ Broken) ⊎ IsFault e → IsOfCalls calls e
-of_drop calls e = ⊎_elim (λ broken. inr (inl (broken_of_syncs e broken))) (λ of. inr (inl (faults_of_syncs e of)))

@@ -77,6 +77,3 @@ module _ {F : Type 0} (may_leave : F → Look → Type 0) (moment : F → ℕ) (
   run_synced new no_more time' =
       goes_on moment left_since old mid new (GrowsTail (may_leave old) tail) (may_leave new) run_appended time'
       (λ c left. grows_torn may_hold (may_leave old) entry_kept tail kept held (may_leave mid) extends follows c (no_more c left))
-
-  pub follows_synced : (new : F) → NoMore (may_leave mid) (may_leave new) → ComesFrom (Elsewhere tail_name) (may_leave old) (may_leave new)
-  follows_synced new no_more c left = written_elsewhere tail_name held (may_leave old) (may_leave mid) follows c (no_more c left)

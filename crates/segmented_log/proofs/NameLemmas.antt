@@ -47,6 +47,3 @@ beside_no_tail m same = absurd (omega (arith, ap length same, length-tail_name, 
 
 pub segment_no_tail_beside : (n : ℕ) → segment_name n ≢ tail_name ++ part
 segment_no_tail_beside n same = absurd (omega (arith, ap length same, length-segment_name n, length-append tail_name part, length-tail_name, length-part))
-
-pub tail_no_beside : tail_name ≢ tail_name ++ part
-tail_no_beside same = absurd (omega (arith, ap length same, length-append tail_name part, length-tail_name, length-part))

@@ -11,15 +11,6 @@ use Rattle.log_tail.proofs.Logs.{contents_same, nothing_whole, one_more}
 use Rattle.log_tail.proofs.Scans.{ends_later}
 use Rattle.segmented_log.specs.TailBuffer.{ArePlacesIn, moved}
 
-pub none_placed : (body : List ℕ) (places : List Place) → body ≡ [] → places ≡ [] → ArePlacesIn body places
-none_placed body places nothing none =
-    let empty = nothing_whole body nothing in
-    record {
-      whole = empty.0;
-      records = ap (λ (l : List Place). contents body l) none ∙ sym empty.1;
-      within = subst (λ (l : List Place). All (EndsBy (length body)) l) (sym none) (All-nil (EndsBy (length body)));
-    }
-
 -- one record more
 module _ (body item new : List ℕ) (places later : List Place) (start : ℕ) (small : length item < 2 ^ 32) (is : new ≡ body ++ framed item) (start_is : start ≡ length body + 4)
     (later_is : later ≡ places ++ record { start = start; end = start + length item } ∷ []) (are : ArePlacesIn body places) where
@@ -96,7 +87,3 @@ within_moved body base places old new are is within =
     let more : All (EndsBy end) (map (moved base) places) =
     All-map (EndsBy end) (moved base) places (All-weaker (EndsBy (length body)) (λ place. EndsBy end (moved base place)) (λ place by. (omega (arith, by.0), omega (arith, by.1))) places are.within) in
     subst (λ (l : List Place). All (EndsBy end) l) (sym is) (All-append (EndsBy end) old (map (moved base) places) (ends_later base end old (omega arith) within) more)
-
--- they end before numbers do
-pub small_places : (body : List ℕ) (base : ℕ) (places : List Place) → ArePlacesIn body places → base + length body < 2 ^ 64 → All (EndsBy (2 ^ 64 - 1 - base)) places
-small_places body base places are fits = ends_later (length body) (2 ^ 64 - 1 - base) places (omega (arith, fits)) are.within

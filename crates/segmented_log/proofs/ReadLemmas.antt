@@ -135,9 +135,6 @@ module _ (first : ℕ) (segments : List Part) (tail : List ℕ) (parts : ArePart
         length-drop (end_from first segments - first_of tail) (tail_slots tail),
       )
 
-  pub slot_before : (number : ℕ) → number < first → slot_at first (log_slots first segments tail) number ≡ None
-  slot_before number low = cond-false (nat_le first number) (slice_get (log_slots first segments tail) (number - first)) None (short_le first number low)
-
   slot_from : (number : ℕ) → first ≤ number → slot_at first (log_slots first segments tail) number ≡ slice_get (log_slots first segments tail) (number - first)
   slot_from number le = cond-true (nat_le first number) (slice_get (log_slots first segments tail) (number - first)) None (fits_le first number le)
 

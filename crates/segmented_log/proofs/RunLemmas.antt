@@ -198,9 +198,6 @@ module _ (calls : List Call) (i : ℕ) (item : Call) (within : i < length calls)
   pub drops_item : Drops (item ∷ []) → Drops calls
   drops_item (number, has) = (number, contains_item (DropBefore number) has)
 
-  pub of_item : (e : LogError) → IsOfCalls (item ∷ []) e → IsOfCalls calls e
-  of_item e = ⊎_elim (λ of. inl of) (λ others. inr (⊎_elim (λ of. inl of) (λ of. inr ((of.0.0, contains_item (Compact of.0.0) of.0.1), of.1)) others))
-
   module _ (pending : Records) where
     pub pending_more : pending_by pending (take (i + 1) calls) ≡ pending_by (pending_by pending (take i calls)) (item ∷ [])
     pending_more = ap (λ (l : List Call). pending_by pending l) one_more_call ∙ pending_by-append pending (take i calls) (item ∷ [])

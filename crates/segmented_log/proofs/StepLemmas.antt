@@ -102,30 +102,6 @@ covers_at {X} f xs others i x within is rest covers = by others rest covers
 
 -- ---- where no segment can follow
 
-pub no_run : (size : ℕ) (a : Sealed) (others : List Sealed) → (a.version ≡ V1) ⊎ (2 ^ 64 ≤ end_of a.part) → CanJoinFirst size a others → ⊥
-no_run size a [] none can = can
-no_run size a (b ∷ others) none can = ⊎_elim (λ old. can.0 old) (λ past. omega (arith, past, can.1.next, can.1.fits)) none
-
-pub no_follower : {X : Type 0} (g : X → Sealed) (size end bytes records : ℕ) (a : Sealed) (xs : List X) (i : ℕ) (x : X) → i ≡ 0 → i < length xs → x ≡ get_or xs i x
-    → end ≡ end_of a.part → bytes ≡ a.bytes → records ≡ length a.part.slots → (CanFollow size end bytes records (g x) → ⊥) → CanJoinFirst size a (map g xs) → ⊥
-no_follower g size end bytes records a [] i x zero_is within is end_is bytes_are records_are not can = can
-no_follower g size end bytes records a (y ∷ ys) (suc i) x zero_is within is end_is bytes_are records_are not can = omega (arith, zero_is)
-no_follower g size end bytes records a (y ∷ ys) zero x zero_is within is end_is bytes_are records_are not can =
-    let here : g x ≡ g y = ap g is in
-    let f = can.1 in
-    not (subst (λ (s : Sealed). CanFollow size end bytes records s) (sym here)
-    (record {
-      next = f.next ∙ sym end_is;
-      small = omega (arith, f.small, bytes_are);
-      few = omega (arith, f.few, records_are);
-      fits = f.fits;
-      newer = f.newer;
-    }))
-
-pub none_after : {X : Type 0} (g : X → Sealed) (size : ℕ) (a : Sealed) (xs : List X) → length xs ≡ 0 → CanJoinFirst size a (map g xs) → ⊥
-none_after g size a [] none can = can
-none_after g size a (x ∷ xs) none can = omega (arith, none)
-
 -- ---- neighbours that are apart
 
 -- so far, up to this place

@@ -46,9 +46,6 @@ module _ (sealed tail_first next : ℕ) (tail body new : List ℕ) (places : Lis
   pub batch_first : first_of new ≡ first_of tail
   batch_first = ap first_of new_is ∙ grown_first tail (1 ∷ summed body) s.whole
 
-  batch_size : length new ≡ length tail + 13 + length body
-  batch_size = new_size tail body new new_is
-
   pub settled_batch : (later : List Place) (pending : List ℕ) (end : ℕ) → AddsRecords body (length tail + 13) places later → All (EndsBy end) later → end ≤ length new → pending ≡ []
       → IsSettledTail sealed tail_first next new later pending
   settled_batch later pending end adds within le none =

@@ -14,24 +14,6 @@ use Rattle.segmented_log.specs.Names.{tail_name}
 use Rattle.segmented_log.specs.Opening.{IsSynced}
 use Rattle.segmented_log.specs.Settled.{TailIsKept}
 
--- the tail that is there, on the disk
-pub kept_synced : (seen : Look) (may_hold : List ℕ → List ℕ → Type 0) (may_leave : Look → Type 0) (entry_kept : List ℕ → Type 0) (bytes : List ℕ) → IsSynced seen may_hold may_leave entry_kept
-    → seen tail_name ≡ Some bytes
-    → TailIsKept may_hold may_leave entry_kept bytes
-kept_synced seen may_hold may_leave entry_kept bytes s is = record {
-  file = λ all held. s.tail_file bytes all is held;
-  entry = s.tail_entry;
-  outcomes = λ c left. s.outcomes c left tail_name (inl refl) ∙ is;
-}
-
--- nothing changed
-pub nothing_changed : (name other : List ℕ) (may_leave : Look → Type 0) → ComesFrom (ElsewhereOfBoth name other) may_leave may_leave
-nothing_changed name other may_leave c left = (c, left, λ n _ _. refl)
-
--- all of it is whole batches
-pub whole_all : (bytes : List ℕ) (end : ℕ) → end ≡ length bytes → IsWholeTo end bytes → IsWholeTo (length bytes) bytes
-whole_all bytes end is whole = subst (λ (n : ℕ). IsWholeTo n bytes) is whole
-
 module _ (bytes front : List ℕ) (end : ℕ) (whole : IsWholeTo end bytes) (front_is : front ≡ take end bytes) where
   size : length front ≡ end
   size = ap length front_is ∙ length-take-le end bytes whole.within
@@ -54,6 +36,3 @@ module _ (bytes front : List ℕ) (end : ℕ) (whole : IsWholeTo end bytes) (fro
   pub front_contents : (places : List Place) → contents bytes places ≡ records_of bytes → All (EndsBy end) places → contents front places ≡ records_of front
   front_contents places known within =
       contents_same end front bytes places (ap (λ (l : List ℕ). take end l) front_is ∙ take-take end end bytes (omega arith)) within ∙ known ∙ sym front_records
-
-  pub front_within : (places : List Place) → All (EndsBy end) places → All (EndsBy (length front)) places
-  front_within places within = subst (λ (n : ℕ). All (EndsBy n) places) (sym size) within

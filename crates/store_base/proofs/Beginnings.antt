@@ -3,12 +3,6 @@ use Rattle.std.proofs.Common.{◌≡◌, ℕ, ◌≤◌, List, [], ◌∷◌, �
 use Rattle.std.proofs.lemmas.List.{take_at, length-take, take-append-le}
 use Rattle.store_base.specs.Documents.{BeginsWith}
 
--- more after it changes nothing
-pub begins_more : (old now more : List ℕ) → BeginsWith old now → BeginsWith old (now ++ more)
-begins_more old now more h =
-    let fits : length old ≤ length now = omega (arith, ap length h, length-take (length old) now) in
-    take-append-le (length old) now more fits ∙ h
-
 -- what stood under a longer beginning stands
 pub begins_before : (old more new : List ℕ) → BeginsWith (old ++ more) new → BeginsWith old new
 begins_before old more new h =

@@ -96,11 +96,6 @@ cut_number bytes cut = record {
 front_number : (bytes : List ℕ) → HasFront IsVInt vint_bytes bytes → HasFront (IsBelow (2 ^ 64)) number bytes
 front_number bytes front = record { value = front.value.0; rest = front.rest; fits = front.fits; parts = front.parts }
 
--- a number that was read, or refused, is one in its own type
-pub vint_found : (old : List ℕ) (n : ℕ) (new : List ℕ) → Reads (IsBelow (2 ^ 64)) number old (Ok n) new
-    → Reads IsVInt vint_bytes old (Ok (vint_of n)) new
-vint_found old n new h = (h.0, h.1, λ cut. h.2 (cut_number old cut))
-
 pub vint_refused : (old : List ℕ) (e : DecodeFault) (new : List ℕ) → Reads (IsBelow (2 ^ 64)) number old (Err e) new
     → Reads IsVInt vint_bytes old (Err e) new
 vint_refused old Short new h = (cut_vint old h.0, λ front. h.1 (front_number old front), h.2)

@@ -45,15 +45,6 @@ number_small_then n r lt = ap (λ (bytes : List ℕ). bytes ++ r) (number_small 
 pub number_large_then : (n : ℕ) (r : List ℕ) → 128 ≤ n → number n ++ r ≡ (n % 128) ∷ (number (n / 128) ++ r)
 number_large_then n r le = ap (λ (bytes : List ℕ). bytes ++ r) (number_large n le)
 
--- one more byte of a number is written after others
-pub push_number_more : (bytes : List ℕ) (n : ℕ) → 128 ≤ n
-    → (bytes ++ (n % 128) ∷ []) ++ number (n / 128) ≡ bytes ++ number n
-push_number_more bytes n le = append_assoc bytes ((n % 128) ∷ []) (number (n / 128))
-    ∙ ap (λ (rest : List ℕ). bytes ++ rest) (sym (number_large n le))
-
-pub push_number_last : (bytes : List ℕ) (n : ℕ) → n < 128 → bytes ++ (n + 128) ∷ [] ≡ bytes ++ number n
-push_number_last bytes n lt = ap (λ (rest : List ℕ). bytes ++ rest) (sym (number_small n lt))
-
 pub heads : (x y : ℕ) (r s : List ℕ) → x ∷ r ≡ y ∷ s → x ≡ y
 heads x y r s e = cc
 

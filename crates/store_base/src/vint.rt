@@ -150,21 +150,6 @@ pub fn read_u32_vint(bytes: &mut &[u8]) -> Result<u32, DecodeFault>
     Ok(value as u32)
 }
 
-// Appends the number's bytes. Where memory runs out a part of them may be left.
-fn push_groups(n: u64, output: &mut Vec<u8>) -> Result<(), NoMemory>
-    ensures ok { OnOk result (output.new.items ≡ output.old.items ++ number n) }
-    ensures err { OnErr result (BeginsWith output.old.items output.new.items) }
-    ensures capacity { vec_capacity output.old ≤ vec_capacity output.new }
-{
-    let mut rest = n;
-    while rest >= GROUP {
-        output.push((rest % GROUP) as u8)?;
-        rest /= GROUP;
-    }
-    output.push(rest as u8 + STOP_BIT)?;
-    Ok(())
-}
-
 // The bytes of the number, at the front of the array, and how many there are.
 fn groups(n: u64) -> ([u8; 10], usize)
     ensures len { result.1 ≤ 10 }
@@ -189,12 +174,9 @@ impl VInt {
         ensures err { OnErr result (output.new.items ≡ output.old.items) }
         ensures capacity { vec_capacity output.old ≤ vec_capacity output.new }
     {
-        let start = output.len();
-        let pushed = push_groups(self.0, output);
-        if pushed.is_err() {
-            output.truncate(start);
-        }
-        pushed
+        let (bytes, len) = groups(self.0);
+        output.extend_from_slice(&bytes[..len])?;
+        Ok(())
     }
 }
 

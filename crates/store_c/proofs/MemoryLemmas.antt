@@ -267,19 +267,6 @@ pub none_pending : (docs : List (List ℕ)) → length docs ≡ 0 → docs ≡ [
 none_pending [] e = refl
 none_pending (d ∷ docs) e = absurd (omega arith)
 
--- without documents there is nothing to end
-pub none_ended : (old : Memory) → old.writer.docs ≡ 0 → EndsBlock 0 old old
-none_ended old none text w h =
-    let on : flushed w ≡ w = flushed_none w (none_pending w.pending (sym h.docs ∙ none)) in
-    subst (Holds old (text ++ [])) (sym on) (subst (λ (xs : List ℕ). Holds old xs w) (sym (append-nil text)) h)
-  where
-    flushed_none : (w : Writing) → w.pending ≡ [] → flushed w ≡ w
-    flushed_none w none =
-        let bs : blocks_of w.pending ≡ [] = ap blocks_of none in
-        let nothing : with_blocks w.output (blocks_of w.pending) ≡ w.output =
-        ap (with_blocks w.output) bs ∙ (λ i. record w.output { finished = append-nil w.output.finished i; content = append-nil w.output.content i }) in
-        λ i. record w { pending = sym none i; output = nothing i }
-
 -- ---- the first of all
 
 pub begins : (block_size : ℕ) → Begins block_size (record { block_size = block_size; blocks = 0; docs = 0; bytes = 0 })

@@ -17,10 +17,6 @@ module _ (table : List Block) (cs : List Checkpoint) (is : ends_in table ≡ map
   pub size : length table ≡ length cs
   size = sym (length-map table end_of) ∙ ap length is ∙ length-map cs ends_of
 
-  -- it is in the table, or past its end
-  pub anywhere : LiesBetween cs target 0 (length table)
-  anywhere = record { order = omega arith; within = omega (arith, size); before = λ i c lt e. absurd (omega arith); past = past_end cs target (length table) (omega (arith, size)) }
-
   -- no later than a row that ends past the target
   pub up_to_here : (low high at : ℕ) (d : Block) → LiesBetween cs target low high → low ≤ at → at < length table → target < (get_or table at d).end_doc → LiesBetween cs target low at
   up_to_here low high at d known order lt past =

@@ -111,10 +111,6 @@ table_block file table id c order end seeks = record {
   sought = λ known k from to. seek_stays 0 0 (checkpoints_of known.view.store) id k c (in_line file known.view known.of) (seeks known) from to;
 }
 
--- a block without documents is of any table
-pub no_block : (file : List ℕ) (table : List Block) → IsTableBlock file table (checkpoint 0 0 0 0)
-no_block file table = record { order = omega arith; within = omega arith; sought = λ known id from to. absurd (omega arith) }
-
 -- the place of a document in the file, from that in its block
 pub lies : (file : List ℕ) (table : List Block) (id from to : ℕ) (c : Checkpoint) (p : Place) → ((known : IsTableOf file table) → first_past (checkpoints_of known.view.store) id ≡ Some c)
     → c.byte_range.start ≤ c.byte_range.end → c.byte_range.end ≤ length file

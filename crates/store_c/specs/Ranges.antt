@@ -14,10 +14,6 @@ abbrev pub IsBlockPlace : ℕ → List ℕ → BlockPlace → Type 0
 IsBlockPlace file_len tail at = (file : List ℕ) → IsTailOf file file_len tail
     → HasBlockAt file at (slice_range file at.start (at.start + at.len))
 
--- The document of this number is refused so in each file with this end that is a store's.
-abbrev pub IsRefusedByTail : ℕ → List ℕ → ℕ → StoreError → Type 0
-IsRefusedByTail file_len tail id e = (file : List ℕ) → IsTailOf file file_len tail → IsRefusedIn file id e
-
 -- Each file with this end is no store's, and is refused so.
 abbrev pub RefusesTail : ℕ → List ℕ → ℕ → Type 0
 RefusesTail file_len tail number = (file : List ℕ) → IsTailOf file file_len tail → RefusesUnopened file number

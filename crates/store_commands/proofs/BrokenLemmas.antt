@@ -42,15 +42,3 @@ has_footer file mid footer h = (elim (nat_lt (length file.content) 28) as (λ b.
   | true ↦ λ t. absurd (let bad = (h.short (ltb-true _ _ t)).0 in cc)
   | false ↦ λ t. let le = ltb-false _ _ t in let long = h.long le in omega (arith, ap length long.1.once.content)
 ]) refl
-
--- a footer that isn't read: only a failed read is counted
-pub footer_steady : (file mid : Part) (r : Result DocStoreFooter StoreError) → ExtractsFooter file r mid → (r ≡ Err Read) ⊎ (mid.failures ≡ file.failures)
-footer_steady file mid r h = (elim (nat_lt (length file.content) 28) as (λ b. nat_lt (length file.content) 28 ≡ b → (r ≡ Err Read) ⊎ (mid.failures ≡ file.failures)) [
-  | true ↦ λ t. inr (ap (λ (p : Part). p.failures) (h.short (ltb-true _ _ t)).1)
-  | false ↦ λ t. let long = h.long (ltb-false _ _ t) in by long.0 long.1.steady long.2
-]) refl
-  where
-    by : (came : Result (List ℕ) StoreError) → (came ≡ Err Read) ⊎ (mid.failures ≡ file.failures) → SaysFrom came r → (r ≡ Err Read) ⊎ (mid.failures ≡ file.failures)
-    by (Ok bytes) (inl bad) says = absurd cc
-    by (Err e) (inl is) says = inl (cc)
-    by came (inr same) says = inr same

@@ -91,9 +91,6 @@ sound_if block n table whole = rw (← table, none_damaged block n whole) refl
 pub broken_if : (block : List ℕ) (n k : ℕ) → k < n → slot block k ≡ damaged → false ≡ is_sound block n
 broken_if block n k lt e = rw (one_damaged block n k lt e) (sym (and-false (has_table block n)))
 
-pub broken_table : (block : List ℕ) (n : ℕ) → false ≡ has_table block n → false ≡ is_sound block n
-broken_table block n table = rw (← table) refl
-
 -- whether a document is damaged, by whether it is found
 pub told : {R : Type 0} (r : Option R) (bytes : R → List ℕ) (s : Slot) → MatchOption r (s ≡ damaged) (λ x. s ≡ doc (bytes x)) → is_damaged s ≡ is_none r
 told None bytes s h = ap is_damaged h

@@ -33,9 +33,6 @@ pub one_less : (before kept after left all : List Slot) (now : List Slot) → le
 one_less before kept after left all now left_is now_is so_far =
     ap (λ (xs : List Slot). xs ++ after) now_is ∙ append_assoc before kept after ∙ ap (λ (xs : List Slot). before ++ xs) (sym left_is) ∙ so_far
 
-pub all_came : (before now after all : List Slot) → after ≡ [] → now ++ after ≡ before ++ all → now ≡ before ++ all
-all_came before now after all none so_far = sym (ap (λ (xs : List Slot). now ++ xs) none ∙ append-nil now) ∙ so_far
-
 -- a premise that stands before an outcome
 pub when_honest : {T E honest P Q : Type 0} (r : Result T E) → (honest → P → Q) → (honest → OnOk r P) → OnOk r (honest → Q)
 when_honest (Ok x) then on = λ h. then h (on h)

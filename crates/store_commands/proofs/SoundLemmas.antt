@@ -64,11 +64,6 @@ end_is bytes n j (suc k) h e = rw (lt-ltb (j + 1) (count_of bytes) (omega (arith
 table_place : (bytes : List ℕ) (n : ℕ) → IsTabled bytes n → table_of bytes + 4 * (n + 1) ≡ length bytes
 table_place bytes n h = let size : 4 * (count_of bytes + 1) ≡ 4 * (n + 1) = ap (λ (c : ℕ). 4 * (c + 1)) h.count in omega (arith, h.fits)
 
-here_below : (bytes : List ℕ) (n j k : ℕ) → IsTabled bytes n → j + k ≡ n → from_here bytes j k ≤ table_of bytes
-unfolding from_here
-here_below bytes n j zero h e = omega arith
-here_below bytes n j (suc k) h e = let x = h.each j (omega arith) in omega (arith, x.0, x.1)
-
 nothing : (bytes : List ℕ) (place end : ℕ) → end ≡ place → [] ≡ slice_range bytes place end
 nothing bytes place end e = let none : end - place ≡ 0 = omega arith in rw none refl
 

@@ -10,11 +10,6 @@ use Rattle.store_commands.specs.Tails.{tail_of, HasTail, HasNoTail}
 pub length-tail_of : (n : ℕ) → length (tail_of n) ≡ 8
 length-tail_of n = omega (arith, length-append (fixed 4 n) (fixed 4 1337), length-fixed 4 n, length-fixed 4 1337)
 
--- what two numbers that were read make of eight bytes
-pub is_tail : (tail rest last : List ℕ) (n : ℕ) → tail ≡ fixed 4 n ++ rest → rest ≡ fixed 4 1337 ++ last → length last ≡ 0 → tail ≡ tail_of n
-is_tail tail rest last n t r none =
-    t ∙ ap (λ (xs : List ℕ). fixed 4 n ++ xs) (r ∙ ap (λ (xs : List ℕ). fixed 4 1337 ++ xs) (nil_from_length last none) ∙ append-nil (fixed 4 1337))
-
 -- the length and the number are those that were read
 pub numbers_of_tail : (tail rest last : List ℕ) (n magic m : ℕ) → n < 2 ^ 32 → magic < 2 ^ 32 → m < 2 ^ 32 → tail ≡ fixed 4 n ++ rest → rest ≡ fixed 4 magic ++ last → tail ≡ tail_of m
     → (n ≡ m) × (magic ≡ 1337)

@@ -77,10 +77,6 @@ module _ (old new : List Change) (name gone : List ℕ) (bytes : Option (List �
   pub elapses : Elapses (length old) (length new) (WasSince old) (WasSince new) (Is (look_of new))
   elapses = goes_on (λ xs. Is (look_of xs)) old new m.change m.more
 
--- what is known of the names is known of the files and of a crash
-pub files_elsewhere : (name : List ℕ) (old new : Look) → Elsewhere name old new → FilesElsewhere name (λ n bytes. old n ≡ Some bytes) (λ n bytes. new n ≡ Some bytes)
-files_elsewhere name old new e n bytes ne holds = sym (e n ne) ∙ holds
-
 pub crash_elsewhere : (name : List ℕ) (old new : Look) → Elsewhere name old new → ComesFrom (Elsewhere name) (Is old) (Is new)
 crash_elsewhere name old new e c is = (old, λ n. refl, λ n ne. is n ∙ e n ne)
 

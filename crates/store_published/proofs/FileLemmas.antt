@@ -27,16 +27,6 @@ document_in_file w document = by (nat_lt w.block_size (weight (w.pending ++ docu
 pub counted_in_file : (n : ℕ) (old w : Writing) → IsSameFile old w → IsSameFile old (with_failures n w)
 counted_in_file n old w same = record { before = same.before; period = same.period }
 
-pub adds_one : (old new : Writing) (document : List ℕ) → new ≡ with_failures new.output.failures (with_document old document)
-    → taken (with_document old document) ≡ taken old ++ doc document ∷ [] → AddsDocuments (document ∷ []) old new
-adds_one old new document after one = record {
-  grown = ap taken after ∙ one;
-  file = subst (IsSameFile old) (sym after) (counted_in_file new.output.failures old (with_document old document) (document_in_file old document));
-}
-
-pub adds_none : (w : Writing) → AddsDocuments [] w w
-adds_none w = record { grown = sym (append-nil (taken w)); file = same_file w }
-
 pub adds_more : (first second : List (List ℕ)) (old mid new : Writing) → AddsDocuments first old mid → AddsDocuments second mid new → AddsDocuments (first ++ second) old new
 adds_more first second old mid new one two = record {
   grown = two.grown
@@ -45,12 +35,6 @@ adds_more first second old mid new one two = record {
       ∙ ap (λ (xs : List Slot). taken old ++ xs) (sym (map-append doc first second));
   file = file_goes_on old mid new one.file two.file;
 }
-
-pub some_none : (w : Writing) → AddsSome w w
-some_none w = ([], adds_none w)
-
-pub some_one : (document : List ℕ) (old new : Writing) → AddsDocuments (document ∷ []) old new → AddsSome old new
-some_one document old new one = (document ∷ [], one)
 
 pub some_more : (old mid new : Writing) → AddsSome old mid → AddsSome mid new → AddsSome old new
 some_more old mid new one two = (one.0 ++ two.0, adds_more one.0 two.0 old mid new one.1 two.1)

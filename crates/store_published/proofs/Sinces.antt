@@ -54,33 +54,6 @@ module _ {F : Type 0} (moment : F → ℕ) (left_since : F → ℕ → Look → 
     earlier = λ t c le left. ⊎_elim (λ was. inl was) (λ p. inr (then c p)) (run.earlier t c le left);
   }
 
--- a run since an output's first folder, by what is known of that
-module _ {F : Type 0} (may_leave : F → Look → Type 0) (moment : F → ℕ) (left_since : F → ℕ → Look → Type 0) (began : ℕ) (before : Look → Type 0) (past : ℕ → Look → Type 0) (beside name : List ℕ)
-    (p : Published F) (from : IsFrom may_leave moment left_since began before past beside name p) (now : F) where
-  since_from : (P Q : Look → Type 0) → ((c : Look) → P c → Q c) → LeavesOnly moment left_since p.first now P → LeavesOnlySince moment left_since began past now Q
-  since_from P Q then run = record {
-    later = omega (arith, run.later, from.moment_is);
-    each = λ c left. then c (run.each c (subst (λ (t : ℕ). left_since now t c) (sym from.moment_is) left));
-    earlier = λ t c le left.
-        ⊎_elim (λ was. inl (from.earlier t c was)) (λ q. inr (then c q)) (run.before t c (omega (arith, le, from.moment_is)) left);
-  }
-
-  pub untouched_since : LeavesOnly moment left_since p.first now (IsUntouched (may_leave p.first) p.beside) → LeavesOnlySince moment left_since began past now (IsUntouched before beside)
-  untouched_since run = since_from (IsUntouched (may_leave p.first) p.beside) (IsUntouched before beside) moved run
-    where
-      moved : (c : Look) → IsUntouched (may_leave p.first) p.beside c → IsUntouched before beside c
-      moved c u = subst (λ (b : List ℕ). IsUntouched before b c) from.beside_is (u.0, from.outcomes u.0 u.1, u.2)
-
-  pub published_since : (whole : Option (List ℕ)) → LeavesOnly moment left_since p.first now (IsOldOrWhole (may_leave p.first) p.beside p.name whole)
-      → LeavesOnlySince moment left_since began past now (IsOldOrWhole before beside name whole)
-  published_since whole run = since_from (IsOldOrWhole (may_leave p.first) p.beside p.name whole) (IsOldOrWhole before beside name whole) moved run
-    where
-      moved : (c : Look) → IsOldOrWhole (may_leave p.first) p.beside p.name whole c → IsOldOrWhole before beside name whole c
-      moved c o =
-          subst (λ (b : List ℕ). IsOldOrWhole before b name whole c) from.beside_is
-          (subst (λ (n : List ℕ). IsOldOrWhole before p.beside n whole c) from.name_is
-          (record { old = o.old; was = from.outcomes o.old o.was; at_name = o.at_name; elsewhere = o.elsewhere }))
-
 module _ {F : Type 0} (may_leave : F → Look → Type 0) (moment : F → ℕ) (left_since : F → ℕ → Look → Type 0) (is_new : List ℕ → Type 0) (now : F) where
   abbrev Run : F → List ℕ → List ℕ → Type 0
   Run first beside name = LeavesOnly moment left_since first now (IsOldOrNew (may_leave first) beside name is_new)

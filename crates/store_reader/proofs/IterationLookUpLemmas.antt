@@ -69,17 +69,6 @@ pub record IsListedTo (first : Reading) (set : Option (ℕ → Bool)) (count : �
   pub counted : alive_below set w.next ≡ count
   pub stands : ((count ≡ 0) × (w.place ≡ length (take 1 first.checkpoints))) ⊎ Follows set w
 
--- before the first item
-pub listed_first : (first : Reading) (set : Option (ℕ → Bool)) (now : Reading) (w : Walk) → w.next ≡ 0 → w.place ≡ length (take 1 first.checkpoints)
-    → LooksAlong (take 1 first.checkpoints) first None now (taken_last w) → IsListedTo first set 0 now w
-listed_first first set now w next place looks =
-    let taken : take w.place first.checkpoints ≡ take 1 first.checkpoints = ap (λ (n : ℕ). take n first.checkpoints) place ∙ take_length_one first.checkpoints in
-    record {
-      looks = subst (λ (cs : List Checkpoint). LooksAlong cs first None now (taken_last w)) (sym taken) looks;
-      counted = ap (alive_below set) next;
-      stands = inl (refl, place);
-    }
-
 -- the blocks on the way to an id
 pub looks_joined : (first old : Reading) (from : Walk) (set : Option (ℕ → Bool)) (id : ℕ) (new : Reading) (to : Walk) → old.checkpoints ≡ first.checkpoints
     → LooksAlong (take from.place first.checkpoints) first None old (taken_last from) → WalksTo set old from id new to

@@ -30,6 +30,5 @@ pub mod OpenedCoverLemmas
 pub mod StoreSliceLemmas
 pub mod BlocksLeftLemmas
 pub mod AmidLemmas
-pub mod AliveSliceLemmas
 pub mod SliceGivenLemmas
 pub mod StoreTailLemmas

@@ -106,12 +106,6 @@ fresh_part size limit c cs past =
     let some : nat_le c.byte_range.end 0 ≡ false = lt-leb c.byte_range.end 0 (omega arith) in
     rw (beyond, some) refl
 
--- blocks are in one part at least
-pub some_parts : (size : ℕ) (c : Checkpoint) (cs : List Checkpoint) → 0 < c.byte_range.end → 0 < number_of_parts size (c ∷ cs)
-some_parts size c cs some =
-    let beyond : nat_le c.byte_range.end 0 ≡ false = lt-leb c.byte_range.end 0 some in
-    rw beyond (omega arith)
-
 -- a part begins with the first block, and holds those that end within so many bytes after its beginning
 pub first_part : (size : ℕ) (c : Checkpoint) (cs : List Checkpoint) → 0 < c.byte_range.end → number_of_parts size (c ∷ cs) ≡ 1 + parts_beyond size (c.byte_range.start + size) cs
 first_part size c cs some =

@@ -1,5 +1,5 @@
 -- What iterations over a store in a slice of bytes give, as a whole.
-use Rattle.std.proofs.Common.{◌≡◌, ℕ, zero, suc, ◌+◌, ◌≤◌, Bool, List, [], ◌∷◌, drop, length, subst, arith}
+use Rattle.std.proofs.Common.{◌≡◌, ℕ, zero, suc, ◌+◌, ◌≤◌, List, [], ◌∷◌, drop, length, subst, arith}
 use Rattle.std.specs.Borrow.{Bor}
 use Rattle.std.specs.Prelude.{Result}
 use Rattle.store_base.specs.declared.error.StoreError.{StoreError}
@@ -7,10 +7,10 @@ use Rattle.store_format.specs.declared.version.DocStoreVersion.TheVariants.{V3}
 use Rattle.store_format.specs.Block.{Slot}
 use Rattle.store_format.specs.Slots.{slots}
 use Rattle.store_reader.specs.Opening.{IsSomeStore}
-use Rattle.store_reader.specs.SliceLaws.{AreGivenStored, SlicesGiveEachSlot, AreGivenStoredAlive, SlicesGiveEachAlive}
+use Rattle.store_reader.specs.SliceLaws.{AreGivenStored, SlicesGiveEachSlot}
 use Rattle.store_reader.specs.Viewing.{Viewing}
-use Rattle.store_reader.specs.ViewLaws.{AreGiven, AreGivenAlive}
-use Rattle.store_reader.proofs.GivenLemmas.{IsRest, all_slots, rest_of, each_from, views_give_each_alive}
+use Rattle.store_reader.specs.ViewLaws.{AreGiven}
+use Rattle.store_reader.proofs.GivenLemmas.{IsRest, all_slots, rest_of, each_from}
 
 -- the slots of the store; a view of any version has them
 abbrev seen : (bytes : List ℕ) → IsSomeStore bytes → Viewing
@@ -34,11 +34,3 @@ slices_give_each_slot bytes s first items le g =
     let all : 0 + first ≡ first = omega arith in
     let rest : IsRest v first (drop first (slots s.blocks)) = subst (λ (n : ℕ). IsRest v n (drop first (slots s.blocks))) all (rest_after v 0 first (slots s.blocks) (all_slots v) le) in
     each_from v first (drop first (slots s.blocks)) items rest (given_seen bytes s first items g)
-
-alive_seen : (set : List Bool) (bytes : List ℕ) (s : IsSomeStore bytes) (next : ℕ) (items : List (ℕ × Result (Bor (List ℕ)) StoreError)) → AreGivenStoredAlive set bytes s next items
-    → AreGivenAlive set (seen bytes s) next items
-alive_seen set bytes s next [] g = g
-alive_seen set bytes s next (item ∷ items) g = (g.0, alive_seen set bytes s (item.0 + 1) items g.1)
-
-pub slices_give_each_alive : SlicesGiveEachAlive
-slices_give_each_alive set bytes s items g = views_give_each_alive set (seen bytes s) items (alive_seen set bytes s 0 items g)

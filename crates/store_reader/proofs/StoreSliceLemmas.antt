@@ -186,9 +186,6 @@ err_not_ok e x h = cc
 pub ok_is : {A : Type 0} (x y : A) → ◌≡◌ {A = Result A StoreError} (Ok x) (Ok y) → x ≡ y
 ok_is x y h = cc
 
-pub some_not_none : {A : Type 0} (x : A) → ◌≡◌ {A = Option A} (Some x) None → ⊥
-some_not_none x h = cc
-
 -- the block is found by its checkpoint, for each of its documents
 pub block_stored : (bytes : List ℕ) (s : IsSomeStore bytes) (id : ℕ) (c : Checkpoint) (block : List ℕ) → Some c ≡ first_past (checkpoints_of s.blocks) id
     → block ≡ slice_range bytes c.byte_range.start c.byte_range.end

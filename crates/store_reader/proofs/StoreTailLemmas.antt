@@ -118,15 +118,6 @@ bad_index file_len tail f e long few finds within enough none = record {
 
 -- ---- what is wanted
 
-pub wanted_footer : (file_len : ℕ) (tail : List ℕ) → length tail < 28 → 28 ≤ file_len → IsWanted file_len tail 28
-wanted_footer file_len tail few long = record {
-  short = few;
-  within = long;
-  footer = λ _. refl;
-  index = λ le. absurd (omega arith);
-  stored = λ le. absurd (omega arith);
-}
-
 pub wanted_index : (file_len : ℕ) (tail : List ℕ) (f : DocStoreFooter) → 28 ≤ length tail → length tail ≤ file_len → FindsFooter tail (Ok f) → 28 + f.offset ≤ file_len
     → length tail < file_len - f.offset → IsWanted file_len tail (file_len - f.offset)
 wanted_index file_len tail f long few finds within lacks = record {

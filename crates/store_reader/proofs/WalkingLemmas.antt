@@ -116,15 +116,6 @@ walks_along set old from id mid to new to' w later looks =
           (subst (λ (cs : List Checkpoint). LooksAlong (slice_range cs to.place to'.place) mid (taken_last to) new (taken_last to')) same looks));
     }
 
--- a walk that has not begun
-pub walks_start : (set : Option (ℕ → Bool)) (old : Reading) (from : Walk) → WalksTo set old from from.next old from
-walks_start set old from = record {
-  on = omega arith;
-  dead = λ k lo hi. absurd (omega arith);
-  later = omega arith;
-  looks = let none : from.place - from.place ≡ 0 = omega arith in rw none (refl, refl);
-}
-
 -- the documents of some blocks are no more than those of all
 pub docs_of_some : (doc byte : ℕ) (cs : List Checkpoint) (n : ℕ) → IsInLineFrom doc byte cs → docs_end doc (take n cs) ≤ docs_end doc cs
 docs_of_some doc byte cs zero r = docs_grow doc byte cs r

@@ -1,15 +1,13 @@
 -- What iterations over a store in a slice of bytes give, as a whole.
-use Rattle.std.specs.Prelude.{◌≡◌, ℕ, ◌+◌, ◌≤◌, Bool, List, [], ◌∷◌, map, drop, Some, None, Result}
+use Rattle.std.specs.Prelude.{◌≡◌, ℕ, ◌+◌, ◌≤◌, List, [], ◌∷◌, map, drop, Some, None, Result}
 use Rattle.std.specs.Borrow.{Bor}
-use Rattle.std.specs.List.{filter, enumerate_from}
-use Rattle.store_base.specs.AliveBitSet.{is_alive_at}
+use Rattle.std.specs.List.{enumerate_from}
 use Rattle.store_base.specs.declared.error.StoreError.{StoreError}
 use Rattle.store_format.specs.Slots.{slots}
 use Rattle.store_reader.specs.CallAnswers.{exact_result}
 use Rattle.store_reader.specs.Opening.{IsSomeStore}
-use Rattle.store_reader.specs.StoreSlices.{count_of_store, GivesStored, GivesStoredAlive}
+use Rattle.store_reader.specs.StoreSlices.{count_of_store, GivesStored}
 use Rattle.store_reader.specs.Viewing.{given}
-use Rattle.store_reader.specs.ViewLaws.{given_with_id, exact_with_id}
 
 -- These items are what an iteration gives from this document on, and then it ends.
 abbrev pub AreGivenStored : (bytes : List ℕ) → IsSomeStore bytes → ℕ → List (Result (Bor (List ℕ)) StoreError) → Type 0
@@ -23,16 +21,3 @@ SlicesGiveEachSlot = (bytes : List ℕ) (s : IsSomeStore bytes) (first : ℕ)
     (items : List (Result (Bor (List ℕ)) StoreError)) → first ≤ count_of_store bytes s
     → AreGivenStored bytes s first items → map given items
     ≡ map (λ x. exact_result x.0 (Some x.1)) (enumerate_from first (drop first (slots s.blocks)))
-
--- the same of the documents that are alive, each with its id
-abbrev pub AreGivenStoredAlive : List Bool → (bytes : List ℕ) → IsSomeStore bytes → ℕ
-    → List (ℕ × Result (Bor (List ℕ)) StoreError) → Type 0
-AreGivenStoredAlive set bytes s next [] = GivesStoredAlive set bytes s next None (count_of_store bytes s)
-AreGivenStoredAlive set bytes s next (item ∷ items) = GivesStoredAlive set bytes s next (Some item) (item.0 + 1)
-    × AreGivenStoredAlive set bytes s (item.0 + 1) items
-
--- An iteration over those that are alive gives what each of their slots answers, in order.
-abbrev pub SlicesGiveEachAlive : Type 0
-SlicesGiveEachAlive = (set : List Bool) (bytes : List ℕ) (s : IsSomeStore bytes)
-    (items : List (ℕ × Result (Bor (List ℕ)) StoreError)) → AreGivenStoredAlive set bytes s 0 items
-    → map given_with_id items ≡ map exact_with_id (filter (λ x. is_alive_at set x.0) (enumerate_from 0 (slots s.blocks)))

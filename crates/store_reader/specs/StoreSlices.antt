@@ -146,12 +146,3 @@ abbrev pub GivesStored : (bytes : List ℕ) → IsSomeStore bytes → ℕ → Op
 GivesStored bytes s next None next' = (next ≡ count_of_store bytes s) × (next' ≡ next)
 GivesStored bytes s next (Some item) next' =
     (next < count_of_store bytes s) × (given item ≡ document_in bytes s next) × (next' ≡ next + 1)
-
--- The next of the documents that are alive, or its refusal, with its id; none where no further one is alive.
-abbrev pub GivesStoredAlive : List Bool → (bytes : List ℕ) → IsSomeStore bytes → ℕ
-    → Option (ℕ × Result (Bor (List ℕ)) StoreError) → ℕ → Type 0
-GivesStoredAlive set bytes s next None next' =
-    AreDead set next (count_of_store bytes s) × (next' ≡ count_of_store bytes s)
-GivesStoredAlive set bytes s next (Some item) next' =
-    AreDead set next item.0 × (next ≤ item.0) × (item.0 < count_of_store bytes s) × (is_alive_at set item.0 ≡ true)
-    × (given item.1 ≡ document_in bytes s item.0) × (next' ≡ item.0 + 1)

@@ -5,7 +5,7 @@ ghost use Rattle.store_reader.specs.LookLaws.{LooksAreRecent, LookUpsAreCounted,
 ghost use Rattle.store_reader.specs.CallAnswers.{AnswersAreExact, SlotsDecideAnswers};
 ghost use Rattle.store_reader.specs.Laws.{StoredDocumentsAreGot};
 ghost use Rattle.store_reader.specs.ViewLaws.{ViewsOpenAsReaders, ViewsAnswerAsReaders, ViewsReadAsReaders};
-ghost use Rattle.store_reader.specs.SliceLaws.{SlicesGiveEachSlot, SlicesGiveEachAlive};
+ghost use Rattle.store_reader.specs.SliceLaws.{SlicesGiveEachSlot};
 ghost use Rattle.store_reader.specs.StoreTails.{TailsAreWantedOnce};
 ghost use Rattle.store_reader.specs.ViewLaws.{ViewsGiveEachSlot, ViewsGiveEachAlive};
 
@@ -83,12 +83,6 @@ pub fn views_give_each_alive()
 /// document gives what the slots from that document on answer.
 pub fn slices_give_each_slot()
     ensures { SlicesGiveEachSlot }
-{}
-
-/// What `StoreSlice::iter_alive` gives to its end is what the slot of each id that is alive answers, in order, with the
-/// id.
-pub fn slices_give_each_alive()
-    ensures { SlicesGiveEachAlive }
 {}
 
 /// `StoreTail::new` wants more of a tail with a footer at most once: with as many bytes as it wants, it is not too

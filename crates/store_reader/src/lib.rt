@@ -1,7 +1,6 @@
 //! The reader of a document store: its cache of blocks, gets, iterations, and whole lists of reading calls.
 #![tactic(auto)]
 
-pub mod alive_slice_documents;
 mod block_request;
 pub mod block_slice;
 pub mod block_slices;
@@ -26,7 +25,6 @@ pub mod tail_error;
 pub mod view;
 pub mod walk;
 
-pub use alive_slice_documents::AliveSliceDocuments;
 pub use block_slice::BlockSlice;
 pub use block_slices::BlockSlices;
 pub use cache_stats::CacheStats;

@@ -16,7 +16,6 @@ ghost use Rattle.store_reader.specs.StoreSlices.{document_in, count_of_store, Is
 ghost use Rattle.store_reader.specs.StoreSlices.{RefusesOne, RefusesReading};
 ghost use Rattle.store_reader.specs.StoreTails.{HasIndexIn};
 
-use crate::alive_slice_documents::AliveSliceDocuments;
 use crate::block_slice::BlockSlice;
 use crate::block_slices::BlockSlices;
 use crate::document_reading::read_bytes;
@@ -26,7 +25,7 @@ use layered_index::{Checkpoint, IndexSlice, LayerCursor, Steps};
 use std::alloc::Global;
 use std::marker::Model;
 use std::ops::Range;
-use store_base::{AliveBitSet, DocId, DocumentDeserialize, StoreError, StoreSpaceUsage};
+use store_base::{DocId, DocumentDeserialize, StoreError, StoreSpaceUsage};
 use store_format::{DocStoreVersion, FOOTER_LEN, part};
 
 /// A store whose file is a slice of bytes that another holds. A call reads the part of the index that it needs, so
@@ -300,25 +299,6 @@ impl<'a> StoreSlice<'a> {
             next: 0,
             block: BlockSlice::before_all(),
         })
-    }
-
-    /// The documents that are alive, in the order of their ids, each with its id. Those at or past the end of the set
-    /// are not alive. It returns `BadIndex` where it can't find the bottom layer of the index.
-    pub fn iter_alive<'v>(
-        &self,
-        alive: &'v AliveBitSet,
-    ) -> Result<AliveSliceDocuments<'v, 'a>, StoreError>
-        ensures alive { IfOk result (λ d. d.alive.now ≡ alive.entry.now) }
-        ensures file { IfOk result (λ d. d.documents.blocks.bytes ≡ self.now) }
-        ensures first { IfOk result (λ d. d.documents.next ≡ 0) }
-        ensures can { IfOk result (λ d. (d.documents.block.first ≤ d.documents.next)
-            × (d.documents.next ≤ d.documents.block.end) × (d.documents.blocks.next ≡ d.documents.block.end)) }
-        ensures amid { (s : IsSomeStore self.now) → IsOkAnd result (λ d. IsAmid self.now s d.documents.next
-            d.documents.block.first d.documents.block.end d.documents.block.bytes.now d.documents.blocks) }
-        ensures refused { IfErr result (λ e. e ≡ StoreError.BadIndex) }
-    {
-        let documents = self.iter()?;
-        Ok(AliveSliceDocuments { documents, alive })
     }
 
     /// The documents from this one on, in the order of their ids. It seeks the block of the document, and then decodes

@@ -17,9 +17,6 @@ use Rattle.docstore.proofs.ReadInPartsLemmas.{IsPartTaken, same_checkpoints}
 use Rattle.store_base.specs.Outputs.{Output}
 use Rattle.tantivy_export.specs.Exporting.{IsCopied}
 
-pub none_copied : (reader : Reading) (content : List ℕ) → IsCopied reader 0 content content
-none_copied reader content = record { bytes = []; len = refl; honest = λ is. refl; after = sym (append-nil content) }
-
 -- one more part is after those before it
 pub part_copied : (size n times bytes : ℕ) (reader read : Reading) (part : StorePart) (text old mid new : List ℕ) → IsReadTimes times bytes reader read → IsPartFrom size read n part
     → IsCopied reader n old mid → text ≡ part.bytes → new ≡ mid ++ text → IsCopied reader part.blocks.end old new
@@ -57,18 +54,6 @@ copied_more size n store now left part text old mid new has taken text_is after 
   termination = termination ∙ has.termination;
   steady = steady ∙ has.steady;
 }
-
--- where none is left, all are copied
-pub all_copied : (reader : Reading) (n : ℕ) (old new : List ℕ) → length reader.checkpoints ≤ n → IsCopied reader n old new → IsCopied reader (length reader.checkpoints) old new
-all_copied reader n old new all p =
-    let cs = reader.checkpoints in
-    let same : byte_at n cs ≡ byte_at (length cs) cs = ap (bytes_end 0) (take_all n cs all ∙ sym (take_all (length cs) cs (omega arith))) in
-    record {
-      bytes = p.bytes;
-      len = p.len ∙ same;
-      honest = λ is. p.honest is ∙ ap (slice_range reader.file.content 0) same;
-      after = p.after;
-    }
 
 -- the data, the index and the footer are the file of the blocks that came
 pub record IsExported (reader : Reading) (old new : List ℕ) : Type 0 where
