@@ -47,7 +47,7 @@ THEOREMS = (
     Theorem("the program's answers are those of the stores", "store_commands",
             ("give_documents", "check_blocks", "merge_store"), ("memory aside", "usize", "honest file")),
     Theorem("a crash leaves the old store or the new one", "store_published",
-            ("publish_store", "write_published", "finish_published"), ("memory aside", "usize", "honest folder")),
+            ("publish_store", "publish_export"), ("memory aside", "usize", "honest folder")),
     Theorem("a record that a sync acknowledged is never lost", "segmented_log",
             ("open", "sync", "seal", "compact", "call_all", "open_and_call", "ends_lose_nothing"),
             ("memory aside", "usize", "honest folder")),

@@ -10,7 +10,7 @@ use Rattle.docstore.specs.Laws.{StackedSlotsAreCounted}
 use Rattle.tantivy_export.specs.Exporting.{IsExportOf}
 use Rattle.store_published.specs.declared.publishing.NotPublished.{NotPublished}
 use Rattle.store_published.specs.declared.publishing.PublishedStore.{PublishedStore}
-use Rattle.store_published.specs.declared.stores.Written.{Written}
+use Rattle.store_published.specs.declared.publishing.Written.{Written}
 use Rattle.store_published.specs.Filling.{AreNumbersOf}
 
 -- an export of a reader's store, and its numbers

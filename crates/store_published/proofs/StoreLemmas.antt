@@ -8,7 +8,7 @@ use Rattle.store_format.specs.Slots.{slots}
 use Rattle.store_format.specs.StoreFile.{file, IsStore}
 use Rattle.store_published.specs.declared.publishing.NotPublished.{NotPublished}
 use Rattle.store_published.specs.declared.publishing.PublishedStore.{PublishedStore}
-use Rattle.store_published.specs.declared.stores.Written.{Written}
+use Rattle.store_published.specs.declared.publishing.Written.{Written}
 use Rattle.store_published.specs.Filling.{IsSameFile, IsStoreOf, AreNumbersOf}
 
 -- a store of these slots, and its numbers

@@ -8,7 +8,7 @@ use Rattle.docstore.specs.Writer.{Writing}
 use Rattle.store_base.specs.Outputs.{Termination}
 use Rattle.store_folder.specs.Folder.{Look, ElsewhereOfBoth}
 use Rattle.store_folder.specs.Publishing.{Published}
-use Rattle.store_published.specs.declared.stores.Written.{Written}
+use Rattle.store_published.specs.declared.publishing.Written.{Written}
 
 -- an output that is held back from its end: itself, and the ends that were noted
 pub record HeldOutput (F : Type 0) : Type 0 where

@@ -16,8 +16,7 @@ ghost use Rattle.store_published.specs.Outcome.{folder_left, IsExportRefusal};
 
 use crate::held::Held;
 use crate::origin::Origin;
-use crate::publishing::{FillError, NotPublished, PublishedStore, publish_held};
-use crate::stores::Written;
+use crate::publishing::{FillError, NotPublished, PublishedStore, Written, publish_held};
 use docstore::{DocStoreVersion, FileHandle, StoreError, StoreReader, laws};
 use std::alloc::Global;
 use std::io;

@@ -7,13 +7,9 @@ pub mod filling;
 mod held;
 pub mod origin;
 pub mod publishing;
-pub mod since;
-pub mod stores;
 
 pub use documents::{DocumentList, store_document};
 pub use exporting::publish_export;
 pub use filling::Filling;
 pub use origin::Origin;
-pub use publishing::{FillError, NotPublished, PublishedStore, publish_store};
-pub use since::Since;
-pub use stores::{NotStored, Stored, Written, close_published, finish_published, write_published};
+pub use publishing::{FillError, NotPublished, PublishedStore, Written, publish_store};

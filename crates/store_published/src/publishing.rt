@@ -13,12 +13,19 @@ ghost use Rattle.store_published.specs.Outcome.{folder_left, IsOfPublishing};
 use crate::filling::Filling;
 use crate::held::Held;
 use crate::origin::Origin;
-use crate::stores::Written;
 use docstore::{Cause, CloseError, Compressor, StoreError, StoreWriter, laws};
 use std::alloc::Global;
 use std::io;
 use std::marker::Brand;
 use store_folder::{Folder, Publication};
+
+/// What a store has that was published.
+#[derive(Clone, Copy)]
+pub struct Written {
+    pub documents: u32,
+    pub blocks: u32,
+    pub bytes: u64,
+}
 
 /// The folder in which a store was published, and what the store has.
 #[derive(Drop)]

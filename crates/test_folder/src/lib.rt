@@ -11,8 +11,6 @@ mod outputs;
 mod publishing;
 #[cfg(test)]
 mod reading;
-#[cfg(test)]
-mod stores;
 
 #[cfg(test)]
 mod tests {

@@ -1,7 +1,7 @@
 //! Stores that are filled and published in one call, in folders in memory.
 
 use crate::failing_folder::FailingFolder;
-use docstore::{StoreError, StoreWriter, TerminatingWrite};
+use docstore::{Compressor, MemSink, StoreError, StoreWriter, TerminatingWrite};
 use std::alloc::Global;
 use std::test::Fail;
 use store_folder::{Folder, MemFolder, ReadableFolder};
@@ -16,6 +16,18 @@ fn documents(alloc: Global) -> Result<Vec<Vec<u8>>, Fail> {
     documents.push(b"x".to_vec(alloc)?)?;
     documents.push(b"abc".to_vec(alloc)?)?;
     Ok(documents)
+}
+
+// The file of a store of those.
+fn file(alloc: Global) -> Result<Vec<u8>, Fail> {
+    let mut writer = StoreWriter::new(alloc, MemSink::new(alloc), Compressor::None, 16384);
+    for document in documents(alloc)? {
+        writer.store_bytes(&document)?;
+    }
+    match writer.close() {
+        Ok(output) => Ok(output.into_bytes()),
+        Err(refusal) => Err(refusal.error)?,
+    }
 }
 
 // Publishes a store in a folder.
@@ -44,7 +56,7 @@ fn folder_with_two<F: Folder>(alloc: Global, folder: F) -> Result<PublishedStore
 
 // Whether the folder has the store of two documents and nothing beside it, and the call counted them.
 fn has_two(alloc: Global, published: &PublishedStore<MemFolder>) -> Result<bool, Fail> {
-    let expected = crate::stores::file(alloc)?;
+    let expected = file(alloc)?;
     let written = &published.written;
     let is_counted = written.documents == 2
         && written.blocks == 1
@@ -91,7 +103,7 @@ fn left_by(
 #[test]
 fn each_failing_call_leaves_the_old_file_or_the_whole_store(rt: HostRuntime) -> Result<(), Fail> {
     let alloc = rt.alloc();
-    let whole = crate::stores::file(alloc)?;
+    let whole = file(alloc)?;
     for (failing_call, fails_late) in [
         (1, false),
         (1, true),
