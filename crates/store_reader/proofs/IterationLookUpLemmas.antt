@@ -13,7 +13,7 @@ use Rattle.store_reader.specs.LookLaws.{AreLookUps}
 use Rattle.store_reader.specs.Reading.{Reading, IsSameStore, num_docs}
 use Rattle.store_reader.specs.Walking.{taken_last, IsWalk, LooksAlong, WalksTo, GivesNext}
 use Rattle.store_reader.proofs.ItemsSoFarLemmas.{same_count, covered}
-use Rattle.store_reader.proofs.BlocksAlongLemmas.{alive_in, alive-split, take_length_one, walks_look_up}
+use Rattle.store_reader.proofs.BlocksAlongLemmas.{alive_in, alive-split, walks_look_up}
 use Rattle.store_reader.proofs.RecentLemmas.{looks_are_recent}
 use Rattle.store_reader.proofs.WalkingLemmas.{looks_on, range_joined}
 

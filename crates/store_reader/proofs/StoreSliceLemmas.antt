@@ -242,15 +242,6 @@ exactly_true id (Some (doc bytes)) = refl
 pub seen_parts : (a b : List ℕ) (data_len : ℕ) (index : IndexBytes) (version : DocStoreVersion) → a ≡ b → IsStoreSlice a data_len index version → IsStoreSlice b data_len index version
 seen_parts a b data_len index version e h = subst (λ (bytes : List ℕ). IsStoreSlice bytes data_len index version) e h
 
--- the bound on a seek in the index is that of the store
-pub looks_of_store : (a b : List ℕ) (data_len : ℕ) (index : IndexBytes) (version : DocStoreVersion) → a ≡ b → IsStoreSlice a data_len index version → (old new : ℕ)
-    → ((cs : List Checkpoint) → IsIndexPart index.period index.bytes cs → new ≤ old + index.period * digit_count index.period (length cs))
-    → (s : IsSomeStore b) → new ≤ old + s.period * digit_count s.period (length (checkpoints_of s.blocks))
-looks_of_store a b data_len index version e inv old new most s =
-    let laid = (seen_parts a b data_len index version e inv).laid_out s in
-    subst (λ (p : ℕ). new ≤ old + p * digit_count p (length (checkpoints_of s.blocks))) laid.period_is
-    (most (checkpoints_of s.blocks) (stored_index b data_len index (version_number version) s laid))
-
 -- each document of the block that a seek finds has its place there
 pub block_is_of : (bytes : List ℕ) (s : IsSomeStore bytes) (id : ℕ) (c : Checkpoint) → first_past (checkpoints_of s.blocks) id ≡ Some c
     → (k : ℕ) → c.doc_range.start ≤ k → k < c.doc_range.end

@@ -137,18 +137,6 @@ block_none v cs id is view e =
 pub checkpoints_are : (file : List ℕ) (cs : List Checkpoint) (period : ℕ) (version : DocStoreVersion) → IsView file cs period version → checkpoints_of (blocks_at cs (data_in file cs)) ≡ cs
 checkpoints_are file cs period version v = (store_seen (data_in file cs) cs v.covers).checkpoints_are
 
--- the bound on a seek in the index is that of the store
-pub looks_of_view : (file : List ℕ) (cs : List Checkpoint) (period : ℕ) (version : DocStoreVersion) → IsView file cs period version → (old new : ℕ)
-    → ((p : ℕ) → 2 ≤ p → new ≤ old + p * digit_count p (length cs))
-    → (p : ℕ) → 2 ≤ p → new ≤ old + p * digit_count p (length (checkpoints_of (blocks_at cs (data_in file cs))))
-looks_of_view file cs period version view old new most p two =
-    subst (λ (xs : List Checkpoint). new ≤ old + p * digit_count p (length xs)) (sym (checkpoints_are file cs period version view)) (most p two)
-
--- and where there is a block one is counted
-pub look_of_view : (file : List ℕ) (cs : List Checkpoint) (period : ℕ) (version : DocStoreVersion) → IsView file cs period version → (old new : ℕ)
-    → (0 < length cs → raised old 1 ≤ new) → 0 < length (checkpoints_of (blocks_at cs (data_in file cs))) → raised old 1 ≤ new
-look_of_view file cs period version view old new least some = least (subst (λ (xs : List Checkpoint). 0 < length xs) (checkpoints_are file cs period version view) some)
-
 -- a document stands where its block's table says
 pub stands_at : (v : Viewing) (cs : List Checkpoint) (id : ℕ) (c : Checkpoint) (from to : ℕ) → v.store ≡ blocks_at cs (data_in v.file cs)
     → IsView v.file cs v.period v.version → first_past cs id ≡ Some c

@@ -2,7 +2,6 @@
 use Rattle.std.specs.Prelude.{◌≡◌, ◌⊎◌, ℕ, ◌-◌, ◌+◌, ◌^◌, ◌<◌, ◌≤◌, Bool, true, false, List, [], ◌∷◌, ◌++◌, length, slice_get, slice_range, Option}
 use Rattle.std.specs.Prelude.{Some, None, Result, Ok, Err}
 use Rattle.std.specs.Borrow.{Bor}
-use Rattle.store_base.specs.AliveBitSet.{is_alive_at}
 use Rattle.store_base.specs.declared.error.StoreError.{StoreError}
 use Rattle.store_base.specs.declared.error.StoreError.TheVariants.{InvalidArgument, DamagedDocument, BadIndex}
 use Rattle.store_base.specs.declared.error.StoreError.TheVariants.{BadDocument, Memory}
@@ -18,7 +17,7 @@ use Rattle.store_format.specs.StoreFile.{data_of, checkpoints_of}
 use Rattle.store_reader.specs.declared.block_slice.BlockSlice.{BlockSlice}
 use Rattle.store_reader.specs.CallAnswers.{exact_result}
 use Rattle.store_reader.specs.Opening.{IsSomeStore}
-use Rattle.store_reader.specs.Viewing.{AreDead, given}
+use Rattle.store_reader.specs.Viewing.{given}
 
 -- What the document of this id is in the store whose file these bytes are: its bytes, or the refusal of this id where
 -- there is none or it is damaged.

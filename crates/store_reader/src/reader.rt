@@ -7,7 +7,7 @@ ghost use Rattle.layered_index.specs.Checkpoint.{Covers, first_past};
 ghost use Rattle.store_reader.specs.Documents.{document_version, IsGot, ReadsTruly};
 ghost use Rattle.store_format.specs.Footer.{version_number};
 ghost use Rattle.store_reader.specs.CachedBlocks.{last_key};
-ghost use Rattle.layered_index.specs.Layers.{digit_count, index_part};
+ghost use Rattle.layered_index.specs.Layers.{index_part};
 ghost use Rattle.store_reader.specs.Opening.{IsOpened, IsRefused, RefusesNoStore};
 ghost use Rattle.store_reader.specs.Reading.{IsReadOnce, IsReadWhole, IsSameStore, IsSeen, num_docs, store_of};
 ghost use Rattle.store_format.specs.Slots.{slots};
@@ -133,37 +133,7 @@ impl<H: FileHandle> StoreReader<H> {
         ensures same_store { IsSameStore self.old self.new }
     {
         let mut steps = Steps::new();
-        self.get_document_bytes_counted(alloc, doc_id, &mut steps)
-    }
-
-    /// Gets as `get_document_bytes` does, and counts each checkpoint that the seek looks at: at most p for each base-p
-    /// digit of their number, for every p from 2 on.
-    #[inline(always)]
-    pub fn get_document_bytes_counted(
-        &mut self,
-        alloc: Global,
-        doc_id: DocId,
-        steps: &mut Steps,
-    ) -> Result<OwnedBytes, StoreError>
-        ensures most { (p : ℕ) → 2 ≤ p
-            → steps.new ≤ steps.old + p * digit_count p (length self.old.checkpoints) }
-        ensures least { 0 < length self.old.checkpoints → raised steps.old 1 ≤ steps.new }
-
-        // What `get_document_bytes` says.
-        ensures no_document { IsErrOf result (StoreError.InvalidArgument doc_id) ↔ (num_docs self.old ≤ doc_id) }
-        ensures no_read { num_docs self.old ≤ doc_id → self.new ≡ self.old }
-        ensures answered { doc_id < num_docs self.old → IsAnswered self.old doc_id result self.new }
-
-        // What follows.
-        ensures honest { IsTrue self.old.file.honest
-            → AnswersTruly doc_id (slice_get (slots (store_of self.old)) doc_id) result }
-        ensures failed { IsErrOf result StoreError.Read
-            → HasRisen self.old.file.failures self.new.file.failures }
-        ensures steady { IsErrOf result StoreError.Read
-            ⊎ (self.new.file.failures ≡ self.old.file.failures) }
-        ensures same_store { IsSameStore self.old self.new }
-    {
-        let Some(checkpoint) = self.index.seek_guided(doc_id, steps) else {
+        let Some(checkpoint) = self.index.seek_guided(doc_id, &mut steps) else {
             return Err(StoreError::InvalidArgument(doc_id));
         };
         look_up(

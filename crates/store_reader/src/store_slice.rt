@@ -1,9 +1,8 @@
 //! A store in a slice of bytes, read without opening: its index is not copied, and no table is made of it.
 ghost use Rattle.std.specs.Prelude.{◌≡◌, ◌≢◌, ◌≤◌, ◌<◌, ◌+◌, ◌*◌, ◌^◌, ◌↔◌, ◌⊎◌, ℕ, length, slice_range, slice_get};
 ghost use Rattle.std.specs.Prelude.{IfOk, IfErr, IsOkAnd, IsErrOf, MatchResult, Ok, Err, Some, None, false};
-ghost use Rattle.store_base.specs.Counts.{raised};
 ghost use Rattle.layered_index.specs.Checkpoint.{first_past};
-ghost use Rattle.layered_index.specs.Layers.{digit_count, index_part};
+ghost use Rattle.layered_index.specs.Layers.{index_part};
 ghost use Rattle.store_format.specs.declared.version.DocStoreVersion.{DocStoreVersion};
 ghost use Rattle.store_format.specs.Block.{damaged};
 ghost use Rattle.store_format.specs.Footer.{version_number};
@@ -21,7 +20,7 @@ use crate::block_slices::BlockSlices;
 use crate::document_reading::read_bytes;
 use crate::opening::{footer_of, index_range};
 use crate::slice_documents::SliceDocuments;
-use layered_index::{Checkpoint, IndexSlice, LayerCursor, Steps};
+use layered_index::{Checkpoint, IndexSlice, LayerCursor};
 use std::alloc::Global;
 use std::marker::Model;
 use std::ops::Range;
@@ -85,33 +84,7 @@ impl<'a> StoreSlice<'a> {
         ensures fits { IfOk result (λ b. b.start + length b.bytes.now < 2 ^ 64) }
         ensures refused { IfErr result (RefusesOne doc_id) }
     {
-        let mut steps = Steps::new();
-        self.block_of_counted(doc_id, &mut steps)
-    }
-
-    /// Finds as `block_of` does, and counts each checkpoint that it decodes: in the file of a store at most a period
-    /// for each digit of the number of blocks in that base.
-    #[inline(always)]
-    pub fn block_of_counted(
-        &self,
-        doc_id: DocId,
-        steps: &mut Steps,
-    ) -> Result<BlockSlice<'a>, StoreError>
-        ensures most { (s : IsSomeStore self.now) → steps.new
-            ≤ steps.old + s.period * digit_count s.period (length (checkpoints_of s.blocks)) }
-        ensures least { IfOk result (λ _. raised steps.old 1 ≤ steps.new) }
-
-        // What `block_of` says.
-        ensures block { (s : IsSomeStore self.now) → MatchResult result
-            (λ b. (id : ℕ) → b.first ≤ id → id < b.end → IsBlockSlice self.now s id b.first b.end b.start b.bytes.now)
-            (λ e. (e ≡ StoreError.InvalidArgument doc_id) × (first_past (checkpoints_of s.blocks) doc_id ≡ None)) }
-        ensures has { IfOk result (λ b. (b.first ≤ doc_id) × (doc_id < b.end)) }
-        ensures part { IfOk result (λ b. b.bytes.now ≡ slice_range self.now b.start (b.start + length b.bytes.now)) }
-        ensures within { IfOk result (λ b. b.start + length b.bytes.now ≤ length self.now) }
-        ensures fits { IfOk result (λ b. b.start + length b.bytes.now < 2 ^ 64) }
-        ensures refused { IfErr result (RefusesOne doc_id) }
-    {
-        let Some(checkpoint) = self.index.seek_counted(doc_id, steps)? else {
+        let Some(checkpoint) = self.index.seek(doc_id)? else {
             return Err(StoreError::InvalidArgument(doc_id));
         };
         self.found_block(doc_id, checkpoint)

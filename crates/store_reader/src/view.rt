@@ -1,8 +1,7 @@
 //! A store over bytes that another holds.
 ghost use Rattle.std.specs.Prelude.{◌≡◌, ◌≢◌, ◌≤◌, ◌<◌, ◌+◌, ◌*◌, ◌⊎◌, ◌↔◌, ℕ, length, IfOk, IfErr, IsErrOf, Err, Some};
 ghost use Rattle.std.specs.Prelude.{slice_range, MatchOption, MatchResult};
-ghost use Rattle.store_base.specs.Counts.{raised};
-ghost use Rattle.layered_index.specs.Layers.{digit_count, index_part};
+ghost use Rattle.layered_index.specs.Layers.{index_part};
 ghost use Rattle.store_format.specs.Block.{damaged};
 ghost use Rattle.store_reader.specs.Documents.{document_version, ReadsFrom, ReadsTruly};
 ghost use Rattle.store_format.specs.Footer.{version_number};
@@ -78,28 +77,7 @@ impl<'a> StoreView<'a> {
         ensures within { IfOk result (λ r. r.end ≤ length self.now.file) }
     {
         let mut steps = Steps::new();
-        self.locate_counted(doc_id, &mut steps)
-    }
-
-    /// Locates as `locate` does, and counts each checkpoint that the seek looks at: at most p for each base-p digit of
-    /// their number, for every p from 2 on.
-    #[inline(always)]
-    pub fn locate_counted(
-        &self,
-        doc_id: DocId,
-        steps: &mut Steps,
-    ) -> Result<Range<usize>, StoreError>
-        ensures most { (p : ℕ) → 2 ≤ p → steps.new
-            ≤ steps.old + p * digit_count p (length (checkpoints_of self.now.store)) }
-        ensures least { 0 < length (checkpoints_of self.now.store) → raised steps.old 1 ≤ steps.new }
-
-        // What `locate` says.
-        ensures document { placed_in self.now.file result ≡ document_of self.now doc_id }
-        ensures place { IfOk result (λ r. StandsAt self.now doc_id r.start r.end) }
-        ensures order { IfOk result (λ r. r.start ≤ r.end) }
-        ensures within { IfOk result (λ r. r.end ≤ length self.now.file) }
-    {
-        let Some(checkpoint) = self.index.seek_guided(doc_id, steps) else {
+        let Some(checkpoint) = self.index.seek_guided(doc_id, &mut steps) else {
             return Err(StoreError::InvalidArgument(doc_id));
         };
         let start = checkpoint.byte_range.start;

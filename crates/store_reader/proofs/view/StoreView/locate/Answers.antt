@@ -1,26 +1,8 @@
 use Rattle.std.proofs.Common.{arith, ℕ, List, Some, refl, sym, ap, ◌∙◌}
 use Rattle.store_reader.specs.CallAnswers.{exact_result}
 use Rattle.store_format.specs.Block.{doc}
-use Rattle.store_reader.proofs.ViewLemmas.{placed, slot_placed, slot_none, doc_placed, stands_at, looks_of_view, look_of_view}
-use Rattle.store_reader.proofs.view.StoreView.locate_counted.Goals as goal
-
-pub returns-in_default-clause-most : goal.returns-in_default-clause-most
-returns-in_default-clause-most c = rw (← c.self.view_is) (looks_of_view _ _ _ _ c.self.invariant _ _ c.seek_guided.ensures.most)
-
-pub returns-in-Some-likely_read_index-clause-most : goal.returns-in-Some-likely_read_index-clause-most
-returns-in-Some-likely_read_index-clause-most c = rw (← c.self.view_is) (looks_of_view _ _ _ _ c.self.invariant _ _ c.seek_guided.ensures.most)
-
-pub returns-in-None-clause-most : goal.returns-in-None-clause-most
-returns-in-None-clause-most c = rw (← c.self.view_is) (looks_of_view _ _ _ _ c.self.invariant _ _ c.seek_guided.ensures.most)
-
-pub returns-in_default-clause-least : goal.returns-in_default-clause-least
-returns-in_default-clause-least c = rw (← c.self.view_is) (look_of_view _ _ _ _ c.self.invariant _ _ c.seek_guided.ensures.least)
-
-pub returns-in-Some-likely_read_index-clause-least : goal.returns-in-Some-likely_read_index-clause-least
-returns-in-Some-likely_read_index-clause-least c = rw (← c.self.view_is) (look_of_view _ _ _ _ c.self.invariant _ _ c.seek_guided.ensures.least)
-
-pub returns-in-None-clause-least : goal.returns-in-None-clause-least
-returns-in-None-clause-least c = rw (← c.self.view_is) (look_of_view _ _ _ _ c.self.invariant _ _ c.seek_guided.ensures.least)
+use Rattle.store_reader.proofs.ViewLemmas.{placed, slot_placed, slot_none, doc_placed, stands_at}
+use Rattle.store_reader.proofs.view.StoreView.locate.Goals as goal
 
 pub returns-in_default-clause-document : goal.returns-in_default-clause-document
 returns-in_default-clause-document c = rw (← c.self.view_is) (sym (ap (exact_result c.args.doc_id) (slot_none _ _ _ _ _ c.self.invariant (sym c.in_default.ensures.answer))))

@@ -7,7 +7,7 @@ use Rattle.store_reader.proofs.SeekLemmas.{IsWithin, within, none_past}
 use Rattle.store_reader.proofs.LookUpLemmas.{stays_honest, reader_after}
 use Rattle.store_reader.proofs.RecentLemmas.{same_store, same_as_it_is}
 use Rattle.store_reader.proofs.GetAnswerLemmas.{not_none_such, read_failed, answer_steady, answers_truly, none_truly}
-use Rattle.store_reader.proofs.reader.StoreReader.get_document_bytes_counted.Goals as goal
+use Rattle.store_reader.proofs.reader.StoreReader.get_document_bytes.Goals as goal
 
 -- where the document of a seek that found one lies
 place : (g : _) (c : goal.After-checkpoint-2-1 g) → IsWithin 0 0 c.self.inside.index.checkpoints c.args.doc_id c.in-Some.checkpoint

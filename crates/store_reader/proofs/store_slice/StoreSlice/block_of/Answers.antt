@@ -5,17 +5,8 @@ use Rattle.store_base.specs.declared.error.StoreError.TheVariants.{InvalidArgume
 use Rattle.layered_index.specs.Checkpoint.{first_past}
 use Rattle.store_format.specs.StoreFile.{checkpoints_of}
 use Rattle.store_reader.specs.StoreSlices.{IsBlockSlice}
-use Rattle.store_reader.proofs.StoreSliceLemmas.{seen_parts, stored_index, looks_of_store, err_not_ok, ok_is}
-use Rattle.store_reader.proofs.store_slice.StoreSlice.block_of_counted.Goals as goal
-
-pub returns-in_err-checkpoint-clause-most : goal.returns-in_err-checkpoint-clause-most
-returns-in_err-checkpoint-clause-most c = looks_of_store _ _ _ _ _ c.self.view_is c.self.invariant _ _ c.seek_counted.ensures.most
-
-pub returns-in_default-clause-most : goal.returns-in_default-clause-most
-returns-in_default-clause-most c = looks_of_store _ _ _ _ _ c.self.view_is c.self.invariant _ _ c.seek_counted.ensures.most
-
-pub returns-clause-most : goal.returns-clause-most
-returns-clause-most c = looks_of_store _ _ _ _ _ c.self.view_is c.self.invariant _ _ c.seek_counted.ensures.most
+use Rattle.store_reader.proofs.StoreSliceLemmas.{seen_parts, stored_index, err_not_ok, ok_is}
+use Rattle.store_reader.proofs.store_slice.StoreSlice.block_of.Goals as goal
 
 pub returns-in_err-checkpoint-clause-block : goal.returns-in_err-checkpoint-clause-block
 returns-in_err-checkpoint-clause-block c s =
