@@ -1,7 +1,11 @@
 -- The slots that are in a set.
-use Rattle.std.proofs.Common.{◌≡◌, ℕ, ◌+◌, ◌<◌, ◌≤◌, Bool, true, false, cond, List, [], ◌∷◌, length, map, Option, refl, ap, arith}
+use Rattle.std.proofs.Common.{◌≡◌, ℕ, ◌+◌, ◌<◌, ◌≤◌, Bool, true, false, cond, List, [], ◌∷◌, ◌++◌, length, map, Option, refl, ap, ◌∙◌, arith}
+use Rattle.std.proofs.lemmas.List.Elements.{filter-append}
+use Rattle.std.specs.List.{filter, enumerate_from}
+use Rattle.store_base.proofs.ListLemmas.{enumerate_append}
 use Rattle.store_format.specs.Block.{Slot}
 use Rattle.store_reader.specs.Iteration.{is_in, alive, alive_from}
+use Rattle.store_commands.specs.Documents.{numbered_from}
 
 -- sets that agree below the end give the same
 agreed : (n : ℕ) (xs : List Slot) (set other : Option (ℕ → Bool)) → ((id : ℕ) → n ≤ id → id < n + length xs → is_in set id ≡ is_in other id) → alive_from n xs set ≡ alive_from n xs other
@@ -19,11 +23,19 @@ agreed n (x ∷ xs) set other h =
 pub alive_agreed : (xs : List Slot) (set other : Option (ℕ → Bool)) → ((id : ℕ) → id < length xs → is_in set id ≡ is_in other id) → alive xs set ≡ alive xs other
 alive_agreed xs set other h = agreed 0 xs set other (λ id le lt. h id (omega arith))
 
+-- ---- the slots that are in a set, each with its id
+
 -- none of the set
-pub none_alive : (n : ℕ) (xs : List Slot) (set : Option (ℕ → Bool)) → ((id : ℕ) → n ≤ id → id < n + length xs → is_in set id ≡ false) → alive_from n xs set ≡ []
-none_alive n [] set h = refl
-none_alive n (x ∷ xs) set h = rw (h n (omega arith) (omega arith)) (none_alive (n + 1) xs set (λ id le lt. h id (omega arith) (omega arith)))
+pub none_numbered : (n : ℕ) (xs : List Slot) (set : Option (ℕ → Bool)) → ((id : ℕ) → n ≤ id → id < n + length xs → is_in set id ≡ false) → numbered_from n xs set ≡ []
+none_numbered n [] set h = refl
+none_numbered n (x ∷ xs) set h = rw (h n (omega arith) (omega arith)) (none_numbered (n + 1) xs set (λ id le lt. h id (omega arith) (omega arith)))
 
 -- one slot
-pub one_alive : (n : ℕ) (x : Slot) (set : Option (ℕ → Bool)) → is_in set n ≡ true → alive_from n (x ∷ []) set ≡ x ∷ []
-one_alive n x set h = rw h refl
+pub one_numbered : (n : ℕ) (x : Slot) (set : Option (ℕ → Bool)) → is_in set n ≡ true → numbered_from n (x ∷ []) set ≡ (n, x) ∷ []
+one_numbered n x set h = rw h refl
+
+-- those of a list and of one after it
+pub numbered_joined : (n : ℕ) (xs ys : List Slot) (set : Option (ℕ → Bool)) → numbered_from n (xs ++ ys) set ≡ numbered_from n xs set ++ numbered_from (n + length xs) ys set
+numbered_joined n xs ys set =
+    let p : ℕ × Slot → Bool = λ x. is_in set x.0 in
+    ap (filter p) (enumerate_append n xs ys) ∙ filter-append p (enumerate_from n xs) (enumerate_from (n + length xs) ys)

@@ -19,15 +19,14 @@ use Rattle.store_format.specs.Block.{Slot, slot}
 use Rattle.store_format.specs.Slots.{slots}
 use Rattle.store_format.specs.StoreFile.{StoreBlock, docs_in}
 use Rattle.store_reader.specs.declared.data_part.DataPart.{DataPart}
-use Rattle.store_reader.specs.Iteration.{alive, alive_from}
 use Rattle.store_reader.specs.Parts.{place_of}
 use Rattle.store_reader.specs.Reading.{Reading, num_docs, store_of}
 use Rattle.store_commands.specs.declared.block_walk.GivingError.{GivingError}
 use Rattle.store_commands.specs.declared.block_walk.GivingError.TheVariants.{Store, Target}
 use Rattle.store_commands.specs.Checks.{slots_in}
-use Rattle.store_commands.specs.Documents.{TakesSlots}
+use Rattle.store_commands.specs.Documents.{numbered, numbered_from, TakesSlots}
 use Rattle.store_commands.specs.Giving.{RefusesSlot, EndsBlock, HasTakenTo, EndsAtBlock, EndsByStore, EndsGiving}
-use Rattle.store_reader.proofs.ItemsSoFarLemmas.{alive_joined}
+use Rattle.store_commands.proofs.AliveLemmas.{numbered_joined}
 use Rattle.store_commands.proofs.GivingLemmas.{HasGiven, next_in, slots_split}
 use Rattle.store_commands.proofs.TakingLemmas.{takes_more}
 use Rattle.store_commands.proofs.WalkLemmas.{IsNext, docs_of_all}
@@ -66,7 +65,7 @@ slot_following xs ys s id e =
 -- ---- where a giving ends
 
 -- the set's documents of the blocks that were given, and no more
-pub ends_at_block : {T : Type 0} (takes : T → List ℕ → T → Type 0) (set : Option (ℕ → Bool)) (r now : Reading) (next : ℕ) (old new : T) → HasGiven takes set r now next old new → next < num_docs r
+pub ends_at_block : {T : Type 0} (takes : T → ℕ → List ℕ → T → Type 0) (set : Option (ℕ → Bool)) (r now : Reading) (next : ℕ) (old new : T) → HasGiven takes set r now next old new → next < num_docs r
     → EndsAtBlock takes set r old new
 ends_at_block takes set r now next old new h lt = (
   next,
@@ -74,25 +73,25 @@ ends_at_block takes set r now next old new h lt = (
     below = lt;
     given = λ honest.
         let all : take next (slots (store_of r)) ≡ slots h.front = ap (λ (bs : List StoreBlock). take next (slots bs)) h.come.parts ∙ below_block h.front h.come.rest next h.come.next_is in
-        subst (λ (xs : List Slot). TakesSlots takes (alive xs set) old new) (sym all) (h.known honest);
+        subst (λ (xs : List Slot). TakesSlots takes (numbered xs set) old new) (sym all) (h.known honest);
   },
 )
 
 -- and those of the next block before a position
-id_in : {T : Type 0} (takes : T → List ℕ → T → Type 0) (set : Option (ℕ → Bool)) (r now : Reading) (next position : ℕ) (old middle : T)
+id_in : {T : Type 0} (takes : T → ℕ → List ℕ → T → Type 0) (set : Option (ℕ → Bool)) (r now : Reading) (next position : ℕ) (old middle : T)
     (part : DataPart) (h : HasGiven takes set r now next old middle)
     (n : IsNext r h.front next part) → part.ids.start + position ≡ length (slots h.front ++ slots_in n.block.bytes position)
 id_in takes set r now next position old middle part h n =
     let size = length-append (slots h.front) (slots_in n.block.bytes position) in
     omega (arith, size, length-slots h.front, length-map-range_with_len (slot n.block.bytes) 0 position, n.first, h.come.next_is)
 
-cut_store : {T : Type 0} (takes : T → List ℕ → T → Type 0) (set : Option (ℕ → Bool)) (r now : Reading) (next position : ℕ) (old middle : T)
+cut_store : {T : Type 0} (takes : T → ℕ → List ℕ → T → Type 0) (set : Option (ℕ → Bool)) (r now : Reading) (next position : ℕ) (old middle : T)
     (part : DataPart) (h : HasGiven takes set r now next old middle)
     (n : IsNext r h.front next part) → position < n.block.count
     → slots (store_of r) ≡ (slots h.front ++ slots_in n.block.bytes position) ++ (slot n.block.bytes position ∷ slots_after n.block n.rest position)
 cut_store takes set r now next position old middle part h n lt = ap slots n.parts ∙ cut_at h.front n.rest n.block position lt
 
-slot_at : {T : Type 0} (takes : T → List ℕ → T → Type 0) (set : Option (ℕ → Bool)) (r now : Reading) (next position : ℕ) (old middle : T)
+slot_at : {T : Type 0} (takes : T → ℕ → List ℕ → T → Type 0) (set : Option (ℕ → Bool)) (r now : Reading) (next position : ℕ) (old middle : T)
     (part : DataPart) (h : HasGiven takes set r now next old middle)
     (n : IsNext r h.front next part) → position < n.block.count → IsTrue r.file.honest → slice_get (slots (store_of r)) (part.ids.start + position) ≡ Some (slot part.bytes position)
 slot_at takes set r now next position old middle part h n lt honest =
@@ -101,9 +100,9 @@ slot_at takes set r now next position old middle part h n lt honest =
     (id_in takes set r now next position old middle part h n)
     ∙ ap (λ (xs : List ℕ). Some (slot xs position)) (sym (n.bytes honest))
 
-given_to : {T : Type 0} (takes : T → List ℕ → T → Type 0) (set : Option (ℕ → Bool)) (r now : Reading) (next position : ℕ) (old middle new : T)
+given_to : {T : Type 0} (takes : T → ℕ → List ℕ → T → Type 0) (set : Option (ℕ → Bool)) (r now : Reading) (next position : ℕ) (old middle new : T)
     (part : DataPart) (h : HasGiven takes set r now next old middle)
-    (n : IsNext r h.front next part) → position < n.block.count → TakesSlots takes (alive_from part.ids.start (slots_in part.bytes position) set) middle new
+    (n : IsNext r h.front next part) → position < n.block.count → TakesSlots takes (numbered_from part.ids.start (slots_in part.bytes position) set) middle new
     → HasTakenTo takes set r (part.ids.start + position) old new
 given_to takes set r now next position old middle new part h n lt taken = record {
   below = omega (arith, docs_of_all r h.covers, ap docs_in n.parts, docs_in-append h.front (n.block ∷ n.rest), docs_in-cons n.block n.rest, n.first, h.come.next_is);
@@ -113,16 +112,16 @@ given_to takes set r now next position old middle new part h n lt taken = record
       ap (take (part.ids.start + position)) (cut_store takes set r now next position old middle part h n lt)
       ∙ take_at front (slot n.block.bytes position ∷ slots_after n.block n.rest position) (part.ids.start + position) (sym (id_in takes set r now next position old middle part h n)) in
       let id : part.ids.start ≡ 0 + length (slots h.front) = omega (arith, n.first, h.come.next_is, length-slots h.front) in
-      let some : alive_from part.ids.start (slots_in part.bytes position) set ≡ alive_from (0 + length (slots h.front)) (slots_in n.block.bytes position) set =
-      ap (λ (k : ℕ). alive_from k (slots_in part.bytes position) set) id
-      ∙ ap (λ (xs : List ℕ). alive_from (0 + length (slots h.front)) (slots_in xs position) set) (n.bytes honest) in
-      let joined : alive front set ≡ alive (slots h.front) set ++ alive_from part.ids.start (slots_in part.bytes position) set =
-      alive_joined 0 (slots h.front) (slots_in n.block.bytes position) set ∙ ap (λ (ys : List Slot). alive (slots h.front) set ++ ys) (sym some) in
-      subst (λ (xs : List Slot). TakesSlots takes xs old new) (sym (ap (λ (xs : List Slot). alive xs set) all ∙ joined))
-      (takes_more takes old middle new (alive (slots h.front) set) (alive_from part.ids.start (slots_in part.bytes position) set) (h.known honest) taken);
+      let some : numbered_from part.ids.start (slots_in part.bytes position) set ≡ numbered_from (0 + length (slots h.front)) (slots_in n.block.bytes position) set =
+      ap (λ (k : ℕ). numbered_from k (slots_in part.bytes position) set) id
+      ∙ ap (λ (xs : List ℕ). numbered_from (0 + length (slots h.front)) (slots_in xs position) set) (n.bytes honest) in
+      let joined : numbered front set ≡ numbered (slots h.front) set ++ numbered_from part.ids.start (slots_in part.bytes position) set =
+      numbered_joined 0 (slots h.front) (slots_in n.block.bytes position) set ∙ ap (λ (ys : List (ℕ × Slot)). numbered (slots h.front) set ++ ys) (sym some) in
+      subst (λ (xs : List (ℕ × Slot)). TakesSlots takes xs old new) (sym (ap (λ (xs : List Slot). numbered xs set) all ∙ joined))
+      (takes_more takes old middle new (numbered (slots h.front) set) (numbered_from part.ids.start (slots_in part.bytes position) set) (h.known honest) taken);
 }
 
-pub ends_in_block : {T E : Type 0} (takes refuses : T → List ℕ → T → Type 0) (set : Option (ℕ → Bool)) (r now read : Reading) (next : ℕ) (old middle new : T) (part : DataPart) (e : GivingError E)
+pub ends_in_block : {T E : Type 0} (takes refuses : T → ℕ → List ℕ → T → Type 0) (set : Option (ℕ → Bool)) (r now read : Reading) (next : ℕ) (old middle new : T) (part : DataPart) (e : GivingError E)
     → HasGiven takes set r now next old middle
     → Some (place_of part) ≡ first_past now.checkpoints next
     → (IsTrue now.file.honest → part.bytes ≡ slice_range now.file.content part.start (part.start + length part.bytes))
@@ -165,7 +164,7 @@ steady_of x (inl b) = absurd cc
 steady_of x (inr p) = p
 
 -- a block that does not come
-pub ends_by_read : {T : Type 0} (E : Type 0) (takes refuses : T → List ℕ → T → Type 0) (set : Option (ℕ → Bool)) (r now read : Reading) (next : ℕ)
+pub ends_by_read : {T : Type 0} (E : Type 0) (takes refuses : T → ℕ → List ℕ → T → Type 0) (set : Option (ℕ → Bool)) (r now read : Reading) (next : ℕ)
     (old new : T) (result : Result (Option DataPart) StoreError) (e : StoreError)
     → HasGiven takes set r now next old new → now.file.failures ≡ r.file.failures → result ≡ Err e → IfErr result (λ x. (x ≡ Read) ⊎ (x ≡ Memory))
     → (IsErrOf result Read → HasRisen now.file.failures read.file.failures) → IsErrOf result Read ⊎ (read.file.failures ≡ now.file.failures) → (num_docs now ≤ next → IsOkAnd result IsNone)

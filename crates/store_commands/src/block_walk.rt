@@ -2,12 +2,11 @@
 
 ghost use Rattle.std.specs.Prelude.{◌≡◌, ◌≤◌, ◌-◌, [], ◌∷◌, IfErr, OnOk, IsTrue, length};
 ghost use Rattle.docstore.specs.StackingInParts.{IsReadInPieces, IsReadAtMost};
-ghost use Rattle.store_reader.specs.Iteration.{alive, alive_from};
 ghost use Rattle.store_reader.specs.Reading.{IsSameStore, store_of};
 ghost use Rattle.store_format.specs.Block.{slot};
 ghost use Rattle.store_format.specs.Slots.{slots};
 ghost use Rattle.store_commands.specs.Checks.{slots_in};
-ghost use Rattle.store_commands.specs.Documents.{kept_by, TakesSlots};
+ghost use Rattle.store_commands.specs.Documents.{kept_by, numbered, numbered_from, TakesSlots};
 ghost use Rattle.store_commands.specs.Giving.{RefusesSlot, EndsBlock, EndsGiving, HasTargetFailed};
 ghost use Rattle.store_commands.specs.LeftOut.{AreApartFrom};
 
@@ -20,11 +19,11 @@ pub trait DocumentTarget {
     ghost use Rattle.std.specs.Prelude.{◌≡◌, ℕ, List, OnOk, OnErr};
     ghost use Rattle.store_base.specs.Counts.{HasRisen};
 
-    /// What taking a document does.
-    ghost takes: { Self → List ℕ → Self → Type 0 };
+    /// What taking a document of this number does.
+    ghost takes: { Self → ℕ → List ℕ → Self → Type 0 };
 
-    /// What a document leaves that isn't taken.
-    ghost refuses: { Self → List ℕ → Self → Type 0 };
+    /// What a document of this number leaves that isn't taken.
+    ghost refuses: { Self → ℕ → List ℕ → Self → Type 0 };
 
     /// How often it failed. A count at its greatest value is taken to have risen.
     ghost failures: { Self → ℕ };
@@ -32,10 +31,10 @@ pub trait DocumentTarget {
     /// Why a document isn't taken.
     type Error: Drop;
 
-    /// Takes one document more.
-    fn take(&mut self, document: &[u8]) -> Result<(), Self::Error>
-        ensures taken { OnOk result (takes self.old document.now self.new) }
-        ensures refused { OnErr result (refuses self.old document.now self.new) }
+    /// Takes one document more, the one of this number.
+    fn take(&mut self, doc_id: DocId, document: &[u8]) -> Result<(), Self::Error>
+        ensures taken { OnOk result (takes self.old doc_id document.now self.new) }
+        ensures refused { OnErr result (refuses self.old doc_id document.now self.new) }
         ensures fault { OnErr result (HasRisen (failures self.old) (failures self.new)) }
         ensures steady { OnOk result (failures self.new ≡ failures self.old) };
 }
@@ -65,13 +64,13 @@ fn give_document<T: DocumentTarget>(
     doc_id: DocId,
     position: u32,
 ) -> Result<(), GivingError<T::Error>>
-    ensures given { OnOk result (TakesSlots T.takes (slot block.now position ∷ []) target.old target.new) }
+    ensures given { OnOk result (TakesSlots T.takes ((doc_id, slot block.now position) ∷ []) target.old target.new) }
     ensures ended { IfErr result (RefusesSlot T.refuses doc_id (slot block.now position) target.old target.new) }
     ensures failed { IfErr result (HasTargetFailed (T.failures target.old) (T.failures target.new)) }
     ensures steady { OnOk result (T.failures target.new ≡ T.failures target.old) }
 {
     let document = document_at(block, doc_id, position)?;
-    match target.take(document) {
+    match target.take(doc_id, document) {
         Ok(()) => Ok(()),
         Err(error) => Err(GivingError::Target(error)),
     }
@@ -85,7 +84,7 @@ fn give_block<T: DocumentTarget>(
 ) -> Result<(), GivingError<T::Error>>
     requires order { block.now.ids.start ≤ block.now.ids.end }
     requires apart { AreApartFrom 0 left_out.now }
-    ensures given { OnOk result (TakesSlots T.takes (alive_from block.now.ids.start
+    ensures given { OnOk result (TakesSlots T.takes (numbered_from block.now.ids.start
         (slots_in block.now.bytes (block.now.ids.end - block.now.ids.start)) (kept_by left_out.now))
         target.old target.new) }
     ensures ended { IfErr result (EndsBlock T.takes T.refuses (kept_by left_out.now) block.now.ids.start
@@ -109,7 +108,8 @@ fn give_block<T: DocumentTarget>(
 }
 
 /// Gives the documents of a store in order, except those of the ranges, which are in order and do not touch. Where the
-/// file is honest, an Ok says that each slot that is kept has a document, and that exactly these were given.
+/// file is honest, an Ok says that each slot that is kept has a document, and that exactly these were given, each under
+/// its number.
 pub fn give_documents<H: FileHandle, T: DocumentTarget>(
     alloc: Global,
     reader: &mut StoreReader<H>,
@@ -118,7 +118,7 @@ pub fn give_documents<H: FileHandle, T: DocumentTarget>(
 ) -> Result<(), GivingError<T::Error>>
     requires { AreApartFrom 0 left_out.now }
     ensures given { IsTrue reader.old.file.honest → OnOk result (TakesSlots T.takes
-        (alive (slots (store_of reader.old)) (kept_by left_out.now)) target.old target.new) }
+        (numbered (slots (store_of reader.old)) (kept_by left_out.now)) target.old target.new) }
     ensures ended { IfErr result (EndsGiving T.takes T.refuses (kept_by left_out.now) reader.old reader.new
         target.old target.new) }
     ensures failed { IfErr result (HasTargetFailed (T.failures target.old) (T.failures target.new)) }

@@ -1,6 +1,5 @@
 //! Prints the documents of a store.
 
-ghost use Rattle.std.specs.Prelude.{◌≡◌};
 ghost use Rattle.store_commands.specs.LeftOut.{AreApartFrom};
 
 use crate::document_output::DocumentForm;
@@ -14,46 +13,25 @@ use store_commands::left_out::IdSpan;
 
 // An output in which each document is in a form. It counts the writes that fail.
 #[derive(Drop)]
-struct PrintedDocuments<'a, 's, W: Write> {
+struct PrintedDocuments<'a, W: Write> {
     alloc: Global,
     output: &'a mut W,
     form: DocumentForm,
-    left_out: &'s [IdSpan],
-    next_span: usize,
-    next_id: DocId,
     failures: u64,
 }
 
-impl<'a, 's, W: Write> PrintedDocuments<'a, 's, W> {
-    // The number of the document that comes: the next one, or the one after the range that begins there.
-    fn take_id(&mut self) -> DocId
-        ensures { self.new.failures ≡ self.old.failures }
-    {
-        if let Some(span) = self.left_out.get(self.next_span) {
-            if span.start <= self.next_id {
-                self.next_id = span.end;
-                self.next_span = self.next_span.saturating_add(1);
-            }
-        }
-        let doc_id = self.next_id;
-        self.next_id = doc_id.saturating_add(1);
-        doc_id
-    }
-}
-
-impl<'a, 's, W: Write> DocumentTarget for PrintedDocuments<'a, 's, W> {
+impl<'a, W: Write> DocumentTarget for PrintedDocuments<'a, W> {
     ghost use Rattle.std.specs.Prelude.{⊤};
 
-    ghost takes = { λ _ _ _. ⊤ };
+    ghost takes = { λ _ _ _ _. ⊤ };
 
-    ghost refuses = { λ _ _ _. ⊤ };
+    ghost refuses = { λ _ _ _ _. ⊤ };
 
     ghost failures = { λ output. output.failures };
 
     type Error = FailureCause;
 
-    fn take(&mut self, document: &[u8]) -> Result<(), FailureCause> {
-        let doc_id = self.take_id();
+    fn take(&mut self, doc_id: DocId, document: &[u8]) -> Result<(), FailureCause> {
         let number = u64::from(doc_id);
         let written = self.form.write(self.alloc, self.output, number, document);
         if written.is_err() {
@@ -86,9 +64,6 @@ pub fn write_documents<W: Write>(
         alloc,
         output,
         form,
-        left_out,
-        next_span: 0,
-        next_id: 0,
         failures: 0,
     };
     give_documents(alloc, reader, &mut target, left_out)?;

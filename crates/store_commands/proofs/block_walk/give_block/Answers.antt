@@ -1,13 +1,12 @@
-use Rattle.std.proofs.Common.{◌≡◌, ℕ, ◌+◌, ◌-◌, true, min, List, sym, ap, ◌∙◌, subst, arith}
+use Rattle.std.proofs.Common.{◌≡◌, ℕ, ◌+◌, ◌-◌, true, min, List, [], ◌∷◌, ◌++◌, sym, ap, ◌∙◌, subst, arith}
 use Rattle.std.specs.Prelude.{not}
 use Rattle.std.proofs.lemmas.Result.{err_from_is_err_and}
 use Rattle.store_format.specs.Block.{Slot, slot}
 use Rattle.store_commands.specs.Checks.{slots_in}
-use Rattle.store_commands.specs.Documents.{kept_by, TakesSlots}
-use Rattle.store_reader.specs.Iteration.{alive_from}
+use Rattle.store_commands.specs.Documents.{kept_by, numbered_from, TakesSlots}
 use Rattle.store_commands.specs.Giving.{RefusesSlot, EndsBlock}
 use Rattle.store_commands.specs.LeftOut.{is_among}
-use Rattle.store_commands.proofs.GivingLemmas.{alive_skip, alive_one}
+use Rattle.store_commands.proofs.GivingLemmas.{numbered_skip, numbered_one}
 use Rattle.store_commands.proofs.SpanLemmas.{is_in_true, is_in_parts}
 use Rattle.store_commands.proofs.TakingLemmas.{takes_more}
 use Rattle.store_commands.proofs.block_walk.give_block.Goals as goal
@@ -23,12 +22,12 @@ loop-next_id-preserved-in-Some g c =
     let m = next - first in let n = (min span.end end - first) - m in
     let old : min next end - first ≡ m = omega arith in
     let new : min span.end end - first ≡ m + n = omega arith in
-    let skip : alive_from first (slots_in bytes (m + n)) (kept_by spans) ≡ alive_from first (slots_in bytes m) (kept_by spans) =
-    alive_skip first bytes m n (kept_by spans) (λ id le lt. ap not (c.in-Some.ensures.among id (is_in_true span id (omega arith) (omega arith)))) in
-    let same = ap (λ (k : ℕ). alive_from first (slots_in bytes k) (kept_by spans)) new ∙ skip ∙ sym (ap (λ (k : ℕ). alive_from first (slots_in bytes k) (kept_by spans)) old) in
+    let skip : numbered_from first (slots_in bytes (m + n)) (kept_by spans) ≡ numbered_from first (slots_in bytes m) (kept_by spans) =
+    numbered_skip first bytes m n (kept_by spans) (λ id le lt. ap not (c.in-Some.ensures.among id (is_in_true span id (omega arith) (omega arith)))) in
+    let same = ap (λ (k : ℕ). numbered_from first (slots_in bytes k) (kept_by spans)) new ∙ skip ∙ sym (ap (λ (k : ℕ). numbered_from first (slots_in bytes k) (kept_by spans)) old) in
     record {
       on = omega arith;
-      taken = subst (λ (xs : List Slot). TakesSlots g.T.DocumentTarget.takes xs c.args.target.now c.loop-next_id.target) (sym same) c.loop-next_id.invariant.taken;
+      taken = subst (λ (xs : List (ℕ × Slot)). TakesSlots g.T.DocumentTarget.takes xs c.args.target.now c.loop-next_id.target) (sym same) c.loop-next_id.invariant.taken;
       steady = c.loop-next_id.invariant.steady;
     }
 
@@ -43,13 +42,15 @@ loop-next_id-preserved g c =
     let new : min (next + 1) end - first ≡ m + 1 = omega arith in
     let here : first + m ≡ next = omega arith in
     let kept : not (is_among spans (first + m)) ≡ true = ap (λ (k : ℕ). not (is_among spans k)) here ∙ ap not c.in_default.ensures.has in
-    let one = alive_one first bytes m (kept_by spans) kept in
-    let same = ap (λ (k : ℕ). alive_from first (slots_in bytes k) (kept_by spans)) new ∙ one in
-    let before : TakesSlots g.T.DocumentTarget.takes (alive_from first (slots_in bytes m) (kept_by spans)) c.args.target.now c.loop-next_id.target =
-    subst (λ (k : ℕ). TakesSlots g.T.DocumentTarget.takes (alive_from first (slots_in bytes k) (kept_by spans)) c.args.target.now c.loop-next_id.target) old c.loop-next_id.invariant.taken in
+    let one = numbered_one first bytes m (kept_by spans) kept in
+    let same =
+    ap (λ (k : ℕ). numbered_from first (slots_in bytes k) (kept_by spans)) new ∙ one
+    ∙ ap (λ (k : ℕ). numbered_from first (slots_in bytes m) (kept_by spans) ++ (k, slot bytes m) ∷ []) here in
+    let before : TakesSlots g.T.DocumentTarget.takes (numbered_from first (slots_in bytes m) (kept_by spans)) c.args.target.now c.loop-next_id.target =
+    subst (λ (k : ℕ). TakesSlots g.T.DocumentTarget.takes (numbered_from first (slots_in bytes k) (kept_by spans)) c.args.target.now c.loop-next_id.target) old c.loop-next_id.invariant.taken in
     record {
       on = omega arith;
-      taken = subst (λ (xs : List Slot). TakesSlots g.T.DocumentTarget.takes xs c.args.target.now c.give_document.new.target) (sym same)
+      taken = subst (λ (xs : List (ℕ × Slot)). TakesSlots g.T.DocumentTarget.takes xs c.args.target.now c.give_document.new.target) (sym same)
           (takes_more g.T.DocumentTarget.takes c.args.target.now c.loop-next_id.target c.give_document.new.target _ _ before c.in_ok-give_document.ensures.given);
       steady = c.in_ok-give_document.ensures.steady ∙ c.loop-next_id.invariant.steady;
     }
@@ -72,7 +73,7 @@ returns-in_err-give_document-clause-ended g c =
       below = omega arith;
       kept = kept;
       before = c.loop-next_id.target;
-      given = subst (λ (k : ℕ). TakesSlots takes (alive_from first (slots_in bytes k) set) before c.loop-next_id.target) old c.loop-next_id.invariant.taken;
+      given = subst (λ (k : ℕ). TakesSlots takes (numbered_from first (slots_in bytes k) set) before c.loop-next_id.target) old c.loop-next_id.invariant.taken;
       cause = subst (λ (k : ℕ). RefusesSlot refuses k (slot bytes m) c.loop-next_id.target after e) (sym here) c.in_err-give_document.ensures.ended;
     } in
     let given = err_from_is_err_and c.from_residual.result c.from_residual.ensures.1 in
