@@ -1,11 +1,10 @@
 -- What a footer that was read tells of a file.
-use Rattle.std.proofs.Common.{◌≡◌, ◌⊎◌, inl, inr, ℕ, ◌-◌, ◌≤◌, arith, true, false, List, length, refl, sym, ap, subst}
+use Rattle.std.proofs.Common.{◌≡◌, ℕ, ◌-◌, ◌≤◌, arith, true, false, List, length, refl, sym, ap, subst}
 use Rattle.std.specs.Prelude.{IsTrue, IfOk, Result, Ok, Err, slice_range, nat_lt}
 use Rattle.std.proofs.lemmas.Bool.{ltb-true, ltb-false}
 use Rattle.std.proofs.lemmas.Result.{IfOk-weaker}
 use Rattle.store_base.specs.Files.{Part}
 use Rattle.store_base.specs.declared.error.StoreError.{StoreError}
-use Rattle.store_base.specs.declared.error.StoreError.TheVariants.{Read}
 use Rattle.store_format.specs.declared.footer.DocStoreFooter.{DocStoreFooter}
 use Rattle.store_format.specs.Extraction.{ExtractsFooter, Says, SaysFrom}
 use Rattle.store_commands.specs.declared.broken_part.BrokenPart.{BrokenPart}

@@ -1,8 +1,5 @@
 -- A merge leaves a writer's file.
-use Rattle.std.proofs.Common.{◌≡◌, List, [], ◌∷◌, ◌++◌, Result, Ok, Err, refl, sym, ◌∙◌, ap, subst, ℕ, append_assoc}
-use Rattle.std.specs.Prelude.{OnOk}
-use Rattle.store_format.specs.Block.{Slot}
-use Rattle.std.proofs.lemmas.List.{append-nil}
+use Rattle.std.proofs.Common.{◌≡◌, List, [], ◌∷◌, refl, sym, subst, ℕ}
 use Rattle.docstore.specs.Writer.{Writing, with_document, with_failures}
 use Rattle.store_merge.specs.Bringing.{Brought, stacked, copied, with_documents, with_brought, merged}
 use Rattle.store_published.specs.Filling.{IsSameFile}
@@ -25,15 +22,3 @@ merged_in_file old new parts after =
     subst (IsSameFile old) (sym after) (counted_in_file new.output.failures old (merged old parts) (parts_in_file old parts))
 
 -- ---- stores one after the other
-
-pub all_left : (none left : List Slot) → none ≡ [] → none ++ left ≡ left
-all_left none left is = ap (λ (xs : List Slot). xs ++ left) is
-
-pub one_less : (before kept after left all : List Slot) (now : List Slot) → left ≡ kept ++ after → now ≡ before ++ kept → before ++ left ≡ all → now ++ after ≡ all
-one_less before kept after left all now left_is now_is so_far =
-    ap (λ (xs : List Slot). xs ++ after) now_is ∙ append_assoc before kept after ∙ ap (λ (xs : List Slot). before ++ xs) (sym left_is) ∙ so_far
-
--- a premise that stands before an outcome
-pub when_honest : {T E honest P Q : Type 0} (r : Result T E) → (honest → P → Q) → (honest → OnOk r P) → OnOk r (honest → Q)
-when_honest (Ok x) then on = λ h. then h (on h)
-when_honest (Err e) then on = tt

@@ -1,7 +1,7 @@
 -- The tail of a file of tantivy's directory.
 use Rattle.std.proofs.Common.{◌≡◌, ◌≢◌, ℕ, ◌+◌, ◌-◌, ◌<◌, ◌≤◌, ◌^◌, List, [], ◌++◌, length, take, drop, sym, ap, ◌∙◌, subst, arith, lit<, length-append, append_assoc, inl, inr}
 use Rattle.std.specs.Prelude.{slice_range, ◌⊎◌}
-use Rattle.std.proofs.lemmas.List.{append-nil, nil_from_length, take-append-drop, length-take-le, length-drop, drop-drop, take_all, drop_at}
+use Rattle.std.proofs.lemmas.List.{append-nil, take-append-drop, length-take-le, length-drop, drop-drop, take_all, drop_at}
 use Rattle.store_base.specs.Files.{Part, ReadsOnce}
 use Rattle.store_base.specs.Serialize.{fixed}
 use Rattle.store_base.specs.SerializeLemmas.{length-fixed, fixed_numbers_are_apart}

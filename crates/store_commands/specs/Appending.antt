@@ -4,12 +4,7 @@ use Rattle.docstore.specs.Laws.{taken}
 use Rattle.docstore.specs.Writer.{Writing}
 use Rattle.store_format.specs.Block.{Slot, doc}
 use Rattle.store_format.specs.Slots.{slots}
-use Rattle.store_published.specs.Filling.{AddsDocuments}
 use Rattle.store_reader.specs.Reading.{Reading, store_of}
-
--- Documents of which this holds were put after those of a writer, in the same file.
-abbrev pub AddsThese : (List (List ℕ) → Type 0) → Writing → Writing → Type 0
-AddsThese these old new = (documents : List (List ℕ)) × these documents × AddsDocuments documents old new
 
 -- The slots of a writer have grown by those of a store, if its file is honest.
 abbrev pub CopiesStore : Writing → Writing → Reading → Type 0

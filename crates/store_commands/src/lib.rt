@@ -1,17 +1,16 @@
 //! The answers of the program's commands about stores, and ranges of ids as arguments name them.
 #![tactic(auto)]
 
-pub mod appended_store;
 pub mod block_documents;
 pub mod block_walk;
 pub mod broken_part;
 pub mod checking;
+pub mod copied_store;
 pub mod damaged_documents;
 pub mod id_range;
 pub mod kept_documents;
 pub mod laws;
 pub mod left_out;
-pub mod merged_stores;
 pub mod merging;
 pub mod request_error;
 pub mod store_numbers;

@@ -16,7 +16,7 @@ use clap::{ArgMatches, Command};
 use docstore::{DocStoreVersion, StoreError, StoreWriter, TerminatingWrite};
 use std::alloc::{AllocError, Global};
 use store_commands::StoreShape;
-use store_commands::appended_store::copy_store;
+use store_commands::copied_store::copy_store;
 use store_published::Filling;
 
 const EXAMPLE: &str = "\

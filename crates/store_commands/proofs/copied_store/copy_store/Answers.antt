@@ -3,7 +3,7 @@ use Rattle.docstore.specs.Laws.{taken}
 use Rattle.store_format.specs.Block.{Slot}
 use Rattle.store_reader.proofs.ItemsSoFarLemmas.{same_slots}
 use Rattle.store_commands.proofs.AppendLemmas.{all_kept, same_honest}
-use Rattle.store_commands.proofs.appended_store.copy_store.Goals as goal
+use Rattle.store_commands.proofs.copied_store.copy_store.Goals as goal
 
 pub returns-in-Ok-clause-copied : goal.returns-in-Ok-clause-copied
 returns-in-Ok-clause-copied g c honest =
