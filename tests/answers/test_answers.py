@@ -1,7 +1,7 @@
 """The answers of C, Rust and Python are those of storetool.
 
 Of each file the first 200 documents are got, the last one and the one after it. storetool answers scripts, and its
-answers over the same vectors are those of tantivy's own code (crates/test_vectors).
+answers over the same vectors are those of tantivy's own code (tests/lists).
 """
 
 from __future__ import annotations

@@ -4,7 +4,7 @@ from __future__ import annotations
 
 from harness import TOP
 
-DATA = TOP / "crates" / "test_vectors" / "data"
+DATA = TOP / "tests" / "vectors" / "data"
 FOOTER_LEN = 28
 
 

@@ -1,9 +1,8 @@
 //! Lists of calls on logs in folders, by processes that crash or are killed, one after another, beside a plain list.
 
 use crate::dice::Dice;
-use crate::torn_drops::has_from;
 use crate::torn_kills::killed;
-use crate::torn_logs::{Log, SEAL_SIZE, crashed};
+use crate::torn_logs::{Log, SEAL_SIZE, crashed, has_from};
 use crate::watched::Watched;
 use segmented_log::{Call, Commit, call_all, open_and_call};
 use std::alloc::{AllocError, Global};

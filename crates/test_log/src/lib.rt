@@ -12,10 +12,6 @@ mod sealing;
 #[cfg(test)]
 mod segmented;
 #[cfg(test)]
-mod torn_compactions;
-#[cfg(test)]
-mod torn_drops;
-#[cfg(test)]
 mod torn_files;
 #[cfg(test)]
 mod torn_kills;
