@@ -214,7 +214,7 @@ fn replaced(rt: &HostRuntime, calls: &Cell<u32>, failing_call: u32) -> Result<bo
 }
 
 // The calls are: open the folder, open and lock its lock, open the file beside, write it, sync it, rename it, and sync
-// the folder.
+// the folder. After the fifth, a write that fails, what it left is cut off.
 #[test]
 fn each_failing_call_leaves_the_old_file_or_the_new_one(rt: HostRuntime) -> Result<(), Fail> {
     make(&rt, "test_files_fails")?;
@@ -232,7 +232,12 @@ fn each_failing_call_leaves_the_old_file_or_the_new_one(rt: HostRuntime) -> Resu
             holds(&rt, "test_files_fails/a", expected)?,
             "{failing_call}"
         );
-        assert_eq!(rt; calls.get(), failing_call.min(8), "{failing_call}");
+        let made = if failing_call == 5 {
+            6
+        } else {
+            failing_call.min(8)
+        };
+        assert_eq!(rt; calls.get(), made, "{failing_call}");
     }
     Ok(remove(&rt, "test_files_fails")?)
 }
