@@ -109,6 +109,8 @@ where
 
     ghost entry_kept = { λ _ _. ⊥ };
 
+    ghost trusted = { λ _ _. ⊥ };
+
     ghost moment = { λ _. 0 };
 
     ghost left_since = { λ _ _ _. ⊥ };
@@ -154,6 +156,18 @@ where
     fn sync(&mut self) -> io::Result<()> {
         let outcome = self.folder.sync_all();
         self.count(outcome)
+    }
+
+    fn is_trusted(&self, _name: &str) -> bool {
+        false
+    }
+
+    fn is_synced(&self, _name: &str) -> bool {
+        false
+    }
+
+    fn has_kept_entries(&self) -> bool {
+        false
     }
 }
 

@@ -46,15 +46,16 @@ module _ (beside name : List ℕ) (apart : beside ≢ name) where
         elsewhere = λ n ne nn. o.elsewhere n ne nn ∙ from.2 n ne;
       }
 
-module _ {F : Type 0} (seen : F → Look) (may_leave : F → Look → Type 0) (moment : F → ℕ) (left_since : F → ℕ → Look → Type 0) (beside : List ℕ) where
+module _ {F : Type 0} (seen : F → Look) (trusted : F → List ℕ → Type 0) (may_leave : F → Look → Type 0) (moment : F → ℕ) (left_since : F → ℕ → Look → Type 0) (beside : List ℕ) where
   abbrev ElapsesTo : F → F → Type 0
   ElapsesTo old new = Elapses (moment old) (moment new) (left_since old) (left_since new) (may_leave new)
 
   -- the file beside was just made
   pub begun : (first now : F) → ((c : Look) → left_since first (moment first) c → may_leave first c) → ComesFrom (Elsewhere beside) (may_leave first) (may_leave now) → ElapsesTo first now
-      → seen now beside ≡ Some [] → IsBeside seen may_leave moment left_since first now beside []
-  begun first now only follows time file = record {
+      → seen now beside ≡ Some [] → trusted now beside → IsBeside seen trusted may_leave moment left_since first now beside []
+  begun first now only follows time file fresh = record {
     file = file;
+    trust = fresh;
     outcomes = follows;
     any_moment = goes_on moment left_since first first now (IsUntouched (may_leave first) beside) (may_leave now)
         (started moment left_since first (IsUntouched (may_leave first) beside) (λ c left. (c, only c left, λ n ne. refl))) time follows;
@@ -67,7 +68,7 @@ module _ {F : Type 0} (seen : F → Look) (may_leave : F → Look → Type 0) (m
       goes_on moment left_since first first now (IsUntouched (may_leave first) beside) (may_leave now)
       (started moment left_since first (IsUntouched (may_leave first) beside) (λ c left. (c, only c left, λ n ne. refl))) time follows
 
-  module _ (first old : F) (sent : List ℕ) (at : IsBeside seen may_leave moment left_since first old beside sent) where
+  module _ (first old : F) (sent : List ℕ) (at : IsBeside seen trusted may_leave moment left_since first old beside sent) where
     -- a call that touches the file beside
     pub touched : (new : F) → ComesFrom (Elsewhere beside) (may_leave old) (may_leave new) → ElapsesTo old new → LeavesOnly moment left_since first new (IsUntouched (may_leave first) beside)
     touched new follows time =
@@ -76,24 +77,25 @@ module _ {F : Type 0} (seen : F → Look) (may_leave : F → Look → Type 0) (m
 
     -- bytes went to it
     pub appended : (new : F) (bytes : List ℕ) → ComesFrom (Elsewhere beside) (may_leave old) (may_leave new) → ElapsesTo old new
-        → seen new beside ≡ Some (unwrap_or (seen old beside) [] ++ bytes) → IsBeside seen may_leave moment left_since first new beside (sent ++ bytes)
-    appended new bytes follows time file = record {
+        → seen new beside ≡ Some (unwrap_or (seen old beside) [] ++ bytes) → (trusted old beside → trusted new beside) → IsBeside seen trusted may_leave moment left_since first new beside (sent ++ bytes)
+    appended new bytes follows time file stays = record {
       file = file ∙ ap (λ (o : Option (List ℕ)). Some (unwrap_or o [] ++ bytes)) at.file;
+      trust = stays at.trust;
       outcomes = again beside (may_leave first) (may_leave old) (may_leave new) at.outcomes follows;
       any_moment = touched new follows time;
     }
 
-module _ {F : Type 0} (seen : F → Look) (may_leave : F → Look → Type 0) (moment : F → ℕ) (left_since : F → ℕ → Look → Type 0) (beside name : List ℕ) (apart : beside ≢ name) where
+module _ {F : Type 0} (seen : F → Look) (trusted : F → List ℕ → Type 0) (may_leave : F → Look → Type 0) (moment : F → ℕ) (left_since : F → ℕ → Look → Type 0) (beside name : List ℕ) (apart : beside ≢ name) where
   abbrev Run : F → F → Option (List ℕ) → Type 0
   Run first now whole = LeavesOnly moment left_since first now (IsOldOrWhole (may_leave first) beside name whole)
 
-  module _ (first old : F) (sent : List ℕ) (at : IsBeside seen may_leave moment left_since first old beside sent) where
+  module _ (first old : F) (sent : List ℕ) (at : IsBeside seen trusted may_leave moment left_since first old beside sent) where
     -- a call that touched the file beside failed
     pub append_failed : (new : F) (whole : Option (List ℕ)) → ComesFrom (Elsewhere beside) (may_leave old) (may_leave new)
         → Elapses (moment old) (moment new) (left_since old) (left_since new) (may_leave new) → Run first new whole
     append_failed new whole follows time =
         weaker moment left_since first new _ _ (untouched_old beside name apart (may_leave first) whole)
-        (touched seen may_leave moment left_since beside first old sent at new follows time)
+        (touched seen trusted may_leave moment left_since beside first old sent at new follows time)
 
     -- nothing happened
     pub given_up : (whole : Option (List ℕ)) → Run first old whole

@@ -17,6 +17,9 @@ use std::io;
 /// synced and not written since keeps its bytes, whatever name it has later; one that was appended to since begins with
 /// them.
 ///
+/// Once a sync of a file has failed, the system may take for written what it did not write, as Linux does. Then no later
+/// sync says anything of this file; one that is made anew can be synced again.
+///
 /// Not in the model: hard links, other processes that change the folder, modes and owners.
 pub trait Folder: Drop {
     /// Whether folders of this type keep these promises. A folder of the system has false here, since no program can
@@ -42,6 +45,9 @@ pub trait Folder: Drop {
     /// file's bytes, or nothing where there is none.
     ghost entry_kept: { Self → List ℕ → Type 0 };
 
+    /// Whether no sync of the file that has the name has failed since the file was made.
+    ghost trusted: { Self → List ℕ → Type 0 };
+
     /// How often a call failed. A count that stands at its greatest value is taken to have risen.
     ghost failures: { Self → ℕ };
 
@@ -53,6 +59,8 @@ pub trait Folder: Drop {
         ensures crash { IsTrue honest → ComesFrom (Elsewhere name.now) (may_leave self.old) (may_leave self.new) }
         ensures entries { IsTrue honest
             → EntriesStayElsewhere name.now (entry_kept self.old) (entry_kept self.new) }
+        ensures fresh { IsTrue honest → OnOk result (trusted self.new name.now) }
+        ensures trust { IsTrue honest → EntriesStayElsewhere name.now (trusted self.old) (trusted self.new) }
         ensures time { IsTrue honest → Elapses (moment self.old) (moment self.new)
             (left_since self.old) (left_since self.new) (may_leave self.new) }
         ensures count { failures self.old ≤ failures self.new }
@@ -70,24 +78,27 @@ pub trait Folder: Drop {
         ensures crash { IsTrue honest → ComesFrom (Written name.now (may_hold self.new name.now))
             (may_leave self.old) (may_leave self.new) }
         ensures entries { IsTrue honest → EntriesStay (entry_kept self.old) (entry_kept self.new) }
+        ensures trust { IsTrue honest → EntriesStay (trusted self.old) (trusted self.new) }
         ensures time { IsTrue honest → Elapses (moment self.old) (moment self.new)
             (left_since self.old) (left_since self.new) (may_leave self.new) }
         ensures count { failures self.old ≤ failures self.new }
         ensures fault { OnErr result (HasRisen (failures self.old) (failures self.new)) };
 
-    /// Syncs a file. After an Ok, a crash leaves the file's bytes as they are, even if it is renamed later; and it
-    /// leaves them under the name, if the entry of the name was on the disk.
+    /// Syncs a file. After an Ok, if no sync of it has failed, a crash leaves the file's bytes as they are, even if it is
+    /// renamed later; and it leaves them under the name, if the entry of the name was on the disk.
     fn sync_file(&mut self, name: &str) -> io::Result<()>
         requires { IsTrue honest → IsSome (seen self.old name.now) }
-        ensures durable { IsTrue honest → OnOk result
-            ((bytes : List ℕ) → may_hold self.new name.now bytes → seen self.old name.now ≡ Some bytes) }
+        ensures durable { IsTrue honest → OnOk result (trusted self.old name.now
+            → (bytes : List ℕ) → may_hold self.new name.now bytes → seen self.old name.now ≡ Some bytes) }
         ensures seen { IsTrue honest → OnOk result (seen self.new name.now ≡ seen self.old name.now) }
         ensures elsewhere { IsTrue honest → Elsewhere name.now (seen self.old) (seen self.new) }
         ensures files { IsTrue honest → (n bytes : List ℕ) → may_hold self.new n bytes → may_hold self.old n bytes }
         ensures crash { IsTrue honest → NoMore (may_leave self.old) (may_leave self.new) }
         ensures entries { IsTrue honest → EntriesStay (entry_kept self.old) (entry_kept self.new) }
-        ensures kept { IsTrue honest → OnOk result (entry_kept self.old name.now
+        ensures kept { IsTrue honest → OnOk result (trusted self.old name.now → entry_kept self.old name.now
             → Keeps name.now (seen self.old name.now) (may_leave self.new)) }
+        ensures trust { IsTrue honest → OnOk result (EntriesStay (trusted self.old) (trusted self.new)) }
+        ensures mistrust { IsTrue honest → EntriesStayElsewhere name.now (trusted self.old) (trusted self.new) }
         ensures time { IsTrue honest → Elapses (moment self.old) (moment self.new)
             (left_since self.old) (left_since self.new) (may_leave self.new) }
         ensures count { failures self.old ≤ failures self.new }
@@ -107,6 +118,9 @@ pub trait Folder: Drop {
             (may_leave self.old) (may_leave self.new) }
         ensures entries { IsTrue honest
             → EntriesStayElsewhereOfBoth from.now to.now (entry_kept self.old) (entry_kept self.new) }
+        ensures moved { IsTrue honest → OnOk result (trusted self.old from.now → trusted self.new to.now) }
+        ensures trust { IsTrue honest
+            → EntriesStayElsewhereOfBoth from.now to.now (trusted self.old) (trusted self.new) }
         ensures time { IsTrue honest → Elapses (moment self.old) (moment self.new)
             (left_since self.old) (left_since self.new) (may_leave self.new) }
         ensures count { failures self.old ≤ failures self.new }
@@ -120,6 +134,7 @@ pub trait Folder: Drop {
         ensures crash { IsTrue honest → ComesFrom (LosesFile name.now) (may_leave self.old) (may_leave self.new) }
         ensures entries { IsTrue honest
             → EntriesStayElsewhere name.now (entry_kept self.old) (entry_kept self.new) }
+        ensures trust { IsTrue honest → EntriesStayElsewhere name.now (trusted self.old) (trusted self.new) }
         ensures time { IsTrue honest → Elapses (moment self.old) (moment self.new)
             (left_since self.old) (left_since self.new) (may_leave self.new) }
         ensures count { failures self.old ≤ failures self.new }
@@ -134,10 +149,27 @@ pub trait Folder: Drop {
         ensures crash { IsTrue honest → NoMore (may_leave self.old) (may_leave self.new) }
         ensures entries { IsTrue honest → EntriesStay (entry_kept self.old) (entry_kept self.new) }
         ensures kept { IsTrue honest → OnOk result ((n : List ℕ) → entry_kept self.new n) }
+        ensures trust { IsTrue honest → EntriesStay (trusted self.old) (trusted self.new) }
         ensures time { IsTrue honest → Elapses (moment self.old) (moment self.new)
             (left_since self.old) (left_since self.new) (may_leave self.new) }
         ensures count { failures self.old ≤ failures self.new }
         ensures fault { OnErr result (HasRisen (failures self.old) (failures self.new)) };
+
+    /// Whether it is known that no sync of this file has failed. Where it is not, the file has to be made anew before it is
+    /// relied on: no sync vouches for it.
+    fn is_trusted(&self, name: &str) -> bool
+        ensures { IsTrue honest → IsTrue result → trusted self.now name.now };
+
+    /// Whether it is known that the bytes of this file are on the disk, and that no sync of it has failed. So they need
+    /// no sync.
+    fn is_synced(&self, name: &str) -> bool
+        ensures trusted { IsTrue honest → IsTrue result → trusted self.now name.now }
+        ensures durable { IsTrue honest → IsTrue result → (bytes : List ℕ)
+            → may_hold self.now name.now bytes → seen self.now name.now ≡ Some bytes };
+
+    /// Whether it is known that the entry of each name is on the disk. So the folder needs no sync.
+    fn has_kept_entries(&self) -> bool
+        ensures { IsTrue honest → IsTrue result → (n : List ℕ) → entry_kept self.now n };
 
     /// This moment is one of those since an earlier one.
     ghost counts_now: { (f : Self) (t : ℕ) (c : List ℕ → Option (List ℕ))

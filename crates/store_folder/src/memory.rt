@@ -185,6 +185,8 @@ impl Folder for MemFolder {
 
     ghost entry_kept = { λ _ _. Unit {0} };
 
+    ghost trusted = { λ _ _. Unit {0} };
+
     ghost failures = { λ m. m.failures };
 
     ghost counts_now = { λ m t c le now. was_now m.changes.items t c le now };
@@ -223,6 +225,18 @@ impl Folder for MemFolder {
 
     fn sync(&mut self) -> io::Result<()> {
         Ok(())
+    }
+
+    fn is_trusted(&self, _name: &str) -> bool {
+        true
+    }
+
+    fn is_synced(&self, _name: &str) -> bool {
+        true
+    }
+
+    fn has_kept_entries(&self) -> bool {
+        true
     }
 }
 

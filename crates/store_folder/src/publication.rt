@@ -5,7 +5,7 @@ ghost use Rattle.std.specs.Prelude.{IsErr, is_ok, length, Some, string_bytes, un
 ghost use Rattle.store_base.specs.Counts.{HasRisen};
 ghost use Rattle.store_base.specs.Outputs.{never_terminated, terminated_once};
 ghost use Rattle.store_folder.specs.Moments.{ComesFrom, Elapses, LeavesOnly};
-ghost use Rattle.store_folder.specs.Folder.{Elsewhere};
+ghost use Rattle.store_folder.specs.Folder.{Elsewhere, EntriesStay};
 ghost use Rattle.store_folder.specs.Publishing.{part, IsUntouched, IsSafe, IsSameOutput};
 ghost use Rattle.store_folder.specs.Stages.{IsBeside};
 
@@ -82,7 +82,7 @@ impl<F: Folder> Model for Publication<F> {
     } };
 
     ghost invariant = { λ s. (string_bytes s.beside.name ≢ string_bytes s.name) × (IsTrue F.honest
-        → IsSound F.seen F.may_leave F.moment F.left_since s.stage s.first.value s.folder
+        → IsSound F.seen F.trusted F.may_leave F.moment F.left_since s.stage s.first.value s.folder
         (string_bytes s.beside.name) (string_bytes s.name) s.beside.sent.bytes
         (s.beside.sent.bytes ++ s.beside.buffer.items)) × (IsTrue F.honest → s.ends ≡ 0
         → LeavesOnly F.moment F.left_since s.first.value s.folder
@@ -110,6 +110,7 @@ fn pass_on<F: Folder>(folder: &mut F, beside: &str, bytes: &[u8], sent: &mut Sen
         → ComesFrom (Elsewhere beside.now) (F.may_leave folder.old) (F.may_leave folder.new) }
     ensures time { IsTrue F.honest → Elapses (F.moment folder.old) (F.moment folder.new)
         (F.left_since folder.old) (F.left_since folder.new) (F.may_leave folder.new) }
+    ensures trust { IsTrue F.honest → EntriesStay (F.trusted folder.old) (F.trusted folder.new) }
 {
     folder.append(beside, bytes)?;
     *sent = sent.and(&Piece { bytes });
@@ -132,6 +133,7 @@ impl FileBeside {
             (F.may_leave folder.old) (F.may_leave folder.new) }
         ensures time { IsTrue F.honest → Elapses (F.moment folder.old) (F.moment folder.new)
             (F.left_since folder.old) (F.left_since folder.new) (F.may_leave folder.new) }
+        ensures trust { IsTrue F.honest → EntriesStay (F.trusted folder.old) (F.trusted folder.new) }
     {
         pass_on(folder, self.name.as_str(), &self.buffer, &mut self.sent)?;
         self.buffer.clear();
@@ -147,10 +149,10 @@ impl FileBeside {
             ≡ (self.old.sent.bytes ++ self.old.buffer.items) ++ bytes.now) }
         ensures name { self.new.name ≡ self.old.name }
         ensures count { self.new.num_bytes ≡ length (self.new.sent.bytes ++ self.new.buffer.items) }
-        ensures beside { IsTrue F.honest → OnOk result ((first : F) → IsBeside F.seen F.may_leave F.moment F.left_since
-            first folder.old (string_bytes self.old.name) self.old.sent.bytes → IsBeside F.seen F.may_leave F.moment
+        ensures beside { IsTrue F.honest → OnOk result ((first : F) → IsBeside F.seen F.trusted F.may_leave F.moment F.left_since
+            first folder.old (string_bytes self.old.name) self.old.sent.bytes → IsBeside F.seen F.trusted F.may_leave F.moment
             F.left_since first folder.new (string_bytes self.old.name) self.new.sent.bytes) }
-        ensures any_moment { IsTrue F.honest → (first : F) → IsBeside F.seen F.may_leave F.moment F.left_since
+        ensures any_moment { IsTrue F.honest → (first : F) → IsBeside F.seen F.trusted F.may_leave F.moment F.left_since
             first folder.old (string_bytes self.old.name) self.old.sent.bytes → LeavesOnly F.moment F.left_since
             first folder.new (IsUntouched (F.may_leave first) (string_bytes self.old.name)) }
     {

@@ -16,6 +16,7 @@ use std::io;
 pub fn publish<F: Folder>(folder: &mut F, beside: &str, name: &str) -> io::Result<()>
     requires apart { beside.now ≢ name.now }
     requires there { IsTrue F.honest → IsSome (F.seen folder.old beside.now) }
+    requires trusted { IsTrue F.honest → F.trusted folder.old beside.now }
 
     // After an Ok, each crash leaves the whole file.
     ensures published { IsTrue F.honest → OnOk result
@@ -38,6 +39,11 @@ pub fn publish<F: Folder>(folder: &mut F, beside: &str, name: &str) -> io::Resul
     ensures kept { IsTrue F.honest → OnOk result ((n : List ℕ) → F.entry_kept folder.new n) }
     ensures entries { IsTrue F.honest → EntriesStayElsewhereOfBoth beside.now name.now
         (F.entry_kept folder.old) (F.entry_kept folder.new) }
+
+    // After an Ok no sync of the file has failed, and of the others as before.
+    ensures moved { IsTrue F.honest → OnOk result (F.trusted folder.new name.now) }
+    ensures trust { IsTrue F.honest → EntriesStayElsewhereOfBoth beside.now name.now
+        (F.trusted folder.old) (F.trusted folder.new) }
 
     // It fails only where a call of the folder failed.
     ensures count { F.failures folder.old ≤ F.failures folder.new }
@@ -72,6 +78,11 @@ pub fn replace<F: Folder>(folder: &mut F, beside: &str, name: &str, bytes: &[u8]
     ensures kept { IsTrue F.honest → OnOk result ((n : List ℕ) → F.entry_kept folder.new n) }
     ensures entries { IsTrue F.honest → EntriesStayElsewhereOfBoth beside.now name.now
         (F.entry_kept folder.old) (F.entry_kept folder.new) }
+
+    // After an Ok no sync of the file has failed, and of the others as before.
+    ensures moved { IsTrue F.honest → OnOk result (F.trusted folder.new name.now) }
+    ensures trust { IsTrue F.honest → EntriesStayElsewhereOfBoth beside.now name.now
+        (F.trusted folder.old) (F.trusted folder.new) }
     ensures count { F.failures folder.old ≤ F.failures folder.new }
     ensures fault { OnErr result (HasRisen (F.failures folder.old) (F.failures folder.new)) }
 {

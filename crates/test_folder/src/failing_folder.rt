@@ -139,6 +139,8 @@ impl Folder for FailingFolder {
 
     ghost entry_kept = { λ _ _. ⊥ };
 
+    ghost trusted = { λ _ _. ⊥ };
+
     ghost moment = { λ _. 0 };
 
     ghost left_since = { λ _ _ _. ⊥ };
@@ -195,5 +197,17 @@ impl Folder for FailingFolder {
     fn sync(&mut self) -> io::Result<()> {
         self.begin();
         self.end(Ok(()))
+    }
+
+    fn is_trusted(&self, _name: &str) -> bool {
+        false
+    }
+
+    fn is_synced(&self, _name: &str) -> bool {
+        false
+    }
+
+    fn has_kept_entries(&self) -> bool {
+        false
     }
 }

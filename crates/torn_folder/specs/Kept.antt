@@ -7,7 +7,7 @@ use Rattle.store_folder.specs.Folder.{Look, LeadsTo, Written, Renamed}
 use Rattle.store_folder.proofs.NamesLemmas.{decided}
 use Rattle.torn_folder.specs.Torn.{seen_by, held_by, appended_holds, kept_by, left_by, put, put_there, put_elsewhere, or_else, possible}
 use Rattle.torn_folder.specs.declared.Event.{Event}
-use Rattle.torn_folder.specs.declared.Event.TheVariants.{Created, Appended, Moved, Removed, FileSynced, FolderSynced}
+use Rattle.torn_folder.specs.declared.Event.TheVariants.{Created, Appended, Moved, Removed, FileSynced, SyncFailed, FolderSynced}
 
 -- what happened to other names alone
 same_entry : (old new : Option (List ℕ)) (held holds : List ℕ → Type 0) (was left : Option (List ℕ)) → new ≡ old → left ≡ was → ((bytes : List ℕ) → held bytes → holds bytes)
@@ -89,4 +89,5 @@ kept_leads (Removed name ∷ events) n c kept left =
     same_entry (seen_by events n) _ (held_by events n) _ (left.0 n) (c n) (put_elsewhere (string_bytes name) None (seen_by events) n kept.0) (left.2.elsewhere n kept.0)
     (λ bytes holds. holds) (kept_leads events n left.0 kept.1 left.1)
 kept_leads (FileSynced name ∷ events) n c kept left = synced_leads name events n c kept left (kept_leads events n c kept left.0)
+kept_leads (SyncFailed name ∷ events) n c kept left = kept_leads events n c kept left
 kept_leads (FolderSynced ∷ events) n c kept left = left.1 n

@@ -9,7 +9,7 @@ use Rattle.std.specs.declared.alloc.Global.{Global}
 use Rattle.store_folder.proofs.ChangesLemmas.{differ}
 use Rattle.store_folder.specs.Folder.{Look, Elsewhere, Written, Renamed, LosesFile, LeadsTo}
 use Rattle.torn_folder.specs.declared.Event.{Event}
-use Rattle.torn_folder.specs.declared.Event.TheVariants.{Created, Appended, Moved, Removed, FileSynced, FolderSynced}
+use Rattle.torn_folder.specs.declared.Event.TheVariants.{Created, Appended, Moved, Removed, FileSynced, SyncFailed, FolderSynced}
 
 -- the look, but with this under one name
 abbrev pub put : List ℕ → Option (List ℕ) → Look → Look
@@ -26,6 +26,7 @@ seen_by (Appended name bytes ∷ events) n = put (string_bytes name) (Some (unwr
 seen_by (Moved from to ∷ events) n = put (string_bytes to) (or_else (seen_by events (string_bytes from)) (seen_by events (string_bytes to))) (put (string_bytes from) None (seen_by events)) n
 seen_by (Removed name ∷ events) n = put (string_bytes name) None (seen_by events) n
 seen_by (FileSynced name ∷ events) n = seen_by events n
+seen_by (SyncFailed name ∷ events) n = seen_by events n
 seen_by (FolderSynced ∷ events) n = seen_by events n
 
 -- what the renamed file holds, if there was one
@@ -49,6 +50,7 @@ held_by (Moved from to ∷ events) n bytes =
     (n ≡ string_bytes to → moved_holds (seen_by events (string_bytes from)) (held_by events (string_bytes from) bytes) (held_by events n bytes)) × (n ≢ string_bytes to → held_by events n bytes)
 held_by (Removed name ∷ events) n bytes = held_by events n bytes
 held_by (FileSynced name ∷ events) n bytes = held_by events n bytes × (n ≡ string_bytes name → seen_by events n ≡ Some bytes)
+held_by (SyncFailed name ∷ events) n bytes = held_by events n bytes
 held_by (FolderSynced ∷ events) n bytes = held_by events n bytes
 
 -- whether the entry of a name is on the disk: since the folder was last synced the name's own file alone was written
@@ -59,6 +61,7 @@ kept_by (Appended name bytes ∷ events) n = (n ≡ string_bytes name → IsSome
 kept_by (Moved from to ∷ events) n = (n ≢ string_bytes from) × (n ≢ string_bytes to) × kept_by events n
 kept_by (Removed name ∷ events) n = (n ≢ string_bytes name) × kept_by events n
 kept_by (FileSynced name ∷ events) n = kept_by events n
+kept_by (SyncFailed name ∷ events) n = kept_by events n
 kept_by (FolderSynced ∷ events) n = Unit {0}
 
 -- Which folders a crash may leave: each entry as it was before or after each change since the folder was last synced. The
@@ -70,6 +73,7 @@ left_by (Appended name bytes ∷ events) c = (d : Look) × left_by events d × W
 left_by (Moved from to ∷ events) c = (d : Look) × left_by events d × Renamed (string_bytes from) (string_bytes to) (held_by events (string_bytes from)) d c
 left_by (Removed name ∷ events) c = (d : Look) × left_by events d × LosesFile (string_bytes name) d c
 left_by (FileSynced name ∷ events) c = left_by events c × (kept_by events (string_bytes name) → c (string_bytes name) ≡ seen_by events (string_bytes name))
+left_by (SyncFailed name ∷ events) c = left_by events c
 left_by (FolderSynced ∷ events) c = left_by events c × ((n : List ℕ) → LeadsTo (seen_by events n) (held_by events n) (c n))
 
 -- what a crash since the call of number t might have left
@@ -213,6 +217,7 @@ possible (Removed name ∷ events) =
 possible (FileSynced name ∷ events) =
     let was = possible events in
     record { look = (was.look, λ kept. refl); files = λ n bytes is. (was.files n bytes is, λ e. is) }
+possible (SyncFailed name ∷ events) = let was = possible events in record { look = was.look; files = was.files }
 possible (FolderSynced ∷ events) =
     let was = possible events in
     record { look = (was.look, λ n. leads events was n (seen_by events n) refl); files = was.files }

@@ -1,15 +1,18 @@
 //! A folder in memory that tears as badly as the model allows, and what wrong orders of calls leave in it.
 #![tactic(auto)]
 
-ghost use Rattle.std.specs.Prelude.{◌≡◌, ◌⊎◌, ◌++◌, ◌≤◌, [], ◌∷◌, length, reverse, true, OnOk, OnErr, IsErr};
+ghost use Rattle.std.specs.Prelude.{◌≡◌, ◌⊎◌, ◌++◌, ◌≤◌, [], ◌∷◌, length, reverse, true, OnOk, OnErr, IsErr, IsTrue};
 ghost use Rattle.store_base.specs.Counts.{HasRisen};
 ghost use Rattle.store_folder.specs.Moments.{Elapses};
 ghost use Rattle.torn_folder.specs.Torn.{seen_by, held_by, kept_by, left_by, LeftSince, was_now, is_now, possible_look};
 ghost use Rattle.torn_folder.specs.Kept.{kept_leads};
+ghost use Rattle.torn_folder.specs.Known.{trusted_by};
 
+mod known;
 mod reading;
 pub mod wrong;
 
+use crate::known::{are_entries_kept, is_file_synced, is_file_trusted};
 use std::alloc::{AllocError, Global};
 use std::io;
 use store_folder::Folder;
@@ -23,11 +26,14 @@ pub enum Event {
     Moved(String, String),
     Removed(String),
     FileSynced(String),
+    /// A sync of the file that wrote nothing. No later one writes anything, though it returns Ok.
+    SyncFailed(String),
     FolderSynced,
 }
 
 /// A folder in memory of which a crash may leave torn files and undone changes. It keeps the calls that were
-/// made. It fails only for lack of memory, and a call that fails changes nothing.
+/// made. It fails only for lack of memory, and a call that fails changes nothing; but for `fail_sync`, which is a sync
+/// of a file that fails. After it each sync of that file returns Ok and keeps nothing.
 #[derive(Drop)]
 pub struct TornFolder {
     alloc: Global,
@@ -74,6 +80,17 @@ impl TornFolder {
         Err(io::ErrorKind::OutOfMemory.into())
     }
 
+    /// Syncs a file, and fails: nothing is written. With no memory nothing is noted.
+    pub fn fail_sync(&mut self, name: &str) -> io::Result<()>
+        ensures fault { IsErr result }
+        ensures count { HasRisen self.old.failures self.new.failures }
+    {
+        if let Ok(name) = String::from_str(self.alloc, name) {
+            let _ = push(&mut self.events, Event::SyncFailed(name));
+        }
+        self.refuse()
+    }
+
     // Notes a call, unless there is no memory for it.
     fn note(&mut self, event: Event) -> io::Result<()>
         ensures noted { OnOk result (reverse self.new.events.items ≡ event ∷ reverse self.old.events.items) }
@@ -102,6 +119,8 @@ impl Folder for TornFolder {
     ghost may_leave = { λ f. left_by (reverse f.events.items) };
 
     ghost entry_kept = { λ f. kept_by (reverse f.events.items) };
+
+    ghost trusted = { λ f n. IsTrue (trusted_by (reverse f.events.items) n) };
 
     ghost moment = { λ f. length f.events.items };
 
@@ -133,7 +152,13 @@ impl Folder for TornFolder {
 
     fn sync_file(&mut self, name: &str) -> io::Result<()> {
         match String::from_str(self.alloc, name) {
-            Ok(name) => self.note(Event::FileSynced(name)),
+            Ok(copy) => {
+                if is_file_trusted(&self.events, name) {
+                    return self.note(Event::FileSynced(copy));
+                }
+                // The system takes for written what it did not write.
+                self.note(Event::SyncFailed(copy))
+            }
             Err(_) => self.refuse(),
         }
     }
@@ -157,5 +182,17 @@ impl Folder for TornFolder {
 
     fn sync(&mut self) -> io::Result<()> {
         self.note(Event::FolderSynced)
+    }
+
+    fn is_trusted(&self, name: &str) -> bool {
+        is_file_trusted(&self.events, name)
+    }
+
+    fn is_synced(&self, name: &str) -> bool {
+        is_file_synced(&self.events, name)
+    }
+
+    fn has_kept_entries(&self) -> bool {
+        are_entries_kept(&self.events)
     }
 }

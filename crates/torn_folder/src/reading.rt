@@ -56,7 +56,7 @@ fn repeat(alloc: Global, folder: &mut MemFolder, event: &Event) -> io::Result<()
         Event::Appended(name, bytes) => append_in(alloc, folder, name.as_str(), bytes),
         Event::Moved(from, to) => rename_in(alloc, folder, from.as_str(), to.as_str()),
         Event::Removed(name) => folder.remove(name.as_str()),
-        Event::FileSynced(_) | Event::FolderSynced => Ok(()),
+        Event::FileSynced(_) | Event::SyncFailed(_) | Event::FolderSynced => Ok(()),
     }
 }
 

@@ -11,7 +11,7 @@ returns-in-Err-create-clause-untouched g c = λ h.
     let old = c.args.folder in
     let is : c.as_str.result.now ≡ c.args.name.now ++ part = c.as_str.ensures.value ∙ c.in-Ok.ensures.beside in
     subst (λ (n : List ℕ). LeavesOnly F.moment F.left_since old c.create.new.self (IsUntouched (F.may_leave old) n)) is
-    (not_begun F.seen F.may_leave F.moment F.left_since c.as_str.result.now old c.create.new.self (g.met.F.Folder.only_now old)
+    (not_begun F.seen F.trusted F.may_leave F.moment F.left_since c.as_str.result.now old c.create.new.self (g.met.F.Folder.only_now old)
     (c.create.ensures.crash h) (c.create.ensures.time h))
 
 pub invariant_of-result : goal.invariant_of-result
@@ -23,16 +23,16 @@ invariant_of-result g c =
     let apart : beside ≢ string_bytes c.in-Ok.names.0 =
     λ e. part_apart c.args.name.now (sym c.in-Ok.ensures.beside ∙ e ∙ c.in-Ok.ensures.name)
     in
-    let begins : IsTrue F.honest → IsBeside F.seen F.may_leave F.moment F.left_since c.of-first.result.value c.create.new.self beside [] =
+    let begins : IsTrue F.honest → IsBeside F.seen F.trusted F.may_leave F.moment F.left_since c.of-first.result.value c.create.new.self beside [] =
     λ h.
-    let start = begun F.seen F.may_leave F.moment F.left_since c.as_str.result.now old c.create.new.self (g.met.F.Folder.only_now old)
-    (c.create.ensures.crash h) (c.create.ensures.time h) (c.in_default.ensures.created h) in
-    let named = subst (λ (n : List ℕ). IsBeside F.seen F.may_leave F.moment F.left_since old c.create.new.self n []) is start in
-    subst (λ f. IsBeside F.seen F.may_leave F.moment F.left_since f c.create.new.self beside []) (sym c.of-first.ensures) named
+    let start = begun F.seen F.trusted F.may_leave F.moment F.left_since c.as_str.result.now old c.create.new.self (g.met.F.Folder.only_now old)
+    (c.create.ensures.crash h) (c.create.ensures.time h) (c.in_default.ensures.created h) (c.in_default.ensures.fresh h) in
+    let named = subst (λ (n : List ℕ). IsBeside F.seen F.trusted F.may_leave F.moment F.left_since old c.create.new.self n []) is start in
+    subst (λ f. IsBeside F.seen F.trusted F.may_leave F.moment F.left_since f c.create.new.self beside []) (sym c.of-first.ensures) named
     in (
       apart,
       λ h.
-          subst (λ xs. IsBeside F.seen F.may_leave F.moment F.left_since c.of-first.result.value c.create.new.self beside xs)
+          subst (λ xs. IsBeside F.seen F.trusted F.may_leave F.moment F.left_since c.of-first.result.value c.create.new.self beside xs)
           (sym c.new-2.ensures) (begins h),
       λ h none. (begins h).any_moment,
       search rules,

@@ -21,8 +21,8 @@ invariant_of-self g c =
     let run : IsTrue F.honest → LeavesOnly F.moment F.left_since first new (IsUntouched (F.may_leave first) (string_bytes beside.name)) =
     λ h.
     let is_open : s.stage ≡ Open = search rules in
-    let was : IsBeside F.seen F.may_leave F.moment F.left_since first s.folder (string_bytes s.beside.name) s.beside.sent.bytes =
-    subst (λ st. IsSound F.seen F.may_leave F.moment F.left_since st first s.folder (string_bytes s.beside.name) (string_bytes s.name) s.beside.sent.bytes
+    let was : IsBeside F.seen F.trusted F.may_leave F.moment F.left_since first s.folder (string_bytes s.beside.name) s.beside.sent.bytes =
+    subst (λ st. IsSound F.seen F.trusted F.may_leave F.moment F.left_since st first s.folder (string_bytes s.beside.name) (string_bytes s.name) s.beside.sent.bytes
     (s.beside.sent.bytes ++ s.beside.buffer.items)) is_open (c.self.invariant.1 h)
     in
     subst (λ (n : List ℕ). LeavesOnly F.moment F.left_since first new (IsUntouched (F.may_leave first) n)) (sym name_is) (c.take.ensures.any_moment h first was)
