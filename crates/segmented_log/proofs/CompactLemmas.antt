@@ -184,11 +184,11 @@ module _ (first : ℕ) (before : List Part) (head : Part) (run after : List Part
       } in log) adds.at_name
 
   -- what the log knows of its folder afterwards
-  pub joined_folder : (sealed : ℕ) (old_hold new_hold : List ℕ → List ℕ → Type 0) (earlier later : Look → Type 0) (old_entry new_entry : List ℕ → Type 0)
-      → IsSettledFolder old_hold earlier old_entry first sealed (before ++ head ∷ (run ++ after)) tail → FilesElsewhereOfBoth beside (segment_name head.first) old_hold new_hold
-      → ((n : List ℕ) → new_entry n) → ComesFrom (ElsewhereOfBoth beside (segment_name head.first)) earlier later → ((c : Look) → later c → HasSegment c new)
-      → IsSettledFolder new_hold later new_entry first sealed now tail
-  joined_folder sealed old_hold new_hold earlier later old_entry new_entry f files entries follows has = record {
+  pub joined_folder : (sealed : ℕ) (old_hold new_hold : List ℕ → List ℕ → Type 0) (earlier later : Look → Type 0) (old_entry new_entry old_trust new_trust : List ℕ → Type 0)
+      → IsSettledFolder old_hold earlier old_entry old_trust first sealed (before ++ head ∷ (run ++ after)) tail → FilesElsewhereOfBoth beside (segment_name head.first) old_hold new_hold
+      → ((n : List ℕ) → new_entry n) → (old_trust tail_name → new_trust tail_name) → ComesFrom (ElsewhereOfBoth beside (segment_name head.first)) earlier later → ((c : Look) → later c → HasSegment c new)
+      → IsSettledFolder new_hold later new_entry new_trust first sealed now tail
+  joined_folder sealed old_hold new_hold earlier later old_entry new_entry old_trust new_trust f files entries trusts follows has = record {
     parts = whole_parts head run after next first before tail a;
     sealed_is = f.sealed_is ∙ sym (whole_ends head run after next first before tail a);
     on_disk = record {
@@ -197,6 +197,7 @@ module _ (first : ℕ) (before : List Part) (head : Part) (run after : List Part
       tail_kept = record {
         file = λ bytes holds. f.on_disk.tail_kept.file bytes (files tail_name bytes (beside_no_tail head.first) (λ e. segment_no_tail head.first (sym e)) holds);
         entry = entries tail_name;
+        trust = trusts f.on_disk.tail_kept.trust;
         outcomes = λ c left.
             let from = follows c left in tail_same from.0 c from.2 ∙ f.on_disk.tail_kept.outcomes from.0 from.1;
       };
@@ -239,11 +240,11 @@ module _ (first : ℕ) (b : Part) (bs : List Part) (q : Part) (after : List Part
       } in log) lost.at_name
 
   -- what the log knows of its folder afterwards
-  pub removed_folder : (sealed : ℕ) (old_hold new_hold : List ℕ → List ℕ → Type 0) (earlier later : Look → Type 0) (old_entry new_entry : List ℕ → Type 0)
-      → IsSettledFolder old_hold earlier old_entry first sealed ((b ∷ bs) ++ q ∷ after) tail → FilesElsewhere (segment_name q.first) old_hold new_hold
-      → ((n : List ℕ) → new_entry n) → ComesFrom (LosesFile (segment_name q.first)) earlier later → ((c : Look) → later c → c (segment_name q.first) ≡ None)
-      → IsSettledFolder new_hold later new_entry first sealed ((b ∷ bs) ++ after) tail
-  removed_folder sealed old_hold new_hold earlier later old_entry new_entry f files entries follows none = record {
+  pub removed_folder : (sealed : ℕ) (old_hold new_hold : List ℕ → List ℕ → Type 0) (earlier later : Look → Type 0) (old_entry new_entry old_trust new_trust : List ℕ → Type 0)
+      → IsSettledFolder old_hold earlier old_entry old_trust first sealed ((b ∷ bs) ++ q ∷ after) tail → FilesElsewhere (segment_name q.first) old_hold new_hold
+      → ((n : List ℕ) → new_entry n) → (old_trust tail_name → new_trust tail_name) → ComesFrom (LosesFile (segment_name q.first)) earlier later → ((c : Look) → later c → c (segment_name q.first) ≡ None)
+      → IsSettledFolder new_hold later new_entry new_trust first sealed ((b ∷ bs) ++ after) tail
+  removed_folder sealed old_hold new_hold earlier later old_entry new_entry old_trust new_trust f files entries trusts follows none = record {
     parts = left_parts first b bs q after tail covered a;
     sealed_is = f.sealed_is ∙ sym (left_ends first b bs q after tail covered a);
     on_disk = record {
@@ -252,6 +253,7 @@ module _ (first : ℕ) (b : Part) (bs : List Part) (q : Part) (after : List Part
       tail_kept = record {
         file = λ bytes holds. f.on_disk.tail_kept.file bytes (files tail_name bytes (λ same. segment_no_tail q.first (sym same)) holds);
         entry = entries tail_name;
+        trust = trusts f.on_disk.tail_kept.trust;
         outcomes = λ c left.
             let from = follows c left in tail_stays from.0 c from.2 ∙ f.on_disk.tail_kept.outcomes from.0 from.1;
       };

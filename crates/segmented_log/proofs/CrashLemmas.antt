@@ -11,7 +11,9 @@ use Rattle.segmented_log.specs.Log.{IsLog, IsBlank}
 use Rattle.segmented_log.specs.Dropping.{IsRest, DropsTo}
 use Rattle.segmented_log.specs.Laws.{Process, IsLeftOf, IsLeftBy, MayBeLeft, IsLeftByAll, MayFollow, HaveAllOf, slots_by, dropped_in}
 use Rattle.segmented_log.specs.Laws.{OpeningsAreOfProcesses, CallsAreOfProcesses, RestartsAreEnds, EndsLoseNothing, EndsLoseNothingOfNewLogs}
+use Rattle.segmented_log.specs.Opening.{IsOfLog}
 use Rattle.segmented_log.proofs.DropLemmas.{drops_none}
+use Rattle.segmented_log.proofs.OpeningLemmas.{log_same, blank_same}
 use Rattle.segmented_log.proofs.RestLemmas.{rest_more, rest_grows, rest_after, rest_ends, drops_more}
 use Rattle.segmented_log.proofs.RunLemmas.{Records, batches_by-append, slots_of-append, dropped_by-more, makes_none, makes_more, has_itself}
 
@@ -38,16 +40,16 @@ abbrev AreLeftByAll : List Process → Look → Look → Type 0
 AreLeftByAll [] old new = new ≡ old
 AreLeftByAll (process ∷ later) old new = (left : Look) × IsLeftBy process old left × AreLeftByAll later left new
 
--- a process none of whose calls returned Ok may leave what there was
-nothing_made : (process : Process) (c : Look) → process.made ≡ [] → IsLeftBy process c c
-nothing_made process c none = record {
+-- a process none of whose calls returned Ok may leave the log that there was
+nothing_made : (process : Process) (d c : Look) → ((n : List ℕ) → IsOfLog n → c n ≡ d n) → process.made ≡ [] → IsLeftBy process d c
+nothing_made process d c same none = record {
   same = λ first kept log. record {
     number = first;
     slots = kept;
     makes = subst (λ (calls : List Call). Makes calls [] first kept first kept) (sym none) (makes_none [] first kept);
-    beginning = has_itself process.commit first kept (pending_by [] process.made) process.others c log;
+    beginning = has_itself process.commit first kept (pending_by [] process.made) process.others c (log_same first kept d c same log);
   };
-  begun = λ blank. inl (blank, none);
+  begun = λ blank. inl (blank_same d c same blank, none);
 }
 
 -- what a process leaves: its slots after those that it found, but some of the first
@@ -166,7 +168,7 @@ module _ {F : Type 0} (seen : F → Look) (may_leave : F → Look → Type 0) (p
   come_from [] old new same c left = (c, subst (λ (f : F). may_leave f c) same left, refl)
   come_from (process ∷ later) old new by c left =
       let rest = come_from later by.0 new by.2 c left in
-      ⊎_elim (λ before. (rest.0, before.0, (rest.0, nothing_made process rest.0 before.1, rest.2)))
+      ⊎_elim (λ old_log. let was = old_log.0 in (was.0, was.1, (rest.0, nothing_made process was.0 rest.0 was.2 old_log.1, rest.2)))
       (λ after. (seen old, possible old, (rest.0, after, rest.2))) (by.1 rest.0 rest.1)
 
   pub ends_lose_nothing : EndsLoseNothing seen may_leave

@@ -199,11 +199,11 @@ module _ (first number next : ℕ) (p : Part) (parts : List Part) (tail : List �
       } in left) loses.2.at_name
 
   -- what the log knows of its folder afterwards
-  pub settled_rest : (sealed : ℕ) (old_hold new_hold : List ℕ → List ℕ → Type 0) (before after_it : Look → Type 0) (old_entry new_entry : List ℕ → Type 0)
-      → IsSettledFolder old_hold before old_entry first sealed (p ∷ parts) tail → FilesElsewhere (segment_name first) old_hold new_hold → ((n : List ℕ) → new_entry n)
+  pub settled_rest : (sealed : ℕ) (old_hold new_hold : List ℕ → List ℕ → Type 0) (before after_it : Look → Type 0) (old_entry new_entry old_trust new_trust : List ℕ → Type 0)
+      → IsSettledFolder old_hold before old_entry old_trust first sealed (p ∷ parts) tail → FilesElsewhere (segment_name first) old_hold new_hold → ((n : List ℕ) → new_entry n) → (old_trust tail_name → new_trust tail_name)
       → ComesFrom (LosesFile (segment_name first)) before after_it → ((c : Look) → after_it c → c (segment_name first) ≡ None)
-      → IsSettledFolder new_hold after_it new_entry next sealed parts tail
-  settled_rest sealed old_hold new_hold before after_it old_entry new_entry f files entries follows none = record {
+      → IsSettledFolder new_hold after_it new_entry new_trust next sealed parts tail
+  settled_rest sealed old_hold new_hold before after_it old_entry new_entry old_trust new_trust f files entries trusts follows none = record {
     parts = rest_parts;
     sealed_is = f.sealed_is ∙ sym rest_end;
     on_disk = record {
@@ -212,6 +212,7 @@ module _ (first number next : ℕ) (p : Part) (parts : List Part) (tail : List �
       tail_kept = record {
         file = λ bytes holds. f.on_disk.tail_kept.file bytes (files tail_name bytes (λ same. segment_no_tail first (sym same)) holds);
         entry = entries tail_name;
+        trust = trusts f.on_disk.tail_kept.trust;
         outcomes = λ c left.
             let from = follows c left in from.2.elsewhere tail_name (λ same. segment_no_tail first (sym same)) ∙ f.on_disk.tail_kept.outcomes from.0 from.1;
       };
@@ -235,16 +236,16 @@ module _ (first number next : ℕ) (segments : List Part) (tail : List ℕ) (a :
       by [] b can has = absurd can
       by (p ∷ parts) b can has = lost_log first number next p parts tail b can before has c loses
 
-  pub dropped_folder : (sealed : ℕ) (old_hold new_hold : List ℕ → List ℕ → Type 0) (before after : Look → Type 0) (old_entry new_entry : List ℕ → Type 0)
-      → IsSettledFolder old_hold before old_entry first sealed segments tail → FilesElsewhere (segment_name first) old_hold new_hold → ((n : List ℕ) → new_entry n)
+  pub dropped_folder : (sealed : ℕ) (old_hold new_hold : List ℕ → List ℕ → Type 0) (before after : Look → Type 0) (old_entry new_entry old_trust new_trust : List ℕ → Type 0)
+      → IsSettledFolder old_hold before old_entry old_trust first sealed segments tail → FilesElsewhere (segment_name first) old_hold new_hold → ((n : List ℕ) → new_entry n) → (old_trust tail_name → new_trust tail_name)
       → ComesFrom (LosesFile (segment_name first)) before after → ((c : Look) → after c → c (segment_name first) ≡ None)
-      → IsSettledFolder new_hold after new_entry next sealed (drop 1 segments) tail
-  dropped_folder sealed old_hold new_hold before after old_entry new_entry settled files entries follows none = by segments a go settled
+      → IsSettledFolder new_hold after new_entry new_trust next sealed (drop 1 segments) tail
+  dropped_folder sealed old_hold new_hold before after old_entry new_entry old_trust new_trust settled files entries trusts follows none = by segments a go settled
     where
-      by : (some : List Part) → AreParts first some tail → CanGo first number some (first_of tail) next → IsSettledFolder old_hold before old_entry first sealed some tail
-          → IsSettledFolder new_hold after new_entry next sealed (drop 1 some) tail
+      by : (some : List Part) → AreParts first some tail → CanGo first number some (first_of tail) next → IsSettledFolder old_hold before old_entry old_trust first sealed some tail
+          → IsSettledFolder new_hold after new_entry new_trust next sealed (drop 1 some) tail
       by [] b can f = absurd can
-      by (p ∷ parts) b can f = settled_rest first number next p parts tail b can sealed old_hold new_hold before after old_entry new_entry f files entries follows none
+      by (p ∷ parts) b can f = settled_rest first number next p parts tail b can sealed old_hold new_hold before after old_entry new_entry old_trust new_trust f files entries trusts follows none
 
   pub dropped_names : (old new : Look) → Holds segments tail old → Elsewhere (segment_name first) old new → new (segment_name first) ≡ None → RemovesOnly number old new
   dropped_names old new held elsewhere none n = by segments a go held

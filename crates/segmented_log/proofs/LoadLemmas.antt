@@ -8,7 +8,7 @@ use Rattle.store_folder.specs.Publishing.{part}
 use Rattle.segmented_log.specs.Names.{segment_name, tail_name}
 use Rattle.segmented_log.specs.Parts.{Part}
 use Rattle.segmented_log.specs.Log.{HasSegment, Holds}
-use Rattle.segmented_log.specs.Opening.{AreNumbersIn, IsOfLog}
+use Rattle.segmented_log.specs.Opening.{AreNumbersIn, IsSyncedButTail}
 use Rattle.segmented_log.proofs.NameLemmas.{segment_no_tail, segment_no_tail_beside}
 use Rattle.segmented_log.proofs.HoldLemmas.{firsts, each_stays, all_same_below}
 
@@ -23,12 +23,12 @@ module _ (seen : Look) (names : List (List ℕ)) (numbers : List ℕ) (all : Are
 
   -- what a look sees of the segments is what a crash leaves of them
   pub loaded_outcomes : (end : ℕ) → end < 2 ^ 64 → AllByRecursion (λ p. p.first < end) segments → (tail : List ℕ) (before after : Look → Type 0)
-      → ((c : Look) → before c → (n : List ℕ) → IsOfLog n → c n ≡ seen n) → AllByRecursion (HasSegment seen) segments
+      → IsSyncedButTail seen before → AllByRecursion (HasSegment seen) segments
       → ComesFrom (ElsewhereOfBoth (tail_name ++ part) tail_name) before after → ((c : Look) → after c → c tail_name ≡ Some tail) → (c : Look) → after c → Holds segments tail c
   loaded_outcomes end fits below tail before after synced each follows tail_is c left =
       let from = follows c left in
       let same : (k : ℕ) → k < 2 ^ 64 → c (segment_name k) ≡ seen (segment_name k) = λ k low.
-      from.2 (segment_name k) (segment_no_tail_beside k) (segment_no_tail k) ∙ synced from.0 from.1 (segment_name k) (inr (k, low, refl)) in
+      from.2 (segment_name k) (segment_no_tail_beside k) (segment_no_tail k) ∙ synced.segments from.0 from.1 k low in
       record {
         each = each_stays seen c segments (all_same_below seen c end segments fits below same) each;
         no_others = λ k low. ⊎_elim (λ none. inl (same k low ∙ none)) (λ known. inr known) (no_others k low);

@@ -1,8 +1,9 @@
 -- What a crash leaves while a log is opened.
-use Rattle.std.proofs.Common.{◌≡◌, inl, inr, ⊎_elim, ℕ, ◌-◌, ◌^◌, ◌<◌, ◌≤◌, List, [], ◌∷◌, ◌++◌, length, map, Some, None, refl, sym, ◌∙◌, ap, arith}
+use Rattle.std.proofs.Common.{◌≡◌, inl, inr, ⊎_elim, ℕ, ◌-◌, ◌^◌, ◌<◌, ◌≤◌, List, [], ◌∷◌, ◌++◌, length, map, Option, Some, None, refl, sym, ◌∙◌, ap, subst, arith}
 use Rattle.std.specs.List.{slice_get}
 use Rattle.std.proofs.lemmas.List.{append-nil, drop_all}
-use Rattle.store_folder.specs.Folder.{Look}
+use Rattle.store_folder.specs.Moments.{ComesFrom}
+use Rattle.store_folder.specs.Folder.{Look, ElsewhereOfBoth, Keeps}
 use Rattle.store_folder.specs.Publishing.{part, IsOldOrWhole}
 use Rattle.store_format.specs.Block.{Slot, doc}
 use Rattle.log_tail.specs.Tail.{records_of, first_of, IsTail}
@@ -10,7 +11,7 @@ use Rattle.segmented_log.specs.Names.{segment_name, tail_name}
 use Rattle.segmented_log.specs.Parts.{Part, first_in, end_from, tail_end, log_slots, AreInLine, Ascend, AreParts}
 use Rattle.segmented_log.specs.Log.{IsLog, IsBlank, KeepsLog}
 use Rattle.segmented_log.proofs.NameLemmas.{segment_no_tail, segment_no_tail_beside}
-use Rattle.segmented_log.specs.Opening.{IsOfLog}
+use Rattle.segmented_log.specs.Opening.{IsOfLog, IsSyncedButTail, IsAsBefore, IsOldOrSeen, IsTailOf}
 use Rattle.segmented_log.proofs.HoldLemmas.{same_segments, all_same_below}
 use Rattle.segmented_log.proofs.PartLemmas.{more_parts, more_slots, begin_before}
 
@@ -37,11 +38,11 @@ log_with_tail first all d c bytes file had is_tail first_same records same is lo
     }
 
 -- the same look
-log_same : (first : ℕ) (all : List Slot) (d c : Look) → ((n : List ℕ) → IsOfLog n → c n ≡ d n) → IsLog first all d → IsLog first all c
+pub log_same : (first : ℕ) (all : List Slot) (d c : Look) → ((n : List ℕ) → IsOfLog n → c n ≡ d n) → IsLog first all d → IsLog first all c
 log_same first all d c same log =
     log_with_tail first all d c log.tail log.tail log.holds.tail_is log.parts.is_tail refl refl (λ k low. same (segment_name k) (inr (k, low, refl))) (same tail_name (inl refl) ∙ log.holds.tail_is) log
 
-blank_same : (d c : Look) → ((n : List ℕ) → IsOfLog n → c n ≡ d n) → IsBlank d → IsBlank c
+pub blank_same : (d c : Look) → ((n : List ℕ) → IsOfLog n → c n ≡ d n) → IsBlank d → IsBlank c
 blank_same d c same blank = record { no_segments = λ k low. same (segment_name k) (inr (k, low, refl)) ∙ blank.no_segments k low; no_tail = same tail_name (inl refl) ∙ blank.no_tail }
 
 pub keeps_same : (seen c : Look) → ((n : List ℕ) → IsOfLog n → c n ≡ seen n) → KeepsLog seen c
@@ -66,29 +67,63 @@ new_log d c file blank same is is_tail first none = record {
   holds = record { each = tt; no_others = λ k low. inl (same k low ∙ blank.no_segments k low); tail_is = is };
 }
 
-module _ (seen : Look) (before : Look → Type 0) (synced : (c : Look) → before c → (n : List ℕ) → IsOfLog n → c n ≡ seen n) where
-  segments_same : (file : List ℕ) (c : Look) (o : IsOldOrWhole before (tail_name ++ part) tail_name (Some file) c) (k : ℕ) → k < 2 ^ 64 → c (segment_name k) ≡ seen (segment_name k)
-  segments_same file c o k low = o.elsewhere (segment_name k) (segment_no_tail_beside k) (segment_no_tail k) ∙ synced o.old o.was (segment_name k) (inr (k, low, refl))
+-- what could be left before
+pub as_before : (before : Look → Type 0) (c : Look) → before c → IsAsBefore before c
+as_before before c was = (c, was, λ n of. refl)
+
+module _ (seen : Look) (before : Look → Type 0) (synced : IsSyncedButTail seen before) where
+  module _ (file : List ℕ) (c : Look) (o : IsOldOrWhole before (tail_name ++ part) tail_name (Some file) c) where
+    segments_same : (k : ℕ) → k < 2 ^ 64 → c (segment_name k) ≡ seen (segment_name k)
+    segments_same k low = o.elsewhere (segment_name k) (segment_no_tail_beside k) (segment_no_tail k) ∙ synced.segments o.old o.was k low
+
+    old_tail : c tail_name ≡ o.old tail_name → IsAsBefore before c
+    old_tail old = (
+      o.old,
+      o.was,
+      λ n. ⊎_elim (λ is. subst (λ (m : List ℕ). c m ≡ o.old m) (sym is) old)
+          (λ of. subst (λ (m : List ℕ). c m ≡ o.old m) (sym of.2) (o.elsewhere (segment_name of.0) (segment_no_tail_beside of.0) (segment_no_tail of.0))),
+    )
 
   -- the tail is replaced by one of the same records
-  pub keeps_replaced : (bytes file : List ℕ) → seen tail_name ≡ Some bytes → IsTail bytes → IsTail file → first_of file ≡ first_of bytes → records_of file ≡ records_of bytes
-      → (c : Look) → IsOldOrWhole before (tail_name ++ part) tail_name (Some file) c → KeepsLog seen c
-  keeps_replaced bytes file had was_tail is_tail first records c o = record {
-    same = λ n all log. ⊎_elim
-        (λ old. log_with_tail n all seen c bytes bytes had was_tail refl refl (segments_same file c o) (old ∙ synced o.old o.was tail_name (inl refl) ∙ had) log)
-        (λ whole. log_with_tail n all seen c bytes file had is_tail first records (segments_same file c o) whole log) o.at_name;
-    begun = λ blank. absurd (none_some bytes (sym blank.no_tail ∙ had));
-  }
+  pub keeps_replaced : (bytes file : List ℕ) → seen tail_name ≡ Some bytes → IsTail file → first_of file ≡ first_of bytes → records_of file ≡ records_of bytes
+      → (c : Look) → IsOldOrWhole before (tail_name ++ part) tail_name (Some file) c → IsOldOrSeen before seen c
+  keeps_replaced bytes file had is_tail first records c o =
+      ⊎_elim (λ old. inl (old_tail file c o old))
+      (λ whole. inr (record {
+        same = λ n all log. log_with_tail n all seen c bytes file had is_tail first records (segments_same file c o) whole log;
+        begun = λ blank. absurd (none_some bytes (sym blank.no_tail ∙ had));
+      }))
+      o.at_name
 
   -- a tail is made
   pub keeps_begun : (file : List ℕ) → seen tail_name ≡ None → IsTail file → first_of file ≡ 0 → records_of file ≡ [] → (c : Look) → IsOldOrWhole before (tail_name ++ part) tail_name (Some file) c
-      → KeepsLog seen c
-  keeps_begun file had is_tail first none c o = record {
-    same = λ n all log. absurd (none_some log.tail (sym had ∙ log.holds.tail_is));
-    begun = λ blank. ⊎_elim
-        (λ old. inl (record { no_segments = λ k low. segments_same file c o k low ∙ blank.no_segments k low; no_tail = old ∙ synced o.old o.was tail_name (inl refl) ∙ had }))
-        (λ whole. inr (new_log seen c file blank (segments_same file c o) whole is_tail first none)) o.at_name;
-  }
+      → IsOldOrSeen before seen c
+  keeps_begun file had is_tail first none c o =
+      ⊎_elim (λ old. inl (old_tail file c o old))
+      (λ whole. inr (record {
+        same = λ n all log. absurd (none_some log.tail (sym had ∙ log.holds.tail_is));
+        begun = λ blank. inr (new_log seen c file blank (segments_same file c o) whole is_tail first none);
+      }))
+      o.at_name
+
+  -- the tail that is there in the end has the records of the one that was seen
+  pub keeps_loaded : (file : List ℕ) → IsTail file → IsTailOf (seen tail_name) file → (after : Look → Type 0) → ComesFrom (ElsewhereOfBoth (tail_name ++ part) tail_name) before after
+      → Keeps tail_name (Some file) after → (c : Look) → after c → KeepsLog seen c
+  keeps_loaded file is_tail of after follows keeps c left = by (seen tail_name) refl of
+    where
+      same_segments : (k : ℕ) → k < 2 ^ 64 → c (segment_name k) ≡ seen (segment_name k)
+      same_segments k low =
+          let from = follows c left in from.2 (segment_name k) (segment_no_tail_beside k) (segment_no_tail k) ∙ synced.segments from.0 from.1 k low
+
+      by : (o : Option (List ℕ)) → seen tail_name ≡ o → IsTailOf o file → KeepsLog seen c
+      by (Some bytes) had was = record {
+        same = λ n all log. log_with_tail n all seen c bytes file had is_tail was.1 was.2 same_segments (keeps c left) log;
+        begun = λ blank. absurd (none_some bytes (sym blank.no_tail ∙ had));
+      }
+      by None had was = record {
+        same = λ n all log. absurd (none_some log.tail (sym had ∙ log.holds.tail_is));
+        begun = λ blank. inr (new_log seen c file blank same_segments (keeps c left) is_tail was.0 was.1);
+      }
 
 -- Segments and a tail that an opening found to be in line, by the numbers that it compared.
 pub parts_found : (first sealed : ℕ) (segments : List Part) (tail : List ℕ) → first ≡ first_in segments (first_of tail)

@@ -7,7 +7,7 @@ use Rattle.std.specs.List.{AllByRecursion, remove}
 use Rattle.store_folder.specs.Moments.{ComesFrom}
 use Rattle.store_folder.specs.Folder.{Look, ElsewhereOfBoth, FilesElsewhere, FilesElsewhereOfBoth, LosesFile}
 use Rattle.store_folder.specs.Publishing.{part}
-use Rattle.segmented_log.specs.Names.{segment_name}
+use Rattle.segmented_log.specs.Names.{segment_name, tail_name}
 use Rattle.segmented_log.specs.Parts.{Part, Sealed, end_of, end_from, parts_of, log_slots, AreParts}
 use Rattle.segmented_log.specs.Log.{HasSegment, Holds, IsLog}
 use Rattle.segmented_log.specs.Settled.{AddsSegment, IsSettledFolder}
@@ -106,13 +106,13 @@ module _ (first : ℕ) (parts : List Part) (tail : List ℕ) (place count : ℕ)
   pub run_same : log_slots first (with_joined r) tail ≡ log_slots first parts tail
   run_same = whole_slots r.head r.run r.after r.next first r.before tail split_parts ∙ ap (λ (l : List Part). log_slots first l tail) (sym r.split)
 
-  pub run_folder : (sealed : ℕ) (old_hold new_hold : List ℕ → List ℕ → Type 0) (earlier later : Look → Type 0) (old_entry new_entry : List ℕ → Type 0)
-      → IsSettledFolder old_hold earlier old_entry first sealed parts tail → FilesElsewhereOfBoth (segment_name r.head.first ++ part) (segment_name r.head.first) old_hold new_hold
-      → ((n : List ℕ) → new_entry n) → ComesFrom (ElsewhereOfBoth (segment_name r.head.first ++ part) (segment_name r.head.first)) earlier later
-      → ((c : Look) → later c → HasSegment c (one_of r)) → IsSettledFolder new_hold later new_entry first sealed (with_joined r) tail
-  run_folder sealed old_hold new_hold earlier later old_entry new_entry f files entries follows has =
-      joined_folder first r.before r.head r.run r.after r.next tail split_parts sealed old_hold new_hold earlier later old_entry new_entry
-      (subst (λ (l : List Part). IsSettledFolder old_hold earlier old_entry first sealed l tail) r.split f) files entries follows has
+  pub run_folder : (sealed : ℕ) (old_hold new_hold : List ℕ → List ℕ → Type 0) (earlier later : Look → Type 0) (old_entry new_entry old_trust new_trust : List ℕ → Type 0)
+      → IsSettledFolder old_hold earlier old_entry old_trust first sealed parts tail → FilesElsewhereOfBoth (segment_name r.head.first ++ part) (segment_name r.head.first) old_hold new_hold
+      → ((n : List ℕ) → new_entry n) → (old_trust tail_name → new_trust tail_name) → ComesFrom (ElsewhereOfBoth (segment_name r.head.first ++ part) (segment_name r.head.first)) earlier later
+      → ((c : Look) → later c → HasSegment c (one_of r)) → IsSettledFolder new_hold later new_entry new_trust first sealed (with_joined r) tail
+  run_folder sealed old_hold new_hold earlier later old_entry new_entry old_trust new_trust f files entries trusts follows has =
+      joined_folder first r.before r.head r.run r.after r.next tail split_parts sealed old_hold new_hold earlier later old_entry new_entry old_trust new_trust
+      (subst (λ (l : List Part). IsSettledFolder old_hold earlier old_entry old_trust first sealed l tail) r.split f) files entries trusts follows has
 
 -- ---- a segment that others cover
 
@@ -158,14 +158,14 @@ module _ (first : ℕ) (parts : List Part) (tail : List ℕ) (place : ℕ) (v : 
       by [] some ends b has = absurd (omega (arith, some))
       by (x ∷ xs) some ends b has = removing_log first x xs v.covered v.after tail ends b earlier has c loses
 
-  pub covered_folder : (sealed : ℕ) (old_hold new_hold : List ℕ → List ℕ → Type 0) (earlier later : Look → Type 0) (old_entry new_entry : List ℕ → Type 0)
-      → IsSettledFolder old_hold earlier old_entry first sealed parts tail → FilesElsewhere (segment_name v.covered.first) old_hold new_hold
-      → ((n : List ℕ) → new_entry n) → ComesFrom (LosesFile (segment_name v.covered.first)) earlier later → ((c : Look) → later c → c (segment_name v.covered.first) ≡ None)
-      → IsSettledFolder new_hold later new_entry first sealed (without v) tail
-  covered_folder sealed old_hold new_hold earlier later old_entry new_entry f files entries follows none =
-      by v.before (omega (arith, v.place_is, v.some)) v.ends cut (subst (λ (l : List Part). IsSettledFolder old_hold earlier old_entry first sealed l tail) v.split f)
+  pub covered_folder : (sealed : ℕ) (old_hold new_hold : List ℕ → List ℕ → Type 0) (earlier later : Look → Type 0) (old_entry new_entry old_trust new_trust : List ℕ → Type 0)
+      → IsSettledFolder old_hold earlier old_entry old_trust first sealed parts tail → FilesElsewhere (segment_name v.covered.first) old_hold new_hold
+      → ((n : List ℕ) → new_entry n) → (old_trust tail_name → new_trust tail_name) → ComesFrom (LosesFile (segment_name v.covered.first)) earlier later → ((c : Look) → later c → c (segment_name v.covered.first) ≡ None)
+      → IsSettledFolder new_hold later new_entry new_trust first sealed (without v) tail
+  covered_folder sealed old_hold new_hold earlier later old_entry new_entry old_trust new_trust f files entries trusts follows none =
+      by v.before (omega (arith, v.place_is, v.some)) v.ends cut (subst (λ (l : List Part). IsSettledFolder old_hold earlier old_entry old_trust first sealed l tail) v.split f)
     where
       by : (before : List Part) → 0 < length before → end_of v.covered ≤ end_from first before → AreParts first (before ++ v.covered ∷ v.after) tail
-          → IsSettledFolder old_hold earlier old_entry first sealed (before ++ v.covered ∷ v.after) tail → IsSettledFolder new_hold later new_entry first sealed (before ++ v.after) tail
+          → IsSettledFolder old_hold earlier old_entry old_trust first sealed (before ++ v.covered ∷ v.after) tail → IsSettledFolder new_hold later new_entry new_trust first sealed (before ++ v.after) tail
       by [] some ends b g = absurd (omega (arith, some))
-      by (x ∷ xs) some ends b g = removed_folder first x xs v.covered v.after tail ends b sealed old_hold new_hold earlier later old_entry new_entry g files entries follows none
+      by (x ∷ xs) some ends b g = removed_folder first x xs v.covered v.after tail ends b sealed old_hold new_hold earlier later old_entry new_entry old_trust new_trust g files entries trusts follows none

@@ -7,7 +7,7 @@ use Rattle.store_folder.specs.Publishing.{part}
 use Rattle.log_tail.specs.declared.batches.Place.{Place}
 use Rattle.log_tail.specs.Place.{content}
 use Rattle.log_tail.specs.Tail.{records_of}
-use Rattle.segmented_log.specs.Names.{segment_name}
+use Rattle.segmented_log.specs.Names.{segment_name, tail_name}
 use Rattle.segmented_log.specs.Parts.{Part, tail_end, end_from, log_slots, AreParts}
 use Rattle.segmented_log.specs.Log.{HasSegment, Holds, IsLog}
 use Rattle.segmented_log.specs.Settled.{part_at, AddsSegment, IsOnDisk, IsSettledTail, IsSettledFolder}
@@ -60,20 +60,20 @@ module _ (sealed tail_first next : ℕ) (tail : List ℕ) (places : List Place) 
     pub slots_segment : (p : Part) → p ≡ part_at sealed tail unsealed_places → log_slots first (segments ++ p ∷ []) tail ≡ log_slots first segments tail
     slots_segment p is = ap (λ (q : Part). log_slots first (segments ++ q ∷ []) tail) (is ∙ part_is) ∙ sealed_slots first segments tail parts some high
 
-    pub folder_segment : (p : Part) → p ≡ part_at sealed tail unsealed_places → (old_hold new_hold : List ℕ → List ℕ → Type 0) (before after : Look → Type 0) (old_entry new_entry : List ℕ → Type 0)
-        → IsOnDisk old_hold before old_entry segments tail → ((c : Look) → after c → HasSegment c (part_at sealed tail unsealed_places))
+    pub folder_segment : (p : Part) → p ≡ part_at sealed tail unsealed_places → (old_hold new_hold : List ℕ → List ℕ → Type 0) (before after : Look → Type 0) (old_entry new_entry old_trust new_trust : List ℕ → Type 0)
+        → IsOnDisk old_hold before old_entry old_trust segments tail → ((c : Look) → after c → HasSegment c (part_at sealed tail unsealed_places))
         → FilesElsewhereOfBoth (segment_name sealed ++ part) (segment_name sealed) old_hold new_hold
-        → ((n : List ℕ) → new_entry n) → ComesFrom (ElsewhereOfBoth (segment_name sealed ++ part) (segment_name sealed)) before after
-        → IsSettledFolder new_hold after new_entry first end (segments ++ p ∷ []) tail
-    folder_segment p is old_hold new_hold before after old_entry new_entry disk has files entries follows =
+        → ((n : List ℕ) → new_entry n) → (old_trust tail_name → new_trust tail_name) → ComesFrom (ElsewhereOfBoth (segment_name sealed ++ part) (segment_name sealed)) before after
+        → IsSettledFolder new_hold after new_entry new_trust first end (segments ++ p ∷ []) tail
+    folder_segment p is old_hold new_hold before after old_entry new_entry old_trust new_trust disk has files entries trusts follows =
         let follows_new = subst (λ (n : ℕ). ComesFrom (ElsewhereOfBoth (segment_name n ++ part) (segment_name n)) before after) sealed_is follows in
         let files_new = subst (λ (n : ℕ). FilesElsewhereOfBoth (segment_name n ++ part) (segment_name n) old_hold new_hold) sealed_is files in
-        let settled : IsSettledFolder new_hold after new_entry first end (segments ++ new ∷ []) tail = record {
+        let settled : IsSettledFolder new_hold after new_entry new_trust first end (segments ++ new ∷ []) tail = record {
           parts = sealed_parts first segments tail parts some high;
           sealed_is = sym ends ∙ sym (sealed_end first segments tail parts);
           on_disk = record {
             outcomes = added_outcomes first segments tail parts some high before after disk.outcomes follows_new (λ c left. subst (λ (q : Part). HasSegment c q) part_is (has c left));
-            tail_kept = tail_stays first segments tail parts some high old_hold new_hold before after old_entry new_entry disk.tail_kept files_new entries follows_new;
+            tail_kept = tail_stays first segments tail parts some high old_hold new_hold before after old_entry new_entry old_trust new_trust disk.tail_kept files_new entries trusts follows_new;
           };
         } in
-        subst (λ (q : Part). IsSettledFolder new_hold after new_entry first end (segments ++ q ∷ []) tail) (sym (is ∙ part_is)) settled
+        subst (λ (q : Part). IsSettledFolder new_hold after new_entry new_trust first end (segments ++ q ∷ []) tail) (sym (is ∙ part_is)) settled

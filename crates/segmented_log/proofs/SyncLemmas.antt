@@ -66,12 +66,12 @@ module _ (sealed tail_first next : ℕ) (tail body new : List ℕ) (places : Lis
       }
 
   -- the folder's segments stay
-  pub folder_batch : (first : ℕ) (segments : List Part) (old_hold new_hold : List ℕ → List ℕ → Type 0) (before after : Look → Type 0) (old_entry new_entry : List ℕ → Type 0)
-      → IsSettledFolder old_hold before old_entry first sealed segments tail → TailIsKept new_hold after new_entry (tail ++ 1 ∷ summed body)
+  pub folder_batch : (first : ℕ) (segments : List Part) (old_hold new_hold : List ℕ → List ℕ → Type 0) (before after : Look → Type 0) (old_entry new_entry old_trust new_trust : List ℕ → Type 0)
+      → IsSettledFolder old_hold before old_entry old_trust first sealed segments tail → TailIsKept new_hold after new_entry new_trust (tail ++ 1 ∷ summed body)
       → ComesFrom (ElsewhereOfBoth (tail_name ++ part) tail_name) before after
-      → IsSettledFolder new_hold after new_entry first sealed segments new
-  folder_batch first segments old_hold new_hold before after old_entry new_entry f kept follows =
-      let kept_new = subst (λ (l : List ℕ). TailIsKept new_hold after new_entry l) (sym new_is) kept in
+      → IsSettledFolder new_hold after new_entry new_trust first sealed segments new
+  folder_batch first segments old_hold new_hold before after old_entry new_entry old_trust new_trust f kept follows =
+      let kept_new = subst (λ (l : List ℕ). TailIsKept new_hold after new_entry new_trust l) (sym new_is) kept in
       record {
         parts = more_parts first segments tail f.parts new (records_in body)
             (subst (λ (l : List ℕ). IsTail l) (sym new_is) (grown_tail tail (1 ∷ summed body) s.whole s.is_tail)) batch_first batch_records;
@@ -86,9 +86,9 @@ module _ (sealed tail_first next : ℕ) (tail body new : List ℕ) (places : Lis
   slots_batch first segments parts = more_slots first segments tail parts new (records_in body) batch_first batch_records
 
 -- the log that is on the disk
-pub log_on_disk : (may_hold : List ℕ → List ℕ → Type 0) (may_leave : Look → Type 0) (entry_kept : List ℕ → Type 0) (first sealed : ℕ) (segments : List Part) (tail : List ℕ)
-    → IsSettledFolder may_hold may_leave entry_kept first sealed segments tail → (c : Look) → may_leave c → IsLog first (log_slots first segments tail) c
-log_on_disk may_hold may_leave entry_kept first sealed segments tail f c left = record {
+pub log_on_disk : (may_hold : List ℕ → List ℕ → Type 0) (may_leave : Look → Type 0) (entry_kept trusted : List ℕ → Type 0) (first sealed : ℕ) (segments : List Part) (tail : List ℕ)
+    → IsSettledFolder may_hold may_leave entry_kept trusted first sealed segments tail → (c : Look) → may_leave c → IsLog first (log_slots first segments tail) c
+log_on_disk may_hold may_leave entry_kept trusted first sealed segments tail f c left = record {
   segments = segments;
   tail = tail;
   parts = f.parts;
@@ -97,12 +97,12 @@ log_on_disk may_hold may_leave entry_kept first sealed segments tail f c left = 
 }
 
 -- while no call changes the folder, each moment has the same log
-pub log_stays : {D : Type 0} (moment : D → ℕ) (left_since : D → ℕ → Look → Type 0) (may_hold : List ℕ → List ℕ → Type 0) (may_leave : Look → Type 0) (entry_kept : List ℕ → Type 0) (first sealed : ℕ)
+pub log_stays : {D : Type 0} (moment : D → ℕ) (left_since : D → ℕ → Look → Type 0) (may_hold : List ℕ → List ℕ → Type 0) (may_leave : Look → Type 0) (entry_kept trusted : List ℕ → Type 0) (first sealed : ℕ)
     (segments : List Part)
-    (tail : List ℕ) → IsSettledFolder may_hold may_leave entry_kept first sealed segments tail → (folder : D) → ((c : Look) → left_since folder (moment folder) c → may_leave c)
+    (tail : List ℕ) → IsSettledFolder may_hold may_leave entry_kept trusted first sealed segments tail → (folder : D) → ((c : Look) → left_since folder (moment folder) c → may_leave c)
     → LeavesOnly moment left_since folder folder (IsLog first (log_slots first segments tail))
-log_stays moment left_since may_hold may_leave entry_kept first sealed segments tail f folder only_now =
-    started moment left_since folder _ (λ c left. log_on_disk may_hold may_leave entry_kept first sealed segments tail f c (only_now c left))
+log_stays moment left_since may_hold may_leave entry_kept trusted first sealed segments tail f folder only_now =
+    started moment left_since folder _ (λ c left. log_on_disk may_hold may_leave entry_kept trusted first sealed segments tail f c (only_now c left))
 
 -- the numbers of the records that are appended and synced next
 module _ (sealed tail_first next : ℕ) (tail : List ℕ) (places : List Place) (pending : List ℕ) (s : IsSettledTail sealed tail_first next tail places pending) (first : ℕ) (segments : List Part)
@@ -141,10 +141,10 @@ module _ (sealed tail_first next : ℕ) (tail : List ℕ) (places : List Place) 
     small = s.small;
   }
 
-  pub folder_empty : (first : ℕ) (segments : List Part) (old_hold new_hold : List ℕ → List ℕ → Type 0) (before after : Look → Type 0) (old_entry new_entry : List ℕ → Type 0)
-      → IsSettledFolder old_hold before old_entry first sealed segments tail → TailIsKept new_hold after new_entry file → ComesFrom (ElsewhereOfBoth (tail_name ++ part) tail_name) before after
-      → IsSettledFolder new_hold after new_entry first sealed segments file
-  folder_empty first segments old_hold new_hold before after old_entry new_entry f kept follows = record {
+  pub folder_empty : (first : ℕ) (segments : List Part) (old_hold new_hold : List ℕ → List ℕ → Type 0) (before after : Look → Type 0) (old_entry new_entry old_trust new_trust : List ℕ → Type 0)
+      → IsSettledFolder old_hold before old_entry old_trust first sealed segments tail → TailIsKept new_hold after new_entry new_trust file → ComesFrom (ElsewhereOfBoth (tail_name ++ part) tail_name) before after
+      → IsSettledFolder new_hold after new_entry new_trust first sealed segments file
+  folder_empty first segments old_hold new_hold before after old_entry new_entry old_trust new_trust f kept follows = record {
     parts = emptied_parts first segments tail f.parts file (all_sealed first segments f.sealed_is) is_tail begins_there none;
     sealed_is = f.sealed_is;
     on_disk = record { outcomes = replaced_outcomes segments tail file before after f.on_disk.outcomes follows kept.outcomes; tail_kept = kept };

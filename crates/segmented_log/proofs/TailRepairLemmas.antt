@@ -1,5 +1,5 @@
 -- A tail whose torn end is cut off.
-use Rattle.std.proofs.Common.{◌≡◌, inl, ℕ, List, length, take, Some, refl, sym, ◌∙◌, ap, subst, arith}
+use Rattle.std.proofs.Common.{◌≡◌, ℕ, List, length, take, refl, sym, ◌∙◌, ap, subst, arith}
 use Rattle.std.specs.Prelude.{All}
 use Rattle.std.specs.List.{flat_map}
 use Rattle.std.proofs.lemmas.List.{take-take, length-take-le}
@@ -10,9 +10,14 @@ use Rattle.log_tail.specs.Place.{contents, EndsBy}
 use Rattle.log_tail.specs.Tail.{records_in, records_of, first_of, IsTail, IsWholeTo}
 use Rattle.log_tail.proofs.Tails.{cut_bodies, cut_whole}
 use Rattle.log_tail.proofs.Logs.{first_same, contents_same}
-use Rattle.segmented_log.specs.Names.{tail_name}
-use Rattle.segmented_log.specs.Opening.{IsSynced}
-use Rattle.segmented_log.specs.Settled.{TailIsKept}
+
+-- nothing changed
+pub nothing_changed : (name other : List ℕ) (may_leave : Look → Type 0) → ComesFrom (ElsewhereOfBoth name other) may_leave may_leave
+nothing_changed name other may_leave c left = (c, left, λ n _ _. refl)
+
+-- all of it is whole batches
+pub whole_all : (bytes : List ℕ) (end : ℕ) → end ≡ length bytes → IsWholeTo end bytes → IsWholeTo (length bytes) bytes
+whole_all bytes end is whole = subst (λ (n : ℕ). IsWholeTo n bytes) is whole
 
 module _ (bytes front : List ℕ) (end : ℕ) (whole : IsWholeTo end bytes) (front_is : front ≡ take end bytes) where
   size : length front ≡ end

@@ -8,6 +8,7 @@ use Rattle.segmented_log.specs.declared.commit.Commit.TheVariants.{TwoSyncs}
 use Rattle.segmented_log.specs.declared.runs.Call.{Call}
 use Rattle.segmented_log.specs.Log.{IsLog, IsBlank}
 use Rattle.segmented_log.specs.Dropping.{DropsTo}
+use Rattle.segmented_log.specs.Opening.{IsAsBefore}
 use Rattle.segmented_log.specs.Runs.{joined, batches_by, pending_by, slots_of, dropped_by, Drops, Makes, HasBeginning, IsOldOrCalled}
 
 -- A folder is one log at most: it has one first number and one list of slots.
@@ -52,10 +53,10 @@ pub record IsFoundWith (made : List Call) (old : Look) (number : ℕ) (slots : L
   pub same : (first : ℕ) (kept : List Slot) → IsLog first kept old → Makes made [] first kept number slots
   pub begun : IsBlank old → Makes made [] 0 [] number slots
 
--- What a crash leaves of a process: what a crash could leave before it, if no call returned Ok; or what it leaves of the
--- folder that it saw.
+-- What a crash leaves of a process: what a crash could leave of the log before it, if no call returned Ok; or what it leaves
+-- of the folder that it saw.
 abbrev pub MayBeLeft : Process → (Look → Type 0) → Look → Look → Type 0
-MayBeLeft process before seen c = (before c × (process.made ≡ [])) ⊎ IsLeftBy process seen c
+MayBeLeft process before seen c = (IsAsBefore before c × (process.made ≡ [])) ⊎ IsLeftBy process seen c
 
 -- The process has ended, alone or by a crash of the machine: whatever a crash leaves now is left of it. A look sees what a
 -- crash may leave.

@@ -1,7 +1,7 @@
 -- What a log finds as it is opened.
 use Rattle.std.specs.Prelude.{◌≡◌, ◌⊎◌, ℕ, ◌≤◌, ◌<◌, ◌^◌, Bool, false, List, [], Option, Some, None, IsSome}
 use Rattle.std.specs.List.{Contains}
-use Rattle.store_folder.specs.Folder.{Look}
+use Rattle.store_folder.specs.Folder.{Look, Keeps}
 use Rattle.store_format.specs.Block.{Slot}
 use Rattle.log_tail.specs.Tail.{records_of, first_of, IsTail}
 use Rattle.segmented_log.specs.Names.{segment_name, tail_name}
@@ -12,15 +12,18 @@ use Rattle.segmented_log.specs.Log.{HasSegment, IsLog, IsBlank, KeepsLog}
 abbrev pub IsOfLog : List ℕ → Type 0
 IsOfLog n = (n ≡ tail_name) ⊎ ((k : ℕ) × (k < 2 ^ 64) × (n ≡ segment_name k))
 
--- What a look sees of the log's files is what is on the disk of them.
-pub record IsSynced (seen : Look) (may_hold : List ℕ → List ℕ → Type 0) (may_leave : Look → Type 0) (entry_kept : List ℕ → Type 0) : Type 0 where
-  pub outcomes : (c : Look) → may_leave c → (n : List ℕ) → IsOfLog n → c n ≡ seen n
-  pub tail_file : (file bytes : List ℕ) → seen tail_name ≡ Some file → may_hold tail_name bytes → bytes ≡ file
-  pub tail_entry : entry_kept tail_name
+-- What a look sees of the log's files is what is on the disk of them, but for the bytes of a tail.
+pub record IsSyncedButTail (seen : Look) (may_leave : Look → Type 0) : Type 0 where
+  pub segments : (c : Look) → may_leave c → (k : ℕ) → k < 2 ^ 64 → c (segment_name k) ≡ seen (segment_name k)
+  pub no_tail : seen tail_name ≡ None → Keeps tail_name None may_leave
 
--- What a crash leaves while a log is opened: what it could leave before, or the log that a look sees.
+-- What could be left before, but for files that are no log's.
+abbrev pub IsAsBefore : (Look → Type 0) → Look → Type 0
+IsAsBefore before c = (d : Look) × before d × ((n : List ℕ) → IsOfLog n → c n ≡ d n)
+
+-- What a crash leaves while a log is opened: what it could leave of the log before, or the log that a look sees.
 abbrev pub IsOldOrSeen : (Look → Type 0) → Look → Look → Type 0
-IsOldOrSeen before seen c = before c ⊎ KeepsLog seen c
+IsOldOrSeen before seen c = IsAsBefore before c ⊎ KeepsLog seen c
 
 -- The numbers of the segments among these names: each of them, and no others.
 pub record AreNumbersIn (names : List (List ℕ)) (numbers : List ℕ) : Type 0 where

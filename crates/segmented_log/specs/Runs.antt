@@ -9,6 +9,7 @@ use Rattle.segmented_log.specs.declared.runs.Call.{Call}
 use Rattle.segmented_log.specs.declared.runs.Call.TheVariants.{Append, Sync, Seal, Compact, DropBefore}
 use Rattle.segmented_log.specs.Causes.{IsOfAppends, IsOfSyncs, IsOfJoins}
 use Rattle.segmented_log.specs.Dropping.{IsRest}
+use Rattle.segmented_log.specs.Opening.{IsAsBefore}
 use Rattle.segmented_log.specs.Log.{IsLog, IsBlank, AddsForged, LogView}
 
 -- the batches that these calls sync, in order, where these records are pending at first: the other calls change no batch
@@ -85,10 +86,10 @@ pub record KeepsAndAdds (commit : Commit) (calls : List Call) (old new : Look) :
   pub same : (first : ℕ) (kept : List Slot) → IsLog first kept old → HasBeginning commit first kept [] calls new
   pub begun : IsBlank old → IsBlank new ⊎ HasBeginning commit 0 [] [] calls new
 
--- What a crash leaves while a log is opened and called: what it could leave before, or what the first of the calls make of
--- the log that a look sees.
+-- What a crash leaves while a log is opened and called: what it could leave of the log before, or what the first of the
+-- calls make of the log that a look sees.
 abbrev pub IsOldOrCalled : Commit → List Call → (Look → Type 0) → Look → Look → Type 0
-IsOldOrCalled commit calls before seen c = before c ⊎ KeepsAndAdds commit calls seen c
+IsOldOrCalled commit calls before seen c = IsAsBefore before c ⊎ KeepsAndAdds commit calls seen c
 
 -- The first of these calls were made, and no other: the log has what they make of it.
 pub record HasMadeFirst {F : Type 0} (calls : List Call) (old new : LogView F) : Type 0 where

@@ -13,9 +13,10 @@ use Rattle.segmented_log.specs.Parts.{Part, end_from, AreParts}
 use Rattle.segmented_log.specs.Log.{HasSegment, Holds}
 
 -- The tail's file is on the disk under its name.
-pub record TailIsKept (may_hold : List ℕ → List ℕ → Type 0) (may_leave : Look → Type 0) (entry_kept : List ℕ → Type 0) (tail : List ℕ) : Type 0 where
+pub record TailIsKept (may_hold : List ℕ → List ℕ → Type 0) (may_leave : Look → Type 0) (entry_kept trusted : List ℕ → Type 0) (tail : List ℕ) : Type 0 where
   pub file : (bytes : List ℕ) → may_hold tail_name bytes → bytes ≡ tail
   pub entry : entry_kept tail_name
+  pub trust : trusted tail_name
   pub outcomes : Keeps tail_name (Some tail) may_leave
 
 -- What a crash leaves while bytes are put after those of the tail: all that it could leave before, but for the tail, which
@@ -46,9 +47,9 @@ pub record AddsSegment (before : Look → Type 0) (segment : Part) (c : Look) : 
   pub elsewhere : ElsewhereOfBoth (segment_name segment.first ++ part) (segment_name segment.first) old c
 
 -- All that a log has acknowledged is on the disk: each crash leaves these segments and this tail.
-pub record IsOnDisk (may_hold : List ℕ → List ℕ → Type 0) (may_leave : Look → Type 0) (entry_kept : List ℕ → Type 0) (segments : List Part) (tail : List ℕ) : Type 0 where
+pub record IsOnDisk (may_hold : List ℕ → List ℕ → Type 0) (may_leave : Look → Type 0) (entry_kept trusted : List ℕ → Type 0) (segments : List Part) (tail : List ℕ) : Type 0 where
   pub outcomes : (c : Look) → may_leave c → Holds segments tail c
-  pub tail_kept : TailIsKept may_hold may_leave entry_kept tail
+  pub tail_kept : TailIsKept may_hold may_leave entry_kept trusted tail
 
 -- What a log in memory knows of its tail, whatever its folder does: its bytes, where its records lie, and what waits to be
 -- put after them.
@@ -66,7 +67,7 @@ pub record IsSettledTail (sealed tail_first next : ℕ) (tail : List ℕ) (place
   pub small : 8 + length pending < 2 ^ 32
 
 -- What it knows of its folder, which is honest.
-pub record IsSettledFolder (may_hold : List ℕ → List ℕ → Type 0) (may_leave : Look → Type 0) (entry_kept : List ℕ → Type 0) (first sealed : ℕ) (segments : List Part) (tail : List ℕ) : Type 0 where
+pub record IsSettledFolder (may_hold : List ℕ → List ℕ → Type 0) (may_leave : Look → Type 0) (entry_kept trusted : List ℕ → Type 0) (first sealed : ℕ) (segments : List Part) (tail : List ℕ) : Type 0 where
   pub parts : AreParts first segments tail
   pub sealed_is : sealed ≡ end_from first segments
-  pub on_disk : IsOnDisk may_hold may_leave entry_kept segments tail
+  pub on_disk : IsOnDisk may_hold may_leave entry_kept trusted segments tail

@@ -4,7 +4,7 @@ ghost use Rattle.std.specs.Prelude.{◌≡◌, ◌⊎◌, ◌↔◌, false, ◌�
 ghost use Rattle.std.specs.Prelude.{IfOk, IfErr, IfSome, IfNone, OnOk, OnErr, IsErrOf};
 ghost use Rattle.store_base.specs.Counts.{HasRisen};
 ghost use Rattle.store_folder.specs.Moments.{ComesFrom, LeavesOnly};
-ghost use Rattle.store_folder.specs.Folder.{Elsewhere, FilesElsewhere, LosesFile, Keeps};
+ghost use Rattle.store_folder.specs.Folder.{Elsewhere, EntriesStayElsewhere, FilesElsewhere, LosesFile, Keeps};
 ghost use Rattle.segmented_log.specs.Names.{segment_name};
 ghost use Rattle.segmented_log.specs.Parts.{part_of};
 ghost use Rattle.segmented_log.specs.Dropping.{CanGo, IsRest, DropsTo, LosesSegment, RemovesOnly, IsDropped};
@@ -54,6 +54,8 @@ pub(crate) fn remove_segment<F: Folder>(
     ensures crash { IsTrue F.honest
         → ComesFrom (LosesFile (segment_name first)) (F.may_leave folder.old) (F.may_leave folder.new) }
     ensures kept { IsTrue F.honest → OnOk result ((n : List ℕ) → F.entry_kept folder.new n) }
+    ensures trust { IsTrue F.honest
+        → EntriesStayElsewhere (segment_name first) (F.trusted folder.old) (F.trusted folder.new) }
 
     // A crash at any moment leaves what was there, with the segment or without.
     ensures any_moment { IsTrue F.honest → LeavesOnly F.moment F.left_since folder.old folder.new

@@ -5,7 +5,7 @@ ghost use Rattle.std.specs.Prelude.{List, All, IsTrue, IfOk, IfErr, OnOk, IsErrO
 ghost use Rattle.std.specs.Prelude.{length};
 ghost use Rattle.std.specs.List.{AllByRecursion, Contains, flat_map};
 ghost use Rattle.store_folder.specs.Moments.{ComesFrom, LeavesOnly};
-ghost use Rattle.store_folder.specs.Folder.{Elsewhere, ElsewhereOfBoth, FilesElsewhereOfBoth};
+ghost use Rattle.store_folder.specs.Folder.{ElsewhereOfBoth, EntriesStayElsewhereOfBoth, FilesElsewhereOfBoth};
 ghost use Rattle.store_folder.specs.Publishing.{part};
 ghost use Rattle.store_format.specs.Block.{Slot, damaged};
 ghost use Rattle.store_merge.specs.Choice.{alive_slots};
@@ -133,6 +133,8 @@ fn replace_segment<F: ReadableFolder>(
         → OnOk result ((c : List ℕ → _) → F.may_leave folder.new c
         → HasSegment c (record { first = first; slots = all })) }
     ensures kept { IsTrue F.honest → OnOk result ((n : List ℕ) → F.entry_kept folder.new n) }
+    ensures trust { IsTrue F.honest → EntriesStayElsewhereOfBoth (segment_name first ++ part) (segment_name first)
+        (F.trusted folder.old) (F.trusted folder.new) }
     ensures elsewhere { IsTrue F.honest → ElsewhereOfBoth (segment_name first ++ part) (segment_name first)
         (F.seen folder.old) (F.seen folder.new) }
     ensures files { IsTrue F.honest → FilesElsewhereOfBoth (segment_name first ++ part) (segment_name first)
@@ -172,6 +174,8 @@ pub(crate) fn join_segments<F: ReadableFolder>(
         → OnOk result ((c : List ℕ → _) → F.may_leave folder.new c → HasSegment c
         (record { first = first; slots = slots_in (map (λ s. part_of s.first s.reader) segments.now) })) }
     ensures kept { IsTrue F.honest → OnOk result ((n : List ℕ) → F.entry_kept folder.new n) }
+    ensures trust { IsTrue F.honest → EntriesStayElsewhereOfBoth (segment_name first ++ part) (segment_name first)
+        (F.trusted folder.old) (F.trusted folder.new) }
     ensures elsewhere { IsTrue F.honest → ElsewhereOfBoth (segment_name first ++ part) (segment_name first)
         (F.seen folder.old) (F.seen folder.new) }
     ensures files { IsTrue F.honest → FilesElsewhereOfBoth (segment_name first ++ part) (segment_name first)

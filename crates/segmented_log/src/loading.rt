@@ -1,7 +1,7 @@
 //! A log that is opened.
 
-ghost use Rattle.std.specs.Prelude.{◌≡◌, false, ◌≤◌, ◌<◌, ◌^◌, ◌+◌, ◌++◌, ℕ, List, [], None, length, map, All, string_bytes, OnOk};
-ghost use Rattle.std.specs.Prelude.{◌⊎◌, IsTrue, IfOk, IfErr, IsErrOf};
+ghost use Rattle.std.specs.Prelude.{◌≡◌, false, ◌≤◌, ◌<◌, ◌^◌, ◌+◌, ◌++◌, ℕ, List, [], Some, None, length, map, All};
+ghost use Rattle.std.specs.Prelude.{◌⊎◌, string_bytes, IsTrue, IfOk, IfErr, OnOk, IsErrOf};
 ghost use Rattle.store_base.specs.Counts.{HasRisen};
 ghost use Rattle.store_folder.specs.Moments.{ComesFrom, LeavesOnly};
 ghost use Rattle.store_folder.specs.Folder.{ElsewhereOfBoth, AreNames};
@@ -12,7 +12,7 @@ ghost use Rattle.log_tail.specs.Tail.{records_of, first_of, IsTail, IsWholeTo};
 ghost use Rattle.segmented_log.specs.Names.{tail_name};
 ghost use Rattle.segmented_log.specs.Parts.{part_of, tail_end, end_from, AreParts};
 ghost use Rattle.segmented_log.specs.Log.{IsLog, IsBlank, KeepsLog};
-ghost use Rattle.segmented_log.specs.Opening.{IsSynced, IsOldOrSeen, IsNoLog, HasFullTail, HasSegments, IsTailOf, IsNoTail};
+ghost use Rattle.segmented_log.specs.Opening.{IsSyncedButTail, IsOldOrSeen, IsNoLog, HasFullTail, HasSegments, IsTailOf, IsNoTail};
 ghost use Rattle.segmented_log.specs.Settled.{TailIsKept, IsSettledTail, IsSettledFolder};
 ghost use Rattle.segmented_log.specs.Causes.{IsOfFiles, IsOfOpenings};
 
@@ -44,19 +44,22 @@ fn load_tail<F: ReadableFolder>(
     alloc: Global,
     folder: &mut F,
     is_blank: bool,
+    is_kept: bool,
 ) -> Result<Tail, LogError>
-    requires { IsTrue F.honest → IsSynced (F.seen folder.old) (F.may_hold folder.old)
-        (F.may_leave folder.old) (F.entry_kept folder.old) }
+    requires synced { IsTrue F.honest → IsSyncedButTail (F.seen folder.old) (F.may_leave folder.old) }
+    requires tail { IsTrue F.honest → IsTrue is_kept → (bytes : List ℕ) → F.seen folder.old tail_name ≡ Some bytes
+        → TailIsKept (F.may_hold folder.old) (F.may_leave folder.old) (F.entry_kept folder.old) (F.trusted folder.old)
+        bytes }
     ensures tail { IfOk result (λ t. IsTail t.bytes.items × IsWholeTo (length t.bytes.items) t.bytes.items
         × (t.first ≡ first_of t.bytes.items)) }
     ensures records { IfOk result (λ t. contents t.bytes.items t.places.items ≡ records_of t.bytes.items) }
     ensures within { IfOk result (λ t. All (EndsBy (length t.bytes.items)) t.places.items) }
     ensures kept { IsTrue F.honest → IfOk result (λ t. TailIsKept (F.may_hold folder.new) (F.may_leave folder.new)
-        (F.entry_kept folder.new) t.bytes.items) }
+        (F.entry_kept folder.new) (F.trusted folder.new) t.bytes.items) }
     ensures crash { IsTrue F.honest → ComesFrom (ElsewhereOfBoth (tail_name ++ part) tail_name)
         (F.may_leave folder.old) (F.may_leave folder.new) }
     ensures any_moment { IsTrue F.honest → LeavesOnly F.moment F.left_since folder.old folder.new
-        (KeepsLog (F.seen folder.old)) }
+        (IsOldOrSeen (F.may_leave folder.old) (F.seen folder.old)) }
     ensures same { IsTrue F.honest → IfOk result (λ t. IsTailOf (F.seen folder.old tail_name) t.bytes.items) }
     ensures no_log { IsTrue F.honest → IsErrOf result LogError.NoLog → IsNoTail is_blank (F.seen folder.old tail_name) }
     ensures failures { F.failures folder.old ≤ F.failures folder.new }
@@ -65,7 +68,7 @@ fn load_tail<F: ReadableFolder>(
     ensures kind { IfErr result IsOfFiles }
 {
     match folder.read(alloc, TAIL)? {
-        Some(bytes) => repair_tail(alloc, folder, bytes),
+        Some(bytes) => repair_tail(alloc, folder, bytes, is_kept),
         None if is_blank => begin_tail(alloc, folder),
         None => Err(LogError::NoLog),
     }
@@ -110,23 +113,30 @@ fn assemble<H: FileHandle>(segments: Vec<Segment<H>>, tail: Tail) -> Result<Part
     })
 }
 
-// Reads a log's folder, which has these names and is on the disk, and repairs its tail.
+// Reads a log's folder, which has these names and is on the disk, but maybe for its tail, and repairs its tail.
 fn load_synced<F: ReadableFolder>(
     alloc: Global,
     folder: &mut F,
     names: &[String],
+    is_kept: bool,
 ) -> Result<Parts<F::File>, LogError>
-    requires synced { IsTrue F.honest → IsSynced (F.seen folder.old) (F.may_hold folder.old)
-        (F.may_leave folder.old) (F.entry_kept folder.old) }
+    requires synced { IsTrue F.honest → IsSyncedButTail (F.seen folder.old) (F.may_leave folder.old) }
+    requires tail { IsTrue F.honest → IsTrue is_kept → (bytes : List ℕ) → F.seen folder.old tail_name ≡ Some bytes
+        → TailIsKept (F.may_hold folder.old) (F.may_leave folder.old) (F.entry_kept folder.old) (F.trusted folder.old)
+        bytes }
     requires names { IsTrue F.honest → AreNames (F.seen folder.old) (map string_bytes names.now) }
     ensures settled { IfOk result (λ p. IsSettledTail p.sealed p.tail.first p.next p.tail.bytes.items
         p.tail.places.items []) }
     ensures folder { IsTrue F.honest → IfOk result (λ p. IsSettledFolder (F.may_hold folder.new)
-        (F.may_leave folder.new) (F.entry_kept folder.new) p.first p.sealed
+        (F.may_leave folder.new) (F.entry_kept folder.new) (F.trusted folder.new) p.first p.sealed
         (map (λ s. part_of s.first s.reader) p.segments.items) p.tail.bytes.items) }
     ensures honest { IsTrue F.honest → IfOk result (λ p. All (λ s. IsTrue s.reader.file.honest) p.segments.items) }
     ensures any_moment { IsTrue F.honest → LeavesOnly F.moment F.left_since folder.old folder.new
-        (KeepsLog (F.seen folder.old)) }
+        (IsOldOrSeen (F.may_leave folder.old) (F.seen folder.old)) }
+
+    // After an Ok each crash leaves the log that was seen.
+    ensures kept { IsTrue F.honest → OnOk result ((c : List ℕ → _) → F.may_leave folder.new c
+        → KeepsLog (F.seen folder.old) c) }
     ensures no_log { IsTrue F.honest → IsErrOf result LogError.NoLog → IsNoLog (F.seen folder.old) }
     ensures full { IsTrue F.honest → IsErrOf result LogError.Full → HasFullTail (F.seen folder.old) }
     ensures failures { F.failures folder.old ≤ F.failures folder.new }
@@ -138,7 +148,7 @@ fn load_synced<F: ReadableFolder>(
     let numbers = numbers_in(alloc, names)?;
     let segments = open_segments(alloc, folder, &numbers)?;
     let is_blank = segments.is_empty();
-    let tail = load_tail(alloc, folder, is_blank)?;
+    let tail = load_tail(alloc, folder, is_blank, is_kept)?;
     let parts = assemble(segments, tail)?;
     Ok(parts)
 }
@@ -148,7 +158,7 @@ fn load<F: ReadableFolder>(alloc: Global, folder: &mut F) -> Result<Parts<F::Fil
     ensures settled { IfOk result (λ p. IsSettledTail p.sealed p.tail.first p.next p.tail.bytes.items
         p.tail.places.items []) }
     ensures folder { IsTrue F.honest → IfOk result (λ p. IsSettledFolder (F.may_hold folder.new)
-        (F.may_leave folder.new) (F.entry_kept folder.new) p.first p.sealed
+        (F.may_leave folder.new) (F.entry_kept folder.new) (F.trusted folder.new) p.first p.sealed
         (map (λ s. part_of s.first s.reader) p.segments.items) p.tail.bytes.items) }
     ensures honest { IsTrue F.honest → IfOk result (λ p. All (λ s. IsTrue s.reader.file.honest) p.segments.items) }
     ensures any_moment { IsTrue F.honest → LeavesOnly F.moment F.left_since folder.old folder.new
@@ -165,15 +175,16 @@ fn load<F: ReadableFolder>(alloc: Global, folder: &mut F) -> Result<Parts<F::Fil
     ensures kind { IfErr result IsOfOpenings }
 {
     let names = folder.names(alloc)?;
-    sync_found_files(folder, &names)?;
-    load_synced(alloc, folder, &names)
+    let is_kept = sync_found_files(folder, &names)?;
+    load_synced(alloc, folder, &names, is_kept)
 }
 
 impl<F: ReadableFolder> SegmentedLog<F> {
     /// Opens the log of a folder, or makes a new one, whose first record has the number 0, in a folder that has no file
-    /// of a log. What it finds is put on the disk first, as the process that wrote it may have ended before its syncs;
-    /// then a torn end of the tail is cut off. A crash during it leaves the same log, or what it could leave before. A
-    /// tail that grows past the seal size, in bytes, is sealed by `sync`.
+    /// of a log. What it finds and is not known to be on the disk is put there first, as the process that wrote it may
+    /// have ended before its syncs; then a torn end of the tail is cut off. A tail of which a sync may have failed is made
+    /// anew. A crash during it leaves the same log, or what it could leave before. A tail that grows past the seal size,
+    /// in bytes, is sealed by `sync`.
     ///
     /// With `Commit::OneSync` a sync appends to the tail. With `Commit::TwoSyncs` it replaces the tail by one that has
     /// the records too, so a crash leaves all of them or none, whatever their sum is; as it then writes the whole tail,

@@ -4,7 +4,7 @@ ghost use Rattle.std.specs.Prelude.{◌≡◌, ◌≢◌, ◌⊎◌, ◌≤◌, 
 ghost use Rattle.std.specs.Prelude.{IsErrOf, map};
 ghost use Rattle.store_base.specs.Counts.{HasRisen};
 ghost use Rattle.store_folder.specs.Moments.{ComesFrom, LeavesOnly};
-ghost use Rattle.store_folder.specs.Folder.{ElsewhereOfBoth, FilesElsewhereOfBoth};
+ghost use Rattle.store_folder.specs.Folder.{ElsewhereOfBoth, EntriesStayElsewhereOfBoth, FilesElsewhereOfBoth};
 ghost use Rattle.store_folder.specs.Publishing.{part};
 ghost use Rattle.log_tail.specs.Place.{contents, EndsBy};
 ghost use Rattle.segmented_log.specs.Names.{segment_name};
@@ -88,6 +88,8 @@ pub(crate) fn publish_segment<F: Folder>(
     ensures published { IsTrue F.honest → OnOk result ((c : List ℕ → _) → F.may_leave folder.new c
         → HasSegment c (part_at first tail.now places.now)) }
     ensures kept { IsTrue F.honest → OnOk result ((n : List ℕ) → F.entry_kept folder.new n) }
+    ensures trust { IsTrue F.honest → EntriesStayElsewhereOfBoth (segment_name first ++ part) (segment_name first)
+        (F.trusted folder.old) (F.trusted folder.new) }
     ensures files { IsTrue F.honest → FilesElsewhereOfBoth (segment_name first ++ part) (segment_name first)
         (F.may_hold folder.old) (F.may_hold folder.new) }
     ensures crash { IsTrue F.honest → ComesFrom (ElsewhereOfBoth (segment_name first ++ part) (segment_name first))
@@ -134,6 +136,8 @@ pub(crate) fn add_segment<F: ReadableFolder>(
     ensures published { IsTrue F.honest → OnOk result ((c : List ℕ → _) → F.may_leave folder.new c
         → HasSegment c (part_at first tail.now places.now)) }
     ensures kept { IsTrue F.honest → OnOk result ((n : List ℕ) → F.entry_kept folder.new n) }
+    ensures trust { IsTrue F.honest → EntriesStayElsewhereOfBoth (segment_name first ++ part) (segment_name first)
+        (F.trusted folder.old) (F.trusted folder.new) }
     ensures files { IsTrue F.honest → FilesElsewhereOfBoth (segment_name first ++ part) (segment_name first)
         (F.may_hold folder.old) (F.may_hold folder.new) }
     ensures crash { IsTrue F.honest → ComesFrom (ElsewhereOfBoth (segment_name first ++ part) (segment_name first))

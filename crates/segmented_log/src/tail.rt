@@ -9,8 +9,7 @@ ghost use Rattle.store_folder.specs.Publishing.{part};
 ghost use Rattle.log_tail.specs.Place.{contents, EndsBy};
 ghost use Rattle.log_tail.specs.Tail.{records_of, first_of, IsTail, IsWholeTo};
 ghost use Rattle.segmented_log.specs.Names.{tail_name};
-ghost use Rattle.segmented_log.specs.Log.{KeepsLog};
-ghost use Rattle.segmented_log.specs.Opening.{IsSynced, IsTailOf};
+ghost use Rattle.segmented_log.specs.Opening.{IsSyncedButTail, IsOldOrSeen, IsTailOf};
 ghost use Rattle.segmented_log.specs.Settled.{TailIsKept};
 ghost use Rattle.segmented_log.specs.Causes.{IsOfFiles, IsFault};
 
@@ -30,27 +29,30 @@ pub(crate) struct Tail {
     pub(crate) places: Vec<Place>,
 }
 
-/// The tail of these bytes. A torn end is cut off, in memory and on the disk.
+/// The tail of these bytes. A torn end is cut off, in memory and on the disk. A tail that is not kept on the disk is made
+/// anew.
 pub(crate) fn repair_tail<F: Folder>(
     alloc: Global,
     folder: &mut F,
     bytes: Vec<u8>,
+    is_kept: bool,
 ) -> Result<Tail, LogError>
-    requires synced { IsTrue F.honest → IsSynced (F.seen folder.old) (F.may_hold folder.old)
-        (F.may_leave folder.old) (F.entry_kept folder.old) }
+    requires synced { IsTrue F.honest → IsSyncedButTail (F.seen folder.old) (F.may_leave folder.old) }
     requires file { IsTrue F.honest → F.seen folder.old tail_name ≡ Some bytes.items }
+    requires kept { IsTrue F.honest → IsTrue is_kept → TailIsKept (F.may_hold folder.old) (F.may_leave folder.old)
+        (F.entry_kept folder.old) (F.trusted folder.old) bytes.items }
     ensures tail { IfOk result (λ t. IsTail t.bytes.items × IsWholeTo (length t.bytes.items) t.bytes.items
         × (t.first ≡ first_of t.bytes.items)) }
     ensures records { IfOk result (λ t. contents t.bytes.items t.places.items ≡ records_of t.bytes.items) }
     ensures within { IfOk result (λ t. All (EndsBy (length t.bytes.items)) t.places.items) }
     ensures kept { IsTrue F.honest → IfOk result (λ t. TailIsKept (F.may_hold folder.new) (F.may_leave folder.new)
-        (F.entry_kept folder.new) t.bytes.items) }
+        (F.entry_kept folder.new) (F.trusted folder.new) t.bytes.items) }
     ensures crash { IsTrue F.honest → ComesFrom (ElsewhereOfBoth (tail_name ++ part) tail_name)
         (F.may_leave folder.old) (F.may_leave folder.new) }
 
-    // A crash at any moment leaves the same log.
+    // A crash at any moment leaves what it could leave before, or the same log.
     ensures any_moment { IsTrue F.honest → LeavesOnly F.moment F.left_since folder.old folder.new
-        (KeepsLog (F.seen folder.old)) }
+        (IsOldOrSeen (F.may_leave folder.old) (F.seen folder.old)) }
     ensures same { IfOk result (λ t. IsTailOf (Some bytes.items) t.bytes.items) }
     ensures no_log { IsErrOf result LogError.NoLog → IsTail bytes.items → ⊥ }
     ensures failures { F.failures folder.old ≤ F.failures folder.new }
@@ -61,7 +63,7 @@ pub(crate) fn repair_tail<F: Folder>(
         return Err(LogError::NoLog);
     };
     let found = find_records(alloc, &bytes)?;
-    if found.end == bytes.len() {
+    if is_kept && found.end == bytes.len() {
         return Ok(Tail {
             bytes,
             first,
@@ -79,21 +81,20 @@ pub(crate) fn repair_tail<F: Folder>(
 
 /// The tail of a new log, which is put into a folder that has no log.
 pub(crate) fn begin_tail<F: Folder>(alloc: Global, folder: &mut F) -> Result<Tail, LogError>
-    requires synced { IsTrue F.honest → IsSynced (F.seen folder.old) (F.may_hold folder.old)
-        (F.may_leave folder.old) (F.entry_kept folder.old) }
+    requires synced { IsTrue F.honest → IsSyncedButTail (F.seen folder.old) (F.may_leave folder.old) }
     requires none { IsTrue F.honest → F.seen folder.old tail_name ≡ None }
     ensures tail { IfOk result (λ t. IsTail t.bytes.items × IsWholeTo (length t.bytes.items) t.bytes.items
         × (t.first ≡ first_of t.bytes.items)) }
     ensures records { IfOk result (λ t. contents t.bytes.items t.places.items ≡ records_of t.bytes.items) }
     ensures within { IfOk result (λ t. All (EndsBy (length t.bytes.items)) t.places.items) }
     ensures kept { IsTrue F.honest → IfOk result (λ t. TailIsKept (F.may_hold folder.new) (F.may_leave folder.new)
-        (F.entry_kept folder.new) t.bytes.items) }
+        (F.entry_kept folder.new) (F.trusted folder.new) t.bytes.items) }
     ensures crash { IsTrue F.honest → ComesFrom (ElsewhereOfBoth (tail_name ++ part) tail_name)
         (F.may_leave folder.old) (F.may_leave folder.new) }
 
     // A crash at any moment leaves no log, or the new one.
     ensures any_moment { IsTrue F.honest → LeavesOnly F.moment F.left_since folder.old folder.new
-        (KeepsLog (F.seen folder.old)) }
+        (IsOldOrSeen (F.may_leave folder.old) (F.seen folder.old)) }
     ensures empty { IfOk result (λ t. IsTailOf None t.bytes.items) }
     ensures failures { F.failures folder.old ≤ F.failures folder.new }
     ensures failed { IsErrOf result LogError.Failed → HasRisen (F.failures folder.old) (F.failures folder.new) }

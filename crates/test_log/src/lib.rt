@@ -12,6 +12,8 @@ mod sealing;
 #[cfg(test)]
 mod segmented;
 #[cfg(test)]
+mod torn_failures;
+#[cfg(test)]
 mod torn_files;
 #[cfg(test)]
 mod torn_kills;

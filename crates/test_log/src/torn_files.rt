@@ -162,6 +162,7 @@ impl Disk {
                 self.sync_file(name.as_str());
                 Ok(())
             }
+            Event::SyncFailed(_) => Ok(()),
             Event::FolderSynced => self.sync(),
         }
     }

@@ -33,6 +33,8 @@ fn repeat(folder: &mut Watched, event: &Event) -> io::Result<()> {
         Event::Moved(_, _) => Ok(()),
         Event::Removed(name) => folder.remove(name.as_str()),
         Event::FileSynced(name) => folder.sync_file(name.as_str()),
+        // Of a file that was not trusted, or the first that fails.
+        Event::SyncFailed(name) => folder.lose_sync(name.as_str()),
         Event::FolderSynced => folder.sync(),
     }
 }
@@ -56,8 +58,8 @@ fn record(alloc: Global, number: usize) -> Result<Vec<u8>, AllocError> {
     Ok(record)
 }
 
-// Appends the record of a number to a log, and syncs it. Whether it is acknowledged under that number.
-fn add_record(alloc: Global, log: &mut Log, number: usize) -> Result<bool, AllocError> {
+/// Appends the record of a number to a log, and syncs it. Whether it is acknowledged under that number.
+pub fn add_record(alloc: Global, log: &mut Log, number: usize) -> Result<bool, AllocError> {
     let record = record(alloc, number)?;
     Ok(log.append(&record) == Ok(number as u64) && log.sync().is_ok())
 }
@@ -113,8 +115,8 @@ fn survives(
     Ok(true)
 }
 
-// Opens a log, writes the next record and seals it, and plays the crashes. Whether each leaves the acknowledged records.
-fn goes_on(
+/// Opens a log, writes the next record and seals it, and plays the crashes. Whether each leaves the acknowledged records.
+pub fn goes_on(
     alloc: Global,
     folder: Watched,
     commit: Commit,

@@ -9,22 +9,59 @@ use store_base::MemFile;
 use store_folder::{Folder, ReadableFolder};
 use torn_folder::{Event, TornFolder};
 
-/// A folder that keeps the calls that were made to it. It promises nothing.
+/// A folder that keeps the calls that were made to it. The call of one number can be made to fail, the first being number
+/// 1: a sync of a file that fails keeps nothing, nor does a later one of that file. It promises nothing.
 #[derive(Drop)]
 pub struct Watched {
     alloc: Global,
     folder: TornFolder,
+    calls: usize,
+    failing_call: usize,
     failures: u64,
 }
 
 impl Watched {
     /// An empty folder.
     pub fn new(alloc: Global) -> Watched {
+        Watched::failing_at(alloc, 0)
+    }
+
+    /// An empty folder of which the call of this number fails.
+    pub fn failing_at(alloc: Global, failing_call: usize) -> Watched {
         Watched {
             alloc,
             folder: TornFolder::new(alloc),
+            calls: 0,
+            failing_call,
             failures: 0,
         }
+    }
+
+    /// Whether the call failed that was to fail.
+    pub fn has_failed(&self) -> bool {
+        self.failing_call > 0 && self.calls >= self.failing_call
+    }
+
+    /// A sync of a file that keeps nothing.
+    pub fn lose_sync(&mut self, name: &str) -> io::Result<()> {
+        let _ = self.folder.fail_sync(name);
+        Ok(())
+    }
+
+    // Writes the first half of the bytes, and fails.
+    fn append_half(&mut self, name: &str, bytes: &[u8]) -> io::Result<()>
+        ensures { self.new.failures ≡ self.old.failures }
+    {
+        self.folder.append(name, &bytes[..bytes.len() / 2])?;
+        Err(io::ErrorKind::Other.into())
+    }
+
+    // Counts a call. Whether it is the one that fails.
+    fn begin(&mut self) -> bool
+        ensures { self.new.failures ≡ self.old.failures }
+    {
+        self.calls = self.calls.saturating_add(1);
+        self.calls == self.failing_call
     }
 
     /// The calls that were made, the first of them first.
@@ -58,6 +95,8 @@ impl Folder for Watched {
 
     ghost entry_kept = { λ _ _. ⊥ };
 
+    ghost trusted = { λ _ _. ⊥ };
+
     ghost moment = { λ _. 0 };
 
     ghost left_since = { λ _ _ _. ⊥ };
@@ -73,12 +112,17 @@ impl Folder for Watched {
     ghost entry_leads = { λ f n c h kept left. absurd kept };
 
     fn create(&mut self, name: &str) -> io::Result<()> {
-        let outcome = self.folder.create(name);
+        let outcome = if self.begin() {
+            Err(io::ErrorKind::Other.into())
+        } else {
+            self.folder.create(name)
+        };
         self.count(outcome)
     }
 
     fn append(&mut self, name: &str, bytes: &[u8]) -> io::Result<()> {
         let outcome = match self.folder.read(self.alloc, name) {
+            Ok(Some(_)) if self.begin() => self.append_half(name, bytes),
             Ok(Some(_)) => self.folder.append(name, bytes),
             _ => Err(io::ErrorKind::NotFound.into()),
         };
@@ -87,6 +131,7 @@ impl Folder for Watched {
 
     fn sync_file(&mut self, name: &str) -> io::Result<()> {
         let outcome = match self.folder.read(self.alloc, name) {
+            Ok(Some(_)) if self.begin() => self.folder.fail_sync(name),
             Ok(Some(_)) => self.folder.sync_file(name),
             _ => Err(io::ErrorKind::NotFound.into()),
         };
@@ -95,6 +140,7 @@ impl Folder for Watched {
 
     fn rename(&mut self, from: &str, to: &str) -> io::Result<()> {
         let outcome = match self.folder.read(self.alloc, from) {
+            Ok(Some(_)) if self.begin() => Err(io::ErrorKind::Other.into()),
             Ok(Some(_)) => self.folder.rename(from, to),
             _ => Err(io::ErrorKind::NotFound.into()),
         };
@@ -102,13 +148,33 @@ impl Folder for Watched {
     }
 
     fn remove(&mut self, name: &str) -> io::Result<()> {
-        let outcome = self.folder.remove(name);
+        let outcome = if self.begin() {
+            Err(io::ErrorKind::Other.into())
+        } else {
+            self.folder.remove(name)
+        };
         self.count(outcome)
     }
 
     fn sync(&mut self) -> io::Result<()> {
-        let outcome = self.folder.sync();
+        let outcome = if self.begin() {
+            Err(io::ErrorKind::Other.into())
+        } else {
+            self.folder.sync()
+        };
         self.count(outcome)
+    }
+
+    fn is_trusted(&self, name: &str) -> bool {
+        self.folder.is_trusted(name)
+    }
+
+    fn is_synced(&self, name: &str) -> bool {
+        self.folder.is_synced(name)
+    }
+
+    fn has_kept_entries(&self) -> bool {
+        self.folder.has_kept_entries()
     }
 }
 

@@ -1,8 +1,7 @@
-use Rattle.std.proofs.lemmas.Result.{on_ok_weaker}
 use Rattle.segmented_log.proofs.FoundLemmas.{seen_after}
 use Rattle.segmented_log.proofs.found_files.sync_found_file.Goals as goal
 
-pub returns-clause-seen : goal.returns-clause-seen
-returns-clause-seen g c = λ h.
+pub returns-then-is_trusted-clause-seen : goal.returns-then-is_trusted-clause-seen
+returns-then-is_trusted-clause-seen g c = λ h n.
     let F = g.F.Folder in
-    on_ok_weaker c.sync_file.result (λ same n. seen_after c.args.name.now (F.seen c.args.folder.now) (F.seen c.sync_file.new.self) same (c.sync_file.ensures.elsewhere h) n) (c.sync_file.ensures.seen h)
+    seen_after c.args.name.now (F.seen c.args.folder.now) (F.seen c.sync_file.new.self) (c.in_ok-sync_file.ensures.seen h) (c.sync_file.ensures.elsewhere h) n

@@ -9,7 +9,8 @@ abbrev pub invariant-loop-name : goal.invariant-loop-name
 invariant-loop-name g l = let old = l.fn.folder in
     let F = g.F.Folder in
     record {
-      synced : IsTrue F.honest → AreSynced (F.seen old) (F.may_leave old) (map string_bytes (take l.name-index l.names)) (F.seen l.folder) (F.may_hold l.folder) (F.may_leave l.folder);
+      synced : IsTrue F.honest
+          → AreSynced (F.seen old) (F.may_leave old) (map string_bytes (take l.name-index l.names)) l.all (F.seen l.folder) (F.may_hold l.folder) (F.may_leave l.folder) (F.trusted l.folder);
       any_moment : IsTrue F.honest → LeavesOnly F.moment F.left_since old l.folder (F.may_leave old);
       failures : F.failures old ≤ F.failures l.folder;
     }

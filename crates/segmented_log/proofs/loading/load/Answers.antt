@@ -1,39 +1,46 @@
-use Rattle.std.proofs.Common.{◌≡◌, inl, inr, map, string_bytes, sym, subst}
+use Rattle.std.proofs.Common.{◌≡◌, inl, inr, ⊎_elim, map, string_bytes, sym, subst}
 use Rattle.std.specs.Prelude.{IsTrue}
+use Rattle.std.proofs.lemmas.Result.{on_ok_weaker}
 use Rattle.store_folder.specs.Folder.{AreNames}
 use Rattle.store_folder.specs.Moments.{LeavesOnly}
 use Rattle.store_folder.proofs.Steps.{started, weaker, joined}
 use Rattle.segmented_log.specs.Log.{KeepsLog}
 use Rattle.segmented_log.specs.Opening.{IsOldOrSeen, IsNoLog, HasFullTail}
-use Rattle.segmented_log.proofs.FoundLemmas.{one_look, always_ok}
+use Rattle.segmented_log.proofs.FoundLemmas.{one_look}
+use Rattle.segmented_log.proofs.OpeningLemmas.{as_before}
 use Rattle.segmented_log.proofs.loading.load.Goals.{After-load_synced}
 use Rattle.segmented_log.proofs.loading.load.Goals as goal
 
 -- what a look sees stays while the files are synced
 same_look : (g : _) (c : After-load_synced g) → IsTrue g.F.Folder.honest → g.F.Folder.seen c.sync_found_files.new.folder ≡ g.F.Folder.seen c.args.folder.now
-same_look g c h = one_look _ _ (c.in_ok-sync_found_files.ensures.seen h)
+same_look g c h = one_look _ _ (c.in_ok-is_kept.ensures.seen h)
 
 -- what a crash leaves once they are synced
-seen_log : (g : _) (c : After-load_synced g) → IsTrue g.F.Folder.honest
-    → LeavesOnly g.F.Folder.moment g.F.Folder.left_since c.sync_found_files.new.folder c.load_synced.new.folder (KeepsLog (g.F.Folder.seen c.args.folder.now))
-seen_log g c h =
+old_or_seen : (g : _) (c : After-load_synced g) → IsTrue g.F.Folder.honest
+    → LeavesOnly g.F.Folder.moment g.F.Folder.left_since c.sync_found_files.new.folder c.load_synced.new.folder
+    (IsOldOrSeen (g.F.Folder.may_leave c.args.folder.now) (g.F.Folder.seen c.args.folder.now))
+old_or_seen g c h =
     let F = g.F.Folder in
-    subst (λ l. LeavesOnly F.moment F.left_since c.sync_found_files.new.folder c.load_synced.new.folder (KeepsLog l)) (same_look g c h) (c.load_synced.ensures.any_moment h)
+    let old = c.args.folder.now in
+    let mid = c.sync_found_files.new.folder in
+    weaker F.moment F.left_since mid c.load_synced.new.folder _ _
+    (λ l. ⊎_elim (λ was. inl (was.0, c.sync_found_files.ensures.crash h was.0 was.1, was.2)) (λ keeps. inr (subst (λ s. KeepsLog s l) (same_look g c h) keeps)))
+    (c.load_synced.ensures.any_moment h)
 
 pub returns-in_err-names-clause-any_moment : goal.returns-in_err-names-clause-any_moment
 returns-in_err-names-clause-any_moment g c = λ h.
     let F = g.F.Folder in
     let old = c.args.folder.now in
-    started F.moment F.left_since old _ (λ l left. inl (g.met.F.Folder.only_now old l left))
+    started F.moment F.left_since old _ (λ l left. inl (as_before (F.may_leave old) l (g.met.F.Folder.only_now old l left)))
 
-pub returns-in_err-sync_found_files-clause-any_moment : goal.returns-in_err-sync_found_files-clause-any_moment
-returns-in_err-sync_found_files-clause-any_moment g c = λ h.
+pub returns-in_err-is_kept-clause-any_moment : goal.returns-in_err-is_kept-clause-any_moment
+returns-in_err-is_kept-clause-any_moment g c = λ h.
     let F = g.F.Folder in
-    weaker F.moment F.left_since c.args.folder.now c.sync_found_files.new.folder _ _ (λ l left. inl left) (c.sync_found_files.ensures.any_moment h)
+    weaker F.moment F.left_since c.args.folder.now c.sync_found_files.new.folder _ _ (λ l left. inl (as_before (F.may_leave c.args.folder.now) l left)) (c.sync_found_files.ensures.any_moment h)
 
 pub load_synced-requires-clause-names : goal.load_synced-requires-clause-names
 load_synced-requires-clause-names g c = λ h.
-    subst (λ l. AreNames l (map string_bytes c.deref-2.result.now)) (sym (one_look _ _ (c.in_ok-sync_found_files.ensures.seen h)))
+    subst (λ l. AreNames l (map string_bytes c.deref-2.result.now)) (sym (one_look _ _ (c.in_ok-is_kept.ensures.seen h)))
     (subst (λ l. AreNames (g.F.Folder.seen c.args.folder.now) (map string_bytes l)) (sym c.deref-2.ensures.value) (c.in_ok-names.ensures.names h))
 
 pub returns-clause-any_moment : goal.returns-clause-any_moment
@@ -44,16 +51,14 @@ returns-clause-any_moment g c = λ h.
     let new = c.load_synced.new.folder in
     let P = IsOldOrSeen (F.may_leave old) (F.seen old) in
     joined F.moment F.left_since old mid new P
-    (weaker F.moment F.left_since old mid _ _ (λ l left. inl left) (c.sync_found_files.ensures.any_moment h))
-    (weaker F.moment F.left_since mid new _ _ (λ l keeps. inr keeps) (seen_log g (goal.at.returns-clause-any_moment g c).After-load_synced h))
+    (weaker F.moment F.left_since old mid _ _ (λ l left. inl (as_before (F.may_leave old) l left)) (c.sync_found_files.ensures.any_moment h))
+    (old_or_seen g (goal.at.returns-clause-any_moment g c).After-load_synced h)
 
 pub returns-clause-kept : goal.returns-clause-kept
 returns-clause-kept g c = λ h.
     let F = g.F.Folder in
-    let mid = c.sync_found_files.new.folder in
-    let new = c.load_synced.new.folder in
-    let run = seen_log g (goal.at.returns-clause-kept g c).After-load_synced h in
-    always_ok c.load_synced.result (λ l left. run.each l (g.met.F.Folder.counts_now new (F.moment mid) l run.later left))
+    on_ok_weaker c.load_synced.result
+    (λ kept l left. subst (λ s. KeepsLog s l) (same_look g (goal.at.returns-clause-kept g c).After-load_synced h) (kept l left)) (c.load_synced.ensures.kept h)
 
 pub returns-clause-no_log : goal.returns-clause-no_log
 returns-clause-no_log g c = λ h is.

@@ -1,4 +1,4 @@
-use Rattle.std.proofs.Common.{rules, ◌≡◌, inr, ◌<◌, [], length, ◌==◌, arith, map, refl, sym, ◌∙◌, ap, subst, string_bytes}
+use Rattle.std.proofs.Common.{rules, ◌≡◌, inl, inr, ◌<◌, [], length, ◌==◌, arith, map, refl, sym, ◌∙◌, ap, subst, string_bytes}
 use Rattle.std.specs.Prelude.{All, IsTrue, IsErrOf}
 use Rattle.std.specs.List.{Contains}
 use Rattle.std.proofs.lemmas.List.{length-map}
@@ -8,7 +8,7 @@ use Rattle.segmented_log.specs.Parts.{part_of}
 use Rattle.segmented_log.specs.Log.{HasSegment}
 use Rattle.segmented_log.specs.Settled.{TailIsKept}
 use Rattle.segmented_log.specs.declared.error.LogError.TheVariants.{Failed, Full, NoLog}
-use Rattle.segmented_log.proofs.OpeningLemmas.{keeps_same}
+use Rattle.segmented_log.proofs.OpeningLemmas.{as_before, keeps_loaded}
 use Rattle.segmented_log.proofs.LoadLemmas.{loaded_outcomes, firsts_of}
 use Rattle.segmented_log.proofs.PartLemmas.{begin_before}
 use Rattle.segmented_log.proofs.NoLogLemmas.{no_store, some_segment, no_tail, not_in_line, full_tail}
@@ -18,13 +18,13 @@ pub returns-in_err-numbers-clause-any_moment : goal.returns-in_err-numbers-claus
 returns-in_err-numbers-clause-any_moment g c = λ h.
     let F = g.F.Folder in
     let old = c.args.folder.now in
-    started F.moment F.left_since old _ (λ l left. keeps_same (F.seen old) l ((c.requires.synced h).outcomes l (g.met.F.Folder.only_now old l left)))
+    started F.moment F.left_since old _ (λ l left. inl (as_before (F.may_leave old) l (g.met.F.Folder.only_now old l left)))
 
 pub returns-in_err-segments-clause-any_moment : goal.returns-in_err-segments-clause-any_moment
 returns-in_err-segments-clause-any_moment g c = λ h.
     let F = g.F.Folder in
     let old = c.args.folder.now in
-    started F.moment F.left_since old _ (λ l left. keeps_same (F.seen old) l ((c.requires.synced h).outcomes l (g.met.F.Folder.only_now old l left)))
+    started F.moment F.left_since old _ (λ l left. inl (as_before (F.may_leave old) l (g.met.F.Folder.only_now old l left)))
 
 pub returns-clause-folder : goal.returns-clause-folder
 returns-clause-folder g c = λ h.
@@ -39,7 +39,7 @@ returns-clause-folder g c = λ h.
     let each = recursion_from_All (HasSegment (F.seen old)) (map (λ x. part_of x.first x.reader) p.segments.items)
     (All-map (HasSegment (F.seen old)) (λ x. part_of x.first x.reader) p.segments.items
     (subst (λ v. All (λ x. HasSegment (F.seen old) (part_of x.first x.reader)) v.items) (sym c.in_ok-parts.ensures.segments) (c.in_ok-segments.ensures.found h))) in
-    let kept = subst (λ t. TailIsKept (F.may_hold new) (F.may_leave new) (F.entry_kept new) t.bytes.items) (sym c.in_ok-parts.ensures.tail) (c.in_ok-tail.ensures.kept h) in
+    let kept = subst (λ t. TailIsKept (F.may_hold new) (F.may_leave new) (F.entry_kept new) (F.trusted new) t.bytes.items) (sym c.in_ok-parts.ensures.tail) (c.in_ok-tail.ensures.kept h) in
     record {
       parts = c.in_ok-parts.ensures.parts;
       sealed_is = c.in_ok-parts.ensures.sealed;
@@ -47,10 +47,18 @@ returns-clause-folder g c = λ h.
         outcomes = loaded_outcomes (F.seen old) names numbers (c.requires.names h) c.in_ok-numbers.ensures.numbers (map (λ x. part_of x.first x.reader) p.segments.items) firsts_are
             _ c.in_ok-parts.ensures.parts.fits (begin_before p.first _ c.in_ok-parts.ensures.parts.in_line) p.tail.bytes.items
             (F.may_leave old) (F.may_leave new)
-            (c.requires.synced h).outcomes each (c.load_tail.ensures.crash h) kept.outcomes;
+            (c.requires.synced h) each (c.load_tail.ensures.crash h) kept.outcomes;
         tail_kept = kept;
       };
     }
+
+pub returns-clause-kept : goal.returns-clause-kept
+returns-clause-kept g c = λ h.
+    let F = g.F.Folder in
+    let old = c.args.folder.now in
+    let t = c.in_ok-tail.ensures in
+    keeps_loaded (F.seen old) (F.may_leave old) (c.requires.synced h) c.in_ok-tail.tail.bytes.items t.tail.0 (t.same h) (F.may_leave c.load_tail.new.folder) (c.load_tail.ensures.crash h)
+    (t.kept h).outcomes
 
 pub returns-clause-honest : goal.returns-clause-honest
 returns-clause-honest g c = λ h.

@@ -1,4 +1,4 @@
-use Rattle.std.proofs.Common.{◌≡◌, ◌++◌, take, Some, ◌∙◌, ap, subst, sym, rules}
+use Rattle.std.proofs.Common.{◌≡◌, inl, ◌++◌, take, Some, ◌∙◌, ap, subst, sym, rules}
 use Rattle.std.specs.Prelude.{IsTrue}
 use Rattle.store_folder.specs.Moments.{LeavesOnly}
 use Rattle.store_folder.specs.Publishing.{part, IsOldOrWhole}
@@ -6,19 +6,19 @@ use Rattle.store_folder.proofs.Steps.{started, weaker}
 use Rattle.log_tail.specs.Place.{contents}
 use Rattle.log_tail.specs.Tail.{records_of, first_of, IsTail, IsWholeTo}
 use Rattle.segmented_log.specs.Names.{tail_name}
-use Rattle.segmented_log.specs.Log.{KeepsLog}
-use Rattle.segmented_log.proofs.OpeningLemmas.{keeps_same, keeps_replaced}
+use Rattle.segmented_log.specs.Opening.{IsOldOrSeen}
+use Rattle.segmented_log.proofs.OpeningLemmas.{as_before, keeps_replaced}
 use Rattle.segmented_log.proofs.TailRepairLemmas.{front_whole, front_first, front_records, front_tail, front_contents}
 use Rattle.segmented_log.proofs.tail.repair_tail.Goals.{In-Some, After-deref-4}
 use Rattle.segmented_log.proofs.tail.repair_tail.Goals as goal
 
--- while nothing is written, each moment has the same log
+-- while nothing is written, each moment has what there was
 untouched : (g : _) (c : In-Some g) → IsTrue g.F.Folder.honest
-    → LeavesOnly g.F.Folder.moment g.F.Folder.left_since c.args.folder.now c.args.folder.now (KeepsLog (g.F.Folder.seen c.args.folder.now))
+    → LeavesOnly g.F.Folder.moment g.F.Folder.left_since c.args.folder.now c.args.folder.now (IsOldOrSeen (g.F.Folder.may_leave c.args.folder.now) (g.F.Folder.seen c.args.folder.now))
 untouched g c h =
     let F = g.F.Folder in
     let old = c.args.folder.now in
-    started F.moment F.left_since old _ (λ l left. keeps_same (F.seen old) l ((c.requires.synced h).outcomes l (g.met.F.Folder.only_now old l left)))
+    started F.moment F.left_since old _ (λ l left. inl (as_before (F.may_leave old) l (g.met.F.Folder.only_now old l left)))
 
 pub returns-in_err-found-clause-any_moment : goal.returns-in_err-found-clause-any_moment
 returns-in_err-found-clause-any_moment g c = λ h. untouched g (goal.at.returns-in_err-found-clause-any_moment g c).In-Some h
@@ -41,10 +41,10 @@ whole_is g c = subst (λ b. IsWholeTo c.in_ok-found.found.end b) c.deref-2.ensur
 was_tail : (g : _) (c : After-deref-4 g) → IsTail c.args.bytes.items
 was_tail g c = subst IsTail c.deref.ensures.value c.in-Some.ensures.some.0
 
--- while the tail is replaced by its front, each moment has the same log
+-- while the tail is replaced by its front, each moment has what there was, or the same log
 same_log : (g : _) (c : After-deref-4 g) (new : _) → IsTrue g.F.Folder.honest
     → LeavesOnly g.F.Folder.moment g.F.Folder.left_since c.args.folder.now new (IsOldOrWhole (g.F.Folder.may_leave c.args.folder.now) (tail_name ++ part) tail_name (Some c.deref-4.result.now))
-    → LeavesOnly g.F.Folder.moment g.F.Folder.left_since c.args.folder.now new (KeepsLog (g.F.Folder.seen c.args.folder.now))
+    → LeavesOnly g.F.Folder.moment g.F.Folder.left_since c.args.folder.now new (IsOldOrSeen (g.F.Folder.may_leave c.args.folder.now) (g.F.Folder.seen c.args.folder.now))
 same_log g c new h replacing =
     let F = g.F.Folder in
     let old = c.args.folder.now in
@@ -52,7 +52,7 @@ same_log g c new h replacing =
     let file = c.in_ok-whole.whole.items in
     let end = c.in_ok-found.found.end in
     weaker F.moment F.left_since old new _ _
-    (λ l o. keeps_replaced (F.seen old) (F.may_leave old) (c.requires.synced h).outcomes bytes file (c.requires.file h) (was_tail g c)
+    (λ l o. keeps_replaced (F.seen old) (F.may_leave old) (c.requires.synced h) bytes file (c.requires.file h)
     (front_tail bytes file end (whole_is g c) (file_is g c) (was_tail g c))
     (front_first bytes file end (whole_is g c) (file_is g c)) (front_records bytes file end (whole_is g c) (file_is g c)) l
     (subst (λ b. IsOldOrWhole (F.may_leave old) (tail_name ++ part) tail_name (Some b) l) c.deref-4.ensures.value o)) replacing

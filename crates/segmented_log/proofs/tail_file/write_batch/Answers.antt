@@ -21,7 +21,7 @@ returns-in-OneSync-clause-kept g c = λ h.
     let F = g.F.Folder in
     let new = c.append_batch.new.folder in
     on_ok_weaker c.append_batch.result
-    (λ kept. subst (λ t. TailIsKept (F.may_hold new) (F.may_leave new) (F.entry_kept new) t) (with_batch c.args.tail.now c.args.end c.requires.within)
+    (λ kept. subst (λ t. TailIsKept (F.may_hold new) (F.may_leave new) (F.entry_kept new) (F.trusted new) t) (with_batch c.args.tail.now c.args.end c.requires.within)
     (kept (take c.args.end c.args.tail.now) (c.requires.kept h)))
     (c.append_batch.ensures.kept h)
 

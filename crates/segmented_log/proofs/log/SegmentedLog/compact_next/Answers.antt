@@ -28,7 +28,7 @@ returns-in_default-clause-any_moment g c = λ h.
     let log = c.self.inside in
     let settled = (OnFalse_at (ap (λ v. v.is_broken) c.self.view_is ∙ c.requires.works) c.self.invariant).1 h in
     subst (λ v. LeavesOnly F.moment F.left_since v.folder v.folder (IsLog v.first v.slots)) c.self.view_is
-    (log_stays _ _ _ _ _ _ _ _ _ settled.0 log.folder (g.met.F.Folder.only_now log.folder))
+    (log_stays _ _ _ _ _ _ _ _ _ _ settled.0 log.folder (g.met.F.Folder.only_now log.folder))
 
 pub returns-in_default-clause-compacted : goal.returns-in_default-clause-compacted
 returns-in_default-clause-compacted g c = λ h no.

@@ -11,6 +11,8 @@ use Rattle.segmented_log.specs.Settled.{IsSettledTail, IsSettledFolder}
 use Rattle.segmented_log.specs.Dropping.{CanGo, IsRest, DropsTo, LosesSegment, RemovesOnly, IsDropped}
 use Rattle.segmented_log.proofs.SyncLemmas.{log_stays}
 use Rattle.segmented_log.proofs.DropLemmas.{rest_itself, drops_none, dropped_rest, dropped_log, dropped_folder, dropped_names, dropped_later, some_can}
+use Rattle.segmented_log.specs.Names.{tail_name}
+use Rattle.segmented_log.proofs.NameLemmas.{segment_no_tail}
 use Rattle.segmented_log.proofs.log.SegmentedLog.drop_first.Goals.{In-Some}
 use Rattle.segmented_log.proofs.CauseLemmas.{ok_alone}
 use Rattle.segmented_log.specs.declared.error.LogError.TheVariants.{Failed}
@@ -28,7 +30,7 @@ returns-in_default-clause-any_moment g c = λ h.
     let log = c.self.inside in
     let settled = (OnFalse_at (ap (λ v. v.is_broken) c.self.view_is ∙ c.requires.works) c.self.invariant).1 h in
     subst (λ v. LeavesOnly F.moment F.left_since v.folder v.folder (DropsTo v.first v.slots c.args.number)) c.self.view_is
-    (weaker F.moment F.left_since log.folder log.folder _ _ (λ l is. drops_none _ c.args.number _ l is) (log_stays _ _ _ _ _ _ _ _ _ settled.0 log.folder (g.met.F.Folder.only_now log.folder)))
+    (weaker F.moment F.left_since log.folder log.folder _ _ (λ l is. drops_none _ c.args.number _ l is) (log_stays _ _ _ _ _ _ _ _ _ _ settled.0 log.folder (g.met.F.Folder.only_now log.folder)))
 
 pub returns-in_default-clause-stays : goal.returns-in_default-clause-stays
 returns-in_default-clause-stays g c = λ h no.
@@ -52,7 +54,7 @@ returns-in_default-clause-stays g c = λ h no.
 -- what the log knows before the segment is removed
 known_is : (g : _) (c : In-Some g)
     → IsSettledTail c.self.inside.sealed c.self.inside.tail_first c.self.inside.next c.self.inside.tail.bytes c.self.inside.places.items c.self.inside.tail.pending
-    × (IsTrue g.F.Folder.honest → IsSettledFolder (g.F.Folder.may_hold c.self.inside.folder) (g.F.Folder.may_leave c.self.inside.folder) (g.F.Folder.entry_kept c.self.inside.folder)
+    × (IsTrue g.F.Folder.honest → IsSettledFolder (g.F.Folder.may_hold c.self.inside.folder) (g.F.Folder.may_leave c.self.inside.folder) (g.F.Folder.entry_kept c.self.inside.folder) (g.F.Folder.trusted c.self.inside.folder)
     c.self.inside.first c.self.inside.sealed (map (λ x. part_of x.first x.reader) c.self.inside.segments.items) c.self.inside.tail.bytes
     × All (λ x. IsTrue x.reader.file.honest) c.self.inside.segments.items)
 known_is g c = OnFalse_at (ap (λ v. v.is_broken) c.self.view_is ∙ c.requires.works) c.self.invariant
@@ -138,10 +140,10 @@ invariant_of-self-2 g c =
     let left = ap (λ l. map (λ x. part_of x.first x.reader) l) c.remove.ensures.by_index.2 ∙ sym (drop-map (λ x. part_of x.first x.reader) 1 log.segments.items) in (
       known.0,
       λ h. (
-        subst (λ l. IsSettledFolder (F.may_hold new) (F.may_leave new) (F.entry_kept new) next log.sealed l log.tail.bytes) (sym left)
+        subst (λ l. IsSettledFolder (F.may_hold new) (F.may_leave new) (F.entry_kept new) (F.trusted new) next log.sealed l log.tail.bytes) (sym left)
             (dropped_folder log.first c.args.number next segments log.tail.bytes (known.1 h).0.parts (can_go g here) log.sealed
-            (F.may_hold log.folder) (F.may_hold new) (F.may_leave log.folder) (F.may_leave new) (F.entry_kept log.folder) (F.entry_kept new) (known.1 h).0
-            (c.remove_segment.ensures.files h) (c.in_ok-remove_segment.ensures.kept h) (c.remove_segment.ensures.crash h) (c.in_ok-remove_segment.ensures.gone h)),
+            (F.may_hold log.folder) (F.may_hold new) (F.may_leave log.folder) (F.may_leave new) (F.entry_kept log.folder) (F.entry_kept new) (F.trusted log.folder) (F.trusted new) (known.1 h).0
+            (c.remove_segment.ensures.files h) (c.in_ok-remove_segment.ensures.kept h) (c.remove_segment.ensures.trust h tail_name (λ e. segment_no_tail _ (sym e))) (c.remove_segment.ensures.crash h) (c.in_ok-remove_segment.ensures.gone h)),
         All-same (λ x. IsTrue x.reader.file.honest) c.remove.new.self.items (drop 1 log.segments.items) c.remove.ensures.by_index.2
             (All-drop (λ x. IsTrue x.reader.file.honest) 1 log.segments.items (known.1 h).1),
       ),

@@ -22,11 +22,11 @@ pub returns-in_err-tail-clause-any_moment : goal.returns-in_err-tail-clause-any_
 returns-in_err-tail-clause-any_moment g c = λ h.
     let settled = (OnFalse_at (ap (λ v. v.is_broken) c.self.view_is ∙ c.requires.works) c.self.invariant).1 h in
     subst (λ v. LeavesOnly g.F.Folder.moment g.F.Folder.left_since v.folder c.self.inside.folder (IsLog v.first v.slots)) c.self.view_is
-    (log_stays _ _ _ _ _ _ _ _ _ settled.0 c.self.inside.folder (g.met.F.Folder.only_now c.self.inside.folder))
+    (log_stays _ _ _ _ _ _ _ _ _ _ settled.0 c.self.inside.folder (g.met.F.Folder.only_now c.self.inside.folder))
 
 -- what the log knows before the tail is replaced
 known_is : (g : _) (c : After-deref g) → IsSettledTail c.self.inside.sealed c.self.inside.tail_first c.self.inside.next c.self.inside.tail.bytes c.self.inside.places.items c.self.inside.tail.pending
-    × (IsTrue g.F.Folder.honest → IsSettledFolder (g.F.Folder.may_hold c.self.inside.folder) (g.F.Folder.may_leave c.self.inside.folder) (g.F.Folder.entry_kept c.self.inside.folder)
+    × (IsTrue g.F.Folder.honest → IsSettledFolder (g.F.Folder.may_hold c.self.inside.folder) (g.F.Folder.may_leave c.self.inside.folder) (g.F.Folder.entry_kept c.self.inside.folder) (g.F.Folder.trusted c.self.inside.folder)
     c.self.inside.first c.self.inside.sealed (map (λ x. part_of x.first x.reader) c.self.inside.segments.items) c.self.inside.tail.bytes
     × All (λ x. IsTrue x.reader.file.honest) c.self.inside.segments.items)
 known_is g c = OnFalse_at (ap (λ v. v.is_broken) c.self.view_is ∙ c.requires.works) c.self.invariant
@@ -104,10 +104,10 @@ invariant_of-self-2 g c =
           (subst (λ t. IsSettledTail log.sealed end log.next t c.clear.new.self.items log.tail.pending) is
           (settled_empty _ _ _ _ _ _ known.0 _ _ (end_is g here) (sealed_is g here) made.0 made.1 (none_is g here) made.3 c.clear.new.self.items c.clear.ensures.items)),
       λ h. (
-        subst (λ t. IsSettledFolder (F.may_hold new) (F.may_leave new) (F.entry_kept new) log.first log.sealed segments t) is
+        subst (λ t. IsSettledFolder (F.may_hold new) (F.may_leave new) (F.entry_kept new) (F.trusted new) log.first log.sealed segments t) is
             (folder_empty _ _ _ _ _ _ known.0 _ _ (end_is g here) (sealed_is g here) made.0 made.1 (none_is g here) made.3 log.first segments
-            (F.may_hold log.folder) (F.may_hold new) (F.may_leave log.folder) (F.may_leave new) (F.entry_kept log.folder) (F.entry_kept new) (known.1 h).0
-            (subst (λ b. TailIsKept (F.may_hold new) (F.may_leave new) (F.entry_kept new) b) c.deref.ensures.value (c.in_ok-replace_tail.ensures.kept h)) (c.replace_tail.ensures.crash h)),
+            (F.may_hold log.folder) (F.may_hold new) (F.may_leave log.folder) (F.may_leave new) (F.entry_kept log.folder) (F.entry_kept new) (F.trusted log.folder) (F.trusted new) (known.1 h).0
+            (subst (λ b. TailIsKept (F.may_hold new) (F.may_leave new) (F.entry_kept new) (F.trusted new) b) c.deref.ensures.value (c.in_ok-replace_tail.ensures.kept h)) (c.replace_tail.ensures.crash h)),
         (known.1 h).1,
       ),
     )
@@ -116,7 +116,7 @@ pub returns-then-len-eq-HEADER-clause-any_moment : goal.returns-then-len-eq-HEAD
 returns-then-len-eq-HEADER-clause-any_moment g c = λ h.
     let settled = (OnFalse_at (ap (λ v. v.is_broken) c.self.view_is ∙ c.requires.works) c.self.invariant).1 h in
     subst (λ v. LeavesOnly g.F.Folder.moment g.F.Folder.left_since v.folder v.folder (IsLog v.first v.slots)) c.self.view_is
-    (log_stays _ _ _ _ _ _ _ _ _ settled.0 c.self.inside.folder (g.met.F.Folder.only_now c.self.inside.folder))
+    (log_stays _ _ _ _ _ _ _ _ _ _ settled.0 c.self.inside.folder (g.met.F.Folder.only_now c.self.inside.folder))
 
 pub returns-then-len-eq-HEADER-clause-failed : goal.returns-then-len-eq-HEADER-clause-failed
 returns-then-len-eq-HEADER-clause-failed g c = λ is. absurd (ok_alone Failed _ is)

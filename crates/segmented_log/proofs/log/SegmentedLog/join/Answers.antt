@@ -9,7 +9,7 @@ use Rattle.store_folder.specs.Publishing.{part}
 use Rattle.store_folder.proofs.Steps.{weaker}
 use Rattle.store_format.specs.Block.{Slot, doc, damaged}
 use Rattle.segmented_log.specs.declared.error.LogError.TheVariants.{Full, Damaged}
-use Rattle.segmented_log.specs.Names.{segment_name}
+use Rattle.segmented_log.specs.Names.{segment_name, tail_name}
 use Rattle.segmented_log.specs.Parts.{Part, part_of, sealed_of, parts_of, log_slots}
 use Rattle.segmented_log.specs.Log.{HasSegment, Holds, IsLog}
 use Rattle.segmented_log.specs.Settled.{AddsSegment, IsSettledFolder}
@@ -19,6 +19,7 @@ use Rattle.segmented_log.proofs.CompactLemmas.{changes_replaced, segment_there}
 use Rattle.segmented_log.proofs.SlotLemmas.{in_part}
 use Rattle.segmented_log.proofs.StepLemmas.{run_taken}
 use Rattle.segmented_log.proofs.RunOfParts.{one_of, run_moved, moved_joined, view_parts, run_within, parts_there, head_is, run_part, run_slots, run_set, run_log, run_same, run_folder}
+use Rattle.segmented_log.proofs.NameLemmas.{beside_no_tail, segment_no_tail}
 use Rattle.segmented_log.proofs.log.SegmentedLog.join.Goals.{After-join_segments}
 use Rattle.segmented_log.proofs.log.SegmentedLog.join.Goals as goal
 
@@ -233,11 +234,11 @@ invariant_of-self-2 g c = (
       let name_is = first_is g here r in
       let is : part_of y.first y.reader ≡ one_of r = ap (λ s. part_of s.first s.reader) c.replace.ensures.after ∙ c.in_ok-joined.ensures.segment h (there g here h) ∙ part_is g here r in
       let left = run_set (λ s. part_of s.first s.reader) log.segments.items c.args.place c.args.count r y is in (
-        subst (λ l. IsSettledFolder (F.may_hold new) (F.may_leave new) (F.entry_kept new) log.first log.sealed l log.tail.bytes) (sym left)
+        subst (λ l. IsSettledFolder (F.may_hold new) (F.may_leave new) (F.entry_kept new) (F.trusted new) log.first log.sealed l log.tail.bytes) (sym left)
             (run_folder log.first segments log.tail.bytes c.args.place c.args.count r f.parts log.sealed
-            (F.may_hold log.folder) (F.may_hold new) (F.may_leave log.folder) (F.may_leave new) (F.entry_kept log.folder) (F.entry_kept new) f
+            (F.may_hold log.folder) (F.may_hold new) (F.may_leave log.folder) (F.may_leave new) (F.entry_kept log.folder) (F.entry_kept new) (F.trusted log.folder) (F.trusted new) f
             (subst (λ n. FilesElsewhereOfBoth (segment_name n ++ part) (segment_name n) (F.may_hold log.folder) (F.may_hold new)) name_is (c.join_segments.ensures.files h))
-            (c.in_ok-joined.ensures.kept h)
+            (c.in_ok-joined.ensures.kept h) (c.join_segments.ensures.trust h tail_name (beside_no_tail _) (λ e. segment_no_tail _ (sym e)))
             (subst (λ n. ComesFrom (ElsewhereOfBoth (segment_name n ++ part) (segment_name n)) (F.may_leave log.folder) (F.may_leave new)) name_is (c.join_segments.ensures.crash h))
             (subst (λ p. (d : _) → F.may_leave new d → HasSegment d p) (part_is g here r) (c.in_ok-joined.ensures.published h (there g here h)))),
         All-set (λ s. IsTrue s.reader.file.honest) log.segments.items c.args.place y (subst (λ s. IsTrue s.reader.file.honest) (sym c.replace.ensures.after) (c.in_ok-joined.ensures.honest h)) kept.1,

@@ -22,7 +22,7 @@ pub returns-in-Ok-clause-found : goal.returns-in-Ok-clause-found
 returns-in-Ok-clause-found g c = λ h first all log.
     let F = g.F.Folder in
     let new = c.load.new.folder in
-    let here = log_on_disk _ _ _ _ _ _ _ (c.in-Ok.ensures.folder h) (F.seen new) (g.met.F.Folder.seen_may_be_left new h) in
+    let here = log_on_disk _ _ _ _ _ _ _ _ (c.in-Ok.ensures.folder h) (F.seen new) (g.met.F.Folder.seen_may_be_left new h) in
     let same = same_log c.stores_are_apart.ensures (F.seen new) _ first _ all here ((kept_log g (goal.at.returns-in-Ok-clause-found g c).In-Ok h).same first all log) in
     (same.0, in_memory g (goal.at.returns-in-Ok-clause-found g c).After-new ∙ same.1)
 
@@ -30,7 +30,7 @@ pub returns-in-Ok-clause-begun : goal.returns-in-Ok-clause-begun
 returns-in-Ok-clause-begun g c = λ h blank.
     let F = g.F.Folder in
     let new = c.load.new.folder in
-    let here = log_on_disk _ _ _ _ _ _ _ (c.in-Ok.ensures.folder h) (F.seen new) (g.met.F.Folder.seen_may_be_left new h) in
+    let here = log_on_disk _ _ _ _ _ _ _ _ (c.in-Ok.ensures.folder h) (F.seen new) (g.met.F.Folder.seen_may_be_left new h) in
     ⊎_elim (λ none. absurd (not_blank (F.seen new) _ _ here none))
     (λ log. let same = same_log c.stores_are_apart.ensures (F.seen new) _ 0 _ _ here log in (same.0, in_memory g (goal.at.returns-in-Ok-clause-begun g c).After-new ∙ same.1))
     ((kept_log g (goal.at.returns-in-Ok-clause-begun g c).In-Ok h).begun blank)

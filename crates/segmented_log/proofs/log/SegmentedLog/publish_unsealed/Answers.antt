@@ -17,6 +17,8 @@ use Rattle.segmented_log.specs.Causes.{HasNoRoom, HasNoRoomForLast, HasNewSegmen
 use Rattle.segmented_log.proofs.CauseLemmas.{none_sealed}
 use Rattle.segmented_log.proofs.SyncLemmas.{log_stays}
 use Rattle.segmented_log.proofs.SegmentLemmas.{part_is, settled_segment, segment_log, slots_segment, folder_segment}
+use Rattle.segmented_log.specs.Names.{tail_name}
+use Rattle.segmented_log.proofs.NameLemmas.{beside_no_tail, segment_no_tail}
 use Rattle.segmented_log.proofs.log.SegmentedLog.publish_unsealed.Goals.{After-deref}
 use Rattle.segmented_log.proofs.log.SegmentedLog.publish_unsealed.Goals as goal
 
@@ -24,12 +26,12 @@ pub returns-then-self-end-clause-any_moment : goal.returns-then-self-end-clause-
 returns-then-self-end-clause-any_moment g c = λ h.
     let settled = (OnFalse_at (ap (λ v. v.is_broken) c.self.view_is ∙ c.requires.works) c.self.invariant).1 h in
     subst (λ v. LeavesOnly g.F.Folder.moment g.F.Folder.left_since v.folder v.folder (IsLog v.first v.slots)) c.self.view_is
-    (log_stays _ _ _ _ _ _ _ _ _ settled.0 c.self.inside.folder (g.met.F.Folder.only_now c.self.inside.folder))
+    (log_stays _ _ _ _ _ _ _ _ _ _ settled.0 c.self.inside.folder (g.met.F.Folder.only_now c.self.inside.folder))
 
 -- what the log knows before the segment is added
 known_is : (g : _) (c : After-deref g)
     → IsSettledTail c.self.inside.sealed c.self.inside.tail_first c.self.inside.next c.self.inside.tail.bytes c.self.inside.places.items c.self.inside.tail.pending
-    × (IsTrue g.F.Folder.honest → IsSettledFolder (g.F.Folder.may_hold c.self.inside.folder) (g.F.Folder.may_leave c.self.inside.folder) (g.F.Folder.entry_kept c.self.inside.folder)
+    × (IsTrue g.F.Folder.honest → IsSettledFolder (g.F.Folder.may_hold c.self.inside.folder) (g.F.Folder.may_leave c.self.inside.folder) (g.F.Folder.entry_kept c.self.inside.folder) (g.F.Folder.trusted c.self.inside.folder)
     c.self.inside.first c.self.inside.sealed (map (λ x. part_of x.first x.reader) c.self.inside.segments.items) c.self.inside.tail.bytes
     × All (λ x. IsTrue x.reader.file.honest) c.self.inside.segments.items)
 known_is g c = OnFalse_at (ap (λ v. v.is_broken) c.self.view_is ∙ c.requires.works) c.self.invariant
@@ -115,13 +117,13 @@ invariant_of-self-2 g c =
           let part_is = c.in_ok-segment.ensures.segment h ∙ ap (λ t. part_at log.sealed t (rest g here)) c.bytes.ensures in
           let published : (l : Look) → F.may_leave new l → HasSegment l (part_at log.sealed log.tail.bytes (rest g here)) =
           λ l left. subst (λ t. HasSegment l (part_at log.sealed t (rest g here))) c.bytes.ensures (c.in_ok-segment.ensures.published h l left) in (
-            subst (λ l. IsSettledFolder (F.may_hold new) (F.may_leave new) (F.entry_kept new) log.first (log.tail_first + c.len.result) l log.tail.bytes) (sym grown)
+            subst (λ l. IsSettledFolder (F.may_hold new) (F.may_leave new) (F.entry_kept new) (F.trusted new) log.first (log.tail_first + c.len.result) l log.tail.bytes) (sym grown)
                 (folder_segment _ _ _ _ _ _ known.0 _ _ (end_is g here) (more_is g here) refl log.first (map (λ x. part_of x.first x.reader) log.segments.items) (known.1 h).0.parts
                 (known.1 h).0.sealed_is
                 (rest g here) (rest_is g here)
                 (part_of segment.first segment.reader) part_is
-                (F.may_hold log.folder) (F.may_hold new) (F.may_leave log.folder) (F.may_leave new) (F.entry_kept log.folder) (F.entry_kept new) (known.1 h).0.on_disk published
-                (c.add_segment.ensures.files h) (c.in_ok-segment.ensures.kept h) (c.add_segment.ensures.crash h)),
+                (F.may_hold log.folder) (F.may_hold new) (F.may_leave log.folder) (F.may_leave new) (F.entry_kept log.folder) (F.entry_kept new) (F.trusted log.folder) (F.trusted new) (known.1 h).0.on_disk published
+                (c.add_segment.ensures.files h) (c.in_ok-segment.ensures.kept h) (c.add_segment.ensures.trust h tail_name (beside_no_tail _) (λ e. segment_no_tail _ (sym e))) (c.add_segment.ensures.crash h)),
             All-same (λ x. IsTrue x.reader.file.honest) c.push.new.self.items (log.segments.items ++ segment ∷ []) c.in_ok-push.ensures.items
                 (All-push (λ x. IsTrue x.reader.file.honest) log.segments.items segment (known.1 h).1 (c.in_ok-segment.ensures.honest h)),
           ),

@@ -8,7 +8,7 @@ use Rattle.store_folder.specs.Moments.{LeavesOnly}
 use Rattle.store_folder.specs.Folder.{LosesFile, FilesElsewhere}
 use Rattle.store_folder.specs.Moments.{ComesFrom}
 use Rattle.store_folder.proofs.Steps.{weaker}
-use Rattle.segmented_log.specs.Names.{segment_name}
+use Rattle.segmented_log.specs.Names.{segment_name, tail_name}
 use Rattle.segmented_log.specs.Parts.{Part, part_of, sealed_of, parts_of, log_slots}
 use Rattle.segmented_log.specs.Log.{Holds, IsLog}
 use Rattle.segmented_log.specs.Settled.{IsSettledFolder}
@@ -17,6 +17,7 @@ use Rattle.segmented_log.specs.Compacting.{slots_in, IsCovered, ChangesSegments}
 use Rattle.segmented_log.proofs.CompactLemmas.{changes_removed, segment_there}
 use Rattle.segmented_log.proofs.RunOfParts.{covered_moved, view_parts, covered_is, covered_left, without, covered_same, covered_log, covered_folder}
 use Rattle.segmented_log.proofs.SlotLemmas.{in_left}
+use Rattle.segmented_log.proofs.NameLemmas.{segment_no_tail}
 use Rattle.segmented_log.proofs.log.SegmentedLog.remove_covered.Goals.{After-remove_segment, After-remove}
 use Rattle.segmented_log.proofs.CauseLemmas.{ok_alone}
 use Rattle.segmented_log.specs.declared.error.LogError.TheVariants.{Failed}
@@ -24,7 +25,7 @@ use Rattle.segmented_log.proofs.log.SegmentedLog.remove_covered.Goals as goal
 
 -- what the log knows of its folder
 settled : (g : _) (c : After-remove_segment g) → IsTrue g.F.Folder.honest → IsSettledFolder (g.F.Folder.may_hold c.self.inside.folder) (g.F.Folder.may_leave c.self.inside.folder)
-    (g.F.Folder.entry_kept c.self.inside.folder) c.self.inside.first c.self.inside.sealed (map (λ s. part_of s.first s.reader) c.self.inside.segments.items) c.self.inside.tail.bytes
+    (g.F.Folder.entry_kept c.self.inside.folder) (g.F.Folder.trusted c.self.inside.folder) c.self.inside.first c.self.inside.sealed (map (λ s. part_of s.first s.reader) c.self.inside.segments.items) c.self.inside.tail.bytes
 settled g c h = ((OnFalse_at (ap (λ v. v.is_broken) c.self.view_is ∙ c.requires.works) c.self.invariant).1 h).0
 
 -- the segment at the place is covered
@@ -123,12 +124,12 @@ invariant_of-self-2 g c = (
       let first = first_is g here h in
       let new = c.remove_segment.new.folder in
       let honest = ((OnFalse_at (ap (λ w. w.is_broken) c.self.view_is ∙ c.requires.works) c.self.invariant).1 h).1 in (
-        subst (λ l. IsSettledFolder (F.may_hold new) (F.may_leave new) (F.entry_kept new) log.first log.sealed l log.tail.bytes)
+        subst (λ l. IsSettledFolder (F.may_hold new) (F.may_leave new) (F.entry_kept new) (F.trusted new) log.first log.sealed l log.tail.bytes)
             (sym (parts_left g (goal.at.invariant_of-self-2 g c).After-remove v))
             (covered_folder log.first (map (λ s. part_of s.first s.reader) log.segments.items) log.tail.bytes place v f.parts log.sealed
-            (F.may_hold log.folder) (F.may_hold new) (F.may_leave log.folder) (F.may_leave new) (F.entry_kept log.folder) (F.entry_kept new) f
+            (F.may_hold log.folder) (F.may_hold new) (F.may_leave log.folder) (F.may_leave new) (F.entry_kept log.folder) (F.entry_kept new) (F.trusted log.folder) (F.trusted new) f
             (subst (λ n. FilesElsewhere (segment_name n) (F.may_hold log.folder) (F.may_hold new)) first (c.remove_segment.ensures.files h))
-            (c.in_ok-remove_segment.ensures.kept h)
+            (c.in_ok-remove_segment.ensures.kept h) (c.remove_segment.ensures.trust h tail_name (λ e. segment_no_tail _ (sym e)))
             (subst (λ n. ComesFrom (LosesFile (segment_name n)) (F.may_leave log.folder) (F.may_leave new)) first (c.remove_segment.ensures.crash h))
             (subst (λ n. (d : _) → F.may_leave new d → d (segment_name n) ≡ None) first (c.in_ok-remove_segment.ensures.gone h))),
         All-same (λ s. IsTrue s.reader.file.honest) c.remove.new.self.items (take place log.segments.items ++ drop (suc place) log.segments.items)
