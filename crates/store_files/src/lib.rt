@@ -6,6 +6,7 @@ pub mod create_error;
 pub mod disk_file;
 pub mod disk_sink;
 pub mod loading;
+mod lock_mark;
 pub mod locked_folder;
 pub mod os_folder;
 pub mod output_file;

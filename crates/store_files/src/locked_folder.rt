@@ -6,6 +6,7 @@ ghost use Rattle.store_base.specs.Counts.{HasRisen};
 use crate::create_error::CreateError;
 use crate::disk_file::DiskFile;
 use crate::loading::read_all;
+use crate::lock_mark::{Knowledge, Standing, read_ending};
 use crate::output_file::{LockFile, lock, open_folder};
 use crate::read_at::OsFile;
 use std::alloc::Global;
@@ -21,8 +22,10 @@ const LOCK: &str = "lock";
 /// open, and is never renamed or removed, so a second writer is refused at once. The file that was written last stays
 /// open: an append is one write, and the sync of a file one call.
 ///
+/// A mark in `lock` tells the next writer whether this one ended well. If it did, no file needs a sync; nor after a
+/// restart of the machine. If it did not, the files are known of which a sync may have failed.
+///
 /// It promises nothing of what the system does: see `Folder::honest`.
-#[derive(Drop)]
 pub struct LockedFolder<R: Files + Drop>
 where
     R::File: LockFile,
@@ -33,7 +36,17 @@ where
     folder: R::File,
     lock: R::File,
     written: Option<WrittenFile<R::File>>,
+    knowledge: Knowledge,
     failures: u64,
+}
+
+// How far a write came.
+enum Written {
+    Whole,
+    /// It failed, and nothing of it is left in the file, whose bytes are on the disk.
+    Undone(io::Error),
+    /// It failed.
+    Partly(io::Error),
 }
 
 // A file that is open to be written at its end.
@@ -46,13 +59,18 @@ struct WrittenFile<F> {
 impl<F: OpenFile + Write> WrittenFile<F> {
     // Writes bytes at the end. What was written of them is cut off where a write fails: on a full device a torn end
     // would take room, and the next opening of a log would need more, to write the whole tail without it.
-    fn write(&mut self, bytes: &[u8]) -> io::Result<()> {
-        let length = self.file.metadata()?.len();
+    fn write(&mut self, bytes: &[u8]) -> Written {
+        let length = match self.file.metadata() {
+            Ok(found) => found.len(),
+            Err(error) => return Written::Partly(error),
+        };
         match self.file.write_all(bytes) {
-            Ok(()) => Ok(()),
+            Ok(()) => Written::Whole,
             Err(error) => {
-                let _ = self.file.set_len(length);
-                Err(error)
+                if self.file.set_len(length).is_ok() && self.file.sync_data().is_ok() {
+                    return Written::Undone(error);
+                }
+                Written::Partly(error)
             }
         }
     }
@@ -78,6 +96,17 @@ fn listed_name<R: Files>(alloc: Global, entry: &DirEntry<R>) -> io::Result<Optio
         return Ok(Some(String::from_str(alloc, name)?));
     }
     Ok(None)
+}
+
+// The name of each plain file of this folder, but for the lock and those that were not published.
+fn listed_names<R: Files>(rt: &R, alloc: Global, path: &str) -> io::Result<Vec<String>> {
+    let mut names = Vec::new(alloc);
+    for entry in fs::read_dir(&(rt, alloc), path)? {
+        if let Some(name) = listed_name(alloc, &entry?)? {
+            names.push(name)?;
+        }
+    }
+    Ok(names)
 }
 
 impl<R: Files + Drop> LockedFolder<R>
@@ -119,6 +148,8 @@ where
             .open(&rt, lock_path.as_str())?;
         lock(&rt, &lock_file, lock_path.as_str(), alloc)?;
         let path = String::from_str(alloc, path).map_err(io::Error::from)?;
+        let ending = read_ending(&rt, alloc, &lock_file, lock_path.as_str())?;
+        let knowledge = Knowledge::after(alloc, ending).map_err(io::Error::from)?;
         Ok(LockedFolder {
             rt,
             alloc,
@@ -126,6 +157,7 @@ where
             folder,
             lock: lock_file,
             written: None,
+            knowledge,
             failures: 0,
         })
     }
@@ -177,24 +209,85 @@ where
         self.open_as(name, OpenOptions::new().append(true))
     }
 
+    // Lets the mark say that a writer is at work, before it changes the folder.
+    fn mark(&mut self) -> io::Result<()>
+        ensures { self.new.failures ≡ self.old.failures }
+    {
+        self.knowledge
+            .begin_change(&self.rt, self.alloc, &mut self.lock)
+    }
+
+    // Lets the mark name a file, before a sync of it may fail.
+    fn note(&mut self, name: &str) -> io::Result<()>
+        ensures { self.new.failures ≡ self.old.failures }
+    {
+        self.knowledge
+            .begin_write(&self.rt, self.alloc, &mut self.lock, name)
+    }
+
+    fn make(&mut self, name: &str) -> io::Result<()>
+        ensures { self.new.failures ≡ self.old.failures }
+    {
+        self.mark()?;
+        self.knowledge.set_kept_entries(false);
+        self.knowledge.set_written(self.alloc, name)?;
+        self.open_as(
+            name,
+            OpenOptions::new().write(true).create(true).truncate(true),
+        )?;
+        Ok(self.knowledge.set(self.alloc, name, Standing::Written)?)
+    }
+
     fn write(&mut self, name: &str, bytes: &[u8]) -> io::Result<()>
         ensures { self.new.failures ≡ self.old.failures }
     {
         self.open_to_append(name)?;
-        match &mut self.written {
+        self.note(name)?;
+        self.knowledge.set_written(self.alloc, name)?;
+        let outcome = match &mut self.written {
             Some(written) => written.write(bytes),
-            None => Err(ErrorKind::NotFound.into()),
+            None => return Err(ErrorKind::NotFound.into()),
+        };
+        match outcome {
+            Written::Whole => Ok(()),
+            Written::Undone(error) => {
+                self.knowledge.set_synced(self.alloc, name)?;
+                Err(error)
+            }
+            Written::Partly(error) => Err(error),
+        }
+    }
+
+    // Syncs a file, which is opened to be read if it is not open.
+    fn sync_open(&self, name: &str) -> io::Result<()> {
+        match &self.written {
+            Some(written) if written.name.as_str() == name => written.file.sync_data(),
+            _ => {
+                let path = self.path_of(name)?;
+                File::open(&self.rt, path.as_str())?.sync_data()
+            }
         }
     }
 
     fn sync_written(&mut self, name: &str) -> io::Result<()>
         ensures { self.new.failures ≡ self.old.failures }
     {
-        self.open_to_append(name)?;
-        match &self.written {
-            Some(written) => written.file.sync_data(),
-            None => Err(ErrorKind::NotFound.into()),
+        self.note(name)?;
+        match self.sync_open(name) {
+            Ok(()) => Ok(self.knowledge.set_synced(self.alloc, name)?),
+            Err(error) => {
+                self.knowledge.set(self.alloc, name, Standing::Failed)?;
+                Err(error)
+            }
         }
+    }
+
+    fn sync_entries(&mut self) -> io::Result<()>
+        ensures { self.new.failures ≡ self.old.failures }
+    {
+        self.folder.sync_all()?;
+        self.knowledge.set_kept_entries(true);
+        Ok(())
     }
 
     // Renames a file. One that is open stays so; one that is replaced does not.
@@ -203,7 +296,16 @@ where
     {
         let (old_path, new_path) = (self.path_of(from)?, self.path_of(to)?);
         let name = String::from_str(self.alloc, to)?;
+        if self.knowledge.is_synced(from) {
+            self.mark()?;
+        } else {
+            self.note(to)?;
+        }
+        self.knowledge.set_kept_entries(false);
+        let known_name = String::from_str(self.alloc, to)?;
+        self.knowledge.reserve()?;
         fs::rename(&self.rt, old_path.as_str(), new_path.as_str())?;
+        self.knowledge.rename(from, known_name);
         if let Some(written) = self.written.take() {
             if written.name.as_str() == from {
                 let file = written.file;
@@ -219,7 +321,10 @@ where
         ensures { self.new.failures ≡ self.old.failures }
     {
         let path = self.path_of(name)?;
+        self.mark()?;
+        self.knowledge.set_kept_entries(false);
         fs::remove_file(&self.rt, path.as_str())?;
+        self.knowledge.forget(name);
         if self.is_open(name) {
             self.written = None;
         }
@@ -261,10 +366,7 @@ where
     ghost entry_leads = { λ f n c h kept left. absurd kept };
 
     fn create(&mut self, name: &str) -> io::Result<()> {
-        let outcome = self.open_as(
-            name,
-            OpenOptions::new().write(true).create(true).truncate(true),
-        );
+        let outcome = self.make(name);
         self.count(outcome)
     }
 
@@ -289,20 +391,47 @@ where
     }
 
     fn sync(&mut self) -> io::Result<()> {
-        let outcome = self.folder.sync_all();
+        let outcome = self.sync_entries();
         self.count(outcome)
     }
 
-    fn is_trusted(&self, _name: &str) -> bool {
-        true
+    fn is_trusted(&self, name: &str) -> bool {
+        self.knowledge.is_trusted(name)
     }
 
-    fn is_synced(&self, _name: &str) -> bool {
-        false
+    fn is_synced(&self, name: &str) -> bool {
+        self.knowledge.is_synced(name)
     }
 
     fn has_kept_entries(&self) -> bool {
-        false
+        self.knowledge.has_kept_entries()
+    }
+}
+
+/// The mark tells whether all is on the disk.
+impl<R: Files + Drop> Drop for LockedFolder<R>
+where
+    R::File: LockFile,
+{
+    fn drop(self) {
+        let LockedFolder {
+            rt,
+            alloc,
+            path,
+            folder: _folder,
+            mut lock,
+            written: _written,
+            mut knowledge,
+            failures: _,
+        } = self;
+        let listed = if knowledge.needs_listing() {
+            listed_names(&rt, alloc, path.as_str())
+        } else {
+            Ok(Vec::new(alloc))
+        };
+        if let Ok(listed) = listed {
+            let _ = knowledge.mark_end(&rt, alloc, &mut lock, &listed);
+        }
     }
 }
 
@@ -315,13 +444,7 @@ impl<R: Files<File = File> + Drop> ReadableFolder for LockedFolder<R> {
 
     /// The name of each plain file, but for the lock and those that were not published.
     fn names(&self, alloc: Global) -> io::Result<Vec<String>> {
-        let mut names = Vec::new(alloc);
-        for entry in fs::read_dir(&(&self.rt, alloc), self.path.as_str())? {
-            if let Some(name) = listed_name(alloc, &entry?)? {
-                names.push(name)?;
-            }
-        }
-        Ok(names)
+        listed_names(&self.rt, alloc, self.path.as_str())
     }
 
     fn read(&self, alloc: Global, name: &str) -> io::Result<Option<Vec<u8>>> {

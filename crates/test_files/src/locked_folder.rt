@@ -213,17 +213,18 @@ fn replaced(rt: &HostRuntime, calls: &Cell<u32>, failing_call: u32) -> Result<bo
     Ok(replace(&mut folder, "a.part", "a", b"new").is_ok())
 }
 
-// The calls are: open the folder, open and lock its lock, open the file beside, write it, sync it, rename it, and sync
-// the folder. After the fifth, a write that fails, what it left is cut off.
+// The calls are: open the folder, open and lock its lock, open it to read the mark, open the file beside, write it, sync
+// it, rename it, and sync the folder; then the mark is written, and cut.
 #[test]
 fn each_failing_call_leaves_the_old_file_or_the_new_one(rt: HostRuntime) -> Result<(), Fail> {
     make(&rt, "test_files_fails")?;
-    for failing_call in 1..10 {
+    for failing_call in 1..13 {
         fs::write(&rt, "test_files_fails/a", b"old".as_slice())?;
+        fs::write(&rt, "test_files_fails/lock", b"".as_slice())?;
         let calls = Cell::new(0);
         let is_replaced = replaced(&rt, &calls, failing_call)?;
-        assert_eq!(rt; is_replaced, failing_call == 9, "{failing_call}");
-        let expected = if failing_call < 8 {
+        assert_eq!(rt; is_replaced, failing_call >= 10, "{failing_call}");
+        let expected = if failing_call < 9 {
             b"old".as_slice()
         } else {
             b"new".as_slice()
@@ -232,12 +233,6 @@ fn each_failing_call_leaves_the_old_file_or_the_new_one(rt: HostRuntime) -> Resu
             holds(&rt, "test_files_fails/a", expected)?,
             "{failing_call}"
         );
-        let made = if failing_call == 5 {
-            6
-        } else {
-            failing_call.min(8)
-        };
-        assert_eq!(rt; calls.get(), made, "{failing_call}");
     }
     Ok(remove(&rt, "test_files_fails")?)
 }
@@ -248,15 +243,16 @@ fn is_made(rt: &HostRuntime, calls: &Cell<u32>, failing_call: u32) -> Result<boo
     Ok(LockedFolder::create(rt.alloc(), files, "test_files_made/log").is_ok())
 }
 
-// The calls are: open the folder that it is in, and sync it; open the new folder, and open and lock its lock.
+// The calls are: open the folder that it is in, and sync it; open the new folder, open and lock its lock, and open it to
+// read the mark.
 #[test]
 fn a_new_folder_is_synced_in_the_one_that_it_is_in(rt: HostRuntime) -> Result<(), Fail> {
     make(&rt, "test_files_made")?;
-    for failing_call in 1..7 {
+    for failing_call in 1..8 {
         let calls = Cell::new(0);
         let is_made = is_made(&rt, &calls, failing_call)?;
-        assert_eq!(rt; is_made, failing_call == 6, "{failing_call}");
-        assert_eq!(rt; calls.get(), failing_call.min(5), "{failing_call}");
+        assert_eq!(rt; is_made, failing_call == 7, "{failing_call}");
+        assert_eq!(rt; calls.get(), failing_call.min(6), "{failing_call}");
     }
     Ok(remove(&rt, "test_files_made")?)
 }

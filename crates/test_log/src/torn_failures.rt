@@ -19,7 +19,12 @@ struct LeftLog {
 }
 
 // What a process makes of a log: it appends a record, and the second one seals the log, too.
-fn run_process(alloc: Global, left: LeftLog, commit: Commit, number: usize) -> Result<LeftLog, Fail> {
+fn run_process(
+    alloc: Global,
+    left: LeftLog,
+    commit: Commit,
+    number: usize,
+) -> Result<LeftLog, Fail> {
     let mut acknowledged = left.acknowledged;
     let folder = match SegmentedLog::open(alloc, left.folder, SEAL_SIZE, commit) {
         Ok(mut log) => {

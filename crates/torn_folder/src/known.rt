@@ -51,10 +51,7 @@ pub(crate) fn is_file_synced(events: &[Event], name: &str) -> bool
         | Event::Moved(file, _)
         | Event::Removed(file)
         | Event::SyncFailed(file)
-            if file.as_str() == name =>
-        {
-            false
-        }
+            if file.as_str() == name => { false }
         Event::FileSynced(file) if file.as_str() == name => is_file_trusted(earlier, name),
         _ => is_file_synced(earlier, name),
     }

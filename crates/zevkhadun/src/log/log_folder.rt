@@ -181,6 +181,8 @@ impl<'a, R: Files<File = File> + Drop> Folder for LogFolder<'a, R> {
 
     ghost entry_kept = { λ _ _. ⊥ };
 
+    ghost trusted = { λ _ _. ⊥ };
+
     ghost moment = { λ _. 0 };
 
     ghost left_since = { λ _ _ _. ⊥ };
@@ -241,6 +243,27 @@ impl<'a, R: Files<File = File> + Drop> Folder for LogFolder<'a, R> {
             None => Ok(()),
         };
         self.count(outcome)
+    }
+
+    fn is_trusted(&self, name: &str) -> bool {
+        match &self.writer {
+            Some(folder) => folder.is_trusted(name),
+            None => true,
+        }
+    }
+
+    fn is_synced(&self, name: &str) -> bool {
+        match &self.writer {
+            Some(folder) => folder.is_synced(name),
+            None => true,
+        }
+    }
+
+    fn has_kept_entries(&self) -> bool {
+        match &self.writer {
+            Some(folder) => folder.has_kept_entries(),
+            None => true,
+        }
     }
 }
 
