@@ -147,9 +147,9 @@ class Logs(ProgramCase):
     def check_syncs(self, replay: LogReplay, calls: list[tuple], needless: int) -> None:
         """A crash loses a record if a sync is left out, whichever it is, but for this many.
 
-        Nor is one missed of those by which the opening puts on the disk what it finds, since all is there at first.
+        Nor is the one missed by which an opening syncs a folder in which no writer has left a mark.
         """
-        needless += 1 + len([name for name in replay.files if name == "tail.log" or name.endswith(".store")])
+        needless += "lock" not in replay.files
         syncs = [place for place, call in enumerate(calls) if call[0] == "sync"]
         unnoticed = [place for place in syncs if not replay.faults(calls[:place] + calls[place + 1:])[0]]
         self.assertEqual(len(unnoticed), needless, [(place, calls[place]) for place in unnoticed])
