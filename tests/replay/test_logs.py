@@ -16,6 +16,7 @@ from replay.disk import Disk
 from replay.recording import DESCRIPTOR, Recording, recorded, text_of
 
 OUTPUT = 1
+BOOT = Path("/proc/sys/kernel/random/boot_id").read_bytes().strip()
 
 
 class LogRecording(Recording):
@@ -47,7 +48,8 @@ class LogReplay:
         folder = self.program.case.new_folder() / "log"
         folder.mkdir()
         for name, data in left.items():
-            (folder / name).write_bytes(data)
+            # After a power cut the machine starts once more: it has another number then.
+            (folder / name).write_bytes(data.replace(BOOT, b"earlier") if name == "lock" else data)
         seen = self.program.run("log", "cat", folder)
         opened = self.program.run("log", "append", folder)
         text = self.program.run("log", "cat", folder)

@@ -1,8 +1,11 @@
 //! What the file `lock` of a folder tells the next writer of how this one ended, and what a writer knows of its files.
 //!
 //! The mark is text, whose fields each end with a NUL: `ended` and the inode of the file `lock`; or `open`, the number of
-//! the machine's start, and the names of files of which a sync may have failed. It is never synced: after a restart of
-//! the machine what is seen was read from the disk. A copy of the folder has another inode, so its mark tells nothing.
+//! the machine's start, and the names of the files that may not be on the disk, or of which a sync may have failed. It has
+//! `unsure` in place of `open` where this is not known of the other files. A file beside another is never named.
+//!
+//! It is never synced: after a restart of the machine what is seen was read from the disk. A copy of the folder has another
+//! inode, so its mark tells nothing.
 
 use crate::loading::read_all;
 use std::alloc::{AllocError, Global};
@@ -14,20 +17,22 @@ use std::os::unix::fs::MetadataExt;
 // Where Linux has the number of its start: it is another after each restart.
 const BOOT_ID: &str = "/proc/sys/kernel/random/boot_id";
 
-// The first field of a mark whose writer has ended well, and of one whose writer is at work or was cut off.
+// The first field of a mark.
 const ENDED: &str = "ended";
 
 const OPEN: &str = "open";
 
+const UNSURE: &str = "unsure";
+
 /// How the writer before this one ended.
 #[derive(Drop)]
 pub(crate) struct Ending {
-    // All that it wrote is on the disk; or the machine was restarted since.
-    is_well: bool,
-    // By its mark, or without one, it did not end well: so the mark need not be changed before the folder is.
-    is_open: bool,
-    // The files of which a sync may have failed.
+    // Whether all entries are on the disk, and all files but those of these names, of which a sync may have failed.
+    has_kept_entries: bool,
+    are_others_synced: bool,
     failed: Vec<String>,
+    // Whether the mark says as much of a writer that is killed: so it need not be changed before the folder is.
+    is_open: bool,
 }
 
 /// What is known of the bytes of a file.
@@ -90,30 +95,29 @@ fn ending_of(alloc: Global, mark: &str, inode: &str, boot: &str) -> Result<Endin
     let mut fields = mark.split('\0');
     let kind = fields.next();
     let number = fields.next();
-    if kind == Some(ENDED) && number == Some(inode) {
-        return Ok(Ending {
-            is_well: true,
-            is_open: false,
-            failed,
-        });
-    }
+    let has_ended = kind == Some(ENDED) && number == Some(inode);
+    let is_open = kind == Some(OPEN) || kind == Some(UNSURE);
     let is_restarted = !boot.is_empty() && number != Some(boot) && number != Some("");
-    if kind == Some(OPEN) && is_restarted {
+    if has_ended || (is_open && is_restarted) {
         return Ok(Ending {
-            is_well: true,
-            is_open: false,
+            has_kept_entries: true,
+            are_others_synced: true,
             failed,
+            is_open: false,
         });
     }
-    for name in fields {
-        if !name.is_empty() {
-            failed.push(String::from_str(alloc, name)?)?;
+    if is_open {
+        for name in fields {
+            if !name.is_empty() {
+                failed.push(String::from_str(alloc, name)?)?;
+            }
         }
     }
     Ok(Ending {
-        is_well: false,
-        is_open: true,
+        has_kept_entries: false,
+        are_others_synced: kind == Some(OPEN),
         failed,
+        is_open: true,
     })
 }
 
@@ -126,7 +130,7 @@ pub(crate) fn read_ending<R: Files>(
 ) -> io::Result<Ending> {
     let mark = read_all(alloc, &mut File::open(rt, path)?)?;
     let text = str::from_utf8(&mark).unwrap_or("");
-    let boot = if text.starts_with(OPEN) {
+    let boot = if text.starts_with(OPEN) || text.starts_with(UNSURE) {
         boot_id(rt, alloc)?
     } else {
         String::new(alloc)
@@ -153,7 +157,7 @@ impl Knowledge {
             })?;
         }
         Ok(Knowledge {
-            has_kept_entries: ending.is_well,
+            has_kept_entries: ending.has_kept_entries,
             ending,
             touched,
             noted: Vec::new(alloc),
@@ -161,14 +165,14 @@ impl Knowledge {
         })
     }
 
-    // What is known of a file. None of one that was not touched, if the writer before did not end well.
+    // What is known of a file. None of one that was not touched, if it is not known of all.
     fn standing(&self, name: &str) -> Option<Standing> {
         for file in &self.touched {
             if file.name.as_str() == name {
                 return Some(file.standing);
             }
         }
-        if self.ending.is_well && !is_beside(name) {
+        if self.ending.are_others_synced && !is_beside(name) {
             return Some(Standing::Synced);
         }
         None
@@ -316,7 +320,12 @@ impl Knowledge {
         name: Option<&str>,
     ) -> io::Result<()> {
         let boot = boot_id(rt, alloc)?;
-        let mut mark = format!(in alloc; "{OPEN}\0{boot}\0")?;
+        let kind = if self.ending.are_others_synced {
+            OPEN
+        } else {
+            UNSURE
+        };
+        let mut mark = format!(in alloc; "{kind}\0{boot}\0")?;
         let mut noted = Vec::new(alloc);
         for file in &self.touched {
             if file.standing != Standing::Synced && Some(file.name.as_str()) != name {
@@ -339,11 +348,10 @@ impl Knowledge {
 
     /// Whether it is not known that the files that were not touched are on the disk.
     pub(crate) fn needs_listing(&self) -> bool {
-        self.has_changed && !self.ending.is_well
+        self.has_changed && !self.ending.are_others_synced
     }
 
-    /// Marks that all is on the disk, or else which files are not. These files are listed; none has to be where the writer
-    /// before this one ended well.
+    /// Marks that all is on the disk, or else which files are not. These files are listed, where that is needed.
     pub(crate) fn mark_end<R: Files>(
         &mut self,
         rt: &R,

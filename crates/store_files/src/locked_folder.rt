@@ -272,11 +272,12 @@ where
     fn sync_written(&mut self, name: &str) -> io::Result<()>
         ensures { self.new.failures ≡ self.old.failures }
     {
-        self.note(name)?;
         match self.sync_open(name) {
             Ok(()) => Ok(self.knowledge.set_synced(self.alloc, name)?),
             Err(error) => {
+                // A file that this writer wrote is named by the mark since then.
                 self.knowledge.set(self.alloc, name, Standing::Failed)?;
+                let _ = self.note(name);
                 Err(error)
             }
         }
