@@ -12,7 +12,8 @@ ghost use Rattle.log_tail.specs.Tail.{records_of, first_of, IsTail, IsWholeTo};
 ghost use Rattle.segmented_log.specs.Names.{tail_name};
 ghost use Rattle.segmented_log.specs.Parts.{part_of, tail_end, end_from, AreParts};
 ghost use Rattle.segmented_log.specs.Log.{IsLog, IsBlank, KeepsLog};
-ghost use Rattle.segmented_log.specs.Opening.{IsSyncedButTail, IsOldOrSeen, IsNoLog, HasFullTail, HasSegments, IsTailOf, IsNoTail};
+ghost use Rattle.segmented_log.specs.Opening.{IsSyncedButTail, IsOldOrSeen, IsNoLog, HasFullTail};
+ghost use Rattle.segmented_log.specs.Opening.{HasSegments, IsTailOf, IsNoTail};
 ghost use Rattle.segmented_log.specs.Settled.{TailIsKept, IsSettledTail, IsSettledFolder};
 ghost use Rattle.segmented_log.specs.Causes.{IsOfFiles, IsOfOpenings};
 
@@ -182,9 +183,9 @@ fn load<F: ReadableFolder>(alloc: Global, folder: &mut F) -> Result<Parts<F::Fil
 impl<F: ReadableFolder> SegmentedLog<F> {
     /// Opens the log of a folder, or makes a new one, whose first record has the number 0, in a folder that has no file
     /// of a log. What it finds and is not known to be on the disk is put there first, as the process that wrote it may
-    /// have ended before its syncs; then a torn end of the tail is cut off. A tail of which a sync may have failed is made
-    /// anew. A crash during it leaves the same log, or what it could leave before. A tail that grows past the seal size,
-    /// in bytes, is sealed by `sync`.
+    /// have ended before its syncs; then a torn end of the tail is cut off. A tail of which a sync may have failed is
+    /// replaced. A crash during it leaves the same log, or what it could leave before. A tail that grows past the seal
+    /// size, in bytes, is sealed by `sync`.
     ///
     /// With `Commit::OneSync` a sync appends to the tail. With `Commit::TwoSyncs` it replaces the tail by one that has
     /// the records too, so a crash leaves all of them or none, whatever their sum is; as it then writes the whole tail,

@@ -75,7 +75,8 @@ impl<F: ReadableFolder> Model for SegmentedLog<F> {
 
     ghost invariant = { λ l. OnFalse l.is_broken (IsSettledTail l.sealed l.tail_first l.next l.tail.bytes l.places.items
         l.tail.pending × (IsTrue F.honest → IsSettledFolder (F.may_hold l.folder) (F.may_leave l.folder)
-        (F.entry_kept l.folder) (F.trusted l.folder) l.first l.sealed (map (λ s. part_of s.first s.reader) l.segments.items) l.tail.bytes
+        (F.entry_kept l.folder)
+        (F.trusted l.folder) l.first l.sealed (map (λ s. part_of s.first s.reader) l.segments.items) l.tail.bytes
         × All (λ s. IsTrue s.reader.file.honest) l.segments.items)) };
 }
 

@@ -29,8 +29,8 @@ pub(crate) struct Tail {
     pub(crate) places: Vec<Place>,
 }
 
-/// The tail of these bytes. A torn end is cut off, in memory and on the disk. A tail that is not kept on the disk is made
-/// anew.
+/// The tail of these bytes. A torn end is cut off, in memory and on the disk. A tail that is not kept on the disk is
+/// replaced.
 pub(crate) fn repair_tail<F: Folder>(
     alloc: Global,
     folder: &mut F,

@@ -18,17 +18,21 @@ use store_folder::{Folder, replace};
 // Appends a batch to the tail, with one sync.
 fn append_batch<F: Folder>(folder: &mut F, batch: &[u8]) -> Result<(), LogError>
     requires { IsTrue F.honest → (tail : List ℕ)
-        × TailIsKept (F.may_hold folder.old) (F.may_leave folder.old) (F.entry_kept folder.old) (F.trusted folder.old) tail }
+        × TailIsKept (F.may_hold folder.old) (F.may_leave folder.old) (F.entry_kept folder.old)
+        (F.trusted folder.old) tail }
     ensures kept { IsTrue F.honest → OnOk result ((tail : List ℕ)
-        → TailIsKept (F.may_hold folder.old) (F.may_leave folder.old) (F.entry_kept folder.old) (F.trusted folder.old) tail
-        → TailIsKept (F.may_hold folder.new) (F.may_leave folder.new) (F.entry_kept folder.new) (F.trusted folder.new) (tail ++ batch.now)) }
+        → TailIsKept (F.may_hold folder.old) (F.may_leave folder.old) (F.entry_kept folder.old)
+        (F.trusted folder.old) tail
+        → TailIsKept (F.may_hold folder.new) (F.may_leave folder.new) (F.entry_kept folder.new)
+        (F.trusted folder.new) (tail ++ batch.now)) }
     ensures elsewhere { IsTrue F.honest → OnOk result (Elsewhere tail_name (F.seen folder.old) (F.seen folder.new)) }
     ensures crash { IsTrue F.honest
         → ComesFrom (Elsewhere tail_name) (F.may_leave folder.old) (F.may_leave folder.new) }
 
     // A crash at any moment leaves what was there, and maybe any bytes after the tail.
     ensures any_moment { IsTrue F.honest → (tail : List ℕ)
-        → TailIsKept (F.may_hold folder.old) (F.may_leave folder.old) (F.entry_kept folder.old) (F.trusted folder.old) tail
+        → TailIsKept (F.may_hold folder.old) (F.may_leave folder.old) (F.entry_kept folder.old)
+        (F.trusted folder.old) tail
         → LeavesOnly F.moment F.left_since folder.old folder.new (GrowsTail (F.may_leave folder.old) tail) }
     ensures failures { F.failures folder.old ≤ F.failures folder.new }
     ensures failed { OnErr result (HasRisen (F.failures folder.old) (F.failures folder.new)) }
@@ -49,7 +53,8 @@ pub(crate) fn write_batch<F: Folder>(
 ) -> Result<(), LogError>
     requires within { end ≤ length tail.now }
     requires kept { IsTrue F.honest
-        → TailIsKept (F.may_hold folder.old) (F.may_leave folder.old) (F.entry_kept folder.old) (F.trusted folder.old) (take end tail.now) }
+        → TailIsKept (F.may_hold folder.old) (F.may_leave folder.old) (F.entry_kept folder.old)
+        (F.trusted folder.old) (take end tail.now) }
     ensures kept { IsTrue F.honest → OnOk result (TailIsKept (F.may_hold folder.new) (F.may_leave folder.new)
         (F.entry_kept folder.new) (F.trusted folder.new) tail.now) }
     ensures elsewhere { IsTrue F.honest → OnOk result
@@ -71,7 +76,8 @@ pub(crate) fn write_batch<F: Folder>(
 /// Replaces the tail by a file of these bytes, or makes it.
 pub(crate) fn replace_tail<F: Folder>(folder: &mut F, bytes: &[u8]) -> Result<(), LogError>
     ensures kept { IsTrue F.honest → OnOk result
-        (TailIsKept (F.may_hold folder.new) (F.may_leave folder.new) (F.entry_kept folder.new) (F.trusted folder.new) bytes.now) }
+        (TailIsKept (F.may_hold folder.new) (F.may_leave folder.new) (F.entry_kept folder.new)
+        (F.trusted folder.new) bytes.now) }
     ensures elsewhere { IsTrue F.honest
         → ElsewhereOfBoth (tail_name ++ part) tail_name (F.seen folder.old) (F.seen folder.new) }
     ensures crash { IsTrue F.honest → ComesFrom (ElsewhereOfBoth (tail_name ++ part) tail_name)

@@ -18,7 +18,7 @@ use std::io;
 /// them.
 ///
 /// Once a sync of a file has failed, the system may take for written what it did not write, as Linux does. Then no later
-/// sync says anything of this file; one that is made anew can be synced again.
+/// sync says anything of this file; a new file in its place can be synced.
 ///
 /// Not in the model: hard links, other processes that change the folder, modes and owners.
 pub trait Folder: Drop {
@@ -155,8 +155,8 @@ pub trait Folder: Drop {
         ensures count { failures self.old ≤ failures self.new }
         ensures fault { OnErr result (HasRisen (failures self.old) (failures self.new)) };
 
-    /// Whether it is known that no sync of this file has failed. Where it is not, the file has to be made anew before it is
-    /// relied on: no sync vouches for it.
+    /// Whether it is known that no sync of this file has failed. Where it is not, a new file has to take its place before it
+    /// is relied on: no sync vouches for it.
     fn is_trusted(&self, name: &str) -> bool
         ensures { IsTrue honest → IsTrue result → trusted self.now name.now };
 

@@ -1,6 +1,6 @@
 //! A folder that tears, of whose promises nothing is taken for granted.
 
-ghost use Rattle.std.specs.Prelude.{◌≤◌, OnErr};
+ghost use Rattle.std.specs.Prelude.{◌≡◌, ◌≤◌, OnErr};
 ghost use Rattle.store_base.specs.Counts.{HasRisen};
 
 use std::alloc::Global;

@@ -1,4 +1,4 @@
-//! What the calls that were made to a folder tell of its files.
+//! What is known of a folder's files, by the calls that were made to it.
 
 ghost use Rattle.std.specs.Prelude.{◌≡◌, reverse};
 ghost use Rattle.torn_folder.specs.Known.{trusted_by, is_there_by, synced_by, entries_by};
