@@ -3,6 +3,7 @@ pub mod CauseLemmas
 pub mod CompactLemmas
 pub mod CrashLemmas
 pub mod DropLemmas
+pub mod CallListLemmas
 pub mod FoundLemmas
 pub mod GrowLemmas
 pub mod HoldLemmas

@@ -1,4 +1,5 @@
 pub mod Names
+pub mod CallLists
 pub mod Parts
 pub mod Log
 pub mod Settled

@@ -1,6 +1,6 @@
 //! Old segments that are removed.
 
-ghost use Rattle.std.specs.Prelude.{◌≡◌, ◌⊎◌, ◌↔◌, false, ◌≤◌, ◌<◌, ◌^◌, ℕ, List, None, map, IsTrue};
+ghost use Rattle.std.specs.Prelude.{◌≡◌, ◌⊎◌, ◌↔◌, false, ◌≤◌, ◌<◌, ◌^◌, ℕ, List, None, map, All, IsTrue};
 ghost use Rattle.std.specs.Prelude.{IfOk, IfErr, IfSome, IfNone, OnOk, OnErr, IsErrOf};
 ghost use Rattle.store_base.specs.Counts.{HasRisen};
 ghost use Rattle.store_folder.specs.Moments.{ComesFrom, LeavesOnly};
@@ -9,6 +9,8 @@ ghost use Rattle.segmented_log.specs.Names.{segment_name};
 ghost use Rattle.segmented_log.specs.Parts.{part_of};
 ghost use Rattle.segmented_log.specs.Dropping.{CanGo, IsRest, DropsTo, LosesSegment, RemovesOnly, IsDropped};
 ghost use Rattle.segmented_log.specs.Causes.{IsFault};
+ghost use Rattle.store_folder.specs.Calls.{doing_of, IsApart};
+ghost use Rattle.segmented_log.specs.CallLists.{removing};
 
 use crate::error::LogError;
 use crate::log::SegmentedLog;
@@ -16,7 +18,7 @@ use crate::names::segment_file;
 use crate::segment::{Segment, first_number};
 use docstore::FileHandle;
 use std::alloc::Global;
-use store_folder::{Folder, ReadableFolder};
+use store_folder::{Folder, FolderCall, ReadableFolder, carry_out};
 
 // Where the first of these segments ends, if it can be removed.
 fn end_of_first<H: FileHandle>(
@@ -38,6 +40,14 @@ fn end_of_first<H: FileHandle>(
     } else {
         None
     }
+}
+
+// The calls that remove the segment of this name.
+fn remove_calls(name: &str) -> [FolderCall<'_>; 2]
+    ensures calls { (first : ℕ) → name.now ≡ segment_name first → map doing_of result ≡ removing first }
+    ensures apart { All (λ call. IsApart (doing_of call)) result }
+{
+    [FolderCall::Remove(name), FolderCall::Sync]
 }
 
 /// Removes the segment whose first record has this number, and syncs the folder.
@@ -65,8 +75,7 @@ pub(crate) fn remove_segment<F: Folder>(
     ensures kind { IfErr result IsFault }
 {
     let name = segment_file(alloc, first)?;
-    folder.remove(name.as_str())?;
-    folder.sync()?;
+    carry_out(folder, &remove_calls(name.as_str()))?;
     Ok(())
 }
 

@@ -1,7 +1,7 @@
 //! The tail of a log, as a file of its folder.
 
 ghost use Rattle.std.specs.Prelude.{◌≡◌, ◌≤◌, ◌++◌, ℕ, List, length, take, drop, IsTrue, IfErr, OnOk, OnErr, IsErrOf};
-ghost use Rattle.std.specs.Prelude.{Some};
+ghost use Rattle.std.specs.Prelude.{All, Some, map};
 ghost use Rattle.store_base.specs.Counts.{HasRisen};
 ghost use Rattle.store_folder.specs.Moments.{ComesFrom, LeavesOnly};
 ghost use Rattle.store_folder.specs.Folder.{Elsewhere, ElsewhereOfBoth};
@@ -9,11 +9,21 @@ ghost use Rattle.store_folder.specs.Publishing.{part, IsOldOrWhole};
 ghost use Rattle.segmented_log.specs.Names.{tail_name};
 ghost use Rattle.segmented_log.specs.Settled.{TailIsKept, GrowsTail, PutsBatch};
 ghost use Rattle.segmented_log.specs.Causes.{IsFault};
+ghost use Rattle.store_folder.specs.Calls.{doing_of, IsApart};
+ghost use Rattle.segmented_log.specs.CallLists.{appending};
 
 use crate::commit::Commit;
 use crate::error::LogError;
 use crate::names::{TAIL, TAIL_PART};
-use store_folder::{Folder, replace};
+use store_folder::{Folder, FolderCall, carry_out, replace};
+
+// The calls that put a batch after the tail's bytes, with one sync. They lend its bytes.
+fn append_calls(batch: &[u8]) -> [FolderCall<'_>; 2]
+    ensures calls { map doing_of result ≡ appending batch.now }
+    ensures apart { All (λ call. IsApart (doing_of call)) result }
+{
+    [FolderCall::Append(TAIL, batch), FolderCall::SyncFile(TAIL)]
+}
 
 // Appends a batch to the tail, with one sync.
 fn append_batch<F: Folder>(folder: &mut F, batch: &[u8]) -> Result<(), LogError>
@@ -38,8 +48,7 @@ fn append_batch<F: Folder>(folder: &mut F, batch: &[u8]) -> Result<(), LogError>
     ensures failed { OnErr result (HasRisen (F.failures folder.old) (F.failures folder.new)) }
     ensures kind { IfErr result IsFault }
 {
-    folder.append(TAIL, batch)?;
-    folder.sync_file(TAIL)?;
+    carry_out(folder, &append_calls(batch))?;
     Ok(())
 }
 

@@ -2,6 +2,7 @@
 //! outputs that take their name only once they are whole.
 #![tactic(auto)]
 
+pub mod calls;
 pub mod folder;
 pub mod memory;
 pub mod publication;
@@ -9,6 +10,7 @@ pub mod publishing;
 pub mod readable_folder;
 mod sent;
 
+pub use calls::{FolderCall, carry_out};
 pub use folder::Folder;
 pub use memory::MemFolder;
 pub use publication::Publication;

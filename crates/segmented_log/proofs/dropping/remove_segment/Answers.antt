@@ -1,17 +1,12 @@
-use Rattle.std.proofs.Common.{◌≡◌, None, ◌∙◌, subst}
-use Rattle.segmented_log.specs.Names.{segment_name}
-use Rattle.segmented_log.proofs.DropLemmas.{leads_to_none}
-use Rattle.segmented_log.proofs.CauseLemmas.{ok_alone}
-use Rattle.segmented_log.specs.declared.error.LogError.TheVariants.{Failed}
+use Rattle.std.proofs.Common.{List, is_ok, ap, subst, ◌∙◌}
+use Rattle.store_folder.specs.Calls.{Doing, Kind, kind, Carried}
+use Rattle.segmented_log.proofs.CallListLemmas.{remove_gone}
 use Rattle.segmented_log.proofs.dropping.remove_segment.Goals as goal
 
 pub returns-clause-gone : goal.returns-clause-gone
-returns-clause-gone g c = λ h l left.
+returns-clause-gone g c = λ h.
     let F = g.F.Folder in
-    let name = segment_name c.args.first in
-    let mid = c.remove.new.self in
-    let name_is = c.as_str.ensures.value ∙ c.in_ok-name.ensures in
-    leads_to_none (F.seen mid name) (l name) (F.may_hold mid name) (subst (λ n. F.seen mid n ≡ None) name_is (c.in_ok-remove.ensures.removed h)) (c.in_ok-sync.ensures.durable h l left name)
-
-pub returns-clause-failed : goal.returns-clause-failed
-returns-clause-failed g c = λ is. absurd (ok_alone Failed _ is)
+    let k : Kind g.row.F.Denot = kind F.seen F.may_hold F.may_leave F.moment F.left_since F.entry_kept F.trusted in
+    let calls_are = c.remove_calls.ensures.calls c.args.first (c.as_str.ensures.value ∙ c.in_ok-name.ensures) in
+    remove_gone k c.args.first (is_ok c.carry_out.result) c.args.folder.now c.carry_out.new.folder
+    (subst (λ (calls : List Doing). Carried k calls (is_ok c.carry_out.result) c.args.folder.now c.carry_out.new.folder) calls_are (c.carry_out.ensures.carried h)) (ap is_ok c.in_ok-carry_out.was)

@@ -1,50 +1,29 @@
-use Rattle.std.proofs.Common.{ℕ, List, ◌∙◌, subst, sym, refl}
-use Rattle.std.specs.Prelude.{IsSome, IsTrue}
-use Rattle.store_folder.specs.Moments.{LeavesOnly}
-use Rattle.segmented_log.specs.Settled.{TailIsKept, GrowsTail}
-use Rattle.segmented_log.proofs.GrowLemmas.{grown_kept, run_appended, run_synced}
-use Rattle.segmented_log.proofs.tail_file.append_batch.Goals.{After-sync_file}
+use Rattle.std.proofs.Common.{List, is_ok, ap, subst}
+use Rattle.std.specs.Prelude.{IsTrue}
+use Rattle.store_folder.specs.Calls.{Doing, Kind, kind, Carried}
+use Rattle.segmented_log.specs.CallLists.{appending}
+use Rattle.segmented_log.proofs.CallListLemmas.{append_grows, append_kept}
+use Rattle.segmented_log.proofs.tail_file.append_batch.Goals.{After-carry_out}
 use Rattle.segmented_log.proofs.tail_file.append_batch.Goals as goal
 
-pub append-requires : goal.append-requires
-append-requires g c = λ h.
-    let F = g.F.Folder in
-    let old = c.args.folder.now in
-    subst IsSome (sym ((c.requires h).1.outcomes (F.seen old) (g.met.F.Folder.seen_may_be_left old h))) refl
+abbrev kind_of : (g : _) → After-carry_out g → Kind g.row.F.Denot
+kind_of g c = kind g.F.Folder.seen g.F.Folder.may_hold g.F.Folder.may_leave g.F.Folder.moment g.F.Folder.left_since g.F.Folder.entry_kept g.F.Folder.trusted
 
-pub returns-in_err-append-clause-any_moment : goal.returns-in_err-append-clause-any_moment
-returns-in_err-append-clause-any_moment g c = λ h tail kept.
-    let F = g.F.Folder in
-    let old = c.args.folder.now in
-    run_appended F.may_leave F.moment F.left_since (F.may_hold old) (F.entry_kept old) (F.trusted old) tail old c.append.new.self (g.met.F.Folder.only_now old) kept
-    _ (c.append.ensures.file h) (c.append.ensures.crash h) (c.append.ensures.time h)
+-- the calls that were made
+made : (g : _) (c : After-carry_out g) → IsTrue g.F.Folder.honest → Carried (kind_of g c) (appending c.args.batch.now) (is_ok c.carry_out.result) c.args.folder.now c.carry_out.new.folder
+made g c h = subst (λ (calls : List Doing). Carried (kind_of g c) calls (is_ok c.carry_out.result) c.args.folder.now c.carry_out.new.folder) c.append_calls.ensures.calls (c.carry_out.ensures.carried h)
 
--- after the call to sync the tail, each moment has what was there, and maybe bytes after it
-grown : (g : _) (c : After-sync_file g) → IsTrue g.F.Folder.honest → (tail : List ℕ)
-    → TailIsKept (g.F.Folder.may_hold c.args.folder.now) (g.F.Folder.may_leave c.args.folder.now) (g.F.Folder.entry_kept c.args.folder.now) (g.F.Folder.trusted c.args.folder.now) tail
-    → LeavesOnly g.F.Folder.moment g.F.Folder.left_since c.args.folder.now c.sync_file.new.self (GrowsTail (g.F.Folder.may_leave c.args.folder.now) tail)
-grown g c h tail kept =
-    let F = g.F.Folder in
-    let old = c.args.folder.now in
-    run_synced F.may_leave F.moment F.left_since (F.may_hold old) (F.entry_kept old) (F.trusted old) tail old c.append.new.self (g.met.F.Folder.only_now old) kept
-    _ (c.append.ensures.file h) (c.append.ensures.crash h) (c.append.ensures.time h) c.sync_file.new.self (c.sync_file.ensures.crash h) (c.sync_file.ensures.time h)
-
-pub returns-in_err-sync_file-clause-any_moment : goal.returns-in_err-sync_file-clause-any_moment
-returns-in_err-sync_file-clause-any_moment g c = λ h tail kept. grown g (goal.at.returns-in_err-sync_file-clause-any_moment g c).After-sync_file h tail kept
+pub returns-in_err-carry_out-clause-any_moment : goal.returns-in_err-carry_out-clause-any_moment
+returns-in_err-carry_out-clause-any_moment g c = λ h tail kept.
+    let here = (goal.at.returns-in_err-carry_out-clause-any_moment g c).After-carry_out in
+    append_grows (kind_of g here) c.args.batch.now tail (is_ok c.carry_out.result) c.args.folder.now c.carry_out.new.folder (made g here h) kept (g.met.F.Folder.only_now c.args.folder.now)
 
 pub returns-clause-any_moment : goal.returns-clause-any_moment
-returns-clause-any_moment g c = λ h tail kept. grown g (goal.at.returns-clause-any_moment g c).After-sync_file h tail kept
+returns-clause-any_moment g c = λ h tail kept.
+    let here = (goal.at.returns-clause-any_moment g c).After-carry_out in
+    append_grows (kind_of g here) c.args.batch.now tail (is_ok c.carry_out.result) c.args.folder.now c.carry_out.new.folder (made g here h) kept (g.met.F.Folder.only_now c.args.folder.now)
 
 pub returns-clause-kept : goal.returns-clause-kept
 returns-clause-kept g c = λ h tail kept.
-    let F = g.F.Folder in
-    let old = c.args.folder.now in
-    let new = c.sync_file.new.self in
-    let trusted = c.append.ensures.trust h _ kept.trust in
-    grown_kept (F.may_hold old) (F.may_leave old) (F.entry_kept old) (F.trusted old) tail kept (F.seen old) (F.seen c.append.new.self) c.args.batch.now (F.entry_kept c.append.new.self) (F.entry_kept new) (F.trusted new)
-    (F.may_hold new) (F.may_leave new)
-    (kept.outcomes (F.seen old) (g.met.F.Folder.seen_may_be_left old h)) (c.in_ok-append.ensures.appended h) (c.append.ensures.entries h) (c.sync_file.ensures.entries h)
-    (c.in_ok-sync_file.ensures.durable h trusted) (c.in_ok-sync_file.ensures.kept h trusted) (c.in_ok-sync_file.ensures.trust h _ trusted)
-
-pub returns-clause-elsewhere : goal.returns-clause-elsewhere
-returns-clause-elsewhere g c = λ h n ne. c.sync_file.ensures.elsewhere h n ne ∙ c.append.ensures.elsewhere h n ne
+    let here = (goal.at.returns-clause-kept g c).After-carry_out in
+    append_kept (kind_of g here) c.args.batch.now tail (is_ok c.carry_out.result) c.args.folder.now c.carry_out.new.folder (made g here h) kept (g.met.F.Folder.seen_may_be_left c.args.folder.now h) (ap is_ok c.in_ok-carry_out.was)
