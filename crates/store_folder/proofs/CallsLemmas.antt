@@ -41,3 +41,15 @@ module _ {F : Type 0} (k : Kind F) where
       | inr last ↦ inr (went.0, went.1, subst (λ (x : Bool). Does k b x went.0 new) (sym last.2.0) (subst (λ (f : F). Does k b true went.0 f) (sym last.2.1) last.1))
     ]
   ]
+
+  -- one call of a list, and those after it
+  pub first_call : (call : Doing) (calls : List Doing) (ok : Bool) (old new : F) → Carried k (call ∷ calls) ok old new
+      → ((ok ≡ false) × Does k call false old new) ⊎ ((mid : F) × Does k call true old mid × Carried k calls ok mid new)
+  first_call call calls ok old new made = made
+
+  -- the last one
+  pub last_call : (call : Doing) (ok : Bool) (old new : F) → Carried k (call ∷ []) ok old new → Does k call ok old new
+  last_call call ok old new made = elim made [
+    | inl failed ↦ subst (λ (x : Bool). Does k call x old new) (sym failed.0) failed.1
+    | inr last ↦ subst (λ (x : Bool). Does k call x old new) (sym last.2.0) (subst (λ (f : F). Does k call true old f) (sym last.2.1) last.1)
+  ]

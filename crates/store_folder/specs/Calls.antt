@@ -133,3 +133,11 @@ AreReady {F = F} k (call ∷ calls) f = IsReady (k.seen f) call × ((mid : F) �
 abbrev pub IsApart : Doing → Type 0
 IsApart (renames from to) = from ≢ to
 IsApart _ = Unit {0}
+
+-- the file beside a name is given the name
+abbrev pub publishing : List ℕ → List ℕ → List Doing
+publishing beside name = syncs beside ∷ renames beside name ∷ syncs_folder ∷ []
+
+-- a file of these bytes is made beside the name, and given it
+abbrev pub replacing : List ℕ → List ℕ → List ℕ → List Doing
+replacing beside name bytes = creates beside ∷ appends beside bytes ∷ publishing beside name

@@ -1,13 +1,27 @@
 //! Publishing a file: it is written beside its name, synced, renamed, and then the folder is synced.
 
-ghost use Rattle.std.specs.Prelude.{◌≡◌, ◌≢◌, ◌≤◌, ℕ, List, IsTrue, IsSome, OnOk, OnErr, Some};
+ghost use Rattle.std.specs.Prelude.{◌≡◌, ◌≢◌, ◌≤◌, ℕ, List, All, IsTrue, IsSome, OnOk, OnErr, Some, map};
+ghost use Rattle.store_folder.specs.Calls.{doing_of, publishing, IsApart};
 ghost use Rattle.store_base.specs.Counts.{HasRisen};
 ghost use Rattle.store_folder.specs.Moments.{ComesFrom, LeavesOnly};
 ghost use Rattle.store_folder.specs.Folder.{ElsewhereOfBoth, EntriesStayElsewhereOfBoth, FilesElsewhereOfBoth, Keeps};
 ghost use Rattle.store_folder.specs.Publishing.{IsOldOrWhole};
 
+use crate::calls::{FolderCall, carry_out};
 use crate::folder::Folder;
 use std::io;
+
+// The calls that give the name to the file beside it.
+fn publish_calls<'a>(beside: &'a str, name: &'a str) -> [FolderCall<'a>; 3]
+    ensures calls { map doing_of result ≡ publishing beside.now name.now }
+    ensures apart { beside.now ≢ name.now → All (λ call. IsApart (doing_of call)) result }
+{
+    [
+        FolderCall::SyncFile(beside),
+        FolderCall::Rename(beside, name),
+        FolderCall::Sync,
+    ]
+}
 
 /// Gives the name to the file beside it: syncs that file, renames it, and syncs the folder.
 ///
@@ -49,9 +63,7 @@ pub fn publish<F: Folder>(folder: &mut F, beside: &str, name: &str) -> io::Resul
     ensures count { F.failures folder.old ≤ F.failures folder.new }
     ensures fault { OnErr result (HasRisen (F.failures folder.old) (F.failures folder.new)) }
 {
-    folder.sync_file(beside)?;
-    folder.rename(beside, name)?;
-    folder.sync()
+    carry_out(folder, &publish_calls(beside, name))
 }
 
 /// Replaces the file of this name, or makes it, with these bytes. They are written to the file beside, which is made or
