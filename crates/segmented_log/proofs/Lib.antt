@@ -4,6 +4,7 @@ pub mod CompactLemmas
 pub mod CrashLemmas
 pub mod DropLemmas
 pub mod CallListLemmas
+pub mod FilledLemmas
 pub mod FoundLemmas
 pub mod GrowLemmas
 pub mod HoldLemmas

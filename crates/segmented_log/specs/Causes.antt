@@ -4,8 +4,12 @@ use Rattle.std.specs.List.{Any, Contains}
 use Rattle.std.specs.declared.io.ErrorKind.{ErrorKind}
 use Rattle.std.specs.declared.io.ErrorKind.TheVariants.{OutOfMemory}
 use Rattle.store_base.specs.declared.error.StoreError.{StoreError}
-use Rattle.store_base.specs.declared.error.StoreError.TheVariants.{DamagedDocument}
+use Rattle.store_base.specs.declared.error.StoreError.TheVariants.{DamagedDocument, TooManyDocs, BlockTooLarge}
+use Rattle.std.specs.declared.io.ErrorKind.TheVariants.{OutOfMemory}
+use Rattle.std.specs.IoError.{error_kind}
 use Rattle.store_folder.specs.Folder.{Look}
+use Rattle.store_published.specs.declared.publishing.FillError.{FillError}
+use Rattle.store_published.specs.declared.publishing.FillError.TheVariants.{Filling, Folder, Store}
 use Rattle.store_format.specs.Block.{Slot, doc}
 use Rattle.segmented_log.specs.declared.error.LogError.{LogError}
 use Rattle.segmented_log.specs.declared.error.LogError.TheVariants.{Memory, Failed, Full, BatchFull, TooLong, Broken, NoLog, Damaged}
@@ -84,3 +88,18 @@ HasNoRoomForLast all = (before : List Slot) × (records : List (List ℕ)) × (a
 -- A segment was published.
 abbrev pub HasNewSegment : Look → Look → Type 0
 HasNewSegment old new = (first : ℕ) × (old (segment_name first) ≡ None) × IsSome (new (segment_name first))
+
+-- Why a store takes no more of these records: they are too many, or the block of one is too large.
+pub record RefusesRecords (block_size : ℕ) (records : List (List ℕ)) (e : StoreError) : Type 0 where
+  pub many : e ≡ TooManyDocs → 2 ^ 32 ≤ length records
+  pub large : e ≡ BlockTooLarge → Any (λ bytes. 2 ^ 32 ≤ block_size + length bytes + 8) records
+
+-- What ended a filling is of this kind.
+abbrev pub IsFillingOf : {E : Type 0} → (E → Type 0) → FillError E → Type 0
+IsFillingOf of (Filling e) = of e
+IsFillingOf of _ = ⊥
+
+-- It is an error of the folder, and not one for lack of memory.
+abbrev pub IsOfFolder : {E : Type 0} → FillError E → Type 0
+IsOfFolder (Folder e) = error_kind e ≢ OutOfMemory
+IsOfFolder _ = ⊥

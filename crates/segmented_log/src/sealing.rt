@@ -1,28 +1,19 @@
 //! The store of a segment, made of a tail's records.
 
-ghost use Rattle.std.specs.Prelude.{◌≡◌, ◌⊎◌, ◌≤◌, ◌+◌, ◌^◌, [], length, map, All, IfOk, IfErr, OnOk, IsErrOf};
+ghost use Rattle.std.specs.Prelude.{◌≡◌, ◌⊎◌, ◌≤◌, ◌+◌, ◌^◌, [], length, All, OnOk, IsErrOf};
 ghost use Rattle.std.specs.List.{Any};
 ghost use Rattle.docstore.specs.Laws.{taken};
-ghost use Rattle.store_format.specs.Block.{doc};
 ghost use Rattle.log_tail.specs.Place.{contents, EndsBy};
 ghost use Rattle.store_published.specs.Filling.{AddsDocuments};
-ghost use Rattle.segmented_log.specs.Log.{IsStoreWith};
-ghost use Rattle.segmented_log.specs.Causes.{IsOfSeals, HasNoRoom};
+ghost use Rattle.segmented_log.specs.Causes.{IsOfSeals, IsFillingOf, IsOfFolder};
 
 use crate::error::LogError;
-use docstore::{Compressor, MemSink, StoreError, StoreWriter, TerminatingWrite, laws};
+use docstore::{StoreError, StoreWriter, TerminatingWrite, laws};
 use log_tail::Place;
-use std::alloc::Global;
-use store_published::store_document;
+use store_published::{FillError, Filling, store_document};
 
 /// The block size of a segment.
 pub const BLOCK_SIZE: usize = 16384;
-
-// Room for a store of a tail of this length: a record has four bytes beside its own in both, and a block of 16 KiB adds
-// some ten for its count and its checkpoint.
-fn room_for(tail_len: usize) -> usize {
-    tail_len.saturating_add(tail_len / 1024 + 256)
-}
 
 // Why a log could not be sealed whose records a store does not take.
 fn store_error(error: StoreError) -> LogError
@@ -56,27 +47,42 @@ fn store_records<W: TerminatingWrite>(
     Ok(())
 }
 
-/// The bytes of a store of the records at these places.
-pub(crate) fn segment_bytes(
-    alloc: Global,
-    tail: &[u8],
-    places: &[Place],
-) -> Result<Vec<u8>, LogError>
-    requires within { All (EndsBy (length tail.now)) places.now }
-    ensures store { IfOk result (λ bytes. IsStoreWith (map doc (contents tail.now places.now)) bytes.items) }
-    ensures failed { IsErrOf result LogError.Failed → ⊥ }
-    ensures full { IsErrOf result LogError.Full → HasNoRoom (contents tail.now places.now) }
-    ensures kind { IfErr result IsOfSeals }
-{
-    laws::written_documents_are_found();
-    laws::ids_are_given_in_order();
-    let output = MemSink::with_capacity(alloc, room_for(tail.len()))?;
-    let mut writer = StoreWriter::new(alloc, output, Compressor::None, BLOCK_SIZE);
-    if let Err(error) = store_records(&mut writer, tail, places) {
-        return Err(store_error(error));
+/// The records at these places of a tail, as what fills the store of a segment.
+#[derive(Drop)]
+pub(crate) struct TailRecords<'a> {
+    pub(crate) tail: &'a [u8],
+    pub(crate) places: &'a [Place],
+    pub(crate) ghost within: { All (EndsBy (length tail.now)) places.now },
+}
+
+impl<'a> Filling for TailRecords<'a> {
+    ghost use Rattle.std.specs.Prelude.{◌≡◌, map};
+    ghost use Rattle.store_format.specs.Block.{doc};
+    ghost use Rattle.log_tail.specs.Place.{contents};
+    ghost use Rattle.segmented_log.specs.Causes.{RefusesRecords};
+
+    type Error = StoreError;
+
+    ghost brings = { λ old new slots. slots ≡ map doc (contents old.tail.now old.places.now) };
+
+    ghost refuses = { λ old new block_size. RefusesRecords block_size (contents old.tail.now old.places.now) };
+
+    fn fill<W: TerminatingWrite>(&mut self, writer: &mut StoreWriter<W>) -> Result<(), StoreError> {
+        store_records(writer, self.tail, self.places)
     }
-    match writer.close() {
-        Ok(sink) => Ok(sink.into_bytes()),
-        Err(closing) => Err(store_error(closing.error)),
+}
+
+/// Why the store of a segment was not published.
+pub(crate) fn fill_error(error: FillError<StoreError>) -> LogError
+    ensures full { result ≡ LogError.Full → IsFillingOf (λ e.
+        (e ≡ StoreError.TooManyDocs) ⊎ (e ≡ StoreError.BlockTooLarge)) error }
+    ensures failed { result ≡ LogError.Failed → IsOfFolder error }
+    ensures kind { IsOfSeals result }
+{
+    match error {
+        FillError::Filling(error) => store_error(error),
+        FillError::Folder(error) => LogError::from(error),
+        // An output that no call of the folder failed fails for lack of memory alone.
+        FillError::Store(_) => LogError::Memory,
     }
 }

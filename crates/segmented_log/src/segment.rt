@@ -15,12 +15,13 @@ ghost use Rattle.segmented_log.specs.Opening.{IsNoSegment};
 ghost use Rattle.segmented_log.specs.Causes.{IsOfFiles, IsOfSeals, HasNoRoom, IsFault};
 
 use crate::error::LogError;
-use crate::names::{name_beside, segment_file};
-use crate::sealing::segment_bytes;
-use docstore::{FileHandle, FileSlice, StoreError, StoreReader, laws};
+use crate::names::segment_file;
+use crate::sealing::{BLOCK_SIZE, TailRecords, fill_error};
+use docstore::{FileHandle, FileSlice, StoreError, StoreReader, USUAL_PERIOD, laws};
 use log_tail::Place;
 use std::alloc::Global;
-use store_folder::{Folder, ReadableFolder, replace};
+use store_folder::{Folder, ReadableFolder};
+use store_published::publish_store;
 
 /// How many blocks of each segment are kept in memory.
 const CACHED_BLOCKS: usize = 4;
@@ -103,11 +104,19 @@ pub(crate) fn publish_segment<F: Folder>(
     ensures full { IsErrOf result LogError.Full → HasNoRoom (contents tail.now places.now) }
     ensures kind { IfErr result IsOfSeals }
 {
-    let bytes = segment_bytes(alloc, tail, places)?;
     let name = segment_file(alloc, first)?;
-    let beside = name_beside(alloc, &name)?;
-    replace(folder, beside.as_str(), name.as_str(), &bytes)?;
-    Ok(())
+    let mut records = TailRecords { tail, places };
+    match publish_store(
+        alloc,
+        folder,
+        name.as_str(),
+        BLOCK_SIZE,
+        USUAL_PERIOD,
+        &mut records,
+    ) {
+        Ok(_) => Ok(()),
+        Err(error) => Err(fill_error(error)),
+    }
 }
 
 /// Why a segment that the folder has could not be opened.

@@ -51,6 +51,9 @@ pub trait Folder: Drop {
     /// How often a call failed. A count that stands at its greatest value is taken to have risen.
     ghost failures: { Self → ℕ };
 
+    /// Which folder it is, whatever is done to it: of a folder that is lent, the name of the reference.
+    ghost handle: { Self → ℕ } = { λ _. 0 };
+
     /// Makes an empty file of this name, and replaces one that is there.
     fn create(&mut self, name: &str) -> io::Result<()>
         ensures created { IsTrue honest → OnOk result (seen self.new name.now ≡ Some []) }
@@ -64,7 +67,8 @@ pub trait Folder: Drop {
         ensures time { IsTrue honest → Elapses (moment self.old) (moment self.new)
             (left_since self.old) (left_since self.new) (may_leave self.new) }
         ensures count { failures self.old ≤ failures self.new }
-        ensures fault { OnErr result (HasRisen (failures self.old) (failures self.new)) };
+        ensures fault { OnErr result (HasRisen (failures self.old) (failures self.new)) }
+        ensures same { handle self.new ≡ handle self.old };
 
     /// Writes the bytes at the end of a file. What was synced before stays: a crash leaves in the file what it might
     /// have left before, and after it any bytes of any length.
@@ -82,7 +86,8 @@ pub trait Folder: Drop {
         ensures time { IsTrue honest → Elapses (moment self.old) (moment self.new)
             (left_since self.old) (left_since self.new) (may_leave self.new) }
         ensures count { failures self.old ≤ failures self.new }
-        ensures fault { OnErr result (HasRisen (failures self.old) (failures self.new)) };
+        ensures fault { OnErr result (HasRisen (failures self.old) (failures self.new)) }
+        ensures same { handle self.new ≡ handle self.old };
 
     /// Syncs a file. After an Ok, if no sync of it has failed, a crash leaves the file's bytes as they are, even if it is
     /// renamed later; and it leaves them under the name, if the entry of the name was on the disk.
@@ -102,7 +107,8 @@ pub trait Folder: Drop {
         ensures time { IsTrue honest → Elapses (moment self.old) (moment self.new)
             (left_since self.old) (left_since self.new) (may_leave self.new) }
         ensures count { failures self.old ≤ failures self.new }
-        ensures fault { OnErr result (HasRisen (failures self.old) (failures self.new)) };
+        ensures fault { OnErr result (HasRisen (failures self.old) (failures self.new)) }
+        ensures same { handle self.new ≡ handle self.old };
 
     /// Renames a file, and replaces the one that has the new name. A crash leaves either of them under the new name.
     fn rename(&mut self, from: &str, to: &str) -> io::Result<()>
@@ -124,7 +130,8 @@ pub trait Folder: Drop {
         ensures time { IsTrue honest → Elapses (moment self.old) (moment self.new)
             (left_since self.old) (left_since self.new) (may_leave self.new) }
         ensures count { failures self.old ≤ failures self.new }
-        ensures fault { OnErr result (HasRisen (failures self.old) (failures self.new)) };
+        ensures fault { OnErr result (HasRisen (failures self.old) (failures self.new)) }
+        ensures same { handle self.new ≡ handle self.old };
 
     /// Removes a file. A crash leaves it under its name, as it would have been left before, or none.
     fn remove(&mut self, name: &str) -> io::Result<()>
@@ -138,7 +145,8 @@ pub trait Folder: Drop {
         ensures time { IsTrue honest → Elapses (moment self.old) (moment self.new)
             (left_since self.old) (left_since self.new) (may_leave self.new) }
         ensures count { failures self.old ≤ failures self.new }
-        ensures fault { OnErr result (HasRisen (failures self.old) (failures self.new)) };
+        ensures fault { OnErr result (HasRisen (failures self.old) (failures self.new)) }
+        ensures same { handle self.new ≡ handle self.old };
 
     /// Syncs the folder. After an Ok, a crash leaves the entry of each name as it is.
     fn sync(&mut self) -> io::Result<()>
@@ -153,7 +161,8 @@ pub trait Folder: Drop {
         ensures time { IsTrue honest → Elapses (moment self.old) (moment self.new)
             (left_since self.old) (left_since self.new) (may_leave self.new) }
         ensures count { failures self.old ≤ failures self.new }
-        ensures fault { OnErr result (HasRisen (failures self.old) (failures self.new)) };
+        ensures fault { OnErr result (HasRisen (failures self.old) (failures self.new)) }
+        ensures same { handle self.new ≡ handle self.old };
 
     /// Whether it is known that no sync of this file has failed. Where it is not, a new file has to take its place before it
     /// is relied on: no sync vouches for it.
@@ -184,4 +193,71 @@ pub trait Folder: Drop {
     /// What an entry that is on the disk leads to.
     ghost entry_leads: { (f : Self) (n : List ℕ) (c : List ℕ → Option (List ℕ)) → IsTrue honest
         → entry_kept f n → may_leave f c → LeadsTo (seen f n) (may_hold f n) (c n) };
+}
+
+/// A folder that is lent is a folder. What is done to it is done to the lender's.
+impl<F: Folder> Folder for &mut F {
+    ghost honest = { F.honest };
+
+    ghost seen = { λ f. F.seen f.now };
+
+    ghost may_hold = { λ f. F.may_hold f.now };
+
+    ghost may_leave = { λ f. F.may_leave f.now };
+
+    ghost moment = { λ f. F.moment f.now };
+
+    ghost left_since = { λ f. F.left_since f.now };
+
+    ghost entry_kept = { λ f. F.entry_kept f.now };
+
+    ghost trusted = { λ f. F.trusted f.now };
+
+    ghost failures = { λ f. F.failures f.now };
+
+    ghost handle = { λ f. f.ghost_name };
+
+    ghost counts_now = { λ f. F.counts_now f.now };
+
+    ghost only_now = { λ f. F.only_now f.now };
+
+    ghost seen_may_be_left = { λ f. F.seen_may_be_left f.now };
+
+    ghost entry_leads = { λ f. F.entry_leads f.now };
+
+    fn create(&mut self, name: &str) -> io::Result<()> {
+        Folder::create(&mut **self, name)
+    }
+
+    fn append(&mut self, name: &str, bytes: &[u8]) -> io::Result<()> {
+        Folder::append(&mut **self, name, bytes)
+    }
+
+    fn sync_file(&mut self, name: &str) -> io::Result<()> {
+        Folder::sync_file(&mut **self, name)
+    }
+
+    fn rename(&mut self, from: &str, to: &str) -> io::Result<()> {
+        Folder::rename(&mut **self, from, to)
+    }
+
+    fn remove(&mut self, name: &str) -> io::Result<()> {
+        Folder::remove(&mut **self, name)
+    }
+
+    fn sync(&mut self) -> io::Result<()> {
+        Folder::sync(&mut **self)
+    }
+
+    fn is_trusted(&self, name: &str) -> bool {
+        Folder::is_trusted(&**self, name)
+    }
+
+    fn is_synced(&self, name: &str) -> bool {
+        Folder::is_synced(&**self, name)
+    }
+
+    fn has_kept_entries(&self) -> bool {
+        Folder::has_kept_entries(&**self)
+    }
 }

@@ -2,6 +2,7 @@
 //! outputs that take their name only once they are whole.
 #![tactic(auto)]
 
+pub mod beside;
 pub mod calls;
 pub mod folder;
 pub mod memory;
@@ -10,6 +11,7 @@ pub mod publishing;
 pub mod readable_folder;
 mod sent;
 
+pub use beside::{Beside, Origin};
 pub use calls::{FolderCall, carry_out};
 pub use folder::Folder;
 pub use memory::MemFolder;

@@ -1,6 +1,5 @@
 -- What is known of a store that was exported and published.
-use Rattle.std.proofs.Common.{◌≡◌, ℕ, ◌≤◌, List, length, Result, Ok, Err, sym, ◌∙◌, ap, subst, arith}
-use Rattle.std.specs.Prelude.{IfOk}
+use Rattle.std.proofs.Common.{◌≡◌, ℕ, ◌≤◌, List, length, sym, ◌∙◌, ap, arith}
 use Rattle.layered_index.specs.declared.checkpoint.Checkpoint.{Checkpoint}
 use Rattle.layered_index.proofs.LineLemmas.{few_filled}
 use Rattle.layered_index.specs.Checkpoint.{docs_end, Covers}
@@ -8,8 +7,6 @@ use Rattle.store_format.proofs.StoreLemmas.{length-checkpoints}
 use Rattle.store_reader.specs.Reading.{Reading, num_docs}
 use Rattle.docstore.specs.Laws.{StackedSlotsAreCounted}
 use Rattle.tantivy_export.specs.Exporting.{IsExportOf}
-use Rattle.store_published.specs.declared.publishing.NotPublished.{NotPublished}
-use Rattle.store_published.specs.declared.publishing.PublishedStore.{PublishedStore}
 use Rattle.store_published.specs.declared.publishing.Written.{Written}
 use Rattle.store_published.specs.Filling.{AreNumbersOf}
 
@@ -32,11 +29,3 @@ export_numbers reader read content written export counted same documents blocks 
     bytes = bytes;
   },
 )
-
--- what is returned once it was published
-pub published_export : {F E : Type 0} (r : Result (PublishedStore F) (NotPublished F E)) (honest : Type 0) (keeps : List ℕ → F → Type 0) (reader : Reading) (content : List ℕ) (written : Written)
-    → HasExport reader content written → IfOk r (λ p. p.written ≡ written) → (honest → IfOk r (λ p. keeps content p.folder))
-    → IfOk r (λ p. (all : List ℕ) × HasExport reader all p.written × (honest → keeps all p.folder))
-published_export (Ok p) honest keeps reader content written export is kept =
-    (content, (export.0, subst (λ (n : Written). AreNumbersOf content export.0.blocks n) (sym is) export.1), kept)
-published_export (Err e) honest keeps reader content written export is kept = tt

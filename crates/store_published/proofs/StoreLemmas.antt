@@ -6,8 +6,6 @@ use Rattle.docstore.specs.Writer.{Writing, num_docs, flushed}
 use Rattle.store_format.specs.Block.{Slot}
 use Rattle.store_format.specs.Slots.{slots}
 use Rattle.store_format.specs.StoreFile.{file, IsStore}
-use Rattle.store_published.specs.declared.publishing.NotPublished.{NotPublished}
-use Rattle.store_published.specs.declared.publishing.PublishedStore.{PublishedStore}
 use Rattle.store_published.specs.declared.publishing.Written.{Written}
 use Rattle.store_published.specs.Filling.{IsSameFile, IsStoreOf, AreNumbersOf}
 
@@ -44,12 +42,3 @@ filled_store brought first w period content written came same empty period_is cl
       },
       s.1,
     )
-
--- what is returned once it was published
-pub published_store : {F E : Type 0} (r : Result (PublishedStore F) (NotPublished F E)) (honest : Type 0) (keeps : List ℕ → F → Type 0) (brought : List Slot → Type 0) (period : ℕ) (content : List ℕ)
-    (written : Written)
-    → HasStore brought period content written → IfOk r (λ p. p.written ≡ written) → (honest → IfOk r (λ p. keeps content p.folder))
-    → IfOk r (λ p. (all : List ℕ) × HasStore brought period all p.written × (honest → keeps all p.folder))
-published_store (Ok p) honest keeps brought period content written store is kept =
-    (content, (store.0, subst (λ (n : Written). AreNumbersOf content store.0.blocks n) (sym is) store.1), kept)
-published_store (Err e) honest keeps brought period content written store is kept = tt

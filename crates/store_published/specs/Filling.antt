@@ -5,15 +5,8 @@ use Rattle.store_format.specs.Slots.{slots}
 use Rattle.store_format.specs.StoreFile.{StoreBlock, file, IsStore}
 use Rattle.docstore.specs.Laws.{taken}
 use Rattle.docstore.specs.Writer.{Writing}
-use Rattle.store_base.specs.Outputs.{Termination}
 use Rattle.store_folder.specs.Folder.{Look, ElsewhereOfBoth}
-use Rattle.store_folder.specs.Publishing.{Published}
 use Rattle.store_published.specs.declared.publishing.Written.{Written}
-
--- an output that is held back from its end: itself, and the ends that were noted
-pub record HeldOutput (F : Type 0) : Type 0 where
-  pub output : Published F
-  pub termination : Termination
 
 -- A writer goes on with its file: after the same bytes, and with the same period.
 pub record IsSameFile (old new : Writing) : Type 0 where

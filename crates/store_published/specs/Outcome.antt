@@ -1,27 +1,26 @@
--- What a publication returns.
-use Rattle.std.specs.Prelude.{◌≡◌, Result, Ok, Err}
+-- Why a store was not published.
+use Rattle.std.specs.Prelude.{◌≡◌, ℕ, Result, Ok, Err}
 use Rattle.store_base.specs.Counts.{HasRisen}
 use Rattle.store_base.specs.declared.error.Cause.TheVariants.{Write}
 use Rattle.store_base.specs.declared.error.StoreError.{StoreError}
 use Rattle.store_base.specs.declared.error.StoreError.TheVariants.{Read, Memory, OldVersion, Failed}
 use Rattle.store_format.specs.declared.version.DocStoreVersion.TheVariants.{V1}
 use Rattle.store_reader.specs.Reading.{Reading}
+use Rattle.store_folder.specs.Beside.{IsFault}
 use Rattle.store_published.specs.declared.publishing.FillError.{FillError}
 use Rattle.store_published.specs.declared.publishing.FillError.TheVariants.{Filling, Folder, Store}
-use Rattle.store_published.specs.declared.publishing.PublishedStore.{PublishedStore}
-use Rattle.store_published.specs.declared.publishing.NotPublished.{NotPublished}
 
--- the folder
-abbrev pub folder_left : {F E : Type 0} → Result (PublishedStore F) (NotPublished F E) → F
-folder_left (Ok published) = published.folder
-folder_left (Err refusal) = refusal.folder
+-- What ended the filling; a call of the folder that failed, or lack of memory; or the writer's error.
+abbrev pub IsFillFault : {T E : Type 0} → ℕ → ℕ → Result T E → FillError E → Type 0
+IsFillFault old new filled (Filling e) = filled ≡ Err e
+IsFillFault old new filled (Folder e) = IsFault old new e
+IsFillFault old new filled (Store e) = Unit {0}
 
--- A whole file was not published: a call of the folder failed, or of the output.
-abbrev pub IsOfPublishing : {E : Type 0} → FillError E → Type 0
-IsOfPublishing (Folder e) = Unit {0}
-IsOfPublishing (Store (Failed Write)) = Unit {0}
-IsOfPublishing (Store _) = ⊥
-IsOfPublishing (Filling e) = ⊥
+-- What ended the filling early; a call of the folder that failed, or lack of memory; or the writer's error.
+abbrev pub IsRefusal : {E : Type 0} → (E → Type 0) → ℕ → ℕ → FillError E → Type 0
+IsRefusal refuses old new (Filling e) = refuses e
+IsRefusal refuses old new (Folder e) = IsFault old new e
+IsRefusal refuses old new (Store e) = Unit {0}
 
 -- Why an export was not published: the store is of version 1, and nothing was read; a read of its file failed; memory
 -- ran out; or a call of the folder failed, or of the output.
@@ -32,4 +31,5 @@ IsExportRefusal reader read (Filling Memory) = read.file.failures ≡ reader.fil
 IsExportRefusal reader read (Filling (Failed Write)) = Unit {0}
 IsExportRefusal reader read (Filling _) = ⊥
 IsExportRefusal reader read (Folder e) = Unit {0}
-IsExportRefusal reader read (Store e) = IsOfPublishing {E = StoreError} (Store e)
+IsExportRefusal reader read (Store (Failed Write)) = Unit {0}
+IsExportRefusal reader read (Store _) = ⊥

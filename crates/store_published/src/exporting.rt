@@ -1,8 +1,7 @@
-//! Stores that are exported as files of version 2 and published in one call, from the folder to the name.
+//! Stores that are exported as files of version 2 and published in one call.
 
 ghost use Rattle.std.specs.Prelude.{◌≡◌, ◌≢◌, ◌++◌, ℕ, List, [], length, IsTrue, IfOk, IfErr, OnOk, IfSome};
-ghost use Rattle.std.specs.Prelude.{IsNone, Some};
-ghost use Rattle.store_base.specs.Outputs.{never_terminated};
+ghost use Rattle.std.specs.Prelude.{IsNone, Some, string_bytes};
 ghost use Rattle.store_folder.specs.Moments.{LeavesOnly};
 ghost use Rattle.store_folder.specs.Folder.{Keeps};
 ghost use Rattle.store_folder.specs.Publishing.{part};
@@ -11,17 +10,15 @@ ghost use Rattle.store_reader.specs.Parts.{number_of_parts};
 ghost use Rattle.docstore.specs.StackingInParts.{IsReadInPieces, IsReadAtMost};
 ghost use Rattle.tantivy_export.specs.Exporting.{IsExportOf};
 ghost use Rattle.store_published.specs.Filling.{AreNumbersOf, IsOldOrNew};
-ghost use Rattle.store_published.specs.Origin.{IsFrom, LeavesOnlySince};
-ghost use Rattle.store_published.specs.Outcome.{folder_left, IsExportRefusal};
+ghost use Rattle.store_folder.specs.Beside.{standing, Follows, TouchesOnly};
+ghost use Rattle.store_published.specs.Outcome.{IsExportRefusal};
 
-use crate::held::Held;
-use crate::origin::Origin;
-use crate::publishing::{FillError, NotPublished, PublishedStore, Written, publish_held};
+use crate::publishing::{FillError, NotWritten, Written, WrittenBeside};
 use docstore::{DocStoreVersion, FileHandle, StoreError, StoreReader, laws};
 use std::alloc::Global;
 use std::io;
 use std::marker::Brand;
-use store_folder::{Folder, Publication};
+use store_folder::{Beside, Folder, Origin, publish};
 use tantivy_export::export_store;
 
 // Why an export was not published: the failed call of the folder, if there is one.
@@ -49,40 +46,93 @@ fn numbers_of<H: FileHandle>(reader: &StoreReader<H>, bytes: u64) -> Written
     }
 }
 
-// The same as `publish_export` for an output of which the origin is named.
-fn export_since<F: Folder, K: Origin, H: FileHandle>(
+// Writes the export of a reader's store to a file beside the name that it is to have.
+fn export_beside<F: Folder, K: Origin, H: FileHandle>(
     alloc: Global,
-    output: Publication<F>,
+    folder: F,
+    beside: String,
     reader: &mut StoreReader<H>,
     part_bytes: usize,
-) -> Result<PublishedStore<F>, NotPublished<F, StoreError>>
-    requires apart { K.beside ≢ K.name }
-    requires fresh { output.content ≡ [] }
-    requires open { output.termination ≡ never_terminated }
-    requires origin { IsTrue F.honest
-        → IsFrom F.may_leave F.moment F.left_since K.began K.before K.past K.beside K.name output }
+) -> Result<WrittenBeside<F>, NotWritten<F, StoreError>>
+    requires first { Follows (IsTrue F.honest) K.name K.first (standing F.seen F.may_hold F.may_leave F.moment F.left_since
+        F.entry_kept F.trusted F.handle F.failures folder) }
+    requires name { K.name ≡ string_bytes beside }
     ensures exported { IfOk result (λ r. (content : List ℕ) × ((export : IsExportOf reader.old content)
         × AreNumbersOf content export.blocks r.written)
-        × (IsTrue F.honest → Keeps K.name (Some content) (F.may_leave r.folder))) }
+        × (IsTrue F.honest → F.seen r.folder K.name ≡ Some content)) }
+    ensures trusted { IsTrue F.honest → IfOk result (λ r. F.trusted r.folder K.name) }
     ensures old_version { OnOk result (reader.old.version ≢ DocStoreVersion.V1) }
     ensures refused { IfErr result (λ e. IsExportRefusal reader.old reader.new e.error) }
     ensures read { OnOk result
         (IsReadInPieces (number_of_parts part_bytes reader.old.checkpoints) reader.old reader.new) }
     ensures kept { IsReadAtMost (number_of_parts part_bytes reader.old.checkpoints) reader.old reader.new }
-    ensures any_moment { IsTrue F.honest → LeavesOnlySince F.moment F.left_since K.began K.past (folder_left result)
-        (IsOldOrNew K.before K.beside K.name (IsExportOf reader.old)) }
+    ensures follows { IfOk result (λ r. Follows (IsTrue F.honest) K.name K.first (standing F.seen F.may_hold F.may_leave F.moment F.left_since
+        F.entry_kept F.trusted F.handle F.failures r.folder)) }
+    ensures follows_err { IfErr result (λ e. Follows (IsTrue F.honest) K.name K.first (standing F.seen F.may_hold F.may_leave F.moment F.left_since
+        F.entry_kept F.trusted F.handle F.failures e.folder)) }
 {
     laws::stacked_slots_are_counted();
-    let mut held = Held::<F, K>::new(output);
-    match export_store(alloc, reader, &mut held, part_bytes) {
-        Ok(()) => {
-            let written = numbers_of(reader, held.num_bytes());
-            publish_held(held, written)
+    let mut output = match Beside::<F, K>::create(alloc, folder, beside) {
+        Ok(output) => output,
+        Err((error, folder)) => {
+            return Err(NotWritten {
+                error: FillError::Folder(error),
+                folder,
+            });
         }
-        Err(error) => Err(NotPublished {
-            error: export_error(error, held.last_error()),
-            folder: held.give_up(),
-        }),
+    };
+    match export_store(alloc, reader, &mut output, part_bytes) {
+        Ok(()) => {
+            let written = numbers_of(reader, output.num_bytes());
+            match output.finish() {
+                Ok(folder) => Ok(WrittenBeside { folder, written }),
+                Err((error, folder)) => Err(NotWritten {
+                    error: FillError::Folder(error),
+                    folder,
+                }),
+            }
+        }
+        Err(error) => {
+            let (folder, folder_error) = output.give_up();
+            Err(NotWritten {
+                error: export_error(error, folder_error),
+                folder,
+            })
+        }
+    }
+}
+
+// The same in a folder that stays the caller's.
+fn export_in<F: Folder, H: FileHandle>(
+    alloc: Global,
+    folder: &mut F,
+    beside: String,
+    reader: &mut StoreReader<H>,
+    part_bytes: usize,
+) -> Result<Written, FillError<StoreError>>
+    ensures exported { IfOk result (λ written. (content : List ℕ) × ((export : IsExportOf reader.old content)
+        × AreNumbersOf content export.blocks written)
+        × (IsTrue F.honest → F.seen folder.new (string_bytes beside) ≡ Some content)) }
+    ensures trusted { IsTrue F.honest → OnOk result (F.trusted folder.new (string_bytes beside)) }
+    ensures old_version { OnOk result (reader.old.version ≢ DocStoreVersion.V1) }
+    ensures refused { IfErr result (IsExportRefusal reader.old reader.new) }
+    ensures read { OnOk result
+        (IsReadInPieces (number_of_parts part_bytes reader.old.checkpoints) reader.old reader.new) }
+    ensures kept { IsReadAtMost (number_of_parts part_bytes reader.old.checkpoints) reader.old reader.new }
+    ensures touched { IsTrue F.honest → TouchesOnly (string_bytes beside) (standing F.seen F.may_hold F.may_leave F.moment F.left_since
+        F.entry_kept F.trusted F.handle F.failures folder.old)
+        (standing F.seen F.may_hold F.may_leave F.moment F.left_since
+        F.entry_kept F.trusted F.handle F.failures folder.new) }
+{
+    match export_beside::<&mut F, Brand, H>(alloc, &mut *folder, beside, reader, part_bytes) {
+        Ok(whole) => Ok(whole.written),
+        // So taken apart, the folder is known to be given back.
+        Err(
+            NotWritten {
+                error,
+                folder: _lent,
+            },
+        ) => Err(error),
     }
 }
 
@@ -95,34 +145,40 @@ fn export_since<F: Folder, K: Origin, H: FileHandle>(
 ///
 /// # Errors
 ///
-/// What refused the export, as `FillError::Filling`; or the first call of the folder that failed; and the folder.
+/// What refused the export, as `FillError::Filling`; or the first call of the folder that failed.
 pub fn publish_export<F: Folder, H: FileHandle>(
     alloc: Global,
-    folder: F,
+    folder: &mut F,
     name: &str,
     reader: &mut StoreReader<H>,
     part_bytes: usize,
-) -> Result<PublishedStore<F>, NotPublished<F, StoreError>>
-    ensures exported { IfOk result (λ r. (content : List ℕ) × ((export : IsExportOf reader.old content)
-        × AreNumbersOf content export.blocks r.written)
-        × (IsTrue F.honest → Keeps name.now (Some content) (F.may_leave r.folder))) }
+) -> Result<Written, FillError<StoreError>>
+    ensures exported { IfOk result (λ written. (content : List ℕ) × ((export : IsExportOf reader.old content)
+        × AreNumbersOf content export.blocks written)
+        × (IsTrue F.honest → Keeps name.now (Some content) (F.may_leave folder.new))) }
 
     // A store of version 1 is refused, and each other refusal has its cause.
     ensures old_version { OnOk result (reader.old.version ≢ DocStoreVersion.V1) }
-    ensures refused { IfErr result (λ e. IsExportRefusal reader.old reader.new e.error) }
+    ensures refused { IfErr result (IsExportRefusal reader.old reader.new) }
 
     // The data was read once, in parts; of a store that is not exported no more than that.
     ensures read { OnOk result
         (IsReadInPieces (number_of_parts part_bytes reader.old.checkpoints) reader.old reader.new) }
     ensures kept { IsReadAtMost (number_of_parts part_bytes reader.old.checkpoints) reader.old reader.new }
-    ensures any_moment { IsTrue F.honest → LeavesOnly F.moment F.left_since folder (folder_left result)
-        (IsOldOrNew (F.may_leave folder) (name.now ++ part) name.now (IsExportOf reader.old)) }
+    ensures any_moment { IsTrue F.honest → LeavesOnly F.moment F.left_since folder.old folder.new
+        (IsOldOrNew (F.may_leave folder.old) (name.now ++ part) name.now (IsExportOf reader.old)) }
 {
-    match Publication::create(alloc, folder, name) {
-        Ok(output) => export_since::<F, Brand, H>(alloc, output, reader, part_bytes),
-        Err((error, folder)) => Err(NotPublished {
-            error: FillError::Folder(error),
-            folder,
-        }),
+    let beside = match format!(in alloc; "{name}.part") {
+        Ok(beside) => beside,
+        Err(error) => return Err(FillError::Folder(error.into())),
+    };
+    let file = match String::from_str(alloc, beside.as_str()) {
+        Ok(file) => file,
+        Err(error) => return Err(FillError::Folder(error.into())),
+    };
+    let written = export_in(alloc, folder, file, reader, part_bytes)?;
+    match publish(folder, beside.as_str(), name) {
+        Ok(()) => Ok(written),
+        Err(error) => Err(FillError::Folder(error)),
     }
 }

@@ -8,7 +8,7 @@ use docstore::{StoreWriter, TerminatingWrite};
 
 /// What fills a new store: documents, or other stores.
 pub trait Filling {
-    ghost use Rattle.std.specs.Prelude.{◌≡◌, [], List, OnOk};
+    ghost use Rattle.std.specs.Prelude.{◌≡◌, ℕ, [], List, OnOk, IfErr};
     ghost use Rattle.store_format.specs.Block.{Slot};
     ghost use Rattle.docstore.specs.Laws.{taken};
     ghost use Rattle.store_published.specs.Filling.{IsSameFile};
@@ -19,6 +19,9 @@ pub trait Filling {
     /// Which slots a store has that it filled, by what it was before and what it is then.
     ghost brings: { Self → Self → List Slot → Type 0 };
 
+    /// Why it ends early, by what it was before and what it is then, and by the block size of the store.
+    ghost refuses: { Self → Self → ℕ → Self.Error → Type 0 } = { λ _ _ _ _. Unit {0} };
+
     /// Puts into a new store what it brings.
     ///
     /// # Errors
@@ -27,5 +30,6 @@ pub trait Filling {
     fn fill<W: TerminatingWrite>(&mut self, writer: &mut StoreWriter<W>) -> Result<(), Self::Error>
         requires new { taken writer.old ≡ [] }
         ensures brought { OnOk result (brings self.old self.new (taken writer.new)) }
-        ensures file { OnOk result (IsSameFile writer.old writer.new) };
+        ensures file { OnOk result (IsSameFile writer.old writer.new) }
+        ensures refused { IfErr result (λ e. refuses self.old self.new writer.old.block_size e) };
 }

@@ -1,23 +1,20 @@
-//! Stores that are filled and published in one call, from the folder to the name.
+//! Stores that are filled and published in one call.
 
-ghost use Rattle.std.specs.Prelude.{◌≡◌, ◌≢◌, ◌≤◌, ℕ, List, [], ◌++◌, IsTrue, IfOk, IfErr, IsOk, OnOk, Some};
+ghost use Rattle.std.specs.Prelude.{◌≡◌, ◌≢◌, ◌≤◌, ◌+◌, ◌^◌, ℕ, List, [], ◌++◌, IsTrue, IfOk, IfErr, IsOk, OnOk, Some, string_bytes};
 ghost use Rattle.docstore.specs.Laws.{taken};
-ghost use Rattle.store_base.specs.Outputs.{never_terminated};
-ghost use Rattle.store_folder.specs.Moments.{LeavesOnly};
-ghost use Rattle.store_folder.specs.Folder.{Keeps};
-ghost use Rattle.store_folder.specs.Publishing.{part, IsOldOrWhole};
+ghost use Rattle.store_folder.specs.Moments.{ComesFrom, LeavesOnly};
+ghost use Rattle.store_folder.specs.Folder.{Keeps, ElsewhereOfBoth, EntriesStayElsewhereOfBoth, FilesElsewhereOfBoth};
+ghost use Rattle.store_folder.specs.Publishing.{part};
+ghost use Rattle.store_folder.specs.Beside.{standing, Follows, TouchesOnly};
 ghost use Rattle.store_published.specs.Filling.{IsStoreOf, AreNumbersOf, IsOldOrNew};
-ghost use Rattle.store_published.specs.Origin.{IsFrom, LeavesOnlySince};
-ghost use Rattle.store_published.specs.Outcome.{folder_left, IsOfPublishing};
+ghost use Rattle.store_published.specs.Outcome.{IsFillFault, IsRefusal};
 
 use crate::filling::Filling;
-use crate::held::Held;
-use crate::origin::Origin;
-use docstore::{Cause, CloseError, Compressor, StoreError, StoreWriter, laws};
+use docstore::{CloseError, Compressor, StoreError, StoreWriter, laws};
 use std::alloc::Global;
 use std::io;
 use std::marker::Brand;
-use store_folder::{Folder, Publication};
+use store_folder::{Beside, Folder, Origin, publish};
 
 /// What a store has that was published.
 #[derive(Clone, Copy)]
@@ -27,69 +24,77 @@ pub struct Written {
     pub bytes: u64,
 }
 
-/// The folder in which a store was published, and what the store has.
-#[derive(Drop)]
-pub struct PublishedStore<F> {
-    pub folder: F,
-    pub written: Written,
-}
-
 /// Why a store was not published.
 #[derive(Drop)]
 pub enum FillError<E: Drop> {
     /// Not all came that was to fill it.
     Filling(E),
-    /// A call of the folder failed.
+    /// A call of the folder failed, or there was no memory for it.
     Folder(io::Error),
     /// The writer failed, and no call of the folder.
     Store(StoreError),
 }
 
-/// Why a store was not published, and the folder.
+/// A folder in which a store was written beside its name, and what the store has.
 #[derive(Drop)]
-pub struct NotPublished<F, E: Drop> {
-    pub error: FillError<E>,
-    pub folder: F,
+pub(crate) struct WrittenBeside<F> {
+    pub(crate) folder: F,
+    pub(crate) written: Written,
 }
 
-// Why a store was not published whose writer was not closed. A filling that ended early while the writer worked comes
+/// Why a store was not written, and the folder.
+#[derive(Drop)]
+pub(crate) struct NotWritten<F, E: Drop> {
+    pub(crate) error: FillError<E>,
+    pub(crate) folder: F,
+}
+
+// Why a store was not written whose writer was not closed. A filling that ended early while the writer worked comes
 // before what its close met.
-fn close_error<E: Drop>(
+fn close_error<F: Folder, K: Origin, E: Drop>(
     filled: Result<(), E>,
     had_failed: bool,
     error: StoreError,
-    folder_error: Option<io::Error>,
-) -> FillError<E> {
+    output: Beside<F, K>,
+) -> (FillError<E>, F)
+    ensures follows { Follows (IsTrue F.honest) K.name K.first (standing F.seen F.may_hold F.may_leave F.moment F.left_since
+        F.entry_kept F.trusted F.handle F.failures result.1) }
+    ensures fault { IsFillFault K.first.failures (F.failures result.1) filled result.0 }
+{
+    let (folder, folder_error) = output.give_up();
     if !had_failed {
         if let Err(error) = filled {
-            return FillError::Filling(error);
+            return (FillError::Filling(error), folder);
         }
     }
     match folder_error {
-        Some(error) => FillError::Folder(error),
-        None => FillError::Store(error),
+        Some(error) => (FillError::Folder(error), folder),
+        None => (FillError::Store(error), folder),
     }
 }
 
-// Writes what is left of a store to its output, which is held.
+// Writes what is left of a store to its output.
 fn end_store<F: Folder, K: Origin, E: Drop>(
-    writer: StoreWriter<Held<F, K>>,
+    writer: StoreWriter<Beside<F, K>>,
     filled: Result<(), E>,
-) -> Result<(Held<F, K>, Written), (FillError<E>, Held<F, K>)>
+) -> Result<(Beside<F, K>, Written), (FillError<E>, F)>
     ensures filled { OnOk result (IsOk filled) }
     ensures stored { IfOk result (λ r. writer.output.before ≡ [] → (store : IsStoreOf (λ slots. slots ≡ taken writer)
-        writer.output.period r.0.output.content) × AreNumbersOf r.0.output.content store.blocks r.1) }
+        writer.output.period r.0.content) × AreNumbersOf r.0.content store.blocks r.1) }
+    ensures follows { IfErr result (λ e. Follows (IsTrue F.honest) K.name K.first (standing F.seen F.may_hold F.may_leave F.moment F.left_since
+        F.entry_kept F.trusted F.handle F.failures e.1)) }
+    ensures fault { IfErr result (λ e. IsFillFault K.first.failures (F.failures e.1) filled e.0) }
 {
     laws::written_documents_are_found();
     laws::ids_are_given_in_order();
     let had_failed = writer.has_failed();
     let (documents, blocks) = (writer.num_docs(), writer.num_blocks());
     match writer.close() {
-        Ok(held) => match filled {
+        Ok(output) => match filled {
             Ok(()) => {
-                let bytes = held.num_bytes();
+                let bytes = output.num_bytes();
                 Ok((
-                    held,
+                    output,
                     Written {
                         documents,
                         blocks,
@@ -97,71 +102,101 @@ fn end_store<F: Folder, K: Origin, E: Drop>(
                     },
                 ))
             }
-            Err(error) => Err((FillError::Filling(error), held)),
+            Err(error) => Err((FillError::Filling(error), output.give_up().0)),
         },
-        Err(CloseError { error, output }) => {
-            let error = close_error(filled, had_failed, error, output.last_error());
-            Err((error, output))
-        }
+        Err(CloseError { error, output }) => Err(close_error(filled, had_failed, error, output)),
     }
 }
 
-/// Publishes a file that is whole.
-pub(crate) fn publish_held<F: Folder, K: Origin, E: Drop>(
-    held: Held<F, K>,
-    written: Written,
-) -> Result<PublishedStore<F>, NotPublished<F, E>>
-    ensures written { IfOk result (λ r. r.written ≡ written) }
-    ensures refused { IfErr result (λ e. IsOfPublishing e.error) }
-    ensures kept { IsTrue F.honest
-        → IfOk result (λ r. Keeps K.name (Some held.output.content) (F.may_leave r.folder)) }
-    ensures any_moment { IsTrue F.honest → LeavesOnlySince F.moment F.left_since K.began K.past (folder_left result)
-        (IsOldOrWhole K.before K.beside K.name (Some held.output.content)) }
-{
-    match held.publish() {
-        Ok(folder) => Ok(PublishedStore { folder, written }),
-        Err((Some(error), folder)) => Err(NotPublished {
-            error: FillError::Folder(error),
-            folder,
-        }),
-        Err((None, folder)) => Err(NotPublished {
-            error: FillError::Store(StoreError::Failed(Cause::Write)),
-            folder,
-        }),
-    }
-}
-
-// The same as `publish_store` for an output of which the origin is named.
-fn publish_since<F: Folder, K: Origin, S: Filling>(
+// Fills a store in a file beside the name that it is to have.
+fn write_beside<F: Folder, K: Origin, S: Filling>(
     alloc: Global,
-    output: Publication<F>,
+    folder: F,
+    beside: String,
     block_size: usize,
     period: u8,
     filling: &mut S,
-) -> Result<PublishedStore<F>, NotPublished<F, S::Error>>
+) -> Result<WrittenBeside<F>, NotWritten<F, S::Error>>
     requires least { 2 ≤ period }
     requires most { period ≤ 64 }
-    requires apart { K.beside ≢ K.name }
-    requires fresh { output.content ≡ [] }
-    requires open { output.termination ≡ never_terminated }
-    requires origin { IsTrue F.honest
-        → IsFrom F.may_leave F.moment F.left_since K.began K.before K.past K.beside K.name output }
+    requires first { Follows (IsTrue F.honest) K.name K.first (standing F.seen F.may_hold F.may_leave F.moment F.left_since
+        F.entry_kept F.trusted F.handle F.failures folder) }
+    requires name { K.name ≡ string_bytes beside }
     ensures stored { IfOk result (λ r. (content : List ℕ)
         × ((store : IsStoreOf (S.brings filling.old filling.new) period content)
         × AreNumbersOf content store.blocks r.written)
-        × (IsTrue F.honest → Keeps K.name (Some content) (F.may_leave r.folder))) }
-    ensures any_moment { IsTrue F.honest → LeavesOnlySince F.moment F.left_since K.began K.past (folder_left result)
-        (IsOldOrNew K.before K.beside K.name (IsStoreOf (S.brings filling.old filling.new) period)) }
+        × (IsTrue F.honest → F.seen r.folder K.name ≡ Some content)) }
+    ensures trusted { IsTrue F.honest → IfOk result (λ r. F.trusted r.folder K.name) }
+    ensures follows { IfOk result (λ r. Follows (IsTrue F.honest) K.name K.first (standing F.seen F.may_hold F.may_leave F.moment F.left_since
+        F.entry_kept F.trusted F.handle F.failures r.folder)) }
+    ensures follows_err { IfErr result (λ e. Follows (IsTrue F.honest) K.name K.first (standing F.seen F.may_hold F.may_leave F.moment F.left_since
+        F.entry_kept F.trusted F.handle F.failures e.folder)) }
+    ensures refused { IfErr result (λ e. IsRefusal (S.refuses filling.old filling.new block_size)
+        K.first.failures (F.failures e.folder) e.error) }
 {
-    let held = Held::<F, K>::new(output);
-    let mut writer = StoreWriter::with_period(alloc, held, Compressor::None, block_size, period);
+    let output = match Beside::<F, K>::create(alloc, folder, beside) {
+        Ok(output) => output,
+        Err((error, folder)) => {
+            return Err(NotWritten {
+                error: FillError::Folder(error),
+                folder,
+            });
+        }
+    };
+    let mut writer = StoreWriter::with_period(alloc, output, Compressor::None, block_size, period);
     let filled = filling.fill(&mut writer);
     match end_store(writer, filled) {
-        Ok((held, written)) => publish_held(held, written),
-        Err((error, held)) => Err(NotPublished {
-            error,
-            folder: held.give_up(),
-        }),
+        Ok((output, written)) => match output.finish() {
+            Ok(folder) => Ok(WrittenBeside { folder, written }),
+            Err((error, folder)) => Err(NotWritten {
+                error: FillError::Folder(error),
+                folder,
+            }),
+        },
+        Err((error, folder)) => Err(NotWritten { error, folder }),
+    }
+}
+
+// The same in a folder that stays the caller's.
+fn write_in<F: Folder, S: Filling>(
+    alloc: Global,
+    folder: &mut F,
+    beside: String,
+    block_size: usize,
+    period: u8,
+    filling: &mut S,
+) -> Result<Written, FillError<S::Error>>
+    requires least { 2 ≤ period }
+    requires most { period ≤ 64 }
+    ensures stored { IfOk result (λ written. (content : List ℕ)
+        × ((store : IsStoreOf (S.brings filling.old filling.new) period content)
+        × AreNumbersOf content store.blocks written)
+        × (IsTrue F.honest → F.seen folder.new (string_bytes beside) ≡ Some content)) }
+    ensures trusted { IsTrue F.honest → OnOk result (F.trusted folder.new (string_bytes beside)) }
+    ensures touched { IsTrue F.honest → TouchesOnly (string_bytes beside) (standing F.seen F.may_hold F.may_leave F.moment F.left_since
+        F.entry_kept F.trusted F.handle F.failures folder.old)
+        (standing F.seen F.may_hold F.may_leave F.moment F.left_since
+        F.entry_kept F.trusted F.handle F.failures folder.new) }
+    ensures count { F.failures folder.old ≤ F.failures folder.new }
+    ensures refused { IfErr result (IsRefusal (S.refuses filling.old filling.new block_size)
+        (F.failures folder.old) (F.failures folder.new)) }
+{
+    match write_beside::<&mut F, Brand, S>(
+        alloc,
+        &mut *folder,
+        beside,
+        block_size,
+        period,
+        filling,
+    ) {
+        Ok(whole) => Ok(whole.written),
+        // So taken apart, the folder is known to be given back.
+        Err(
+            NotWritten {
+                error,
+                folder: _lent,
+            },
+        ) => Err(error),
     }
 }
 
@@ -172,30 +207,56 @@ fn publish_since<F: Folder, K: Origin, S: Filling>(
 ///
 /// # Errors
 ///
-/// What ended the filling, the first call of the folder that failed, or the writer's error; and the folder.
+/// What ended the filling, the first call of the folder that failed, or the writer's error.
 pub fn publish_store<F: Folder, S: Filling>(
     alloc: Global,
-    folder: F,
+    folder: &mut F,
     name: &str,
     block_size: usize,
     period: u8,
     filling: &mut S,
-) -> Result<PublishedStore<F>, NotPublished<F, S::Error>>
+) -> Result<Written, FillError<S::Error>>
     requires least { 2 ≤ period }
     requires most { period ≤ 64 }
-    ensures stored { IfOk result (λ r. (content : List ℕ)
+    ensures stored { IfOk result (λ written. (content : List ℕ)
         × ((store : IsStoreOf (S.brings filling.old filling.new) period content)
-        × AreNumbersOf content store.blocks r.written)
-        × (IsTrue F.honest → Keeps name.now (Some content) (F.may_leave r.folder))) }
-    ensures any_moment { IsTrue F.honest → LeavesOnly F.moment F.left_since folder (folder_left result)
-        (IsOldOrNew (F.may_leave folder) (name.now ++ part) name.now
+        × AreNumbersOf content store.blocks written)
+        × (IsTrue F.honest → Keeps name.now (Some content) (F.may_leave folder.new))
+        × (IsTrue F.honest → F.seen folder.new name.now ≡ Some content)) }
+    ensures any_moment { IsTrue F.honest → LeavesOnly F.moment F.left_since folder.old folder.new
+        (IsOldOrNew (F.may_leave folder.old) (name.now ++ part) name.now
         (IsStoreOf (S.brings filling.old filling.new) period)) }
+
+    // No other name was touched, and after an Ok the entry of every name is on the disk.
+    ensures elsewhere { IsTrue F.honest
+        → ElsewhereOfBoth (name.now ++ part) name.now (F.seen folder.old) (F.seen folder.new) }
+    ensures files { IsTrue F.honest
+        → FilesElsewhereOfBoth (name.now ++ part) name.now (F.may_hold folder.old) (F.may_hold folder.new) }
+    ensures crash { IsTrue F.honest → ComesFrom (ElsewhereOfBoth (name.now ++ part) name.now)
+        (F.may_leave folder.old) (F.may_leave folder.new) }
+    ensures entries { IsTrue F.honest → EntriesStayElsewhereOfBoth (name.now ++ part) name.now
+        (F.entry_kept folder.old) (F.entry_kept folder.new) }
+    ensures kept { IsTrue F.honest → OnOk result ((n : List ℕ) → F.entry_kept folder.new n) }
+
+    // After an Ok no sync of the file has failed, and of the others as before.
+    ensures moved { IsTrue F.honest → OnOk result (F.trusted folder.new name.now) }
+    ensures trust { IsTrue F.honest → EntriesStayElsewhereOfBoth (name.now ++ part) name.now
+        (F.trusted folder.old) (F.trusted folder.new) }
+    ensures count { F.failures folder.old ≤ F.failures folder.new }
+    ensures refused { IfErr result (IsRefusal (S.refuses filling.old filling.new block_size)
+        (F.failures folder.old) (F.failures folder.new)) }
 {
-    match Publication::create(alloc, folder, name) {
-        Ok(output) => publish_since::<F, Brand, S>(alloc, output, block_size, period, filling),
-        Err((error, folder)) => Err(NotPublished {
-            error: FillError::Folder(error),
-            folder,
-        }),
+    let beside = match format!(in alloc; "{name}.part") {
+        Ok(beside) => beside,
+        Err(error) => return Err(FillError::Folder(error.into())),
+    };
+    let file = match String::from_str(alloc, beside.as_str()) {
+        Ok(file) => file,
+        Err(error) => return Err(FillError::Folder(error.into())),
+    };
+    let written = write_in(alloc, folder, file, block_size, period, filling)?;
+    match publish(folder, beside.as_str(), name) {
+        Ok(()) => Ok(written),
+        Err(error) => Err(FillError::Folder(error)),
     }
 }
