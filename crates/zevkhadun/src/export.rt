@@ -9,7 +9,7 @@ use crate::store_output::{OutputPlace, output_place, summarize};
 use clap::{ArgMatches, Command};
 use docstore::StoreError;
 use std::alloc::{AllocError, Global};
-use store_published::{FillError, NotPublished, publish_export};
+use store_published::{FillError, publish_export};
 
 // How many bytes of the store are in memory at a time.
 const PART_BYTES: usize = 1 << 22;
@@ -63,9 +63,9 @@ pub fn run(rt: &HostRuntime, matches: &ArgMatches<'_>) -> Result<(), Failure> {
     let out = output_path(alloc, matches)?;
     let progress = Progress::begin(rt, matches.get_flag("quiet"), None);
     let mut reader = with_file(alloc, store.path, store.reader(rt))?;
-    let OutputPlace { folder, name } = output_place(rt, out)?;
-    match publish_export(alloc, folder, name.as_str(), &mut reader, PART_BYTES) {
-        Ok(published) => summarize(rt, out, published.written, &progress),
-        Err(NotPublished { error, .. }) => Err(failure_of(alloc, store.path, out, error)),
+    let OutputPlace { mut folder, name } = output_place(rt, out)?;
+    match publish_export(alloc, &mut folder, name.as_str(), &mut reader, PART_BYTES) {
+        Ok(written) => summarize(rt, out, written, &progress),
+        Err(error) => Err(failure_of(alloc, store.path, out, error)),
     }
 }

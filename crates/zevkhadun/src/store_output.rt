@@ -7,7 +7,7 @@ use crate::replacing::check_store;
 use std::alloc::Global;
 use store_commands::StoreShape;
 use store_files::OsFolder;
-use store_published::{FillError, Filling, NotPublished, PublishedStore, Written, publish_store};
+use store_published::{FillError, Filling, Written, publish_store};
 
 /// The folder in which a file on disk is written.
 type DiskFolder = OsFolder<HostRuntime>;
@@ -20,7 +20,7 @@ pub struct OutputPlace {
 }
 
 /// A store that was published on disk, or why it was not.
-pub type Outcome<E> = Result<PublishedStore<DiskFolder>, NotPublished<DiskFolder, E>>;
+pub type Outcome<E> = Result<Written, FillError<E>>;
 
 impl OutputPlace {
     /// Fills a store and publishes it here.
@@ -30,10 +30,10 @@ impl OutputPlace {
         shape: StoreShape,
         filling: &mut S,
     ) -> Outcome<S::Error> {
-        let OutputPlace { folder, name } = self;
+        let OutputPlace { mut folder, name } = self;
         publish_store(
             alloc,
-            folder,
+            &mut folder,
             name.as_str(),
             shape.block_size,
             shape.period,
@@ -100,7 +100,7 @@ pub fn end_output<E: Into<Failure> + Drop>(
 ) -> Result<(), Failure> {
     progress.end();
     match outcome {
-        Ok(published) => summarize(rt, path, published.written, progress),
-        Err(NotPublished { error, .. }) => Err(failure_of(rt.alloc(), path, error)),
+        Ok(written) => summarize(rt, path, written, progress),
+        Err(error) => Err(failure_of(rt.alloc(), path, error)),
     }
 }
