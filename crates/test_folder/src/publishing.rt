@@ -5,9 +5,7 @@ use docstore::{Compressor, MemSink, StoreError, StoreWriter, TerminatingWrite};
 use std::alloc::Global;
 use std::test::Fail;
 use store_folder::{Folder, MemFolder, ReadableFolder};
-use store_published::{
-    DocumentList, FillError, Filling, NotPublished, PublishedStore, publish_store, store_document,
-};
+use store_published::{DocumentList, FillError, Filling, Written, publish_store, store_document};
 use torn_folder::TornFolder;
 
 // Two documents.
@@ -33,14 +31,14 @@ fn file(alloc: Global) -> Result<Vec<u8>, Fail> {
 // Publishes a store in a folder.
 fn publish_in<F: Folder, S: Filling>(
     alloc: Global,
-    folder: F,
+    folder: &mut F,
     filling: &mut S,
-) -> Result<PublishedStore<F>, NotPublished<F, S::Error>> {
+) -> Result<Written, FillError<S::Error>> {
     publish_store(alloc, folder, "a.store", 16384, 8, filling)
 }
 
-// The folder with a store of two documents.
-fn folder_with_two<F: Folder>(alloc: Global, folder: F) -> Result<PublishedStore<F>, Fail> {
+// Publishes a store of two documents in a folder.
+fn publish_two<F: Folder>(alloc: Global, folder: &mut F) -> Result<Written, Fail> {
     let documents = documents(alloc)?;
     match publish_in(
         alloc,
@@ -49,31 +47,31 @@ fn folder_with_two<F: Folder>(alloc: Global, folder: F) -> Result<PublishedStore
             documents: &documents,
         },
     ) {
-        Ok(published) => Ok(published),
+        Ok(written) => Ok(written),
         Err(_) => Err(std::io::Error::from(std::io::ErrorKind::Other))?,
     }
 }
 
 // Whether the folder has the store of two documents and nothing beside it, and the call counted them.
-fn has_two(alloc: Global, published: &PublishedStore<MemFolder>) -> Result<bool, Fail> {
+fn has_two(alloc: Global, folder: &MemFolder, written: Written) -> Result<bool, Fail> {
     let expected = file(alloc)?;
-    let written = &published.written;
     let is_counted = written.documents == 2
         && written.blocks == 1
         && written.bytes == expected.len() as u64;
     Ok(
         is_counted
-            && published.folder.read(alloc, "a.store")? == Some(expected)
-            && published.folder.read(alloc, "a.store.part")?.is_none(),
+            && folder.read(alloc, "a.store")? == Some(expected)
+            && folder.read(alloc, "a.store.part")?.is_none(),
     )
 }
 
 #[test]
 fn documents_are_published(rt: HostRuntime) -> Result<(), Fail> {
     let alloc = rt.alloc();
-    let published = folder_with_two(alloc, MemFolder::new(alloc))?;
-    assert!(rt; has_two(alloc, &published)?);
-    folder_with_two(alloc, TornFolder::new(alloc))?;
+    let mut folder = MemFolder::new(alloc);
+    let written = publish_two(alloc, &mut folder)?;
+    assert!(rt; has_two(alloc, &folder, written)?);
+    publish_two(alloc, &mut TornFolder::new(alloc))?;
     Ok(())
 }
 
@@ -83,20 +81,19 @@ fn left_by(
     failing_call: u32,
     fails_late: bool,
 ) -> Result<(FailingFolder, bool), Fail> {
-    let folder = FailingFolder::with_file(alloc, "a.store", b"old", failing_call, fails_late)?;
+    let mut folder = FailingFolder::with_file(alloc, "a.store", b"old", failing_call, fails_late)?;
     let documents = documents(alloc)?;
-    Ok(
-        match publish_in(
-            alloc,
-            folder,
-            &mut DocumentList {
-                documents: &documents,
-            },
-        ) {
-            Ok(published) => (published.folder, false),
-            Err(NotPublished { error, folder }) => (folder, matches!(error, FillError::Folder(_))),
+    let is_folders = match publish_in(
+        alloc,
+        &mut folder,
+        &mut DocumentList {
+            documents: &documents,
         },
-    )
+    ) {
+        Ok(_) => false,
+        Err(error) => matches!(error, FillError::Folder(_)),
+    };
+    Ok((folder, is_folders))
 }
 
 // The calls are: create, append, sync of the file, rename, sync of the folder.
@@ -150,8 +147,8 @@ impl Filling for GivesUp {
 #[test]
 fn a_filling_that_ends_early_leaves_the_old_file(rt: HostRuntime) -> Result<(), Fail> {
     let alloc = rt.alloc();
-    let folder = FailingFolder::with_file(alloc, "a.store", b"old", 0, false)?;
-    let Err(NotPublished { error, folder }) = publish_in(alloc, folder, &mut GivesUp) else {
+    let mut folder = FailingFolder::with_file(alloc, "a.store", b"old", 0, false)?;
+    let Err(error) = publish_in(alloc, &mut folder, &mut GivesUp) else {
         panic!(rt; "published");
     };
     assert!(rt; matches!(error, FillError::Filling(StoreError::BadOffset)));
