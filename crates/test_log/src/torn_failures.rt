@@ -1,7 +1,7 @@
 //! Logs of whose folder one call fails, at each place, and no crash: the next process opens what a look sees. After a sync
 //! of a file that failed no later one keeps anything of it, as on Linux.
 
-use crate::crash::Dice;
+use crate::dice::Dice;
 use crate::torn_kills::{add_record, goes_on};
 use crate::torn_logs::SEAL_SIZE;
 use crate::watched::Watched;
