@@ -20,6 +20,22 @@ pub struct Watched {
     failures: u64,
 }
 
+// What is written of these bytes: half of them by a call that fails.
+fn written_of(bytes: &[u8], fails: bool) -> &[u8] {
+    if fails {
+        return &bytes[..bytes.len() / 2];
+    }
+    bytes
+}
+
+// The outcome of a call, or that it failed.
+fn failed_if(fails: bool, outcome: io::Result<()>) -> io::Result<()> {
+    if fails {
+        return Err(io::ErrorKind::Other.into());
+    }
+    outcome
+}
+
 impl Watched {
     /// An empty folder.
     pub fn new(alloc: Global) -> Watched {
@@ -46,14 +62,6 @@ impl Watched {
     pub fn lose_sync(&mut self, name: &str) -> io::Result<()> {
         let _ = self.folder.fail_sync(name);
         Ok(())
-    }
-
-    // Writes the first half of the bytes, and fails.
-    fn append_half(&mut self, name: &str, bytes: &[u8]) -> io::Result<()>
-        ensures { self.new.failures ≡ self.old.failures }
-    {
-        self.folder.append(name, &bytes[..bytes.len() / 2])?;
-        Err(io::ErrorKind::Other.into())
     }
 
     // Counts a call. Whether it is the one that fails.
@@ -121,17 +129,18 @@ impl Folder for Watched {
     }
 
     fn append(&mut self, name: &str, bytes: &[u8]) -> io::Result<()> {
+        let fails = self.begin();
         let outcome = match self.folder.read(self.alloc, name) {
-            Ok(Some(_)) if self.begin() => self.append_half(name, bytes),
-            Ok(Some(_)) => self.folder.append(name, bytes),
+            Ok(Some(_)) => self.folder.append(name, written_of(bytes, fails)),
             _ => Err(io::ErrorKind::NotFound.into()),
         };
-        self.count(outcome)
+        self.count(failed_if(fails, outcome))
     }
 
     fn sync_file(&mut self, name: &str) -> io::Result<()> {
+        let fails = self.begin();
         let outcome = match self.folder.read(self.alloc, name) {
-            Ok(Some(_)) if self.begin() => self.folder.fail_sync(name),
+            Ok(Some(_)) if fails => self.folder.fail_sync(name),
             Ok(Some(_)) => self.folder.sync_file(name),
             _ => Err(io::ErrorKind::NotFound.into()),
         };
@@ -139,8 +148,9 @@ impl Folder for Watched {
     }
 
     fn rename(&mut self, from: &str, to: &str) -> io::Result<()> {
+        let fails = self.begin();
         let outcome = match self.folder.read(self.alloc, from) {
-            Ok(Some(_)) if self.begin() => Err(io::ErrorKind::Other.into()),
+            Ok(Some(_)) if fails => Err(io::ErrorKind::Other.into()),
             Ok(Some(_)) => self.folder.rename(from, to),
             _ => Err(io::ErrorKind::NotFound.into()),
         };
