@@ -44,7 +44,8 @@ pub numbered_one : (first : ℕ) (block : List ℕ) (m : ℕ) (set : Option (ℕ
 numbered_one first block m set h =
     let size : length (slots_in block m) ≡ m = length-map-range_with_len (slot block) 0 m in
     ap (λ (xs : List Slot). numbered_from first xs set) (slots_split block m 1) ∙ numbered_joined first (slots_in block m) (slot block m ∷ []) set
-    ∙ ap (λ (ys : List (ℕ × Slot)). numbered_from first (slots_in block m) set ++ ys) (one_numbered (first + length (slots_in block m)) (slot block m) set (ap (λ (k : ℕ). is_in set (first + k)) size ∙ h))
+    ∙ ap (λ (ys : List (ℕ × Slot)). numbered_from first (slots_in block m) set ++ ys) (one_numbered (first + length (slots_in block m)) (slot block m) set
+    (ap (λ (k : ℕ). is_in set (first + k)) size ∙ h))
     ∙ ap (λ (k : ℕ). numbered_from first (slots_in block m) set ++ (first + k, slot block m) ∷ []) size
 
 -- ---- the documents of a store
@@ -86,7 +87,8 @@ given_more {T} takes set r now read next old middle new part h seeks given none 
         ap (λ (k : ℕ). numbered_from k (slots_in part.bytes (part.ids.end - part.ids.start)) set) id
         ∙ ap (λ (xs : List ℕ). numbered_from (0 + length (slots h.front)) (slots_in xs (part.ids.end - part.ids.start)) set) (n.bytes honest)
         ∙ ap (λ (k : ℕ). numbered_from (0 + length (slots h.front)) (slots_in n.block.bytes k) set) n.count in
-        let all : numbered_from 0 (slots (h.front ++ n.block ∷ [])) set ≡ numbered_from 0 (slots h.front) set ++ numbered_from part.ids.start (slots_in part.bytes (part.ids.end - part.ids.start)) set =
+        let all : numbered_from 0 (slots (h.front ++ n.block ∷ [])) set ≡ numbered_from 0 (slots h.front) set ++ numbered_from part.ids.start (slots_in part.bytes (part.ids.end - part.ids.start))
+        set =
         ap (λ (xs : List Slot). numbered_from 0 xs set) (slots_joined h.front n.block) ∙ numbered_joined 0 (slots h.front) (slots_in n.block.bytes n.block.count) set
         ∙ ap (λ (ys : List (ℕ × Slot)). numbered_from 0 (slots h.front) set ++ ys) (sym some) in
         subst (λ (xs : List (ℕ × Slot)). TakesSlots takes xs old new) (sym all)

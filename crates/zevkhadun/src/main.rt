@@ -4,41 +4,13 @@
 //! error, and 3 if the system refused a call.
 #![tactic(auto)]
 
-mod append;
-mod arguments;
-mod block_walk;
-mod byte_size;
-mod cat;
-mod command_words;
-mod document_output;
-mod export;
-mod failure;
-mod findings;
-mod get;
-mod input_files;
-mod inspect;
-mod inspect_words;
-mod listed_numbers;
-mod log;
-mod merge;
-mod pack;
-mod progress;
-mod replacing;
-mod stat;
-mod stat_output;
-mod status;
-mod store_file;
-mod store_output;
-mod verify;
-mod verify_output;
-mod word_files;
 mod words;
 
-use arguments::wrong_words;
 use clap::ArgMatches;
-use failure::Failure;
+use program_base::arguments::wrong_words;
+use program_base::failure::Failure;
+use program_stores::{append, cat, export, get, inspect, merge, pack, stat, verify};
 use std::process::ExitCode;
-use std::{env, io};
 
 // Does what the words ask. A subcommand and the arguments that it requires are there, since clap has seen to it.
 fn run(rt: &HostRuntime, matches: &ArgMatches<'_>) -> Result<(), Failure> {
@@ -55,7 +27,7 @@ fn run(rt: &HostRuntime, matches: &ArgMatches<'_>) -> Result<(), Failure> {
         "merge" => merge::run(rt, matches),
         "export" => export::run(rt, matches),
         "inspect" => inspect::run(rt, matches),
-        "log" => log::run(rt, matches),
+        "log" => program_logs::run(rt, matches),
         _ => Err(wrong_words(rt.alloc(), "unknown command", name)),
     }
 }

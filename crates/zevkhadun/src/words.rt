@@ -1,9 +1,9 @@
 //! The words that the program takes.
 
-use crate::command_words::add;
-use crate::failure::{Failure, FailureCause};
-use crate::{append, cat, export, get, inspect, log, merge, pack, stat, verify};
 use clap::{ArgMatches, Command, Error};
+use program_base::command_words::add;
+use program_base::failure::{Failure, FailureCause};
+use program_stores::{append, cat, export, get, inspect, merge, pack, stat, verify};
 use std::alloc::{AllocError, Global};
 use std::{env, io};
 
@@ -41,7 +41,7 @@ fn subcommands<'a>(alloc: Global) -> Result<Vec<Command<'a>>, AllocError> {
     add(&mut commands, merge::command(alloc))?;
     add(&mut commands, export::command(alloc))?;
     add(&mut commands, inspect::command(alloc))?;
-    add(&mut commands, log::command(alloc))?;
+    add(&mut commands, program_logs::command(alloc))?;
     Ok(commands)
 }
 

@@ -1,0 +1,367 @@
+//! Why a command failed, and the line that reports it.
+
+ghost use Rattle.std.specs.Prelude.{◌≡◌, Ok, IfOk};
+
+use crate::status::Status;
+use docstore::{FileHandle, NoMemory, StoreError};
+use document_framing::FramingFault;
+use std::alloc::{AllocError, AllocFailed, Global};
+use std::fmt::Display;
+use std::{fmt, io};
+use store_commands::RequestError;
+use store_commands::block_walk::GivingError;
+use store_commands::merging::MergeFailure;
+use store_files::CreateError;
+
+/// Why a log refuses a call: what is wrong, what to do, where there is something to do, and the status.
+#[derive(Clone, Copy)]
+pub struct LogRefusal {
+    pub text: &'static str,
+    pub advice: &'static str,
+    pub status: Status,
+}
+
+/// What went wrong.
+#[derive(Drop)]
+pub enum FailureCause {
+    /// The words of the command line are wrong.
+    Words(String),
+    /// The words are not UTF-8.
+    NoText,
+    /// The system refused a call.
+    System(io::Error),
+    /// The standard output refused a write.
+    Output(io::Error),
+    /// The output can't be begun.
+    Create(CreateError),
+    /// A file that is none of this kind has the output's name.
+    OtherFile(&'static str),
+    /// A call on a store was refused.
+    Store(StoreError),
+    /// A request to a store was refused.
+    Request(RequestError),
+    /// The input of lengths and documents ends within one.
+    CutInput,
+    /// There is no log in the folder, and no place for a new one.
+    NotLog,
+    /// Another process writes the log.
+    BusyLog,
+    /// A call on a log was refused.
+    Log(LogRefusal),
+    /// The log has no record of this number: its records have the numbers from `first` to before `end`.
+    NoRecord { number: u64, first: u64, end: u64 },
+    /// The record of this number is damaged.
+    DamagedRecord(u64),
+    /// It was reported already, and has this status.
+    Reported(Status),
+}
+
+impl FailureCause {
+    // What is said of a cause that carries nothing which is printed.
+    fn text(&self) -> &'static str {
+        match self {
+            FailureCause::NoText => "file names and other arguments have to be UTF-8",
+            FailureCause::CutInput => "the input ends inside a document",
+            FailureCause::NotLog => "not a log",
+            FailureCause::BusyLog => "the log is being written by another",
+            FailureCause::Log(refusal) => refusal.text,
+            _ => "",
+        }
+    }
+
+    // What to do, where there is something to do.
+    fn advice(&self) -> &'static str {
+        match self {
+            FailureCause::Words(_) => "; try '--help'",
+            FailureCause::Create(CreateError::Busy(_)) | FailureCause::BusyLog => {
+                "; wait until it ends, or stop it"
+            }
+            FailureCause::NotLog => "; 'zevkhadun log append' begins one in a new or empty folder",
+            FailureCause::DamagedRecord(_) => "; 'zevkhadun log verify' says where",
+            FailureCause::Log(refusal) => refusal.advice,
+            FailureCause::OtherFile(_) => "; choose another name, or remove it",
+            FailureCause::CutInput => "; does it have another framing?",
+            FailureCause::Request(error) => advice_for_request(error),
+            FailureCause::Store(error) => advice_for(error),
+            _ => "",
+        }
+    }
+
+    // The status with which the program ends.
+    fn status(&self) -> Status {
+        match self {
+            FailureCause::Words(_) | FailureCause::NoText => Status::Usage,
+            FailureCause::System(_)
+            | FailureCause::Output(_)
+            | FailureCause::Create(_)
+            | FailureCause::BusyLog => Status::System,
+            FailureCause::Log(refusal) => refusal.status,
+            FailureCause::Store(error) => status_of(error),
+            FailureCause::Request(RequestError::Store(error)) => status_of(error),
+            FailureCause::OtherFile(_)
+            | FailureCause::Request(_)
+            | FailureCause::CutInput
+            | FailureCause::NotLog
+            | FailureCause::NoRecord { .. }
+            | FailureCause::DamagedRecord(_) => Status::Broken,
+            FailureCause::Reported(status) => *status,
+        }
+    }
+}
+
+// The status where a store refuses a call.
+fn status_of(error: &StoreError) -> Status {
+    match error {
+        StoreError::Read | StoreError::Memory | StoreError::Failed(_) => Status::System,
+        _ => Status::Broken,
+    }
+}
+
+// What to do where a request to a store is refused.
+fn advice_for_request(error: &RequestError) -> &'static str {
+    match error {
+        RequestError::TooManyDocuments { .. } => "; 'zevkhadun verify' says where",
+        RequestError::NoTantivyTail => "; leave '--tantivy' out for a file that is only a store",
+        _ => "",
+    }
+}
+
+// What to do where a store refuses a call.
+fn advice_for(error: &StoreError) -> &'static str {
+    match error {
+        StoreError::ShortFile(_) | StoreError::BadOffset | StoreError::BadVersion(_) => {
+            "; not a store, or its end is missing"
+        }
+        StoreError::BadBlockKind(_) => "; only uncompressed stores can be read",
+        StoreError::BadIndex | StoreError::DamagedDocument(_) => "; 'zevkhadun verify' says where",
+        StoreError::OldVersion => "; pack the output of 'cat' instead",
+        StoreError::BlockTooLarge => "; use a smaller '--block-size', or split the document",
+        StoreError::TooManyDocs => "; write several stores",
+        _ => "",
+    }
+}
+
+// How tantivy compresses blocks of a kind.
+fn compression_of(kind: u8) -> Option<&'static str> {
+    match kind {
+        1 => Some("LZ4"),
+        4 => Some("Zstd"),
+        _ => None,
+    }
+}
+
+// That blocks are of a kind that is not read.
+fn write_kind<W: fmt::Write>(f: &mut fmt::Formatter<W>, kind: u8) -> fmt::Result {
+    match compression_of(kind) {
+        Some(compression) => write!(f, "blocks are compressed (kind {kind}, {compression})"),
+        None => write!(f, "blocks are compressed (kind {kind})"),
+    }
+}
+
+// What is said where a store's error is the cause. Its kind of blocks and its index are named in the program's words.
+fn write_store_error<W: fmt::Write>(f: &mut fmt::Formatter<W>, error: &StoreError) -> fmt::Result {
+    match error {
+        StoreError::BadBlockKind(kind) => write_kind(f, *kind),
+        StoreError::BadIndex => f.write_str("the index is damaged"),
+        error => error.fmt(f),
+    }
+}
+
+// That a log has no record of a number.
+fn write_no_record<W: fmt::Write>(
+    f: &mut fmt::Formatter<W>,
+    number: u64,
+    first: u64,
+    end: u64,
+) -> fmt::Result {
+    if first == end {
+        return write!(f, "no record {number}; the log has none");
+    }
+    let last = end.saturating_sub(1);
+    write!(
+        f,
+        "no record {number}; the log has the records {first} to {last}"
+    )
+}
+
+impl Display for FailureCause {
+    fn fmt<W: fmt::Write>(&self, f: &mut fmt::Formatter<W>) -> fmt::Result {
+        match self {
+            FailureCause::Words(text) => f.write_str(text.as_str()),
+            FailureCause::System(error) => error.fmt(f),
+            FailureCause::Output(error) => write!(f, "standard output: {error}"),
+            FailureCause::Create(error) => error.fmt(f),
+            FailureCause::OtherFile(kind) => write!(f, "the file exists and is not a {kind}"),
+            FailureCause::Store(error) => write_store_error(f, error),
+            FailureCause::Request(error) => error.fmt(f),
+            FailureCause::NoRecord { number, first, end } => {
+                write_no_record(f, *number, *first, *end)
+            }
+            FailureCause::DamagedRecord(number) => write!(f, "record {number} is damaged"),
+            cause => f.write_str(cause.text()),
+        }
+    }
+}
+
+impl From<io::Error> for FailureCause {
+    fn from(error: io::Error) -> FailureCause {
+        FailureCause::System(error)
+    }
+}
+
+impl From<FramingFault> for FailureCause {
+    fn from(fault: FramingFault) -> FailureCause {
+        match fault {
+            FramingFault::Io(error) => FailureCause::System(error),
+            FramingFault::Cut => FailureCause::CutInput,
+        }
+    }
+}
+
+impl From<CreateError> for FailureCause {
+    fn from(error: CreateError) -> FailureCause {
+        FailureCause::Create(error)
+    }
+}
+
+impl From<StoreError> for FailureCause {
+    fn from(error: StoreError) -> FailureCause {
+        FailureCause::Store(error)
+    }
+}
+
+impl From<RequestError> for FailureCause {
+    fn from(error: RequestError) -> FailureCause {
+        match error {
+            RequestError::NoRange(text) => FailureCause::Words(text),
+            RequestError::Store(error) => FailureCause::Store(error),
+            error => FailureCause::Request(error),
+        }
+    }
+}
+
+impl From<GivingError<FailureCause>> for FailureCause {
+    fn from(error: GivingError<FailureCause>) -> FailureCause {
+        match error {
+            GivingError::Store(error) => FailureCause::Store(error),
+            GivingError::Target(cause) => cause,
+        }
+    }
+}
+
+impl<H: FileHandle> From<MergeFailure<H>> for FailureCause {
+    fn from(failure: MergeFailure<H>) -> FailureCause {
+        match failure {
+            MergeFailure::Request(error) => FailureCause::from(error),
+            MergeFailure::Refused { error, reader } => {
+                drop(reader);
+                FailureCause::Store(error)
+            }
+        }
+    }
+}
+
+impl From<NoMemory> for FailureCause {
+    fn from(_: NoMemory) -> FailureCause {
+        FailureCause::Store(StoreError::Memory)
+    }
+}
+
+impl From<AllocError> for FailureCause {
+    fn from(_: AllocError) -> FailureCause {
+        FailureCause::Store(StoreError::Memory)
+    }
+}
+
+impl<T: Drop> From<AllocFailed<T>> for FailureCause {
+    fn from(_: AllocFailed<T>) -> FailureCause {
+        FailureCause::Store(StoreError::Memory)
+    }
+}
+
+/// What went wrong, and at which file, if at one.
+#[derive(Drop)]
+pub struct Failure {
+    file: Option<String>,
+    cause: FailureCause,
+}
+
+/// At no file.
+impl From<FailureCause> for Failure {
+    fn from(cause: FailureCause) -> Failure {
+        Failure { file: None, cause }
+    }
+}
+
+impl Failure {
+    /// At this file. What is wrong with the words or the standard output is at none.
+    pub fn at_file(alloc: Global, path: &str, cause: FailureCause) -> Failure {
+        if let FailureCause::Words(_) | FailureCause::Output(_) = &cause {
+            return Failure::from(cause);
+        }
+        Failure {
+            file: String::from_str(alloc, path).ok(),
+            cause,
+        }
+    }
+
+    /// Whether the standard output refused a write.
+    pub fn is_of_output(&self) -> bool {
+        matches!(self.cause, FailureCause::Output(_))
+    }
+
+    // Whether the other end of the standard output was closed.
+    fn is_closed_pipe(&self) -> bool {
+        match &self.cause {
+            FailureCause::Output(error) => error.kind() == io::ErrorKind::BrokenPipe,
+            _ => false,
+        }
+    }
+
+    // Prints the line.
+    fn print<R: Eprint>(&self, rt: &R) {
+        let cause = &self.cause;
+        let advice = cause.advice();
+        let (file, colon) = match &self.file {
+            Some(file) => (file.as_str(), ": "),
+            None => ("", ""),
+        };
+        let _ = eprintln!(rt; "zevkhadun: {file}{colon}{cause}{advice}");
+    }
+
+    /// Prints one line on the standard error, unless it was printed already, and returns the status. A closed pipe ends
+    /// the program quietly, without one.
+    pub fn report<R: Eprint>(&self, rt: &R) -> Option<Status> {
+        if self.is_closed_pipe() {
+            return None;
+        }
+        match &self.cause {
+            FailureCause::Reported(_) => (),
+            _ => self.print(rt),
+        }
+        Some(self.cause.status())
+    }
+}
+
+/// The result of a call on the file of this name: an error names the file.
+pub fn with_file<T: Drop, E: Into<FailureCause> + Drop>(
+    alloc: Global,
+    path: &str,
+    given: Result<T, E>,
+) -> Result<T, Failure>
+    ensures { IfOk result (λ value. given ≡ Ok value) }
+{
+    match given {
+        Ok(value) => Ok(value),
+        Err(error) => Err(Failure::at_file(alloc, path, error.into())),
+    }
+}
+
+/// The result of a write to the standard output: an error says so.
+#[inline(always)]
+pub fn to_output(written: io::Result<()>) -> Result<(), FailureCause> {
+    match written {
+        Ok(()) => Ok(()),
+        Err(error) => Err(FailureCause::Output(error)),
+    }
+}

@@ -1,0 +1,19 @@
+//! What all commands of the program share: how they fail and end, their arguments and words, the files that they read
+//! and write, and how far they are.
+#![tactic(auto)]
+
+pub mod arguments;
+pub mod byte_size;
+pub mod command_words;
+pub mod document_output;
+pub mod failure;
+pub mod findings;
+pub mod input_files;
+pub mod listed_numbers;
+pub mod named_numbers;
+pub mod progress;
+pub mod replacing;
+pub mod status;
+pub mod store_file;
+pub mod store_output;
+pub mod word_files;

@@ -1,0 +1,64 @@
+//! `log compact`: joins segments.
+
+use crate::log_folder::SystemCause;
+use crate::places::open_to_write;
+use crate::{FOLDER, folder};
+use clap::{ArgMatches, Command};
+use program_base::arguments::{self, wrong_words};
+use program_base::byte_size::parse_size;
+use program_base::command_words::{Argument, command_of};
+use program_base::failure::{Failure, FailureCause, with_file};
+use std::alloc::{AllocError, Global};
+
+// The name of the argument for the size of a joined segment.
+const SIZE: &str = "size";
+
+const EXAMPLE: &str = "\
+The records and their numbers stay. A joined segment is the store that 'merge' writes of its segments, and takes the
+name of the first one. It is in memory while it is written.
+
+Example:
+  zevkhadun log compact --size 1G events";
+
+/// The words of `log compact`.
+pub fn command<'a>(alloc: Global) -> Result<Command<'a>, AllocError> {
+    command_of(
+        alloc,
+        "compact",
+        "Join neighbouring segments",
+        EXAMPLE,
+        &[
+            folder(),
+            Argument::OptionOr {
+                id: SIZE,
+                value: "BYTES",
+                default: "256M",
+                help: "Join neighbouring segments while their data has at most BYTES; suffixes K, M, G",
+            },
+        ],
+    )
+}
+
+// The size that the words give, in bytes.
+fn size_of(alloc: Global, matches: &ArgMatches<'_>) -> Result<u64, Failure> {
+    let text = arguments::word(alloc, matches, SIZE)?;
+    match parse_size(text) {
+        Some(size) => Ok(size as u64),
+        None => Err(wrong_words(alloc, "invalid size", text)),
+    }
+}
+
+// Joins segments of the log at a path.
+fn compact(rt: &HostRuntime, path: &str, size: u64) -> Result<(), FailureCause> {
+    let cause = SystemCause::new();
+    let mut log = open_to_write(rt, path, &cause)?;
+    log.compact(size)
+}
+
+/// Joins the segments.
+pub fn run(rt: &HostRuntime, matches: &ArgMatches<'_>) -> Result<(), Failure> {
+    let alloc = rt.alloc();
+    let path = arguments::word(alloc, matches, FOLDER)?;
+    let size = size_of(alloc, matches)?;
+    with_file(alloc, path, compact(rt, path, size))
+}

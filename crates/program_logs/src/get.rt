@@ -1,0 +1,130 @@
+//! `log get`: prints records by their numbers.
+
+use crate::log_folder::SystemCause;
+use crate::number_range::NumberRange;
+use crate::opened_log::OpenedLog;
+use crate::places::open_to_read;
+use crate::{FOLDER, folder};
+use clap::{ArgMatches, Command};
+use program_base::arguments;
+use program_base::command_words::{Argument, command_of};
+use program_base::document_output::{self, DocumentForm, DocumentOutput, form_of, standard_output};
+use program_base::failure::{Failure, FailureCause, to_output, with_file};
+use program_base::listed_numbers::{NumberPrinter, print_listed};
+use std::alloc::{AllocError, Global};
+use std::io::Write;
+
+const EXAMPLE: &str = "\
+It takes no lock, so a writer may go on. It shows the log as it was when it was opened.
+
+Examples:
+  zevkhadun log get events 7 3..9 100..     records 7, 3 to 8, and 100 to the last
+  sort -n numbers.txt | zevkhadun log get events -     the records whose numbers are on the lines of numbers.txt";
+
+/// The words of `log get`.
+pub fn command<'a>(alloc: Global) -> Result<Command<'a>, AllocError> {
+    command_of(
+        alloc,
+        "get",
+        "Print records by their numbers",
+        EXAMPLE,
+        &[
+            folder(),
+            Argument::Words {
+                id: "NUMBER",
+                help: "Records to print: numbers, or ranges that exclude their end: 3..9, 5.. or ..9; \
+                       '-' alone reads them from standard input, one on each line",
+            },
+            document_output::number(),
+            document_output::json(),
+            arguments::framing(),
+        ],
+    )
+}
+
+// An opened log, and the output for its records.
+#[derive(Drop)]
+struct Printer<'a> {
+    alloc: Global,
+    log: OpenedLog<'a>,
+    output: DocumentOutput<'a>,
+    form: DocumentForm,
+}
+
+impl<'a> Printer<'a> {
+    // Prints the records of a range.
+    fn print(&mut self, range: NumberRange) -> Result<(), FailureCause> {
+        for number in range.among(self.log.first(), self.log.end())? {
+            let record = self.log.get(number)?;
+            self.form
+                .write(self.alloc, &mut self.output, number, &record)?;
+        }
+        Ok(())
+    }
+
+    // Prints the records of the range that each word names, or of those in the standard input.
+    fn print_words(&mut self, rt: &HostRuntime, words: &[&str]) -> Result<(), FailureCause> {
+        if is_listed(words) {
+            return print_listed(rt, self);
+        }
+        for word in words {
+            self.print_word(word)?;
+        }
+        self.flush()
+    }
+}
+
+impl<'a> NumberPrinter for Printer<'a> {
+    fn print_word(&mut self, word: &str) -> Result<(), FailureCause> {
+        let range = NumberRange::parse(self.alloc, word)?;
+        self.print(range)
+    }
+
+    fn flush(&mut self) -> Result<(), FailureCause> {
+        to_output(self.output.flush())
+    }
+}
+
+// Whether the numbers are in the standard input.
+fn is_listed(words: &[&str]) -> bool {
+    matches!(words, ["-"])
+}
+
+// Fails if a word is not a range, unless the numbers are in the standard input.
+fn check_words(alloc: Global, words: &[&str]) -> Result<(), FailureCause> {
+    if is_listed(words) {
+        return Ok(());
+    }
+    for word in words {
+        let _range = NumberRange::parse(alloc, word)?;
+    }
+    Ok(())
+}
+
+// Prints the records that words name, or those whose numbers are in the standard input.
+fn print(
+    rt: &HostRuntime,
+    path: &str,
+    form: DocumentForm,
+    words: &[&str],
+) -> Result<(), FailureCause> {
+    let alloc = rt.alloc();
+    check_words(alloc, words)?;
+    let cause = SystemCause::new();
+    let mut printer = Printer {
+        alloc,
+        log: open_to_read(rt, path, &cause)?,
+        output: standard_output(rt)?,
+        form,
+    };
+    printer.print_words(rt, words)
+}
+
+/// Prints the records.
+pub fn run(rt: &HostRuntime, matches: &ArgMatches<'_>) -> Result<(), Failure> {
+    let alloc = rt.alloc();
+    let path = arguments::word(alloc, matches, FOLDER)?;
+    let form = form_of(alloc, matches)?;
+    let words = matches.get_strs("NUMBER").unwrap_or(&[]);
+    with_file(alloc, path, print(rt, path, form, words))
+}

@@ -1,0 +1,92 @@
+//! The commands of `log`: a log of records in a folder grows by `append`, and its records are read by their numbers.
+#![tactic(auto)]
+
+mod append;
+mod cat;
+mod compact;
+mod drop;
+mod get;
+mod inputs;
+mod log_folder;
+mod log_refusal;
+mod number_range;
+mod opened_log;
+mod places;
+mod records;
+mod seal;
+mod segments;
+mod stat;
+mod sync_policy;
+mod verify;
+
+use clap::{ArgMatches, Command};
+use program_base::arguments::wrong_words;
+use program_base::command_words::{Argument, add};
+use program_base::failure::Failure;
+use std::alloc::{AllocError, Global};
+
+/// The name of the argument for the folder.
+const FOLDER: &str = "FOLDER";
+
+const AFTER_HELP: &str = "\
+A log is a folder: sealed segments, which are ordinary stores, and a tail. A record is any bytes, and its number stays.
+'append', 'seal', 'compact' and 'drop' lock the log, so it has one writer; the other commands take no lock and change
+nothing.
+
+Example:
+  zevkhadun log append events new.txt && zevkhadun log get events 0";
+
+// The command `log`, without its subcommands.
+fn bare_command<'a>(alloc: Global) -> Command<'a> {
+    Command::new(alloc, "log")
+        .about("Keep a log: records that are on the disk once they are acknowledged")
+        .after_help(AFTER_HELP)
+        .subcommand_required(true)
+        .arg_required_else_help(true)
+}
+
+// The subcommands of `log`, in the order of the help.
+fn subcommands<'a>(alloc: Global) -> Result<Vec<Command<'a>>, AllocError> {
+    let mut commands = Vec::new(alloc);
+    add(&mut commands, append::command(alloc))?;
+    add(&mut commands, get::command(alloc))?;
+    add(&mut commands, cat::command(alloc))?;
+    add(&mut commands, stat::command(alloc))?;
+    add(&mut commands, verify::command(alloc))?;
+    add(&mut commands, seal::command(alloc))?;
+    add(&mut commands, compact::command(alloc))?;
+    add(&mut commands, drop::command(alloc))?;
+    Ok(commands)
+}
+
+/// The words of `log`.
+pub fn command<'a>(alloc: Global) -> Result<Command<'a>, AllocError> {
+    let subcommands = subcommands(alloc)?;
+    bare_command(alloc).subcommands(subcommands)
+}
+
+/// The folder of a log that is there.
+fn folder<'a>() -> Argument<'a> {
+    Argument::Word {
+        id: FOLDER,
+        help: "The log's folder",
+    }
+}
+
+/// Does what the words ask.
+pub fn run(rt: &HostRuntime, matches: &ArgMatches<'_>) -> Result<(), Failure> {
+    let Some((name, matches)) = matches.subcommand() else {
+        return Ok(());
+    };
+    match name {
+        "append" => append::run(rt, matches),
+        "get" => get::run(rt, matches),
+        "cat" => cat::run(rt, matches),
+        "stat" => stat::run(rt, matches),
+        "verify" => verify::run(rt, matches),
+        "seal" => seal::run(rt, matches),
+        "compact" => compact::run(rt, matches),
+        "drop" => drop::run(rt, matches),
+        _ => Err(wrong_words(rt.alloc(), "unknown command", name)),
+    }
+}

@@ -1,0 +1,300 @@
+//! The folder of a log, for a process that writes the log or for one that only reads it.
+
+ghost use Rattle.std.specs.Prelude.{◌≡◌, ◌≤◌, OnErr};
+ghost use Rattle.store_base.specs.Counts.{HasRisen};
+
+use crate::segments::segment_numbers;
+use program_base::failure::FailureCause;
+use segmented_log::{TAIL, segment_file};
+use std::alloc::{AllocError, Global};
+use std::cell::Cell;
+use std::fs::{File, Files};
+use std::io::ErrorKind;
+use std::{fs, io};
+use store_files::{DiskFile, LockedFolder, OsFile, read_all};
+use store_folder::{Folder, ReadableFolder};
+
+// The names of the segments of these numbers.
+fn names_of(alloc: Global, numbers: &[u64]) -> Result<Vec<String>, AllocError> {
+    let mut names = Vec::new(alloc);
+    for number in numbers {
+        names.push(segment_file(alloc, *number)?)?;
+    }
+    Ok(names)
+}
+
+/// Why the last call on a log's folder that failed did so. A log reports only that one failed.
+#[derive(Drop)]
+pub struct SystemCause(Cell<Option<io::Error>>);
+
+impl SystemCause {
+    /// None has failed.
+    pub fn new() -> SystemCause {
+        SystemCause(Cell::new(None))
+    }
+
+    // Keeps an error, and returns one of its kind.
+    fn note(&self, error: io::Error) -> io::Error {
+        let kind = error.kind();
+        self.0.set(Some(error));
+        kind.into()
+    }
+
+    /// The error, once.
+    pub fn take(&self) -> Option<io::Error> {
+        self.0.take()
+    }
+}
+
+/// A log's folder. A reader has no lock, and what it is asked to write is dropped: as a log is opened, that is the tail
+/// without a torn end. It lists the segments and reads the tail at one moment, and an opening gets these.
+#[derive(Drop)]
+pub struct LogFolder<'a, R: Files<File = File> + Drop> {
+    rt: &'a R,
+    path: &'a str,
+    writer: Option<LockedFolder<R>>,
+    cause: &'a SystemCause,
+    failures: u64,
+    // What a reader found, until it is asked for.
+    names: Cell<Option<Vec<String>>>,
+    tail: Cell<Option<Vec<u8>>>,
+}
+
+impl<'a> LogFolder<'a, HostRuntime> {
+    // The folder of this path.
+    fn new(
+        rt: &'a HostRuntime,
+        path: &'a str,
+        writer: Option<LockedFolder<HostRuntime>>,
+        cause: &'a SystemCause,
+    ) -> LogFolder<'a, HostRuntime> {
+        LogFolder {
+            rt,
+            path,
+            writer,
+            cause,
+            failures: 0,
+            names: Cell::new(None),
+            tail: Cell::new(None),
+        }
+    }
+
+    /// The folder of this path, through the writer's lock.
+    pub fn of_writer(
+        rt: &'a HostRuntime,
+        path: &'a str,
+        writer: LockedFolder<HostRuntime>,
+        cause: &'a SystemCause,
+    ) -> LogFolder<'a, HostRuntime> {
+        LogFolder::new(rt, path, Some(writer), cause)
+    }
+
+    /// The folder of this path, without a lock: as it was at one moment, or none where a writer sealed the log
+    /// meanwhile. The name of a segment is there before the tail is replaced. So if the same segments are there before
+    /// and after the tail is read, they are in line with it.
+    pub fn of_reader(
+        rt: &'a HostRuntime,
+        path: &'a str,
+        cause: &'a SystemCause,
+    ) -> Result<Option<LogFolder<'a, HostRuntime>>, FailureCause> {
+        let alloc = rt.alloc();
+        let folder = LogFolder::new(rt, path, None, cause);
+        let before = segment_numbers(rt, path)?;
+        let tail = folder.load(alloc, TAIL)?;
+        let after = segment_numbers(rt, path)?;
+        if before != after {
+            return Ok(None);
+        }
+        folder.names.set(Some(names_of(alloc, &after)?));
+        folder.tail.set(tail);
+        Ok(Some(folder))
+    }
+}
+
+impl<'a, R: Files<File = File> + Drop> LogFolder<'a, R> {
+    // Counts a call that failed, and keeps why.
+    fn count(&mut self, outcome: io::Result<()>) -> io::Result<()>
+        ensures count { self.old.failures ≤ self.new.failures }
+        ensures fault { OnErr result (HasRisen self.old.failures self.new.failures) }
+    {
+        match outcome {
+            Ok(()) => Ok(()),
+            Err(error) => {
+                self.failures = self.failures.saturating_add(1);
+                Err(self.cause.note(error))
+            }
+        }
+    }
+
+    // Keeps why a read failed.
+    fn noted<T: Drop>(&self, outcome: io::Result<T>) -> io::Result<T> {
+        match outcome {
+            Ok(value) => Ok(value),
+            Err(error) => Err(self.cause.note(error)),
+        }
+    }
+
+    // The path of the file of this name.
+    fn path_of(&self, alloc: Global, name: &str) -> io::Result<String> {
+        let folder = self.path;
+        Ok(format!(in alloc; "{folder}/{name}")?)
+    }
+
+    fn list(&self, alloc: Global) -> io::Result<Vec<String>> {
+        let mut names = Vec::new(alloc);
+        for entry in fs::read_dir(&(self.rt, alloc), self.path)? {
+            let entry = entry?;
+            if entry.file_type()?.is_file() {
+                names.push(String::from_str(alloc, entry.file_name())?)?;
+            }
+        }
+        Ok(names)
+    }
+
+    fn load(&self, alloc: Global, name: &str) -> io::Result<Option<Vec<u8>>> {
+        let path = self.path_of(alloc, name)?;
+        match File::open(self.rt, path.as_str()) {
+            Ok(mut file) => Ok(Some(read_all(alloc, &mut file)?)),
+            Err(error) if error.kind() == ErrorKind::NotFound => Ok(None),
+            Err(error) => Err(error),
+        }
+    }
+
+    fn open_file(&self, alloc: Global, name: &str) -> io::Result<OsFile> {
+        let path = self.path_of(alloc, name)?;
+        OsFile::open(self.rt, path.as_str())
+    }
+}
+
+/// It promises nothing of what the system does.
+impl<'a, R: Files<File = File> + Drop> Folder for LogFolder<'a, R> {
+    ghost use Rattle.std.specs.Prelude.{false, None};
+    ghost use Rattle.std.proofs.Common.{rules};
+
+    ghost honest = { false };
+
+    ghost seen = { λ _ _. None };
+
+    ghost may_hold = { λ _ _ _. ⊥ };
+
+    ghost may_leave = { λ _ _. ⊥ };
+
+    ghost entry_kept = { λ _ _. ⊥ };
+
+    ghost trusted = { λ _ _. ⊥ };
+
+    ghost moment = { λ _. 0 };
+
+    ghost left_since = { λ _ _ _. ⊥ };
+
+    ghost failures = { λ f. f.failures };
+
+    ghost counts_now = { λ f t c le now. now };
+
+    ghost only_now = { λ f c left. left };
+
+    ghost seen_may_be_left = { λ f h. Prim.search rules };
+
+    ghost entry_leads = { λ f n c h kept left. absurd kept };
+
+    fn create(&mut self, name: &str) -> io::Result<()> {
+        let outcome = match &mut self.writer {
+            Some(folder) => folder.create(name),
+            None => Ok(()),
+        };
+        self.count(outcome)
+    }
+
+    fn append(&mut self, name: &str, bytes: &[u8]) -> io::Result<()> {
+        let outcome = match &mut self.writer {
+            Some(folder) => folder.append(name, bytes),
+            None => Ok(()),
+        };
+        self.count(outcome)
+    }
+
+    fn sync_file(&mut self, name: &str) -> io::Result<()> {
+        let outcome = match &mut self.writer {
+            Some(folder) => folder.sync_file(name),
+            None => Ok(()),
+        };
+        self.count(outcome)
+    }
+
+    fn rename(&mut self, from: &str, to: &str) -> io::Result<()> {
+        let outcome = match &mut self.writer {
+            Some(folder) => folder.rename(from, to),
+            None => Ok(()),
+        };
+        self.count(outcome)
+    }
+
+    fn remove(&mut self, name: &str) -> io::Result<()> {
+        let outcome = match &mut self.writer {
+            Some(folder) => folder.remove(name),
+            None => Ok(()),
+        };
+        self.count(outcome)
+    }
+
+    fn sync(&mut self) -> io::Result<()> {
+        let outcome = match &mut self.writer {
+            Some(folder) => folder.sync(),
+            None => Ok(()),
+        };
+        self.count(outcome)
+    }
+
+    fn is_trusted(&self, name: &str) -> bool {
+        match &self.writer {
+            Some(folder) => folder.is_trusted(name),
+            None => true,
+        }
+    }
+
+    fn is_synced(&self, name: &str) -> bool {
+        match &self.writer {
+            Some(folder) => folder.is_synced(name),
+            None => true,
+        }
+    }
+
+    fn has_kept_entries(&self) -> bool {
+        match &self.writer {
+            Some(folder) => folder.has_kept_entries(),
+            None => true,
+        }
+    }
+}
+
+impl<'a, R: Files<File = File> + Drop> ReadableFolder for LogFolder<'a, R> {
+    ghost use Rattle.std.specs.Prelude.{false};
+
+    type File = DiskFile<OsFile>;
+
+    ghost is_readable = { false };
+
+    fn names(&self, alloc: Global) -> io::Result<Vec<String>> {
+        match self.names.take() {
+            Some(names) => Ok(names),
+            None => self.noted(self.list(alloc)),
+        }
+    }
+
+    fn read(&self, alloc: Global, name: &str) -> io::Result<Option<Vec<u8>>> {
+        if name == TAIL {
+            if let Some(bytes) = self.tail.take() {
+                return Ok(Some(bytes));
+            }
+        }
+        self.noted(self.load(alloc, name))
+    }
+
+    fn open(&self, alloc: Global, name: &str) -> io::Result<DiskFile<OsFile>> {
+        let file = self.noted(self.open_file(alloc, name))?;
+        match DiskFile::new(file) {
+            Ok(file) => Ok(file),
+            Err(error) => Err(self.cause.note(error)),
+        }
+    }
+}

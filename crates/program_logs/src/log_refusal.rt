@@ -1,0 +1,27 @@
+//! What the program reports where a log refuses a call.
+
+use program_base::failure::{FailureCause, LogRefusal};
+use program_base::status::Status;
+use segmented_log::LogError;
+
+// What to do where files or a record of a log are broken.
+const VERIFY: &str = "; 'zevkhadun log verify' says where";
+
+/// Why a call failed that a log refuses with this error.
+pub fn refused(error: LogError) -> FailureCause {
+    let (text, advice, status) = match error {
+        LogError::Memory => ("no memory", "", Status::System),
+        LogError::Failed => ("the folder failed", "", Status::System),
+        LogError::Full => ("the log is full", "", Status::Broken),
+        LogError::BatchFull => ("the batch is full", "; use '--sync batch'", Status::Broken),
+        LogError::TooLong => ("the record is too long", "", Status::Broken),
+        LogError::Broken => ("the log must be opened again", "", Status::System),
+        LogError::NoLog => ("the log's files are broken", VERIFY, Status::Broken),
+        LogError::Damaged => ("a record is damaged", VERIFY, Status::Broken),
+    };
+    FailureCause::Log(LogRefusal {
+        text,
+        advice,
+        status,
+    })
+}

@@ -1,0 +1,129 @@
+//! A log that is open, with errors that say why.
+
+ghost use Rattle.std.specs.Prelude.{◌≡◌, ◌≤◌, false, IfOk};
+
+use crate::log_folder::{LogFolder, SystemCause};
+use crate::log_refusal::refused;
+use program_base::failure::FailureCause;
+use segmented_log::{Commit, LogError, Records, SegmentedLog};
+use std::alloc::Global;
+
+/// How the tail of a log is written: how a sync puts records on the disk, and the size in bytes past which it is
+/// sealed.
+#[derive(Clone, Copy)]
+pub struct TailOptions {
+    pub commit: Commit,
+    pub seal_size: usize,
+}
+
+// A log on disk, in a box: a function that owns it moves and drops one value, and not all of its parts.
+type DiskLog<'a> = Box<SegmentedLog<LogFolder<'a, HostRuntime>>>;
+
+/// A log that is open.
+#[derive(Drop)]
+pub struct OpenedLog<'a> {
+    log: DiskLog<'a>,
+    cause: &'a SystemCause,
+}
+
+// Why a call on a log failed: what the system said, if it refused a call on the folder.
+fn explained(cause: &SystemCause, error: LogError) -> FailureCause {
+    match (error, cause.take()) {
+        (LogError::Failed, Some(error)) => FailureCause::System(error),
+        _ => refused(error),
+    }
+}
+
+impl<'a> OpenedLog<'a> {
+    /// Opens the log in a folder.
+    pub fn open(
+        alloc: Global,
+        folder: LogFolder<'a, HostRuntime>,
+        cause: &'a SystemCause,
+        tail: TailOptions,
+    ) -> Result<OpenedLog<'a>, FailureCause> {
+        match SegmentedLog::open(alloc, folder, tail.seal_size, tail.commit) {
+            Ok(log) => Ok(OpenedLog {
+                log: Box::new(alloc, log)?,
+                cause,
+            }),
+            Err((error, folder)) => {
+                drop(folder);
+                Err(explained(cause, error))
+            }
+        }
+    }
+
+    // The result of a call, with the reason where it failed.
+    fn result_of<T: Drop>(&self, given: Result<T, LogError>) -> Result<T, FailureCause> {
+        match given {
+            Ok(value) => Ok(value),
+            Err(error) => Err(explained(self.cause, error)),
+        }
+    }
+
+    /// The number of the first record.
+    pub fn first(&self) -> u64 {
+        self.log.first()
+    }
+
+    /// The number after the last record that is on the disk.
+    pub fn end(&self) -> u64 {
+        self.log.end()
+    }
+
+    /// Puts a record after the others. It is on the disk once `sync` returns Ok.
+    pub fn append(&mut self, record: &[u8]) -> Result<u64, FailureCause> {
+        let number = self.log.append(record);
+        self.result_of(number)
+    }
+
+    /// Puts all records that wait on the disk.
+    pub fn sync(&mut self) -> Result<(), FailureCause> {
+        let synced = self.log.sync();
+        self.result_of(synced)
+    }
+
+    /// Puts the tail's records into a segment.
+    pub fn seal(&mut self) -> Result<(), FailureCause> {
+        let sealed = self.log.seal();
+        self.result_of(sealed)
+    }
+
+    /// Joins neighbouring segments whose data together has at most this many bytes.
+    pub fn compact(&mut self, size: u64) -> Result<(), FailureCause> {
+        let compacted = self.log.compact(size);
+        self.result_of(compacted)
+    }
+
+    /// Removes the segments whose records all have smaller numbers.
+    pub fn drop_before(&mut self, number: u64) -> Result<(), FailureCause> {
+        let dropped = self.log.drop_before(number);
+        self.result_of(dropped)
+    }
+
+    /// The record of a number that the log has.
+    pub fn get(&mut self, number: u64) -> Result<Vec<u8>, FailureCause> {
+        let (first, end) = (self.first(), self.end());
+        match self.log.get(number) {
+            Ok(Some(record)) => Ok(record),
+            Ok(None) => Err(FailureCause::NoRecord { number, first, end }),
+            Err(LogError::Damaged) => Err(FailureCause::DamagedRecord(number)),
+            Err(error) => Err(explained(self.cause, error)),
+        }
+    }
+
+    /// The records from a number on, or from the first one where that is later.
+    pub fn iter_from<'s>(
+        &'s mut self,
+        number: u64,
+    ) -> Result<Records<'s, LogFolder<'a, HostRuntime>>, FailureCause>
+        ensures works { IfOk result (λ records. records.log.now.is_broken ≡ false) }
+        ensures next { IfOk result (λ records. records.log.now.first ≤ records.next) }
+    {
+        match self.log.iter_from(number) {
+            Ok(records) => Ok(records),
+            Err(error) => Err(refused(error)),
+        }
+    }
+}

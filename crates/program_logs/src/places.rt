@@ -1,0 +1,167 @@
+//! What is at the path of a log, and how it is opened.
+
+use crate::log_folder::{LogFolder, SystemCause};
+use crate::opened_log::{OpenedLog, TailOptions};
+use program_base::failure::FailureCause;
+use segmented_log::{Commit, TAIL};
+use std::alloc::Global;
+use std::io::ErrorKind;
+use std::{fs, io};
+use store_files::{CreateError, LockedFolder};
+
+// The tail of a log to which nothing is appended: it is not sealed for its size.
+const NOT_APPENDED: TailOptions = TailOptions {
+    commit: Commit::OneSync,
+    seal_size: usize::MAX,
+};
+
+// How often an opening is tried: a writer may seal the log meanwhile.
+const TRIES: usize = 1000;
+
+/// The path of a file of a log.
+pub fn file_in(alloc: Global, folder: &str, name: &str) -> Result<String, FailureCause> {
+    let folder = folder.trim_end_matches('/');
+    Ok(format!(in alloc; "{folder}/{name}")?)
+}
+
+/// How many bytes the tail of a log has; none where there is no tail.
+pub fn tail_bytes(rt: &HostRuntime, folder: &str) -> Result<Option<u64>, FailureCause> {
+    let path = file_in(rt.alloc(), folder, TAIL)?;
+    match fs::metadata(rt, path.as_str()) {
+        Ok(found) if found.is_file() => Ok(Some(found.len())),
+        Ok(_) => Ok(None),
+        Err(error) if error.kind() == ErrorKind::NotFound => Ok(None),
+        Err(error) => Err(FailureCause::System(error)),
+    }
+}
+
+/// Fails if there is no log at the path.
+pub fn check_log(rt: &HostRuntime, path: &str) -> Result<(), FailureCause> {
+    if fs::metadata(rt, path)?.is_dir() && tail_bytes(rt, path)?.is_some() {
+        return Ok(());
+    }
+    Err(FailureCause::NotLog)
+}
+
+// Whether a crash during the beginning of a log may have left this file.
+fn is_left_beside(entry: io::Result<fs::DirEntry>) -> io::Result<bool> {
+    let entry = entry?;
+    let name = entry.file_name();
+    Ok(name == "lock" || name.ends_with(".part"))
+}
+
+// Whether a folder has no files, but for those that a crash may have left.
+fn is_blank(rt: &HostRuntime, path: &str) -> io::Result<bool> {
+    for entry in fs::read_dir(rt, path)? {
+        if !is_left_beside(entry)? {
+            return Ok(false);
+        }
+    }
+    Ok(true)
+}
+
+// Fails if there is neither a log at the path nor a place for a new one: nothing, or an empty folder.
+fn check_place(rt: &HostRuntime, path: &str) -> Result<(), FailureCause> {
+    let found = match fs::metadata(rt, path) {
+        Ok(found) => found,
+        Err(error) if error.kind() == ErrorKind::NotFound => return Ok(()),
+        Err(error) => return Err(FailureCause::System(error)),
+    };
+    if found.is_dir() && (tail_bytes(rt, path)?.is_some() || is_blank(rt, path)?) {
+        return Ok(());
+    }
+    Err(FailureCause::NotLog)
+}
+
+// The folder that a writer locked, or why it is not to be had.
+fn locked(
+    folder: Result<LockedFolder<HostRuntime>, CreateError>,
+) -> Result<LockedFolder<HostRuntime>, FailureCause> {
+    match folder {
+        Ok(folder) => Ok(folder),
+        Err(CreateError::Busy(_)) => Err(FailureCause::BusyLog),
+        Err(error) => Err(FailureCause::Create(error)),
+    }
+}
+
+// Opens a log through its lock. A torn end of its tail, which is cut off, is reported.
+fn open_locked<'a>(
+    rt: &'a HostRuntime,
+    path: &'a str,
+    writer: LockedFolder<HostRuntime>,
+    cause: &'a SystemCause,
+    tail: TailOptions,
+) -> Result<OpenedLog<'a>, FailureCause> {
+    let before = tail_bytes(rt, path)?.unwrap_or(0);
+    let folder = LogFolder::of_writer(rt, path, writer, cause);
+    let log = OpenedLog::open(rt.alloc(), folder, cause, tail)?;
+    let cut = before.saturating_sub(tail_bytes(rt, path)?.unwrap_or(0));
+    if cut > 0 {
+        let _ = eprintln!(rt;
+            "zevkhadun: {path}: {cut} bytes at the end of the tail were no whole batch, as after a crash; \
+             they are cut off"
+        );
+    }
+    Ok(log)
+}
+
+/// Opens the log at a path to write it, or begins one there.
+pub fn open_or_begin<'a>(
+    rt: &'a HostRuntime,
+    path: &'a str,
+    cause: &'a SystemCause,
+    tail: TailOptions,
+) -> Result<OpenedLog<'a>, FailureCause> {
+    check_place(rt, path)?;
+    let writer = locked(LockedFolder::create(rt.alloc(), *rt, path))?;
+    open_locked(rt, path, writer, cause, tail)
+}
+
+/// Opens a log that is there, to write it.
+pub fn open_to_write<'a>(
+    rt: &'a HostRuntime,
+    path: &'a str,
+    cause: &'a SystemCause,
+) -> Result<OpenedLog<'a>, FailureCause> {
+    check_log(rt, path)?;
+    let writer = locked(LockedFolder::open(rt.alloc(), *rt, path))?;
+    open_locked(rt, path, writer, cause, NOT_APPENDED)
+}
+
+// Opens a log to read it. None where a writer changed it meanwhile: a segment may be gone since it was listed.
+fn try_to_read<'a>(
+    rt: &'a HostRuntime,
+    path: &'a str,
+    cause: &'a SystemCause,
+) -> Result<Option<OpenedLog<'a>>, FailureCause> {
+    let Some(folder) = LogFolder::of_reader(rt, path, cause)? else {
+        return Ok(None);
+    };
+    match OpenedLog::open(rt.alloc(), folder, cause, NOT_APPENDED) {
+        Ok(log) => Ok(Some(log)),
+        Err(FailureCause::System(error)) if error.kind() == ErrorKind::NotFound => Ok(None),
+        Err(cause) => Err(cause),
+    }
+}
+
+/// Opens a log that is there, to read it. Nothing is changed, and a writer may go on.
+pub fn open_to_read<'a>(
+    rt: &'a HostRuntime,
+    path: &'a str,
+    cause: &'a SystemCause,
+) -> Result<OpenedLog<'a>, FailureCause> {
+    check_log(rt, path)?;
+    for _ in 0..TRIES {
+        if let Some(log) = try_to_read(rt, path, cause)? {
+            return Ok(log);
+        }
+    }
+    Err(FailureCause::BusyLog)
+}
+
+/// The number of the first record of the log at a path, and the number after its last record on the disk.
+pub fn record_numbers(rt: &HostRuntime, path: &str) -> Result<(u64, u64), FailureCause> {
+    let cause = SystemCause::new();
+    let log = open_to_read(rt, path, &cause)?;
+    Ok((log.first(), log.end()))
+}

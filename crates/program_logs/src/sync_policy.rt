@@ -1,0 +1,54 @@
+//! When appended records are put on the disk.
+
+use clap::ArgMatches;
+use program_base::arguments::{word, wrong_words};
+use program_base::command_words::Argument;
+use program_base::failure::Failure;
+use std::alloc::Global;
+
+/// When appended records are put on the disk, and so acknowledged.
+#[derive(Clone, Copy, PartialEq, Eq)]
+pub enum SyncPolicy {
+    /// After each record.
+    Every,
+    /// Once a batch of them waits, and before more input is waited for.
+    Batch,
+    /// Once, after all of them.
+    End,
+}
+
+const EVERY: &str = "every";
+
+const BATCH: &str = "batch";
+
+const END: &str = "end";
+
+const POLICIES: [&str; 3] = [EVERY, BATCH, END];
+
+const HELP: &str = "\
+When records are put on the disk:
+every: after each record
+batch: once they take 1 MiB, and before waiting for more input, as from a pipe or a terminal
+end: once, after the last one; until then they are in memory, and a crash leaves all of them or none";
+
+/// The argument for it.
+pub fn sync<'a>() -> Argument<'a> {
+    Argument::ChoiceOr {
+        id: "sync",
+        value: "WHEN",
+        choices: POLICIES.as_slice(),
+        default: BATCH,
+        help: "When records are put on the disk",
+        long_help: HELP,
+    }
+}
+
+/// The policy that the words name.
+pub fn policy_of(alloc: Global, matches: &ArgMatches<'_>) -> Result<SyncPolicy, Failure> {
+    match word(alloc, matches, "sync")? {
+        EVERY => Ok(SyncPolicy::Every),
+        BATCH => Ok(SyncPolicy::Batch),
+        END => Ok(SyncPolicy::End),
+        name => Err(wrong_words(alloc, "invalid argument", name)),
+    }
+}

@@ -1,0 +1,16 @@
+//! The program's commands over stores, a module each, with their words.
+#![tactic(auto)]
+
+pub mod append;
+mod block_walk;
+pub mod cat;
+pub mod export;
+pub mod get;
+pub mod inspect;
+mod inspect_words;
+pub mod merge;
+pub mod pack;
+pub mod stat;
+mod stat_output;
+pub mod verify;
+pub mod verify_output;

@@ -1,0 +1,274 @@
+//! `pack`: writes a store of the documents of files or of the standard input.
+
+ghost use Rattle.std.specs.Prelude.{OnOk};
+ghost use Rattle.store_published.specs.Filling.{AddsSome};
+
+use clap::{ArgMatches, Command};
+use docstore::{StoreWriter, TerminatingWrite};
+use document_framing::{Framing, split_after};
+use program_base::arguments::{self, framing_of, output_path, shape_of};
+use program_base::command_words::{Argument, command_of};
+use program_base::failure::{Failure, with_file};
+use program_base::input_files::{
+    buffered, files_from, inputs, names_of, open_input, split_names, total_bytes,
+};
+use program_base::progress::Progress;
+use program_base::store_output::{end_output, output_place};
+use std::alloc::{AllocError, Global};
+use std::io::{BufRead, IsTerminal};
+use store_commands::StoreShape;
+use store_published::{Filling, store_document};
+
+// The name of the standard input in messages.
+const STANDARD_INPUT: &str = "standard input";
+
+// What is said where the standard input is a terminal.
+const TERMINAL_NOTE: &str = "reading documents from the terminal; end with Ctrl-D";
+
+const EXAMPLE: &str = "\
+Examples:
+  zevkhadun pack words.store words.txt     one document for each line
+  zevkhadun pack --framing files notes.store notes/*.txt     one document for each file
+  find notes -type f | zevkhadun pack --framing files --files-from - notes.store";
+
+/// The words of `pack`.
+pub fn command<'a>(alloc: Global) -> Result<Command<'a>, AllocError> {
+    command_of(
+        alloc,
+        "pack",
+        "Write a store of the documents in files or standard input",
+        EXAMPLE,
+        &[
+            arguments::output(),
+            inputs(),
+            files_from(),
+            arguments::framing(),
+            arguments::block_size(),
+            Argument::Period,
+            arguments::quiet(),
+        ],
+    )
+}
+
+/// What is packed: documents of files or of the standard input.
+#[derive(Drop)]
+pub struct Packing<'a, 'o, 'p, 'w> {
+    rt: &'a HostRuntime,
+    out: &'o str,
+    paths: Option<&'p [&'w str]>,
+    framing: Framing,
+    framing_bytes: u64,
+    pub progress: Progress<'a>,
+}
+
+/// How many bytes of an input delimit a document.
+pub fn framing_bytes(framing: Framing) -> u64 {
+    match framing {
+        Framing::Lines | Framing::Nul => 1,
+        Framing::Lengths => 4,
+        Framing::Text | Framing::Files => 0,
+    }
+}
+
+impl<'a, 'o, 'p, 'w> Packing<'a, 'o, 'p, 'w> {
+    /// Of the documents of these files, or of the standard input where none are named, into a store of this name.
+    pub fn of_files(
+        rt: &'a HostRuntime,
+        out: &'o str,
+        paths: Option<&'p [&'w str]>,
+        framing: Framing,
+        is_quiet: bool,
+    ) -> Packing<'a, 'o, 'p, 'w> {
+        let total = paths.and_then(|paths| total_bytes(rt, paths));
+        Packing {
+            rt,
+            out,
+            paths,
+            framing,
+            framing_bytes: framing_bytes(framing),
+            progress: Progress::begin(rt, is_quiet, total),
+        }
+    }
+
+    // Stores a document.
+    #[inline(always)]
+    fn store<W: TerminatingWrite>(
+        &mut self,
+        writer: &mut StoreWriter<W>,
+        document: &[u8],
+    ) -> Result<(), Failure>
+        ensures { OnOk result (AddsSome writer.old writer.new) }
+    {
+        with_file(self.rt.alloc(), self.out, store_document(writer, document))?;
+        let input_bytes = (document.len() as u64).saturating_add(self.framing_bytes);
+        self.progress.add(1, input_bytes);
+        Ok(())
+    }
+
+    // Stores the documents that the input has whole in its buffer, where a byte ends each, without copying them, and
+    // returns whether there may be more. After its end an input is not read again, since a terminal would go on. A
+    // failed read is tried again, and reported, by `store_next`.
+    fn store_buffered<R: BufRead, W: TerminatingWrite>(
+        &mut self,
+        writer: &mut StoreWriter<W>,
+        input: &mut R,
+    ) -> Result<bool, Failure>
+        ensures { OnOk result (AddsSome writer.old writer.new) }
+    {
+        let Some(end) = self.framing.end() else {
+            return Ok(true);
+        };
+        let Ok(mut rest) = input.fill_buf() else {
+            return Ok(true);
+        };
+        if rest.is_empty() {
+            return Ok(false);
+        }
+        let mut taken = 0usize;
+        // Each turn takes a byte at least.
+        for _ in 0..rest.len() {
+            let Some((piece, after)) = split_after(rest, end) else {
+                break;
+            };
+            self.store(writer, self.framing.document_in(piece))?;
+            taken = taken.saturating_add(piece.len());
+            rest = after;
+        }
+        input.consume(taken);
+        Ok(true)
+    }
+
+    // Stores the next document of an input, and returns whether there may be more.
+    fn store_next<R: BufRead, W: TerminatingWrite>(
+        &mut self,
+        writer: &mut StoreWriter<W>,
+        path: &str,
+        input: &mut R,
+        document: &mut Vec<u8>,
+    ) -> Result<bool, Failure>
+        ensures { OnOk result (AddsSome writer.old writer.new) }
+    {
+        if !with_file(self.rt.alloc(), path, self.framing.read(input, document))? {
+            return Ok(false);
+        }
+        self.store(writer, document)?;
+        Ok(self.framing != Framing::Files)
+    }
+
+    // Stores each document of an input.
+    fn store_documents<R: BufRead, W: TerminatingWrite>(
+        &mut self,
+        writer: &mut StoreWriter<W>,
+        path: &str,
+        input: &mut R,
+    ) -> Result<(), Failure>
+        ensures { OnOk result (AddsSome writer.old writer.new) }
+    {
+        let mut document = Vec::new(self.rt.alloc());
+        // No input has this many documents: a store holds fewer.
+        for _ in 0..u64::MAX {
+            if !self.store_buffered(writer, input)? {
+                return Ok(());
+            }
+            if !self.store_next(writer, path, input, &mut document)? {
+                return Ok(());
+            }
+        }
+        Ok(())
+    }
+
+    // Stores each document of the standard input.
+    fn store_standard_input<W: TerminatingWrite>(
+        &mut self,
+        writer: &mut StoreWriter<W>,
+    ) -> Result<(), Failure>
+        ensures { OnOk result (AddsSome writer.old writer.new) }
+    {
+        let alloc = self.rt.alloc();
+        if self.progress.is_shown() && self.rt.stdin().is_terminal() {
+            let _ = eprintln!(self.rt; "{TERMINAL_NOTE}");
+        }
+        let input = buffered(alloc, self.rt.reader());
+        let mut input = with_file(alloc, STANDARD_INPUT, input)?;
+        self.store_documents(writer, STANDARD_INPUT, &mut *input)
+    }
+
+    // Stores each document of a file.
+    fn store_file<W: TerminatingWrite>(
+        &mut self,
+        writer: &mut StoreWriter<W>,
+        path: &str,
+    ) -> Result<(), Failure>
+        ensures { OnOk result (AddsSome writer.old writer.new) }
+    {
+        if path == "-" {
+            return self.store_standard_input(writer);
+        }
+        let mut input = with_file(self.rt.alloc(), path, open_input(self.rt, path))?;
+        self.store_documents(writer, path, &mut *input)
+    }
+
+    // Stores each document of each of these files.
+    fn store_files<W: TerminatingWrite>(
+        &mut self,
+        writer: &mut StoreWriter<W>,
+        paths: &[&str],
+    ) -> Result<(), Failure>
+        ensures { OnOk result (AddsSome writer.old writer.new) }
+    {
+        for path in paths {
+            self.store_file(writer, path)?;
+        }
+        Ok(())
+    }
+
+    /// Stores each document of each file, or of the standard input where none is named.
+    pub fn store_inputs<W: TerminatingWrite>(
+        &mut self,
+        writer: &mut StoreWriter<W>,
+    ) -> Result<(), Failure>
+        ensures { OnOk result (AddsSome writer.old writer.new) }
+    {
+        match self.paths {
+            Some(paths) => self.store_files(writer, paths),
+            None => self.store_standard_input(writer),
+        }
+    }
+}
+
+/// It brings sound documents.
+impl<'a, 'o, 'p, 'w> Filling for Packing<'a, 'o, 'p, 'w> {
+    ghost use Rattle.store_published.specs.Filling.{AreSound};
+
+    type Error = Failure;
+
+    ghost brings = { λ old new slots. AreSound slots };
+
+    fn fill<W: TerminatingWrite>(&mut self, writer: &mut StoreWriter<W>) -> Result<(), Failure> {
+        self.store_inputs(writer)
+    }
+}
+
+// Writes a store of this name.
+fn pack(
+    rt: &HostRuntime,
+    out: &str,
+    shape: StoreShape,
+    packing: &mut Packing<'_, '_, '_, '_>,
+) -> Result<(), Failure> {
+    let outcome = output_place(rt, out)?.publish(rt.alloc(), shape, packing);
+    end_output(rt, out, outcome, &packing.progress)
+}
+
+/// Writes the store.
+pub fn run(rt: &HostRuntime, matches: &ArgMatches<'_>) -> Result<(), Failure> {
+    let alloc = rt.alloc();
+    let out = output_path(alloc, matches)?;
+    let framing = framing_of(alloc, matches)?;
+    let shape = shape_of(alloc, matches)?;
+    let text = names_of(rt, matches)?;
+    let names = with_file(alloc, out, split_names(alloc, text.as_deref()))?;
+    let is_quiet = matches.get_flag("quiet");
+    let mut packing = Packing::of_files(rt, out, names.as_deref(), framing, is_quiet);
+    pack(rt, out, shape, &mut packing)
+}

@@ -1,8 +1,0 @@
-use Rattle.store_published.proofs.FileLemmas.{file_goes_on}
-use Rattle.zevkhadun.proofs.FillLemmas.{on_ok_given}
-use Rattle.zevkhadun.proofs.merge.Merging.merge_inputs.Goals as goal
-
-pub loop-path-preserved : goal.loop-path-preserved
-loop-path-preserved g c =
-    file_goes_on c.args.writer.now c.loop-path.writer c.merge_input-merged.new.writer c.loop-path.invariant
-    (on_ok_given c.merge_input-merged.result c.in_ok-with_file.field-0 _ c.in_ok-with_file.ensures c.merge_input-merged.ensures)
