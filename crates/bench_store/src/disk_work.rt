@@ -13,10 +13,10 @@ use store_files::{DiskFile, DiskSink, OsFile, load};
 pub const PATH: &str = "bench.store";
 
 // Opens the file, with a cache of this many blocks.
-fn open(rt: &HostRuntime, capacity: usize) -> Result<StoreReader<DiskFile<OsFile>>> {
+fn open(rt: &HostRuntime, capacity: usize) -> Result<Box<StoreReader<DiskFile<OsFile>>>> {
     let file = FileSlice::new(DiskFile::new(OsFile::open(rt, PATH)?)?);
-    let reader = StoreReader::open(rt.alloc(), file, capacity);
-    Ok(reader.map_err(|refusal| refusal.error)?)
+    let reader = StoreReader::open(rt.alloc(), file, capacity).map_err(|refusal| refusal.error)?;
+    Ok(Box::new(rt.alloc(), reader)?)
 }
 
 /// Gets documents of the file by their ids.

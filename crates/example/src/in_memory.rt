@@ -17,9 +17,10 @@ pub fn written(alloc: Global, documents: &[&str]) -> Result<Vec<u8>, StoreError>
 }
 
 /// A reader of the file of these bytes, with a cache of 100 blocks.
-pub fn opened(alloc: Global, bytes: Vec<u8>) -> Result<Reader, StoreError> {
+pub fn opened(alloc: Global, bytes: Vec<u8>) -> Result<Box<Reader>, StoreError> {
     let file = FileSlice::new(MemFile::new(alloc, bytes)?);
-    StoreReader::open(alloc, file, 100).map_err(|refusal| refusal.error)
+    let reader = StoreReader::open(alloc, file, 100).map_err(|refusal| refusal.error)?;
+    Ok(Box::new(alloc, reader)?)
 }
 
 /// Prints a document, which is text, after these words.
@@ -51,11 +52,13 @@ fn print_store<R: Print>(rt: &R, alloc: Global, store: &mut Reader) -> anyhow::R
 
 // The file of a document and then those of a file.
 fn stacked_file(alloc: Global, file: Vec<u8>) -> Result<Vec<u8>, StoreError> {
-    stacked(alloc, "almond", &mut opened(alloc, file)?)
+    let mut store = opened(alloc, file)?;
+    stacked(alloc, "almond", &mut store)
 }
 
 fn print_file<R: Print>(rt: &R, alloc: Global, file: Vec<u8>) -> anyhow::Result<()> {
-    print_store(rt, alloc, &mut opened(alloc, file)?)
+    let mut store = opened(alloc, file)?;
+    print_store(rt, alloc, &mut store)
 }
 
 /// Prints the size of a file, and what is in the store that was stacked.

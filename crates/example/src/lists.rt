@@ -43,7 +43,8 @@ fn answered(alloc: Global, reader: &mut Reader) -> Result<(usize, bool), StoreEr
 // The same of the file of the two documents.
 fn answered_of_two(alloc: Global) -> Result<(usize, bool), StoreError> {
     let file = listed(alloc, commands(alloc)?)?;
-    answered(alloc, &mut opened(alloc, file)?)
+    let mut reader = opened(alloc, file)?;
+    answered(alloc, &mut reader)
 }
 
 /// Prints how many calls of a list were answered.

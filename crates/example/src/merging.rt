@@ -15,7 +15,7 @@ fn input(alloc: Global, file: Vec<u8>, deleted: &[u32]) -> Result<MergeInput<Mem
     let reader = opened(alloc, file)?;
     let alive = AliveBitSet::from_deleted_docs(alloc, deleted, reader.num_docs())?;
     Ok(MergeInput {
-        reader,
+        reader: Box::into_inner(reader),
         alive: Some(alive),
     })
 }

@@ -19,10 +19,10 @@ fn write(rt: &HostRuntime, path: &str, documents: &[&str]) -> anyhow::Result<()>
 }
 
 // This reads the footer and the index. A get makes one read at most.
-fn open(rt: &HostRuntime, path: &str) -> anyhow::Result<Reader> {
+fn open(rt: &HostRuntime, path: &str) -> anyhow::Result<Box<Reader>> {
     let file = FileSlice::new(DiskFile::new(OsFile::open(rt, path)?)?);
-    let opened = StoreReader::open(rt.alloc(), file, 100);
-    Ok(opened.map_err(|refusal| refusal.error)?)
+    let reader = StoreReader::open(rt.alloc(), file, 100).map_err(|refusal| refusal.error)?;
+    Ok(Box::new(rt.alloc(), reader)?)
 }
 
 // Opens a store to get one document of it.

@@ -28,7 +28,8 @@ fn print_documents<R: Print>(rt: &R, documents: &[OwnedBytes]) -> anyhow::Result
 // A page of two documents.
 fn page_of_two(alloc: Global) -> Result<Vec<OwnedBytes>, StoreError> {
     let file = written(alloc, &["apple", "banana", "cherry"])?;
-    page(alloc, &mut opened(alloc, file)?, &[2, 0])
+    let mut reader = opened(alloc, file)?;
+    page(alloc, &mut reader, &[2, 0])
 }
 
 /// Prints a page of two documents.

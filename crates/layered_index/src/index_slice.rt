@@ -131,11 +131,7 @@ impl<'a> IndexSlice<'a> {
     // The first checkpoint whose documents end past the target. It decodes one run of each layer up to what
     // it seeks, and counts each checkpoint that it decodes.
     #[inline(always)]
-    fn descend(
-        &self,
-        target: DocId,
-        steps: &mut Steps,
-    ) -> Result<Descent<'a>, StoreError>
+    fn descend(&self, target: DocId, steps: &mut Steps) -> Result<Descent<'a>, StoreError>
         ensures answer { (cs : List Checkpoint) → IsIndexPart self.now.period self.now.bytes cs
             → IsOkAnd result (λ d. d.found ≡ first_past cs target) }
         ensures run { (cs : List Checkpoint) → IsIndexPart self.now.period self.now.bytes cs

@@ -15,7 +15,8 @@ never : {A : Type 0} (ok : Bool) → ok ≡ false → IsTrue ok → A
 never ok failed worked = let none : ⊥ = cc in absurd none
 
 -- a batch was put after the tail
-module _ {F : Type 0} (k : Kind F) (batch tail : List ℕ) (ok : Bool) (old new : F) (made : Carried k (appending batch) ok old new) (kept : TailIsKept (k.may_hold old) (k.may_leave old) (k.entry_kept old) (k.trusted old) tail) where
+module _ {F : Type 0} (k : Kind F) (batch tail : List ℕ) (ok : Bool) (old new : F) (made : Carried k (appending batch) ok old new)
+    (kept : TailIsKept (k.may_hold old) (k.may_leave old) (k.entry_kept old) (k.trusted old) tail) where
   pub append_grows : ((c : Look) → k.left_since old (k.moment old) c → k.may_leave old c) → LeavesOnly k.moment k.left_since old new (GrowsTail (k.may_leave old) tail)
   append_grows only = elim (two k (appends tail_name batch) (syncs tail_name) ok old new made) [
     | inl failed ↦
@@ -31,7 +32,8 @@ module _ {F : Type 0} (k : Kind F) (batch tail : List ℕ) (ok : Bool) (old new 
     | inl failed ↦ never ok failed.0 worked
     | inr went ↦
         let trusted : k.trusted went.0 tail_name = went.1.trust tail_name kept.trust in
-        grown_kept (k.may_hold old) (k.may_leave old) (k.entry_kept old) (k.trusted old) tail kept (k.seen old) (k.seen went.0) batch (k.entry_kept went.0) (k.entry_kept new) (k.trusted new) (k.may_hold new)
+        grown_kept (k.may_hold old) (k.may_leave old) (k.entry_kept old) (k.trusted old) tail kept (k.seen old) (k.seen went.0) batch (k.entry_kept went.0) (k.entry_kept new) (k.trusted new)
+        (k.may_hold new)
         (k.may_leave new) (kept.outcomes (k.seen old) there) (went.1.appended refl) went.1.entries went.2.entries (went.2.durable worked trusted) (went.2.kept worked trusted)
         (went.2.trust worked tail_name trusted)
   ]

@@ -186,7 +186,8 @@ module _ (first : ℕ) (before : List Part) (head : Part) (run after : List Part
   -- what the log knows of its folder afterwards
   pub joined_folder : (sealed : ℕ) (old_hold new_hold : List ℕ → List ℕ → Type 0) (earlier later : Look → Type 0) (old_entry new_entry old_trust new_trust : List ℕ → Type 0)
       → IsSettledFolder old_hold earlier old_entry old_trust first sealed (before ++ head ∷ (run ++ after)) tail → FilesElsewhereOfBoth beside (segment_name head.first) old_hold new_hold
-      → ((n : List ℕ) → new_entry n) → (old_trust tail_name → new_trust tail_name) → ComesFrom (ElsewhereOfBoth beside (segment_name head.first)) earlier later → ((c : Look) → later c → HasSegment c new)
+      → ((n : List ℕ) → new_entry n) → (old_trust tail_name → new_trust tail_name) → ComesFrom (ElsewhereOfBoth beside (segment_name head.first)) earlier later
+      → ((c : Look) → later c → HasSegment c new)
       → IsSettledFolder new_hold later new_entry new_trust first sealed now tail
   joined_folder sealed old_hold new_hold earlier later old_entry new_entry old_trust new_trust f files entries trusts follows has = record {
     parts = whole_parts head run after next first before tail a;
@@ -242,7 +243,8 @@ module _ (first : ℕ) (b : Part) (bs : List Part) (q : Part) (after : List Part
   -- what the log knows of its folder afterwards
   pub removed_folder : (sealed : ℕ) (old_hold new_hold : List ℕ → List ℕ → Type 0) (earlier later : Look → Type 0) (old_entry new_entry old_trust new_trust : List ℕ → Type 0)
       → IsSettledFolder old_hold earlier old_entry old_trust first sealed ((b ∷ bs) ++ q ∷ after) tail → FilesElsewhere (segment_name q.first) old_hold new_hold
-      → ((n : List ℕ) → new_entry n) → (old_trust tail_name → new_trust tail_name) → ComesFrom (LosesFile (segment_name q.first)) earlier later → ((c : Look) → later c → c (segment_name q.first) ≡ None)
+      → ((n : List ℕ) → new_entry n) → (old_trust tail_name → new_trust tail_name) → ComesFrom (LosesFile (segment_name q.first)) earlier later
+      → ((c : Look) → later c → c (segment_name q.first) ≡ None)
       → IsSettledFolder new_hold later new_entry new_trust first sealed ((b ∷ bs) ++ after) tail
   removed_folder sealed old_hold new_hold earlier later old_entry new_entry old_trust new_trust f files entries trusts follows none = record {
     parts = left_parts first b bs q after tail covered a;

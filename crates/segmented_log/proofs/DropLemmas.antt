@@ -200,7 +200,8 @@ module _ (first number next : ℕ) (p : Part) (parts : List Part) (tail : List �
 
   -- what the log knows of its folder afterwards
   pub settled_rest : (sealed : ℕ) (old_hold new_hold : List ℕ → List ℕ → Type 0) (before after_it : Look → Type 0) (old_entry new_entry old_trust new_trust : List ℕ → Type 0)
-      → IsSettledFolder old_hold before old_entry old_trust first sealed (p ∷ parts) tail → FilesElsewhere (segment_name first) old_hold new_hold → ((n : List ℕ) → new_entry n) → (old_trust tail_name → new_trust tail_name)
+      → IsSettledFolder old_hold before old_entry old_trust first sealed (p ∷ parts) tail → FilesElsewhere (segment_name first) old_hold new_hold → ((n : List ℕ) → new_entry n)
+      → (old_trust tail_name → new_trust tail_name)
       → ComesFrom (LosesFile (segment_name first)) before after_it → ((c : Look) → after_it c → c (segment_name first) ≡ None)
       → IsSettledFolder new_hold after_it new_entry new_trust next sealed parts tail
   settled_rest sealed old_hold new_hold before after_it old_entry new_entry old_trust new_trust f files entries trusts follows none = record {
@@ -237,7 +238,8 @@ module _ (first number next : ℕ) (segments : List Part) (tail : List ℕ) (a :
       by (p ∷ parts) b can has = lost_log first number next p parts tail b can before has c loses
 
   pub dropped_folder : (sealed : ℕ) (old_hold new_hold : List ℕ → List ℕ → Type 0) (before after : Look → Type 0) (old_entry new_entry old_trust new_trust : List ℕ → Type 0)
-      → IsSettledFolder old_hold before old_entry old_trust first sealed segments tail → FilesElsewhere (segment_name first) old_hold new_hold → ((n : List ℕ) → new_entry n) → (old_trust tail_name → new_trust tail_name)
+      → IsSettledFolder old_hold before old_entry old_trust first sealed segments tail → FilesElsewhere (segment_name first) old_hold new_hold → ((n : List ℕ) → new_entry n)
+      → (old_trust tail_name → new_trust tail_name)
       → ComesFrom (LosesFile (segment_name first)) before after → ((c : Look) → after c → c (segment_name first) ≡ None)
       → IsSettledFolder new_hold after new_entry new_trust next sealed (drop 1 segments) tail
   dropped_folder sealed old_hold new_hold before after old_entry new_entry old_trust new_trust settled files entries trusts follows none = by segments a go settled

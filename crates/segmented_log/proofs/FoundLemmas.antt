@@ -31,7 +31,8 @@ pub has_segments : (seen : Look) (name : List ℕ) → IsOfLog name → name ≢
 has_segments seen name of no_tail there = ⊎_elim (λ is. absurd (no_tail is)) (λ segment. (segment.0, subst (λ (n : List ℕ). IsSome (seen n)) segment.2 there)) of
 
 -- The log's files among these names are on the disk, as they were seen at first; the tail is if `all` is true.
-pub record AreSynced (seen : Look) (before : Look → Type 0) (names : List (List ℕ)) (all : Bool) (now : Look) (may_hold : List ℕ → List ℕ → Type 0) (may_leave : Look → Type 0) (trusted : List ℕ → Type 0)
+pub record AreSynced (seen : Look) (before : Look → Type 0) (names : List (List ℕ)) (all : Bool) (now : Look) (may_hold : List ℕ → List ℕ → Type 0) (may_leave : Look → Type 0)
+    (trusted : List ℕ → Type 0)
     : Type 0 where
   pub same : (n : List ℕ) → now n ≡ seen n
   pub files : (n bytes : List ℕ) → Contains names n → IsOfLog n → (n ≡ tail_name → IsTrue all) → may_hold n bytes → seen n ≡ Some bytes
@@ -48,7 +49,8 @@ module _ (seen : Look) (before : Look → Type 0) where
   }
 
   -- one file more
-  pub one_synced : (names : List (List ℕ)) (name : List ℕ) (all done now_all : Bool) (mid new : Look) (held holds : List ℕ → List ℕ → Type 0) (leaves may_leave : Look → Type 0) (trusted trusts : List ℕ → Type 0)
+  pub one_synced : (names : List (List ℕ)) (name : List ℕ) (all done now_all : Bool) (mid new : Look) (held holds : List ℕ → List ℕ → Type 0) (leaves may_leave : Look → Type 0)
+      (trusted trusts : List ℕ → Type 0)
       → AreSynced seen before names all mid held leaves trusted → (IsTrue now_all → IsTrue all × IsTrue done)
       → (IsOfLog name → (name ≡ tail_name → IsTrue done) → (bytes : List ℕ) → holds name bytes → mid name ≡ Some bytes) → (name ≡ tail_name → IsTrue done → trusts name)
       → ((n : List ℕ) → new n ≡ mid n) → ((n bytes : List ℕ) → holds n bytes → held n bytes) → NoMore leaves may_leave → EntriesStay trusted trusts
@@ -68,7 +70,8 @@ module _ (seen : Look) (before : Look → Type 0) where
   }
 
   -- all of them, and the folder
-  module _ (names : List (List ℕ)) (are : AreNames seen names) (all : Bool) (mid new : Look) (held holds : List ℕ → List ℕ → Type 0) (leaves may_leave : Look → Type 0) (trusted trusts : List ℕ → Type 0)
+  module _ (names : List (List ℕ)) (are : AreNames seen names) (all : Bool) (mid new : Look) (held holds : List ℕ → List ℕ → Type 0) (leaves may_leave : Look → Type 0)
+      (trusted trusts : List ℕ → Type 0)
       (was : AreSynced seen before names all mid held leaves trusted) (durable : EntriesAreKept mid held may_leave) (same : (n : List ℕ) → new n ≡ mid n) where
     is_some : (o : Option (List ℕ)) (bytes : List ℕ) → o ≡ Some bytes → IsSome o
     is_some o bytes is = subst IsSome (sym is) refl

@@ -40,7 +40,8 @@ log_with_tail first all d c bytes file had is_tail first_same records same is lo
 -- the same look
 pub log_same : (first : ℕ) (all : List Slot) (d c : Look) → ((n : List ℕ) → IsOfLog n → c n ≡ d n) → IsLog first all d → IsLog first all c
 log_same first all d c same log =
-    log_with_tail first all d c log.tail log.tail log.holds.tail_is log.parts.is_tail refl refl (λ k low. same (segment_name k) (inr (k, low, refl))) (same tail_name (inl refl) ∙ log.holds.tail_is) log
+    log_with_tail first all d c log.tail log.tail log.holds.tail_is log.parts.is_tail refl refl (λ k low. same (segment_name k) (inr (k, low, refl))) (same tail_name (inl refl) ∙ log.holds.tail_is)
+    log
 
 pub blank_same : (d c : Look) → ((n : List ℕ) → IsOfLog n → c n ≡ d n) → IsBlank d → IsBlank c
 blank_same d c same blank = record { no_segments = λ k low. same (segment_name k) (inr (k, low, refl)) ∙ blank.no_segments k low; no_tail = same tail_name (inl refl) ∙ blank.no_tail }

@@ -160,12 +160,15 @@ module _ (first : ℕ) (parts : List Part) (tail : List ℕ) (place : ℕ) (v : 
 
   pub covered_folder : (sealed : ℕ) (old_hold new_hold : List ℕ → List ℕ → Type 0) (earlier later : Look → Type 0) (old_entry new_entry old_trust new_trust : List ℕ → Type 0)
       → IsSettledFolder old_hold earlier old_entry old_trust first sealed parts tail → FilesElsewhere (segment_name v.covered.first) old_hold new_hold
-      → ((n : List ℕ) → new_entry n) → (old_trust tail_name → new_trust tail_name) → ComesFrom (LosesFile (segment_name v.covered.first)) earlier later → ((c : Look) → later c → c (segment_name v.covered.first) ≡ None)
+      → ((n : List ℕ) → new_entry n) → (old_trust tail_name → new_trust tail_name) → ComesFrom (LosesFile (segment_name v.covered.first)) earlier later
+      → ((c : Look) → later c → c (segment_name v.covered.first) ≡ None)
       → IsSettledFolder new_hold later new_entry new_trust first sealed (without v) tail
   covered_folder sealed old_hold new_hold earlier later old_entry new_entry old_trust new_trust f files entries trusts follows none =
       by v.before (omega (arith, v.place_is, v.some)) v.ends cut (subst (λ (l : List Part). IsSettledFolder old_hold earlier old_entry old_trust first sealed l tail) v.split f)
     where
       by : (before : List Part) → 0 < length before → end_of v.covered ≤ end_from first before → AreParts first (before ++ v.covered ∷ v.after) tail
-          → IsSettledFolder old_hold earlier old_entry old_trust first sealed (before ++ v.covered ∷ v.after) tail → IsSettledFolder new_hold later new_entry new_trust first sealed (before ++ v.after) tail
+          → IsSettledFolder old_hold earlier old_entry old_trust first sealed (before ++ v.covered ∷ v.after) tail
+          → IsSettledFolder new_hold later new_entry new_trust first sealed (before ++ v.after) tail
       by [] some ends b g = absurd (omega (arith, some))
-      by (x ∷ xs) some ends b g = removed_folder first x xs v.covered v.after tail ends b sealed old_hold new_hold earlier later old_entry new_entry old_trust new_trust g files entries trusts follows none
+      by (x ∷ xs) some ends b g = removed_folder first x xs v.covered v.after tail ends b sealed old_hold new_hold earlier later old_entry new_entry old_trust new_trust g files entries trusts follows
+          none

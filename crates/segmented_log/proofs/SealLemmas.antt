@@ -116,8 +116,10 @@ module _ (first : ℕ) (segments : List Part) (tail : List ℕ) (parts : ArePart
   added_outcomes before after held follows has c left =
       let from = follows c left in published_holds from.0 c (held from.0 from.1) from.2 (has c left)
 
-  pub tail_stays : (old_hold new_hold : List ℕ → List ℕ → Type 0) (before after : Look → Type 0) (old_entry new_entry old_trust new_trust : List ℕ → Type 0) → TailIsKept old_hold before old_entry old_trust tail
-      → FilesElsewhereOfBoth beside (segment_name new.first) old_hold new_hold → ((n : List ℕ) → new_entry n) → (old_trust tail_name → new_trust tail_name) → ComesFrom (ElsewhereOfBoth beside (segment_name new.first)) before after
+  pub tail_stays : (old_hold new_hold : List ℕ → List ℕ → Type 0) (before after : Look → Type 0) (old_entry new_entry old_trust new_trust : List ℕ → Type 0)
+      → TailIsKept old_hold before old_entry old_trust tail
+      → FilesElsewhereOfBoth beside (segment_name new.first) old_hold new_hold → ((n : List ℕ) → new_entry n) → (old_trust tail_name → new_trust tail_name)
+      → ComesFrom (ElsewhereOfBoth beside (segment_name new.first)) before after
       → TailIsKept new_hold after new_entry new_trust tail
   tail_stays old_hold new_hold before after old_entry new_entry old_trust new_trust kept files entries trusts follows = record {
     file = λ bytes holds. kept.file bytes (files tail_name bytes (beside_no_tail new.first) (λ e. segment_no_tail new.first (sym e)) holds);

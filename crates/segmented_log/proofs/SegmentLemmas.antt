@@ -60,7 +60,8 @@ module _ (sealed tail_first next : ℕ) (tail : List ℕ) (places : List Place) 
     pub slots_segment : (p : Part) → p ≡ part_at sealed tail unsealed_places → log_slots first (segments ++ p ∷ []) tail ≡ log_slots first segments tail
     slots_segment p is = ap (λ (q : Part). log_slots first (segments ++ q ∷ []) tail) (is ∙ part_is) ∙ sealed_slots first segments tail parts some high
 
-    pub folder_segment : (p : Part) → p ≡ part_at sealed tail unsealed_places → (old_hold new_hold : List ℕ → List ℕ → Type 0) (before after : Look → Type 0) (old_entry new_entry old_trust new_trust : List ℕ → Type 0)
+    pub folder_segment : (p : Part) → p ≡ part_at sealed tail unsealed_places → (old_hold new_hold : List ℕ → List ℕ → Type 0) (before after : Look → Type 0)
+        (old_entry new_entry old_trust new_trust : List ℕ → Type 0)
         → IsOnDisk old_hold before old_entry old_trust segments tail → ((c : Look) → after c → HasSegment c (part_at sealed tail unsealed_places))
         → FilesElsewhereOfBoth (segment_name sealed ++ part) (segment_name sealed) old_hold new_hold
         → ((n : List ℕ) → new_entry n) → (old_trust tail_name → new_trust tail_name) → ComesFrom (ElsewhereOfBoth (segment_name sealed ++ part) (segment_name sealed)) before after

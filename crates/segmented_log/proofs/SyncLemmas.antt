@@ -97,7 +97,8 @@ log_on_disk may_hold may_leave entry_kept trusted first sealed segments tail f c
 }
 
 -- while no call changes the folder, each moment has the same log
-pub log_stays : {D : Type 0} (moment : D → ℕ) (left_since : D → ℕ → Look → Type 0) (may_hold : List ℕ → List ℕ → Type 0) (may_leave : Look → Type 0) (entry_kept trusted : List ℕ → Type 0) (first sealed : ℕ)
+pub log_stays : {D : Type 0} (moment : D → ℕ) (left_since : D → ℕ → Look → Type 0) (may_hold : List ℕ → List ℕ → Type 0) (may_leave : Look → Type 0) (entry_kept trusted : List ℕ → Type 0)
+    (first sealed : ℕ)
     (segments : List Part)
     (tail : List ℕ) → IsSettledFolder may_hold may_leave entry_kept trusted first sealed segments tail → (folder : D) → ((c : Look) → left_since folder (moment folder) c → may_leave c)
     → LeavesOnly moment left_since folder folder (IsLog first (log_slots first segments tail))
@@ -142,7 +143,8 @@ module _ (sealed tail_first next : ℕ) (tail : List ℕ) (places : List Place) 
   }
 
   pub folder_empty : (first : ℕ) (segments : List Part) (old_hold new_hold : List ℕ → List ℕ → Type 0) (before after : Look → Type 0) (old_entry new_entry old_trust new_trust : List ℕ → Type 0)
-      → IsSettledFolder old_hold before old_entry old_trust first sealed segments tail → TailIsKept new_hold after new_entry new_trust file → ComesFrom (ElsewhereOfBoth (tail_name ++ part) tail_name) before after
+      → IsSettledFolder old_hold before old_entry old_trust first sealed segments tail → TailIsKept new_hold after new_entry new_trust file
+      → ComesFrom (ElsewhereOfBoth (tail_name ++ part) tail_name) before after
       → IsSettledFolder new_hold after new_entry new_trust first sealed segments file
   folder_empty first segments old_hold new_hold before after old_entry new_entry old_trust new_trust f kept follows = record {
     parts = emptied_parts first segments tail f.parts file (all_sealed first segments f.sealed_is) is_tail begins_there none;

@@ -67,7 +67,8 @@ pub record IsSettledTail (sealed tail_first next : ℕ) (tail : List ℕ) (place
   pub small : 8 + length pending < 2 ^ 32
 
 -- What it knows of its folder, which is honest.
-pub record IsSettledFolder (may_hold : List ℕ → List ℕ → Type 0) (may_leave : Look → Type 0) (entry_kept trusted : List ℕ → Type 0) (first sealed : ℕ) (segments : List Part) (tail : List ℕ) : Type 0 where
+pub record IsSettledFolder (may_hold : List ℕ → List ℕ → Type 0) (may_leave : Look → Type 0) (entry_kept trusted : List ℕ → Type 0) (first sealed : ℕ)
+    (segments : List Part) (tail : List ℕ) : Type 0 where
   pub parts : AreParts first segments tail
   pub sealed_is : sealed ≡ end_from first segments
   pub on_disk : IsOnDisk may_hold may_leave entry_kept trusted segments tail

@@ -24,8 +24,8 @@ fn is_of_log(name: &str) -> bool
     name == TAIL || segment_number(name).is_some()
 }
 
-// Syncs a file, if it is one of a log's and needs a sync. Returns whether it is on the disk then: a tail is not of which
-// a sync has failed.
+// Syncs a file, if it is one of a log's and needs a sync. Returns whether it is on the disk then: a tail is not of
+// which a sync has failed.
 fn sync_found_file<F: Folder>(folder: &mut F, name: &str) -> Result<bool, LogError>
     requires { IsTrue F.honest → IsSome (F.seen folder.old name.now) }
     ensures durable { IsTrue F.honest → IfOk result (λ done. IsOfLog name.now → (name.now ≡ tail_name → IsTrue done)

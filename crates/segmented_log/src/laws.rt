@@ -36,8 +36,8 @@ pub fn calls_are_of_processes<F: Folder>()
 {}
 
 /// Over any number of processes a log keeps its slots, and after them all acknowledged records of each process that
-/// opened it, in order, under their numbers, but those that the processes drop. Each process may end at any moment, by a
-/// crash of the machine, or alone: killed, or after a call that failed. A folder may be blank at first.
+/// opened it, in order, under their numbers, but those that the processes drop. Each process may end at any moment, by
+/// a crash of the machine, or alone: killed, or after a call that failed. A folder may be blank at first.
 pub fn ends_lose_nothing<F: Folder>()
     ensures kept { IsTrue F.honest → EndsLoseNothing F.seen F.may_leave }
     ensures begun { IsTrue F.honest → EndsLoseNothingOfNewLogs F.seen F.may_leave }

@@ -1,11 +1,11 @@
 //! What the file `lock` of a folder tells the next writer of how this one ended, and what a writer knows of its files.
 //!
-//! The mark is text, whose fields each end with a NUL: `ended` and the inode of the file `lock`; or `open`, the number of
-//! the machine's start, and the names of the files that may not be on the disk, or of which a sync may have failed. It has
-//! `unsure` in place of `open` where this is not known of the other files. A file beside another is never named.
+//! The mark is text, whose fields each end with a NUL: `ended` and the inode of the file `lock`; or `open`, the number
+//! of the machine's start, and the names of the files that may not be on the disk, or of which a sync may have failed.
+//! It has `unsure` in place of `open` where this is not known of the other files. A file beside another is never named.
 //!
-//! It is never synced: after a restart of the machine what is seen was read from the disk. A copy of the folder has another
-//! inode, so its mark tells nothing.
+//! It is never synced: after a restart of the machine what is seen was read from the disk. A copy of the folder has
+//! another inode, so its mark tells nothing.
 
 use crate::loading::read_all;
 use std::alloc::{AllocError, Global};
@@ -290,8 +290,8 @@ impl Knowledge {
         self.mark_open(rt, alloc, lock, None)
     }
 
-    /// The same before a file is written or synced, of which a sync may fail: the mark has its name then, unless it is one
-    /// beside another.
+    /// The same before a file is written or synced, of which a sync may fail: the mark has its name then, unless it is
+    /// one beside another.
     pub(crate) fn begin_write<R: Files>(
         &mut self,
         rt: &R,

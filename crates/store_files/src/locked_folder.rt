@@ -291,30 +291,44 @@ where
         Ok(())
     }
 
+    // Gives a file another name in the folder of the system.
+    fn rename_path(&self, from: &str, to: &str) -> io::Result<()> {
+        let old_path = self.path_of(from)?;
+        let new_path = self.path_of(to)?;
+        fs::rename(&self.rt, old_path.as_str(), new_path.as_str())
+    }
+
+    // Gives the file that is open its new name, if it was renamed. One that was replaced is not open any more.
+    fn rename_written(&mut self, from: &str, to: String)
+        ensures { self.new.failures ≡ self.old.failures }
+    {
+        if self.is_open(to.as_str()) {
+            self.written = None;
+        } else if let Some(written) = &mut self.written {
+            if written.name.as_str() == from {
+                written.name = to;
+            }
+        }
+    }
+
     // Renames a file. One that is open stays so; one that is replaced does not.
     fn move_file(&mut self, from: &str, to: &str) -> io::Result<()>
         ensures { self.new.failures ≡ self.old.failures }
     {
-        let (old_path, new_path) = (self.path_of(from)?, self.path_of(to)?);
-        let name = String::from_str(self.alloc, to)?;
+        check_name(from)?;
+        check_name(to)?;
         if self.knowledge.is_synced(from) {
             self.mark()?;
         } else {
             self.note(to)?;
         }
         self.knowledge.set_kept_entries(false);
-        let known_name = String::from_str(self.alloc, to)?;
         self.knowledge.reserve()?;
-        fs::rename(&self.rt, old_path.as_str(), new_path.as_str())?;
+        let name = String::from_str(self.alloc, to)?;
+        let known_name = String::from_str(self.alloc, to)?;
+        self.rename_path(from, to)?;
         self.knowledge.rename(from, known_name);
-        if let Some(written) = self.written.take() {
-            if written.name.as_str() == from {
-                let file = written.file;
-                self.written = Some(WrittenFile { name, file });
-            } else if written.name.as_str() != to {
-                self.written = Some(written);
-            }
-        }
+        self.rename_written(from, name);
         Ok(())
     }
 

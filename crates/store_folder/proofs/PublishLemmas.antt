@@ -40,7 +40,8 @@ module _ {F : Type 0} (k : Kind F) (beside name : List ℕ) where
             (λ l now. old_stays (k.may_leave old) beside name (k.seen old beside) l (does.crash l now))
 
         second : (mid after : F) (went : Bool) → Does k (syncs beside) true old mid → Does k (renames beside name) went mid after → (l : Look) → k.may_leave after l → P l
-        second mid after went one two = renamed (k.may_leave old) beside name (k.seen old beside) (k.may_leave mid) (k.may_leave after) (k.may_hold mid beside) one.crash two.crash (one.durable refl trusted)
+        second mid after went one two = renamed (k.may_leave old) beside name (k.seen old beside) (k.may_leave mid) (k.may_leave after) (k.may_hold mid beside) one.crash two.crash
+            (one.durable refl trusted)
 
     pub publish_kept : IsTrue ok → Keeps name (k.seen old beside) (k.may_leave new)
     publish_kept worked = elim (first_call k (syncs beside) (renames beside name ∷ syncs_folder ∷ []) ok old new made) [

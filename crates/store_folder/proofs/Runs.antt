@@ -77,7 +77,8 @@ module _ {F : Type 0} (seen : F → Look) (trusted : F → List ℕ → Type 0) 
 
     -- bytes went to it
     pub appended : (new : F) (bytes : List ℕ) → ComesFrom (Elsewhere beside) (may_leave old) (may_leave new) → ElapsesTo old new
-        → seen new beside ≡ Some (unwrap_or (seen old beside) [] ++ bytes) → (trusted old beside → trusted new beside) → IsBeside seen trusted may_leave moment left_since first new beside (sent ++ bytes)
+        → seen new beside ≡ Some (unwrap_or (seen old beside) [] ++ bytes) → (trusted old beside → trusted new beside)
+        → IsBeside seen trusted may_leave moment left_since first new beside (sent ++ bytes)
     appended new bytes follows time file stays = record {
       file = file ∙ ap (λ (o : Option (List ℕ)). Some (unwrap_or o [] ++ bytes)) at.file;
       trust = stays at.trust;
@@ -85,7 +86,8 @@ module _ {F : Type 0} (seen : F → Look) (trusted : F → List ℕ → Type 0) 
       any_moment = touched new follows time;
     }
 
-module _ {F : Type 0} (seen : F → Look) (trusted : F → List ℕ → Type 0) (may_leave : F → Look → Type 0) (moment : F → ℕ) (left_since : F → ℕ → Look → Type 0) (beside name : List ℕ) (apart : beside ≢ name) where
+module _ {F : Type 0} (seen : F → Look) (trusted : F → List ℕ → Type 0) (may_leave : F → Look → Type 0) (moment : F → ℕ) (left_since : F → ℕ → Look → Type 0) (beside name : List ℕ)
+    (apart : beside ≢ name) where
   abbrev Run : F → F → Option (List ℕ) → Type 0
   Run first now whole = LeavesOnly moment left_since first now (IsOldOrWhole (may_leave first) beside name whole)
 

@@ -20,7 +20,8 @@ pub record Standing : Type 1 where
   pub handle : ℕ
   pub failures : ℕ
 
-abbrev pub standing : {F : Type 0} → (F → Look) → (F → List ℕ → List ℕ → Type 0) → (F → Look → Type 0) → (F → ℕ) → (F → ℕ → Look → Type 0) → (F → List ℕ → Type 0) → (F → List ℕ → Type 0) → (F → ℕ) → (F → ℕ) → F → Standing
+abbrev pub standing : {F : Type 0} → (F → Look) → (F → List ℕ → List ℕ → Type 0) → (F → Look → Type 0) → (F → ℕ) → (F → ℕ → Look → Type 0) → (F → List ℕ → Type 0) → (F → List ℕ → Type 0) → (F → ℕ)
+    → (F → ℕ) → F → Standing
 standing seen may_hold may_leave moment left_since entry_kept trusted handle failures f = record {
   seen = seen f;
   may_hold = may_hold f;

@@ -34,7 +34,16 @@ pub record Kind (F : Type 0) : Type 1 where
   pub trusted : F → List ℕ → Type 0
 
 abbrev pub kind : {F : Type 0} → (F → Look) → (F → List ℕ → List ℕ → Type 0) → (F → Look → Type 0) → (F → ℕ) → (F → ℕ → Look → Type 0) → (F → List ℕ → Type 0) → (F → List ℕ → Type 0) → Kind F
-kind seen may_hold may_leave moment left_since entry_kept trusted = record { seen = seen; may_hold = may_hold; may_leave = may_leave; moment = moment; left_since = left_since; entry_kept = entry_kept; trusted = trusted }
+kind seen may_hold may_leave moment left_since entry_kept trusted = record {
+  seen = seen;
+  may_hold = may_hold;
+  may_leave = may_leave;
+  moment = moment;
+  left_since = left_since;
+  entry_kept =
+      entry_kept;
+  trusted = trusted;
+}
 
 abbrev pub ElapsesTo : {F : Type 0} → Kind F → F → F → Type 0
 ElapsesTo k old new = Elapses (k.moment old) (k.moment new) (k.left_since old) (k.left_since new) (k.may_leave new)

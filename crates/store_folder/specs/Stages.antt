@@ -12,7 +12,8 @@ end_of Ended content = Some (length content)
 end_of _ content = None
 
 -- The file beside has what was sent, and no other name was touched.
-pub record IsBeside {F : Type 0} (seen : F → Look) (trusted : F → List ℕ → Type 0) (may_leave : F → Look → Type 0) (moment : F → ℕ) (left_since : F → ℕ → Look → Type 0) (first now : F) (beside sent : List ℕ) : Type 0 where
+pub record IsBeside {F : Type 0} (seen : F → Look) (trusted : F → List ℕ → Type 0) (may_leave : F → Look → Type 0) (moment : F → ℕ) (left_since : F → ℕ → Look → Type 0) (first now : F)
+    (beside sent : List ℕ) : Type 0 where
   pub file : seen now beside ≡ Some sent
   pub trust : trusted now beside
   pub outcomes : ComesFrom (Elsewhere beside) (may_leave first) (may_leave now)

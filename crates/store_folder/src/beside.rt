@@ -66,7 +66,8 @@ impl Waiting {
         ensures content { self.new.sent.bytes ++ self.new.buffer.items
             ≡ self.old.sent.bytes ++ self.old.buffer.items }
         ensures file { IsTrue F.honest → OnOk result (F.seen folder.new name.now ≡ Some self.new.sent.bytes) }
-        ensures follows { Follows (IsTrue F.honest) name.now (standing F.seen F.may_hold F.may_leave F.moment F.left_since
+        ensures follows { Follows (IsTrue F.honest) name.now
+            (standing F.seen F.may_hold F.may_leave F.moment F.left_since
             F.entry_kept F.trusted F.handle F.failures folder.old)
             (standing F.seen F.may_hold F.may_leave F.moment F.left_since
             F.entry_kept F.trusted F.handle F.failures folder.new) }
@@ -87,7 +88,8 @@ impl Waiting {
             ≡ (self.old.sent.bytes ++ self.old.buffer.items) ++ bytes.now) }
         ensures count { self.new.num_bytes ≡ length (self.new.sent.bytes ++ self.new.buffer.items) }
         ensures file { IsTrue F.honest → OnOk result (F.seen folder.new name.now ≡ Some self.new.sent.bytes) }
-        ensures follows { Follows (IsTrue F.honest) name.now (standing F.seen F.may_hold F.may_leave F.moment F.left_since
+        ensures follows { Follows (IsTrue F.honest) name.now
+            (standing F.seen F.may_hold F.may_leave F.moment F.left_since
             F.entry_kept F.trusted F.handle F.failures folder.old)
             (standing F.seen F.may_hold F.may_leave F.moment F.left_since
             F.entry_kept F.trusted F.handle F.failures folder.new) }
@@ -115,8 +117,8 @@ impl Waiting {
     }
 }
 
-/// A file that is written in a folder, as an output of a writer. Its end is only noted: `finish` passes on what waits, and
-/// gives the folder back. After a call that failed it refuses every write.
+/// A file that is written in a folder, as an output of a writer. Its end is only noted: `finish` passes on what waits,
+/// and gives the folder back. After a call that failed it refuses every write.
 #[derive(Drop)]
 pub struct Beside<F: Folder, K: Origin> {
     folder: F,
@@ -155,13 +157,15 @@ impl<F: Folder, K: Origin> Model for Beside<F, K> {
 impl<F: Folder, K: Origin> Beside<F, K> {
     /// An output of nothing yet, for a file of this name, which is made or replaced.
     pub fn create(alloc: Global, folder: F, name: String) -> Result<Beside<F, K>, (io::Error, F)>
-        requires first { Follows (IsTrue F.honest) K.name K.first (standing F.seen F.may_hold F.may_leave F.moment F.left_since
+        requires first { Follows (IsTrue F.honest) K.name K.first
+            (standing F.seen F.may_hold F.may_leave F.moment F.left_since
             F.entry_kept F.trusted F.handle F.failures folder) }
         requires name { K.name ≡ string_bytes name }
         ensures content { IfOk result (λ b. b.content ≡ []) }
         ensures termination { IfOk result (λ b. b.termination ≡ never_terminated) }
         ensures failures { IfOk result (λ b. b.failures ≡ 0) }
-        ensures follows { IfErr result (λ e. Follows (IsTrue F.honest) K.name K.first (standing F.seen F.may_hold F.may_leave F.moment F.left_since
+        ensures follows { IfErr result (λ e. Follows (IsTrue F.honest) K.name K.first
+            (standing F.seen F.may_hold F.may_leave F.moment F.left_since
             F.entry_kept F.trusted F.handle F.failures e.1)) }
         ensures fault { IfErr result (λ e. IsFault K.first.failures (F.failures e.1) e.0) }
     {
@@ -196,9 +200,11 @@ impl<F: Folder, K: Origin> Beside<F, K> {
     pub fn finish(self) -> Result<F, (io::Error, F)>
         ensures file { IsTrue F.honest → IfOk result (λ f. F.seen f K.name ≡ Some self.content) }
         ensures trusted { IsTrue F.honest → IfOk result (λ f. F.trusted f K.name) }
-        ensures follows { IfOk result (λ f. Follows (IsTrue F.honest) K.name K.first (standing F.seen F.may_hold F.may_leave F.moment F.left_since
+        ensures follows { IfOk result (λ f. Follows (IsTrue F.honest) K.name K.first
+            (standing F.seen F.may_hold F.may_leave F.moment F.left_since
             F.entry_kept F.trusted F.handle F.failures f)) }
-        ensures follows_err { IfErr result (λ e. Follows (IsTrue F.honest) K.name K.first (standing F.seen F.may_hold F.may_leave F.moment F.left_since
+        ensures follows_err { IfErr result (λ e. Follows (IsTrue F.honest) K.name K.first
+            (standing F.seen F.may_hold F.may_leave F.moment F.left_since
             F.entry_kept F.trusted F.handle F.failures e.1)) }
         ensures fault { IfErr result (λ e. IsFault K.first.failures (F.failures e.1) e.0) }
     {
@@ -220,7 +226,8 @@ impl<F: Folder, K: Origin> Beside<F, K> {
 
     /// Gives the folder back, and the error of the call that failed, if one did.
     pub fn give_up(self) -> (F, Option<io::Error>)
-        ensures follows { Follows (IsTrue F.honest) K.name K.first (standing F.seen F.may_hold F.may_leave F.moment F.left_since
+        ensures follows { Follows (IsTrue F.honest) K.name K.first
+            (standing F.seen F.may_hold F.may_leave F.moment F.left_since
             F.entry_kept F.trusted F.handle F.failures result.0) }
         ensures fault { IfSome result.1 (IsFault K.first.failures (F.failures result.0)) }
     {

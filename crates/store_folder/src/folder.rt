@@ -17,8 +17,8 @@ use std::io;
 /// synced and not written since keeps its bytes, whatever name it has later; one that was appended to since begins with
 /// them.
 ///
-/// Once a sync of a file has failed, the system may take for written what it did not write, as Linux does. Then no later
-/// sync says anything of this file; a new file in its place can be synced.
+/// Once a sync of a file has failed, the system may take for written what it did not write, as Linux does. Then no
+/// later sync says anything of this file; a new file in its place can be synced.
 ///
 /// Not in the model: hard links, other processes that change the folder, modes and owners.
 pub trait Folder: Drop {
@@ -89,8 +89,8 @@ pub trait Folder: Drop {
         ensures fault { OnErr result (HasRisen (failures self.old) (failures self.new)) }
         ensures same { handle self.new ≡ handle self.old };
 
-    /// Syncs a file. After an Ok, if no sync of it has failed, a crash leaves the file's bytes as they are, even if it is
-    /// renamed later; and it leaves them under the name, if the entry of the name was on the disk.
+    /// Syncs a file. After an Ok, if no sync of it has failed, a crash leaves the file's bytes as they are, even if it
+    /// is renamed later; and it leaves them under the name, if the entry of the name was on the disk.
     fn sync_file(&mut self, name: &str) -> io::Result<()>
         requires { IsTrue honest → IsSome (seen self.old name.now) }
         ensures durable { IsTrue honest → OnOk result (trusted self.old name.now
@@ -164,8 +164,8 @@ pub trait Folder: Drop {
         ensures fault { OnErr result (HasRisen (failures self.old) (failures self.new)) }
         ensures same { handle self.new ≡ handle self.old };
 
-    /// Whether it is known that no sync of this file has failed. Where it is not, a new file has to take its place before it
-    /// is relied on: no sync vouches for it.
+    /// Whether it is known that no sync of this file has failed. Where it is not, a new file has to take its place
+    /// before it is relied on: no sync vouches for it.
     fn is_trusted(&self, name: &str) -> bool
         ensures { IsTrue honest → IsTrue result → trusted self.now name.now };
 

@@ -149,8 +149,10 @@ impl FileBeside {
             ≡ (self.old.sent.bytes ++ self.old.buffer.items) ++ bytes.now) }
         ensures name { self.new.name ≡ self.old.name }
         ensures count { self.new.num_bytes ≡ length (self.new.sent.bytes ++ self.new.buffer.items) }
-        ensures beside { IsTrue F.honest → OnOk result ((first : F) → IsBeside F.seen F.trusted F.may_leave F.moment F.left_since
-            first folder.old (string_bytes self.old.name) self.old.sent.bytes → IsBeside F.seen F.trusted F.may_leave F.moment
+        ensures beside { IsTrue F.honest → OnOk result
+            ((first : F) → IsBeside F.seen F.trusted F.may_leave F.moment F.left_since
+            first folder.old (string_bytes self.old.name) self.old.sent.bytes
+            → IsBeside F.seen F.trusted F.may_leave F.moment
             F.left_since first folder.new (string_bytes self.old.name) self.new.sent.bytes) }
         ensures any_moment { IsTrue F.honest → (first : F) → IsBeside F.seen F.trusted F.may_leave F.moment F.left_since
             first folder.old (string_bytes self.old.name) self.old.sent.bytes → LeavesOnly F.moment F.left_since

@@ -50,7 +50,8 @@ module _ {F : Type 0} (may_leave : F → Look → Type 0) (moment : F → ℕ) (
       (weaker moment left_since mid new _ _ (whole_is_new (may_leave old) name is_new (may_leave mid) content is follows) second)
 
 -- why a store was not written whose filling had this result
-pub refusal_of : {T E : Type 0} (refuses : E → Type 0) (old new : ℕ) (filled : Result T E) (error : FillError E) → IfErr filled refuses → IsFillFault old new filled error → IsRefusal refuses old new error
+pub refusal_of : {T E : Type 0} (refuses : E → Type 0) (old new : ℕ) (filled : Result T E) (error : FillError E) → IfErr filled refuses → IsFillFault old new filled error
+    → IsRefusal refuses old new error
 refusal_of refuses old new filled (Filling e) refused fault = subst (λ r. IfErr r refuses) fault refused
 refusal_of refuses old new filled (Folder e) refused fault = fault
 refusal_of refuses old new filled (Store e) refused fault = tt

@@ -54,7 +54,8 @@ fn export_beside<F: Folder, K: Origin, H: FileHandle>(
     reader: &mut StoreReader<H>,
     part_bytes: usize,
 ) -> Result<WrittenBeside<F>, NotWritten<F, StoreError>>
-    requires first { Follows (IsTrue F.honest) K.name K.first (standing F.seen F.may_hold F.may_leave F.moment F.left_since
+    requires first { Follows (IsTrue F.honest) K.name K.first
+        (standing F.seen F.may_hold F.may_leave F.moment F.left_since
         F.entry_kept F.trusted F.handle F.failures folder) }
     requires name { K.name ≡ string_bytes beside }
     ensures exported { IfOk result (λ r. (content : List ℕ) × ((export : IsExportOf reader.old content)
@@ -66,9 +67,11 @@ fn export_beside<F: Folder, K: Origin, H: FileHandle>(
     ensures read { OnOk result
         (IsReadInPieces (number_of_parts part_bytes reader.old.checkpoints) reader.old reader.new) }
     ensures kept { IsReadAtMost (number_of_parts part_bytes reader.old.checkpoints) reader.old reader.new }
-    ensures follows { IfOk result (λ r. Follows (IsTrue F.honest) K.name K.first (standing F.seen F.may_hold F.may_leave F.moment F.left_since
+    ensures follows { IfOk result (λ r. Follows (IsTrue F.honest) K.name K.first
+        (standing F.seen F.may_hold F.may_leave F.moment F.left_since
         F.entry_kept F.trusted F.handle F.failures r.folder)) }
-    ensures follows_err { IfErr result (λ e. Follows (IsTrue F.honest) K.name K.first (standing F.seen F.may_hold F.may_leave F.moment F.left_since
+    ensures follows_err { IfErr result (λ e. Follows (IsTrue F.honest) K.name K.first
+        (standing F.seen F.may_hold F.may_leave F.moment F.left_since
         F.entry_kept F.trusted F.handle F.failures e.folder)) }
 {
     laws::stacked_slots_are_counted();
@@ -119,7 +122,8 @@ fn export_in<F: Folder, H: FileHandle>(
     ensures read { OnOk result
         (IsReadInPieces (number_of_parts part_bytes reader.old.checkpoints) reader.old reader.new) }
     ensures kept { IsReadAtMost (number_of_parts part_bytes reader.old.checkpoints) reader.old reader.new }
-    ensures touched { IsTrue F.honest → TouchesOnly (string_bytes beside) (standing F.seen F.may_hold F.may_leave F.moment F.left_since
+    ensures touched { IsTrue F.honest → TouchesOnly (string_bytes beside)
+        (standing F.seen F.may_hold F.may_leave F.moment F.left_since
         F.entry_kept F.trusted F.handle F.failures folder.old)
         (standing F.seen F.may_hold F.may_leave F.moment F.left_since
         F.entry_kept F.trusted F.handle F.failures folder.new) }

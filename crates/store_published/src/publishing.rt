@@ -1,6 +1,23 @@
 //! Stores that are filled and published in one call.
 
-ghost use Rattle.std.specs.Prelude.{◌≡◌, ◌≢◌, ◌≤◌, ◌+◌, ◌^◌, ℕ, List, [], ◌++◌, IsTrue, IfOk, IfErr, IsOk, OnOk, Some, string_bytes};
+ghost use Rattle.std.specs.Prelude.{
+  ◌≡◌,
+  ◌≢◌,
+  ◌≤◌,
+  ◌+◌,
+  ◌^◌,
+  ℕ,
+  List,
+  [],
+  ◌++◌,
+  IsTrue,
+  IfOk,
+  IfErr,
+  IsOk,
+  OnOk,
+  Some,
+  string_bytes,
+};
 ghost use Rattle.docstore.specs.Laws.{taken};
 ghost use Rattle.store_folder.specs.Moments.{ComesFrom, LeavesOnly};
 ghost use Rattle.store_folder.specs.Folder.{Keeps, ElsewhereOfBoth, EntriesStayElsewhereOfBoth, FilesElsewhereOfBoth};
@@ -57,7 +74,8 @@ fn close_error<F: Folder, K: Origin, E: Drop>(
     error: StoreError,
     output: Beside<F, K>,
 ) -> (FillError<E>, F)
-    ensures follows { Follows (IsTrue F.honest) K.name K.first (standing F.seen F.may_hold F.may_leave F.moment F.left_since
+    ensures follows { Follows (IsTrue F.honest) K.name K.first
+        (standing F.seen F.may_hold F.may_leave F.moment F.left_since
         F.entry_kept F.trusted F.handle F.failures result.1) }
     ensures fault { IsFillFault K.first.failures (F.failures result.1) filled result.0 }
 {
@@ -81,7 +99,8 @@ fn end_store<F: Folder, K: Origin, E: Drop>(
     ensures filled { OnOk result (IsOk filled) }
     ensures stored { IfOk result (λ r. writer.output.before ≡ [] → (store : IsStoreOf (λ slots. slots ≡ taken writer)
         writer.output.period r.0.content) × AreNumbersOf r.0.content store.blocks r.1) }
-    ensures follows { IfErr result (λ e. Follows (IsTrue F.honest) K.name K.first (standing F.seen F.may_hold F.may_leave F.moment F.left_since
+    ensures follows { IfErr result (λ e. Follows (IsTrue F.honest) K.name K.first
+        (standing F.seen F.may_hold F.may_leave F.moment F.left_since
         F.entry_kept F.trusted F.handle F.failures e.1)) }
     ensures fault { IfErr result (λ e. IsFillFault K.first.failures (F.failures e.1) filled e.0) }
 {
@@ -119,7 +138,8 @@ fn write_beside<F: Folder, K: Origin, S: Filling>(
 ) -> Result<WrittenBeside<F>, NotWritten<F, S::Error>>
     requires least { 2 ≤ period }
     requires most { period ≤ 64 }
-    requires first { Follows (IsTrue F.honest) K.name K.first (standing F.seen F.may_hold F.may_leave F.moment F.left_since
+    requires first { Follows (IsTrue F.honest) K.name K.first
+        (standing F.seen F.may_hold F.may_leave F.moment F.left_since
         F.entry_kept F.trusted F.handle F.failures folder) }
     requires name { K.name ≡ string_bytes beside }
     ensures stored { IfOk result (λ r. (content : List ℕ)
@@ -127,9 +147,11 @@ fn write_beside<F: Folder, K: Origin, S: Filling>(
         × AreNumbersOf content store.blocks r.written)
         × (IsTrue F.honest → F.seen r.folder K.name ≡ Some content)) }
     ensures trusted { IsTrue F.honest → IfOk result (λ r. F.trusted r.folder K.name) }
-    ensures follows { IfOk result (λ r. Follows (IsTrue F.honest) K.name K.first (standing F.seen F.may_hold F.may_leave F.moment F.left_since
+    ensures follows { IfOk result (λ r. Follows (IsTrue F.honest) K.name K.first
+        (standing F.seen F.may_hold F.may_leave F.moment F.left_since
         F.entry_kept F.trusted F.handle F.failures r.folder)) }
-    ensures follows_err { IfErr result (λ e. Follows (IsTrue F.honest) K.name K.first (standing F.seen F.may_hold F.may_leave F.moment F.left_since
+    ensures follows_err { IfErr result (λ e. Follows (IsTrue F.honest) K.name K.first
+        (standing F.seen F.may_hold F.may_leave F.moment F.left_since
         F.entry_kept F.trusted F.handle F.failures e.folder)) }
     ensures refused { IfErr result (λ e. IsRefusal (S.refuses filling.old filling.new block_size)
         K.first.failures (F.failures e.folder) e.error) }
@@ -173,7 +195,8 @@ fn write_in<F: Folder, S: Filling>(
         × AreNumbersOf content store.blocks written)
         × (IsTrue F.honest → F.seen folder.new (string_bytes beside) ≡ Some content)) }
     ensures trusted { IsTrue F.honest → OnOk result (F.trusted folder.new (string_bytes beside)) }
-    ensures touched { IsTrue F.honest → TouchesOnly (string_bytes beside) (standing F.seen F.may_hold F.may_leave F.moment F.left_since
+    ensures touched { IsTrue F.honest → TouchesOnly (string_bytes beside)
+        (standing F.seen F.may_hold F.may_leave F.moment F.left_since
         F.entry_kept F.trusted F.handle F.failures folder.old)
         (standing F.seen F.may_hold F.may_leave F.moment F.left_since
         F.entry_kept F.trusted F.handle F.failures folder.new) }

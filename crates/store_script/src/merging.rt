@@ -23,7 +23,7 @@ fn inputs_of(
             continue;
         };
         let input = MergeInput {
-            reader: store.reopen(alloc, 0)?,
+            reader: Box::into_inner(store.reopen(alloc, 0)?),
             alive: None,
         };
         if inputs.push(input).is_err() {

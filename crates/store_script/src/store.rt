@@ -7,25 +7,29 @@ use crate::answer::{
 use crate::command::Question;
 use crate::fault::{NoAnswer, ToolFault};
 use docstore::{AliveBitSet, DocId, FileSlice, MemFile, RecordDocument, StoreReader};
-use std::alloc::Global;
+use std::alloc::{AllocError, Global};
 use std::io::Write;
+
+/// A reader of a file in memory. It stands in a box, since each function that owns its parts is proved to drop them.
+pub type MemReader = Box<StoreReader<MemFile>>;
 
 /// An opened store, and its file.
 #[derive(Drop)]
 pub struct Store {
     pub file: Vec<u8>,
-    reader: StoreReader<MemFile>,
+    reader: MemReader,
+}
+
+/// Puts a value into a box.
+pub fn boxed<T: Drop>(alloc: Global, value: T) -> Result<Box<T>, AllocError> {
+    Ok(Box::new(alloc, value)?)
 }
 
 /// Opens a file of these bytes, with a cache of this many blocks.
-pub fn open_bytes(
-    alloc: Global,
-    bytes: Vec<u8>,
-    capacity: usize,
-) -> Result<StoreReader<MemFile>, NoAnswer> {
+pub fn open_bytes(alloc: Global, bytes: Vec<u8>, capacity: usize) -> Result<MemReader, NoAnswer> {
     let file = FileSlice::new(MemFile::new(alloc, bytes)?);
     match StoreReader::open(alloc, file, capacity) {
-        Ok(reader) => Ok(reader),
+        Ok(reader) => Ok(boxed(alloc, reader)?),
         Err(refusal) => Err(NoAnswer::Store(refusal.error)),
     }
 }
@@ -43,7 +47,7 @@ impl Store {
     }
 
     /// The same store, opened again.
-    pub fn reopen(&self, alloc: Global, capacity: usize) -> Result<StoreReader<MemFile>, NoAnswer> {
+    pub fn reopen(&self, alloc: Global, capacity: usize) -> Result<MemReader, NoAnswer> {
         open_bytes(alloc, Vec::from_slice(alloc, &self.file)?, capacity)
     }
 

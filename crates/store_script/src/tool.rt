@@ -3,7 +3,7 @@ use crate::answer::{write_error, write_no_answer};
 use crate::command::{Command, LineFault, Period, parse};
 use crate::fault::ToolFault;
 use crate::merging::merge_named;
-use crate::store::Store;
+use crate::store::{Store, boxed};
 use docstore::{Compressor, MemSink, RecordDocument, Schema, StoreError, StoreWriter};
 use std::alloc::Global;
 use std::io::Write;
@@ -15,7 +15,7 @@ const FIELDS: u32 = 4;
 #[derive(Drop)]
 pub struct Tool {
     alloc: Global,
-    writer: Option<StoreWriter<MemSink>>,
+    writer: Option<Box<StoreWriter<MemSink>>>,
     stores: Vec<Store>,
 }
 
@@ -84,13 +84,14 @@ impl Tool {
         if self.writer.is_some() {
             return write_word(output, "busy");
         }
-        self.writer = Some(StoreWriter::with_period(
+        let writer = StoreWriter::with_period(
             self.alloc,
             MemSink::new(self.alloc),
             Compressor::None,
             block_size,
             period.value,
-        ));
+        );
+        self.writer = Some(boxed(self.alloc, writer)?);
         write_word(output, "ok")
     }
 
@@ -132,7 +133,7 @@ impl Tool {
         let Some(writer) = self.writer.take() else {
             return write_word(output, "none");
         };
-        match writer.close() {
+        match Box::into_inner(writer).close() {
             Ok(sink) => self.add(sink.into_bytes(), output),
             Err(refusal) => write_error(output, refusal.error),
         }

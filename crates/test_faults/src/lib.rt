@@ -10,5 +10,4 @@ mod reads;
 #[cfg(test)]
 mod scripts;
 #[cfg(test)]
-#[cfg(test)]
 mod writes;

@@ -3,160 +3,129 @@
 
 use docstore::{Compressor, FileSlice, MemSink, StoreError, StoreReader, StoreWriter};
 use std::alloc::Global;
-use std::process::Abort;
 use std::test::Fail;
 use test_support::FailingFile;
-use test_support::making::{closed, is_found, listed, opened, opened_with_cache, written};
+use test_support::making::{is_found, listed, opened, opened_with_cache, written};
 use test_support::merge_inputs::six_blocks;
 
 const DOCUMENTS: [&[u8]; 3] = [b"a", b"bc", b""];
 
-/// A call that reads a store's file.
-#[derive(Clone, Copy, Debug, PartialEq, Eq)]
-enum ReadingCall {
-    Open,
-    Get,
-    Iterate,
-    Stack,
-}
-
-// The call that makes each read.
-const CALLS: [ReadingCall; 9] = [
-    ReadingCall::Open,
-    ReadingCall::Open,
-    ReadingCall::Get,
-    ReadingCall::Get,
-    ReadingCall::Get,
-    ReadingCall::Iterate,
-    ReadingCall::Iterate,
-    ReadingCall::Iterate,
-    ReadingCall::Stack,
-];
-
-/// The calls that failed.
-type Failed = Vec<ReadingCall>;
+/// How many calls of a kind failed, each because a read did. An answer that is wrong is an error.
+type Failed = Result<usize, StoreError>;
 
 type Reader = StoreReader<FailingFile>;
 
-fn open(
-    rt: &impl Abort,
-    alloc: Global,
-    file: FailingFile,
-    failed: &mut Failed,
-) -> Result<Reader, StoreError> {
+// No failure of a call that is made, or an error.
+fn none_if(is_right: bool) -> Failed {
+    if is_right {
+        Ok(0)
+    } else {
+        Err(StoreError::BadDocument)
+    }
+}
+
+// One failure of a call, for this error, after which it was right; or an error.
+fn one_if(error: StoreError, is_right: bool) -> Failed {
+    if error == StoreError::Read && is_right {
+        Ok(1)
+    } else {
+        Err(error)
+    }
+}
+
+fn open(alloc: Global, file: FailingFile) -> Result<(Box<Reader>, usize), StoreError> {
     let refusal = match StoreReader::open(alloc, FileSlice::new(file), 0) {
-        Ok(reader) => return Ok(reader),
+        Ok(reader) => return Ok((Box::new(alloc, reader)?, 0)),
         Err(refusal) => refusal,
     };
-    assert_eq!(rt; refusal.error, StoreError::Read);
-    failed.push(ReadingCall::Open)?;
+    let failed = one_if(refusal.error, true)?;
     match StoreReader::open(alloc, refusal.file, 0) {
-        Ok(reader) => Ok(reader),
+        Ok(reader) => Ok((Box::new(alloc, reader)?, failed)),
         Err(refusal) => Err(refusal.error),
     }
 }
 
-fn get(
-    rt: &impl Abort,
-    alloc: Global,
-    reader: &mut Reader,
-    failed: &mut Failed,
-) -> Result<(), StoreError> {
+fn get(alloc: Global, reader: &mut Reader) -> Failed {
+    let mut failed = 0usize;
     for (doc_id, document) in (0..3u32).zip(DOCUMENTS) {
-        match reader.get_document_bytes(alloc, doc_id) {
-            Ok(bytes) => assert_eq!(rt; bytes.as_slice(), document, "{doc_id}"),
-            Err(error) => {
-                assert_eq!(rt; error, StoreError::Read, "{doc_id}");
-                assert!(rt; is_found(alloc, reader, doc_id, document), "{doc_id}");
-                failed.push(ReadingCall::Get)?;
-            }
-        }
+        let more = match reader.get_document_bytes(alloc, doc_id) {
+            Ok(bytes) => none_if(bytes.as_slice() == document),
+            Err(error) => one_if(error, is_found(alloc, reader, doc_id, document)),
+        };
+        failed = failed.saturating_add(more?);
     }
-    Ok(())
+    Ok(failed)
 }
 
-fn iterate(
-    rt: &impl Abort,
-    alloc: Global,
-    reader: &mut Reader,
-    failed: &mut Failed,
-) -> Result<(), StoreError> {
+fn iterate(alloc: Global, reader: &mut Reader) -> Failed {
     let whole = b"a;bc;;".as_slice();
     let first = listed(alloc, reader)?;
     if first.as_slice() == whole {
-        return Ok(());
+        return Ok(0);
     }
     // One block has the error, and the documents of the others are given.
     let with_error = [b"!\x09;bc;;".as_slice(), b"a;!\x09;;", b"a;bc;!\x09;"];
-    assert!(rt; with_error.contains(&first.as_slice()), "{first:?}");
-    assert_eq!(rt; listed(alloc, reader)?.as_slice(), whole);
-    failed.push(ReadingCall::Iterate)?;
-    Ok(())
+    let is_one = with_error.contains(&first.as_slice());
+    one_if(
+        StoreError::Read,
+        is_one && listed(alloc, reader)?.as_slice() == whole,
+    )
 }
 
-fn stack(
-    rt: &impl Abort,
-    writer: &mut StoreWriter<MemSink>,
-    reader: &mut Reader,
-    failed: &mut Failed,
-) -> Result<(), StoreError> {
+fn stack(writer: &mut StoreWriter<MemSink>, reader: &mut Reader) -> Failed {
     writer.store_bytes(b"x")?;
-    match writer.stack(reader) {
-        Ok(()) => Ok(()),
-        Err(error) => {
-            assert!(rt; error == StoreError::Read && writer.num_docs() == 1);
-            assert!(rt; !writer.has_failed());
-            failed.push(ReadingCall::Stack)?;
-            writer.stack(reader)
-        }
-    }
-}
-
-// The file of a document and of the store, which is stacked after it.
-fn file_after(
-    rt: &impl Abort,
-    alloc: Global,
-    reader: &mut Reader,
-    failed: &mut Failed,
-) -> Result<Vec<u8>, StoreError> {
-    let mut writer = StoreWriter::new(alloc, MemSink::new(alloc), Compressor::None, 16384);
-    stack(rt, &mut writer, reader, failed)?;
-    Ok(closed(writer)?.into_bytes())
-}
-
-// Makes every call on an opened store.
-fn make_calls(
-    rt: &impl Abort,
-    alloc: Global,
-    reader: &mut Reader,
-    failed: &mut Failed,
-) -> Result<(), StoreError> {
-    get(rt, alloc, reader, failed)?;
-    iterate(rt, alloc, reader, failed)?;
-    let file = file_after(rt, alloc, reader, failed)?;
-    assert!(rt; file == written(alloc, 0, &[b"x", b"a", b"bc", b""])?);
-    Ok(())
-}
-
-// The calls that fail on a store whose read of this number fails.
-fn failed_calls(rt: &impl Abort, alloc: Global, failing_read: u64) -> Result<Failed, StoreError> {
-    let mut failed = Vec::new(alloc);
-    let file = FailingFile::new(alloc, written(alloc, 0, &DOCUMENTS)?, failing_read)?;
-    let mut reader = open(rt, alloc, file, &mut failed)?;
-    let made = make_calls(rt, alloc, &mut reader, &mut failed);
-    drop(reader);
-    made?;
+    let Err(error) = writer.stack(reader) else {
+        return Ok(0);
+    };
+    let failed = one_if(error, writer.num_docs() == 1 && !writer.has_failed())?;
+    writer.stack(reader)?;
     Ok(failed)
+}
+
+// Stacks the store after a document.
+fn stack_after_one(alloc: Global, reader: &mut Reader) -> Failed {
+    let mut writer = StoreWriter::new(alloc, MemSink::new(alloc), Compressor::None, 16384);
+    let failed = stack(&mut writer, reader)?;
+    let file = writer.close()?.into_bytes();
+    none_if(file == written(alloc, 0, &[b"x", b"a", b"bc", b""])?)?;
+    Ok(failed)
+}
+
+// How many openings, gets, iterations and stackings fail on a store whose read of this number fails.
+fn failed_calls(alloc: Global, failing_read: u64) -> Result<[usize; 4], StoreError> {
+    let file = FailingFile::new(alloc, written(alloc, 0, &DOCUMENTS)?, failing_read)?;
+    let (mut reader, opens) = open(alloc, file)?;
+    let gets = get(alloc, &mut reader)?;
+    let iterations = iterate(alloc, &mut reader)?;
+    let stackings = stack_after_one(alloc, &mut reader)?;
+    Ok([opens, gets, iterations, stackings])
 }
 
 #[test]
 fn each_read_fails_in_turn_and_its_call_is_made_again(rt: HostRuntime) -> Result<(), Fail> {
-    for (failing_read, call) in (1..10u64).zip(CALLS) {
-        let failed = failed_calls(&rt, rt.alloc(), failing_read)?;
-        assert_eq!(rt; failed.as_slice(), [call].as_slice(), "{failing_read}");
+    for failing_read in 1..11u64 {
+        let expected = match failing_read {
+            1 | 2 => [1, 0, 0, 0],
+            3..=5 => [0, 1, 0, 0],
+            6..=8 => [0, 0, 1, 0],
+            9 => [0, 0, 0, 1],
+            _ => [0; 4],
+        };
+        assert!(rt; failed_calls(rt.alloc(), failing_read)? == expected);
     }
-    assert!(rt; failed_calls(&rt, rt.alloc(), 10)?.is_empty());
     Ok(())
+}
+
+// Whether a get finds the document, and how many blocks the cache has then, with its hits and misses.
+fn got(alloc: Global, reader: &mut Reader) -> (bool, usize, usize, usize) {
+    let is_read = is_found(alloc, reader, 0, b"abc");
+    let stats = reader.cache_stats();
+    (
+        is_read,
+        stats.num_entries,
+        stats.cache_hits,
+        stats.cache_misses,
+    )
 }
 
 #[test]
@@ -164,45 +133,37 @@ fn a_read_that_fails_keeps_nothing_in_the_cache(rt: HostRuntime) -> Result<(), F
     let alloc = rt.alloc();
     let file = FailingFile::new(alloc, written(alloc, 0, &[b"abc"])?, 3)?;
     let mut reader = opened_with_cache(alloc, file, 100)?;
-    for (is_read, entries, hits, misses) in [(false, 0, 0, 1), (true, 1, 0, 2), (true, 1, 1, 2)] {
-        assert_eq!(rt; is_found(alloc, &mut reader, 0, b"abc"), is_read);
-        let stats = reader.cache_stats();
-        assert_eq!(rt;
-            (stats.num_entries, stats.cache_hits, stats.cache_misses),
-            (entries, hits, misses)
-        );
-    }
+    assert!(rt;
+        got(alloc, &mut reader) == (false, 0, 0, 1)
+            && got(alloc, &mut reader) == (true, 1, 0, 2)
+            && got(alloc, &mut reader) == (true, 1, 1, 2)
+    );
     Ok(())
 }
 
-// Stacks six blocks in parts of two after `x`, where the second part is not read. Then `y` is stored.
-fn stack_half(
-    rt: &impl Abort,
-    alloc: Global,
-    writer: &mut StoreWriter<MemSink>,
-) -> Result<(), StoreError> {
+// Stacks a store in parts of two blocks after `x`, of which the second part is not read. Then `y` is stored.
+fn stack_half(alloc: Global, writer: &mut StoreWriter<MemSink>, reader: &mut Reader) -> Failed {
     writer.store_bytes(b"x")?;
-    let mut reader = opened(alloc, FailingFile::new(alloc, six_blocks(alloc)?, 4)?)?;
-    assert_eq!(rt;
-        writer.stack_in_parts(&mut reader, 18),
-        Err(StoreError::Read)
-    );
-    assert!(rt; is_found(alloc, &mut reader, 5, b"f"));
-    drop(reader);
-    assert!(rt; writer.num_docs() == 3 && !writer.has_failed());
-    writer.store_bytes(b"y")
+    let Err(error) = writer.stack_in_parts(reader, 18) else {
+        return Ok(0);
+    };
+    let is_left = writer.num_docs() == 3 && !writer.has_failed();
+    let failed = one_if(error, is_left && is_found(alloc, reader, 5, b"f"))?;
+    writer.store_bytes(b"y")?;
+    Ok(failed)
 }
 
-// The file of it.
-fn half_stacked(rt: &impl Abort, alloc: Global) -> Result<Vec<u8>, StoreError> {
+// Whether the file of it has the first part and `y`.
+fn is_half_stacked(alloc: Global) -> Result<bool, StoreError> {
+    let mut reader = opened(alloc, FailingFile::new(alloc, six_blocks(alloc)?, 4)?)?;
     let mut writer = StoreWriter::new(alloc, MemSink::new(alloc), Compressor::None, 16384);
-    stack_half(rt, alloc, &mut writer)?;
-    Ok(closed(writer)?.into_bytes())
+    let failed = stack_half(alloc, &mut writer, &mut reader)?;
+    let file = writer.close()?.into_bytes();
+    Ok(failed == 1 && file == written(alloc, 0, &[b"x", b"a", b"b", b"y"])?)
 }
 
 #[test]
 fn a_read_that_fails_leaves_the_parts_before(rt: HostRuntime) -> Result<(), Fail> {
-    let file = written(rt.alloc(), 0, &[b"x", b"a", b"b", b"y"])?;
-    assert!(rt; half_stacked(&rt, rt.alloc())? == file);
+    assert!(rt; is_half_stacked(rt.alloc())?);
     Ok(())
 }

@@ -85,97 +85,69 @@ fn dripped(alloc: Global, script: &[u8]) -> Result<Vec<u8>, ToolFault> {
 
 #[test]
 fn a_script_may_come_byte_by_byte(rt: HostRuntime) -> Result<(), Fail> {
-    let alloc = rt.alloc();
-    assert_eq!(rt; dripped(alloc, SCRIPT)?.as_slice(), ANSWERS);
-    assert_eq!(rt; dripped(alloc, LONGER_SCRIPT)?.as_slice(), LONGER_ANSWERS);
+    assert!(rt; dripped(rt.alloc(), SCRIPT)?.as_slice() == ANSWERS);
+    assert!(rt; dripped(rt.alloc(), LONGER_SCRIPT)?.as_slice() == LONGER_ANSWERS);
     Ok(())
 }
 
 #[test]
-fn an_input_that_fails_writes_nothing(rt: HostRuntime) -> Result<(), Fail> {
+fn an_input_that_fails_writes_nothing(rt: HostRuntime) {
     let alloc = rt.alloc();
     let mut answers = Vec::new(alloc);
-    let mut input = Dripping {
-        bytes: SCRIPT,
-        fails: true,
-    };
-    assert_eq!(rt; run(alloc, &mut input, &mut answers), Err(ToolFault::Input));
+    for bytes in [b"".as_slice(), SCRIPT] {
+        let mut input = Dripping { bytes, fails: true };
+        let refused = run(alloc, &mut input, &mut answers) == Err(ToolFault::Input);
+        let mut input = Dripping { bytes, fails: true };
+        assert!(rt; refused && dump(alloc, &mut input, &mut answers) == Err(ToolFault::Input));
+    }
     assert!(rt; answers.is_empty());
-    let mut input = Dripping {
-        bytes: SCRIPT,
-        fails: true,
-    };
-    assert_eq!(rt;
-        dump(alloc, &mut input, &mut answers),
-        Err(ToolFault::Input)
-    );
-    assert!(rt; answers.is_empty());
-    Ok(())
 }
 
+// Whether a run of the script, or the dump of a file, ends where the output has no more room, and wrote a front of this
+// text.
+fn ends(alloc: Global, file: Option<&[u8]>, text: &[u8], room: usize) -> bool {
+    let mut answers = Vec::new(alloc);
+    let output = Closing {
+        bytes: &mut answers,
+        room,
+    };
+    let outcome = match file {
+        Some(mut file) => dump(alloc, &mut file, output),
+        None => run(alloc, &mut { SCRIPT }, output),
+    };
+    outcome == Err(ToolFault::Output) && text.starts_with(answers.as_slice())
+}
+
+const DUMP: &[u8] = b"0 616263\n1 -\nend\n";
+
 #[test]
-fn an_output_that_fails_ends_the_run(rt: HostRuntime) -> Result<(), Fail> {
-    let alloc = rt.alloc();
+fn an_output_that_fails_ends_a_run_and_a_dump(rt: HostRuntime) -> Result<(), Fail> {
+    let file = written(rt.alloc(), 0, &[b"abc", b""])?;
     for room in 0..ANSWERS.len() {
-        let mut answers = Vec::new(alloc);
-        let mut input = SCRIPT;
-        let output = Closing {
-            bytes: &mut answers,
-            room,
-        };
-        assert_eq!(rt;
-            run(alloc, &mut input, output),
-            Err(ToolFault::Output),
-            "{room}"
-        );
-        assert!(rt; ANSWERS.starts_with(answers.as_slice()), "{room}");
+        assert!(rt; ends(rt.alloc(), None, ANSWERS, room));
+    }
+    for room in 0..DUMP.len() {
+        assert!(rt; ends(rt.alloc(), Some(&file), DUMP, room));
     }
     Ok(())
 }
 
-#[test]
-fn an_output_that_fails_ends_the_dump(rt: HostRuntime) -> Result<(), Fail> {
-    let alloc = rt.alloc();
-    let file = written(alloc, 0, &[b"abc", b""])?;
-    let text = b"0 616263\n1 -\nend\n".as_slice();
-    for room in 0..text.len() {
-        let mut answers = Vec::new(alloc);
-        let mut input = file.as_slice();
-        let output = Closing {
-            bytes: &mut answers,
-            room,
-        };
-        assert_eq!(rt;
-            dump(alloc, &mut input, output),
-            Err(ToolFault::Output),
-            "{room}"
-        );
-        assert!(rt; text.starts_with(answers.as_slice()), "{room}");
-    }
-    Ok(())
-}
-
-fn dumped(alloc: Global, file: &[u8]) -> Result<Vec<u8>, ToolFault> {
-    let mut text = Vec::new(alloc);
-    let mut input = file;
-    dump(alloc, &mut input, &mut text)?;
-    Ok(text)
+// Whether the dump of a file is this text.
+fn is_dumped(alloc: Global, mut file: &[u8], text: &[u8]) -> Result<bool, ToolFault> {
+    let mut answers = Vec::new(alloc);
+    dump(alloc, &mut file, &mut answers)?;
+    Ok(answers.as_slice() == text)
 }
 
 #[test]
 fn a_file_is_dumped(rt: HostRuntime) -> Result<(), Fail> {
     let alloc = rt.alloc();
-    let file = written(alloc, 0, &[b"abc", b""])?;
-    assert_eq!(rt;
-        dumped(alloc, &file)?.as_slice(),
-        b"0 616263\n1 -\nend\n".as_slice()
-    );
-    assert_eq!(rt; dumped(alloc, b"")?.as_slice(), b"error 1\n".as_slice());
-    let damaged: [u8; 47] = *b"hellohappy\x81\x87\x82\x80\x80\x81\x85\x81\x85\
+    let damaged = b"hellohappy\x81\x87\x82\x80\x80\x81\x85\x81\x85\
         \x03\0\0\0\x0a\0\0\0\0\0\0\0\0\x08\0\0\0\0\0\0\0\0\0\0\0\0\0\0";
-    assert_eq!(rt;
-        dumped(alloc, damaged.as_slice())?.as_slice(),
-        b"0 error 7\n1 error 7\nend\n".as_slice()
+    assert!(rt;
+        is_dumped(alloc, &written(alloc, 0, &[b"abc", b""])?, DUMP)?
+            && is_dumped(alloc, b"", b"error 1\n")?
+            && is_dumped(alloc, damaged, b"0 error 7\n1 error 7\nend\n")?
     );
     Ok(())
 }

@@ -2,105 +2,82 @@
 
 use docstore::{Cause, Compressor, MemFile, StoreError, StoreReader, StoreWriter};
 use std::alloc::Global;
-use std::process::Abort;
 use std::test::Fail;
 use test_support::FailingSink;
 use test_support::making::{is_found, opened_bytes, written};
 
 const FAILED: Result<(), StoreError> = Err(StoreError::Failed(Cause::Write));
 
-type Results = [Result<(), StoreError>; 3];
+/// The results of the three calls and of the close.
+type Results = [Result<(), StoreError>; 4];
 
-fn store_around(
-    writer: &mut StoreWriter<FailingSink>,
+// The calls on an output whose call of this number fails: their results, and the output. The store is read afterwards
+// as before.
+fn outcome_with(
+    alloc: Global,
     store: &mut StoreReader<MemFile>,
-) -> Results {
+    block_size: usize,
+    failing_call: u64,
+) -> (Results, FailingSink) {
+    let output = FailingSink::new(alloc, failing_call);
+    let mut writer = StoreWriter::new(alloc, output, Compressor::None, block_size);
     let before = writer.store_bytes(b"x");
     let stacked = writer.stack(store);
-    [before, stacked, writer.store_bytes(b"")]
-}
-
-/// What came of the calls, and of the output.
-#[derive(Drop)]
-struct Outcome {
-    results: Results,
-    had_failed: bool,
-    closed: Result<(), StoreError>,
-    output: FailingSink,
-}
-
-// Closes a writer after these results.
-fn closed(writer: StoreWriter<FailingSink>, results: Results) -> Outcome {
-    let had_failed = writer.has_failed();
-    let (closed, output) = match writer.close() {
-        Ok(output) => (Ok(()), output),
-        Err(refusal) => (Err(refusal.error), refusal.output),
+    let after = writer.store_bytes(b"");
+    let is_right = writer.has_failed() == after.is_err() && is_found(alloc, store, 0, b"abc");
+    let after = if is_right {
+        after
+    } else {
+        Err(StoreError::BadDocument)
     };
-    Outcome {
-        results,
-        had_failed,
-        closed,
-        output,
+    match writer.close() {
+        Ok(output) => ([before, stacked, after, Ok(())], output),
+        Err(refusal) => ([before, stacked, after, Err(refusal.error)], refusal.output),
     }
 }
 
-// The calls on an output whose call of this number fails. The store is read afterwards as before.
-fn outcome_of(
-    rt: &impl Abort,
+fn outcome(
     alloc: Global,
     block_size: usize,
     failing_call: u64,
-) -> Result<Outcome, StoreError> {
+) -> Result<(Results, FailingSink), StoreError> {
     let mut store = opened_bytes(alloc, written(alloc, 0, &[b"abc"])?)?;
-    let output = FailingSink::new(alloc, failing_call);
-    let mut writer = StoreWriter::new(alloc, output, Compressor::None, block_size);
-    let results = store_around(&mut writer, &mut store);
-    assert!(rt; is_found(alloc, &mut store, 0, b"abc"));
-    Ok(closed(writer, results))
+    Ok(outcome_with(alloc, &mut store, block_size, failing_call))
 }
 
-// The results where the output's call of this number fails: the first two write what the stacking sends out, the block
-// of `x` and the store's data, and the others what the close does.
-fn results(failing_call: u64) -> Results {
-    if failing_call < 3 {
-        [Ok(()), FAILED, FAILED]
+// Whether the error is returned by the call that fails and by each later one, and nothing is written after it. The
+// first two writes are what the stacking sends out, the block of `x` and the store's data; the others the close makes.
+fn is_right(alloc: Global, failing_call: u64, file: &[u8]) -> Result<bool, StoreError> {
+    let (results, output) = outcome(alloc, 16384, failing_call)?;
+    let expected = if failing_call < 3 {
+        [Ok(()), FAILED, FAILED, FAILED]
     } else {
-        [Ok(()); 3]
-    }
+        [Ok(()), Ok(()), Ok(()), FAILED]
+    };
+    Ok(
+        results == expected
+            && file.starts_with(output.as_slice())
+            && !output.is_terminated()
+            && output.calls() == failing_call,
+    )
 }
 
-// The error is returned by the call that fails and by each later one, and nothing is written after it.
-fn check(rt: &impl Abort, outcome: &Outcome, failing_call: u64, file: &[u8]) {
-    assert_eq!(rt; outcome.results, results(failing_call), "{failing_call}");
-    assert_eq!(rt; outcome.had_failed, failing_call < 3, "{failing_call}");
-    assert_eq!(rt; outcome.closed, FAILED, "{failing_call}");
-    assert!(rt;
-        file.starts_with(outcome.output.as_slice()),
-        "{failing_call}"
-    );
-    assert!(rt; !outcome.output.is_terminated(), "{failing_call}");
-    assert_eq!(rt; outcome.output.calls(), failing_call);
-}
-
+// The six writes are the two of the stacking, and those of the last block, the index and the footer.
 #[test]
 fn each_write_and_the_end_fail_in_turn(rt: HostRuntime) -> Result<(), Fail> {
-    let whole = outcome_of(&rt, rt.alloc(), 16384, 0)?;
-    assert!(rt; whole.results == [Ok(()); 3] && whole.closed == Ok(()));
-    assert!(rt; whole.output.is_terminated() && whole.output.as_slice().len() == 67);
-    // Two writes of the stacking, those of the last block, the index and the footer, and the end.
-    let calls = whole.output.calls();
+    let (results, whole) = outcome(rt.alloc(), 16384, 0)?;
+    let calls = whole.calls();
+    assert!(rt; results == [Ok(()); 4] && whole.is_terminated() && whole.as_slice().len() == 67);
     assert!(rt; calls > 5);
     for failing_call in 1..=calls {
-        let outcome = outcome_of(&rt, rt.alloc(), 16384, failing_call)?;
-        check(&rt, &outcome, failing_call, whole.output.as_slice());
-        assert!(rt; failing_call < calls || outcome.output.as_slice() == whole.output.as_slice());
+        assert!(rt; is_right(rt.alloc(), failing_call, whole.as_slice())?);
     }
     Ok(())
 }
 
 #[test]
 fn the_first_write_fails_where_each_document_is_a_block(rt: HostRuntime) -> Result<(), Fail> {
-    let outcome = outcome_of(&rt, rt.alloc(), 0, 1)?;
-    assert!(rt; outcome.results == [FAILED; 3] && outcome.had_failed && outcome.closed == FAILED);
+    let (results, _) = outcome(rt.alloc(), 0, 1)?;
+    assert!(rt; results == [FAILED; 4]);
     Ok(())
 }

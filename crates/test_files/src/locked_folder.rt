@@ -2,47 +2,46 @@
 
 use crate::failing_files::FailingFiles;
 use crate::folder::{count, holds, make, remove};
-use docstore::FileHandle;
 use std::alloc::Global;
 use std::cell::Cell;
-use std::fs::Files;
 use std::io::ErrorKind;
 use std::test::Fail;
 use std::{fs, io};
-use store_files::{CreateError, LockFile, LockedFolder};
+use store_files::LockedFolder;
 use store_folder::{Folder, ReadableFolder, replace};
 
-// Why a folder can't be opened.
-fn refusal(rt: &HostRuntime, path: &str) -> Result<Option<String>, Fail> {
-    match LockedFolder::open(rt.alloc(), rt.clone()?, path) {
-        Ok(_) => Ok(None),
-        Err(error) => Ok(Some(format!(in rt.alloc(); "{error}")?)),
-    }
+type Locked = LockedFolder<HostRuntime>;
+
+// Makes a folder of this name, or opens it.
+fn created(rt: &HostRuntime, path: &str) -> Result<Box<Locked>, Fail> {
+    let folder = LockedFolder::create(rt.alloc(), rt.clone()?, path)?;
+    Ok(Box::new(rt.alloc(), folder)?)
 }
 
-// Whether a folder can't be opened, for this reason.
-fn is_refused(rt: &HostRuntime, path: &str, reason: &str) -> Result<bool, Fail> {
-    Ok(match refusal(rt, path)? {
-        Some(refusal) => refusal.as_str() == reason,
-        None => false,
-    })
+// Whether a folder can be opened, or is being written by another.
+fn is_free(rt: &HostRuntime, path: &str) -> Result<bool, Fail> {
+    match LockedFolder::open(rt.alloc(), rt.clone()?, path) {
+        Ok(_) => Ok(true),
+        Err(error) => {
+            let reason = format!(in rt.alloc(); "{error}")?;
+            Ok(reason.as_str() != "test_files_locked/log/lock is being written by another")
+        }
+    }
 }
 
 #[test]
 fn a_second_writer_is_refused_at_once(rt: HostRuntime) -> Result<(), Fail> {
     make(&rt, "test_files_locked")?;
-    let first = LockedFolder::create(rt.alloc(), rt.clone()?, "test_files_locked/log")?;
-    let reason = "test_files_locked/log/lock is being written by another";
-    let is_refused = is_refused(&rt, "test_files_locked/log", reason);
+    let first = created(&rt, "test_files_locked/log")?;
+    let was_free = is_free(&rt, "test_files_locked/log");
     drop(first);
-    assert!(rt; is_refused?);
     // Once the first has ended, another can write.
-    assert!(rt; refusal(&rt, "test_files_locked/log")?.is_none());
+    assert!(rt; !was_free? && is_free(&rt, "test_files_locked/log")?);
     Ok(remove(&rt, "test_files_locked")?)
 }
 
 // Writes a file in pieces, between which another is published and a third is removed.
-fn fill<F: Folder>(folder: &mut F) -> io::Result<()> {
+fn fill(folder: &mut Locked) -> io::Result<()> {
     folder.create("a.part")?;
     folder.append("a.part", b"x")?;
     folder.sync_file("a.part")?;
@@ -57,63 +56,40 @@ fn fill<F: Folder>(folder: &mut F) -> io::Result<()> {
     folder.sync()
 }
 
-// Whether the names of two files are listed, and no other.
-fn has_two_names<F: ReadableFolder>(alloc: Global, folder: &F) -> Result<bool, Fail> {
-    let names = folder.names(alloc)?;
-    let has = |name: &str| names.iter().any(|known| known.as_str() == name);
-    Ok(names.len() == 2 && has("a") && has("b"))
+// Whether the file of this name has these bytes.
+fn has(alloc: Global, folder: &Locked, name: &str, bytes: &[u8]) -> io::Result<bool> {
+    Ok(
+        folder
+            .read(alloc, name)?
+            .is_some_and(|found| found.as_slice() == bytes),
+    )
 }
 
-// Whether both files are read, at once and in parts, and no other is found.
-fn has_two_files<F: ReadableFolder>(alloc: Global, folder: &F) -> Result<bool, Fail> {
-    let (Some(first), Some(second)) = (folder.read(alloc, "a")?, folder.read(alloc, "b")?) else {
-        return Ok(false);
-    };
-    let mut file = folder.open(alloc, "a")?;
-    if file.len() != 4 {
-        return Ok(false);
-    }
-    let end = file.read_bytes(alloc, 2..4)?;
+// Whether a folder lists and has what it was filled with, and no other.
+fn is_as_filled(alloc: Global, folder: &Locked) -> io::Result<bool> {
+    let names = folder.names(alloc)?;
+    let is_listed = |name: &str| names.iter().any(|known| known.as_str() == name);
+    let are_listed = names.len() == 2 && is_listed("a") && is_listed("b");
     Ok(
-        first.as_slice() == b"xyz!".as_slice()
-            && second.as_slice() == b"whole".as_slice()
-            && end.as_slice() == b"z!".as_slice()
+        are_listed
+            && has(alloc, folder, "a", b"xyz!")?
+            && has(alloc, folder, "b", b"whole")?
             && folder.read(alloc, "c")?.is_none(),
     )
 }
 
-// Whether a folder is as it was filled.
-fn is_as_filled<F: ReadableFolder>(alloc: Global, folder: &F) -> Result<bool, Fail> {
-    Ok(has_two_names(alloc, folder)? && has_two_files(alloc, folder)?)
-}
-
 #[test]
 fn what_is_written_is_read_by_another_opening(rt: HostRuntime) -> Result<(), Fail> {
-    let alloc = rt.alloc();
     make(&rt, "test_files_log")?;
-    let mut folder = LockedFolder::create(alloc, rt.clone()?, "test_files_log")?;
-    let filled = fill(&mut folder);
-    drop(folder);
-    filled?;
-    let folder = LockedFolder::open(alloc, rt.clone()?, "test_files_log")?;
-    let is_as_filled = is_as_filled(alloc, &folder);
-    drop(folder);
-    assert!(rt; is_as_filled?);
+    let filled = fill(&mut *created(&rt, "test_files_log")?);
+    let is_as_filled = is_as_filled(rt.alloc(), &*created(&rt, "test_files_log")?);
     // The two, the lock, and the one that was not published.
-    assert_eq!(rt; count(&rt, "test_files_log")?, 4);
+    assert!(rt; filled.is_ok() && is_as_filled? && count(&rt, "test_files_log")? == 4);
     Ok(remove(&rt, "test_files_log")?)
 }
 
-// Whether the file of this name has these bytes.
-fn has<F: ReadableFolder>(alloc: Global, folder: &F, name: &str, bytes: &[u8]) -> io::Result<bool> {
-    Ok(match folder.read(alloc, name)? {
-        Some(found) => found.as_slice() == bytes,
-        None => false,
-    })
-}
-
 // Replaces the file that was written last, and renames it. Returns whether it can be written by its new name alone.
-fn follows_renames(alloc: Global, folder: &mut LockedFolder<HostRuntime>) -> io::Result<bool> {
+fn follows_renames(alloc: Global, folder: &mut Locked) -> io::Result<bool> {
     folder.create("new")?;
     folder.append("new", b"new")?;
     folder.create("a")?;
@@ -127,7 +103,7 @@ fn follows_renames(alloc: Global, folder: &mut LockedFolder<HostRuntime>) -> io:
 }
 
 // Makes a file twice, and removes it. Returns whether it was empty the second time, and can't be written then.
-fn begins_and_ends(alloc: Global, folder: &mut LockedFolder<HostRuntime>) -> io::Result<bool> {
+fn begins_and_ends(alloc: Global, folder: &mut Locked) -> io::Result<bool> {
     folder.create("c")?;
     folder.append("c", b"longer")?;
     folder.create("c")?;
@@ -141,17 +117,15 @@ fn begins_and_ends(alloc: Global, folder: &mut LockedFolder<HostRuntime>) -> io:
 fn a_write_goes_to_the_file_that_has_the_name(rt: HostRuntime) -> Result<(), Fail> {
     let alloc = rt.alloc();
     make(&rt, "test_files_renamed")?;
-    let mut folder = LockedFolder::create(alloc, rt.clone()?, "test_files_renamed")?;
-    let follows = follows_renames(alloc, &mut folder);
-    let begins = begins_and_ends(alloc, &mut folder);
+    let mut folder = created(&rt, "test_files_renamed")?;
+    let is_right = follows_renames(alloc, &mut folder)? && begins_and_ends(alloc, &mut folder)?;
     drop(folder);
-    assert!(rt; follows?);
-    assert!(rt; begins?);
+    assert!(rt; is_right);
     Ok(remove(&rt, "test_files_renamed")?)
 }
 
 // Whether a folder with another one in it has no files, and a name that the system refuses is reported.
-fn has_plain_files_alone<F: ReadableFolder>(alloc: Global, folder: &F) -> Result<bool, Fail> {
+fn has_plain_files_alone(alloc: Global, folder: &Locked) -> io::Result<bool> {
     let mut name = String::new(alloc);
     for _ in 0..300 {
         name.push('a')?;
@@ -161,18 +135,15 @@ fn has_plain_files_alone<F: ReadableFolder>(alloc: Global, folder: &F) -> Result
 
 #[test]
 fn what_cant_be_read_is_not_taken_for_a_file_or_for_none(rt: HostRuntime) -> Result<(), Fail> {
-    let alloc = rt.alloc();
     make(&rt, "test_files_plain")?;
     fs::create_dir(&rt, "test_files_plain/inner")?;
-    let folder = LockedFolder::create(alloc, rt.clone()?, "test_files_plain")?;
-    let has_plain_files_alone = has_plain_files_alone(alloc, &folder);
-    drop(folder);
-    assert!(rt; has_plain_files_alone?);
+    let is_so = has_plain_files_alone(rt.alloc(), &*created(&rt, "test_files_plain")?);
+    assert!(rt; is_so?);
     Ok(remove(&rt, "test_files_plain")?)
 }
 
 // Whether each call refuses this name. It is not `a`, since a rename requires two names.
-fn refuses(alloc: Global, folder: &mut LockedFolder<HostRuntime>, name: &str) -> bool {
+fn refuses(alloc: Global, folder: &mut Locked, name: &str) -> bool {
     let is_refused = |outcome: io::Result<()>| match outcome {
         Ok(()) => false,
         Err(error) => error.kind() == ErrorKind::InvalidInput,
@@ -188,51 +159,50 @@ fn refuses(alloc: Global, folder: &mut LockedFolder<HostRuntime>, name: &str) ->
         && folder.open(alloc, name).is_err()
 }
 
+// Whether names that lead out of a folder are refused.
+fn refuses_all(alloc: Global, folder: &mut Locked) -> bool {
+    for name in ["lock", "", ".", "..", "../a", "a/b"] {
+        if !refuses(alloc, folder, name) {
+            return false;
+        }
+    }
+    true
+}
+
 #[test]
 fn names_that_lead_elsewhere_are_refused(rt: HostRuntime) -> Result<(), Fail> {
-    let alloc = rt.alloc();
     make(&rt, "test_files_outside")?;
     fs::write(&rt, "test_files_outside/a", b"a".as_slice())?;
-    let mut folder = LockedFolder::create(alloc, rt.clone()?, "test_files_outside")?;
-    let mut is_refused = true;
-    for name in ["lock", "", ".", "..", "../a", "a/b"] {
-        is_refused = is_refused && refuses(alloc, &mut folder, name);
-    }
-    drop(folder);
-    assert!(rt; is_refused);
-    assert_eq!(rt; count(&rt, "test_files_outside")?, 2);
+    let is_refused = refuses_all(rt.alloc(), &mut *created(&rt, "test_files_outside")?);
+    assert!(rt; is_refused && count(&rt, "test_files_outside")? == 2);
     Ok(remove(&rt, "test_files_outside")?)
 }
 
 // Replaces a file where the call of the system of this number fails. Returns how it ended.
 fn replaced(rt: &HostRuntime, calls: &Cell<u32>, failing_call: u32) -> Result<bool, Fail> {
     let files = FailingFiles::new(rt, calls, failing_call)?;
-    let Ok(mut folder) = LockedFolder::open(rt.alloc(), files, "test_files_fails") else {
-        return Ok(false);
-    };
-    Ok(replace(&mut folder, "a.part", "a", b"new").is_ok())
+    match LockedFolder::open(rt.alloc(), files, "test_files_fails") {
+        Ok(mut folder) => Ok(replace(&mut folder, "a.part", "a", b"new").is_ok()),
+        Err(_) => Ok(false),
+    }
 }
 
-// The calls are: open the folder, open and lock its lock, open it to read the mark, open the file beside, write it, sync
-// it, rename it, and sync the folder; then the mark is written, and cut.
+// Whether a call that fails leaves the old file or the new one.
+fn leaves_one(rt: &HostRuntime, failing_call: u32) -> Result<bool, Fail> {
+    fs::write(rt, "test_files_fails/a", b"old".as_slice())?;
+    fs::write(rt, "test_files_fails/lock", b"".as_slice())?;
+    let is_replaced = replaced(rt, &Cell::new(0), failing_call)?;
+    let left = if failing_call < 9 { b"old" } else { b"new" };
+    Ok(is_replaced == (failing_call >= 10) && holds(rt, "test_files_fails/a", left)?)
+}
+
+// The calls are: open the folder, open and lock its lock, open it to read the mark, open the file beside, write it,
+// sync it, rename it, and sync the folder; then the mark is written, and cut.
 #[test]
 fn each_failing_call_leaves_the_old_file_or_the_new_one(rt: HostRuntime) -> Result<(), Fail> {
     make(&rt, "test_files_fails")?;
     for failing_call in 1..13 {
-        fs::write(&rt, "test_files_fails/a", b"old".as_slice())?;
-        fs::write(&rt, "test_files_fails/lock", b"".as_slice())?;
-        let calls = Cell::new(0);
-        let is_replaced = replaced(&rt, &calls, failing_call)?;
-        assert_eq!(rt; is_replaced, failing_call >= 10, "{failing_call}");
-        let expected = if failing_call < 9 {
-            b"old".as_slice()
-        } else {
-            b"new".as_slice()
-        };
-        assert!(rt;
-            holds(&rt, "test_files_fails/a", expected)?,
-            "{failing_call}"
-        );
+        assert!(rt; leaves_one(&rt, failing_call)?);
     }
     Ok(remove(&rt, "test_files_fails")?)
 }
@@ -243,16 +213,15 @@ fn is_made(rt: &HostRuntime, calls: &Cell<u32>, failing_call: u32) -> Result<boo
     Ok(LockedFolder::create(rt.alloc(), files, "test_files_made/log").is_ok())
 }
 
-// The calls are: open the folder that it is in, and sync it; open the new folder, open and lock its lock, and open it to
-// read the mark.
+// The calls are: open the folder that it is in, and sync it; open the new folder, open and lock its lock, and open it
+// to read the mark.
 #[test]
 fn a_new_folder_is_synced_in_the_one_that_it_is_in(rt: HostRuntime) -> Result<(), Fail> {
     make(&rt, "test_files_made")?;
     for failing_call in 1..8 {
         let calls = Cell::new(0);
         let is_made = is_made(&rt, &calls, failing_call)?;
-        assert_eq!(rt; is_made, failing_call == 7, "{failing_call}");
-        assert_eq!(rt; calls.get(), failing_call.min(6), "{failing_call}");
+        assert!(rt; is_made == (failing_call == 7) && calls.get() == failing_call.min(6));
     }
     Ok(remove(&rt, "test_files_made")?)
 }

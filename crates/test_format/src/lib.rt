@@ -2,13 +2,7 @@
 #![tactic(auto)]
 
 #[cfg(test)]
-mod checkpoint_blocks;
-#[cfg(test)]
-mod footers;
-#[cfg(test)]
-mod index_parts;
-#[cfg(test)]
-mod numbers;
+mod bytes;
 #[cfg(test)]
 mod records;
 #[cfg(test)]

@@ -32,11 +32,8 @@ impl Looks for NotingList {
 // Eight checkpoints of one document and one byte.
 fn eight(alloc: Global) -> Result<NotingList, StoreError> {
     let mut block = CheckpointBlock::new(alloc)?;
-    let mut bytes = [
-        0x88, 0x80, 0x80, 0x81, 0x81, 0x81, 0x81, 0x81, 0x81, 0x81, 0x81, 0x81, 0x81, 0x81, 0x81,
-        0x81, 0x81, 0x81, 0x81,
-    ]
-    .as_slice();
+    let mut bytes =
+        b"\x88\x80\x80\x81\x81\x81\x81\x81\x81\x81\x81\x81\x81\x81\x81\x81\x81\x81\x81".as_slice();
     block.deserialize(&mut bytes)?;
     Ok(NotingList {
         block,
@@ -45,42 +42,51 @@ fn eight(alloc: Global) -> Result<NotingList, StoreError> {
     })
 }
 
+// Whether a seek finds the checkpoint of this document, and looks at these places alone.
+fn looks_at(
+    alloc: Global,
+    target: u32,
+    first: Option<u32>,
+    places: &[usize],
+) -> Result<bool, StoreError> {
+    let mut list = eight(alloc)?;
+    let found = seek_over(&mut list, target).map(|checkpoint| checkpoint.doc_range.start);
+    Ok(found == first && list.places.as_slice() == places && list.count == places.len() as u64)
+}
+
 #[test]
 fn a_seek_looks_in_halves(rt: HostRuntime) -> Result<(), Fail> {
-    let cases: [(u32, Option<u32>, &[usize]); 4] = [
-        (0, Some(0), &[4, 2, 1, 0]),
-        (4, Some(4), &[4, 2, 3]),
-        (7, Some(7), &[4, 6, 7]),
-        (8, None, &[4, 6, 7]),
-    ];
-    for (target, first, places) in cases {
-        let mut list = eight(rt.alloc())?;
-        let found = seek_over(&mut list, target).map(|checkpoint| checkpoint.doc_range.start);
-        assert_eq!(rt;
-            (found, list.places.as_slice()),
-            (first, places),
-            "{target}"
-        );
-        assert_eq!(rt; list.count, places.len() as u64, "{target}");
-    }
+    let alloc = rt.alloc();
+    assert!(rt;
+        looks_at(alloc, 0, Some(0), &[4, 2, 1, 0])?
+            && looks_at(alloc, 4, Some(4), &[4, 2, 3])?
+            && looks_at(alloc, 7, Some(7), &[4, 6, 7])?
+            && looks_at(alloc, 8, None, &[4, 6, 7])?
+    );
     Ok(())
+}
+
+// Whether a seek from a guess finds the checkpoint of this document, and looks at the guess first and at six places at
+// most.
+fn looks_first(
+    alloc: Global,
+    target: u32,
+    guess: usize,
+    first: Option<u32>,
+) -> Result<bool, StoreError> {
+    let mut list = eight(alloc)?;
+    let found = seek_near(&mut list, target, guess).map(|checkpoint| checkpoint.doc_range.start);
+    Ok(found == first && list.places.first() == Some(&guess) && list.places.len() <= 6)
 }
 
 #[test]
 fn a_seek_from_a_guess_looks_there_first(rt: HostRuntime) -> Result<(), Fail> {
-    for (target, guess, first) in [
-        (0, 0, Some(0)),
-        (5, 5, Some(5)),
-        (7, 0, Some(7)),
-        (8, 7, None),
-    ] {
-        let mut list = eight(rt.alloc())?;
-        let found = seek_near(&mut list, target, guess).map(|checkpoint| checkpoint
-            .doc_range
-            .start);
-        assert_eq!(rt; found, first, "{target} from {guess}");
-        assert_eq!(rt; list.places.first(), Some(&guess), "{target} from {guess}");
-        assert!(rt; list.places.len() <= 6, "{target} from {guess}");
-    }
+    let alloc = rt.alloc();
+    assert!(rt;
+        looks_first(alloc, 0, 0, Some(0))?
+            && looks_first(alloc, 5, 5, Some(5))?
+            && looks_first(alloc, 7, 0, Some(7))?
+            && looks_first(alloc, 8, 7, None)?
+    );
     Ok(())
 }

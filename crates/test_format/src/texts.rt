@@ -2,121 +2,141 @@
 
 use docstore::{
     CHECKPOINT_PERIOD, Cause, Checkpoint, Compressor, DOC_STORE_VERSION, DOCSTORE_CACHE_CAPACITY,
-    DecodeFault, Decompressor, DocFault, DocStoreVersion, NoMemory, ReadFault, StoreError,
-    WriteFault,
+    DecodeFault, Decompressor, DocFault, DocStoreFooter, DocStoreVersion, FixedSize, NoMemory,
+    ReadFault, StoreError, WriteFault,
 };
 use std::alloc::Global;
 use std::fmt::Display;
-use std::process::Abort;
 use std::test::Fail;
 
-// The text of a value is this one.
-fn prints<D: Display>(rt: &impl Abort, alloc: Global, value: &D, text: &str) -> Result<(), Fail> {
-    let printed = format!(in alloc; "{value}")?;
-    assert_eq!(rt; printed.as_str(), text);
-    Ok(())
+const ERRORS: [StoreError; 17] = [
+    StoreError::ShortFile(27),
+    StoreError::BadVersion(9),
+    StoreError::BadBlockKind(1),
+    StoreError::BadOffset,
+    StoreError::BadIndex,
+    StoreError::InvalidArgument(7),
+    StoreError::DamagedDocument(8),
+    StoreError::BadDocument,
+    StoreError::Read,
+    StoreError::Memory,
+    StoreError::OldVersion,
+    StoreError::Unserializable,
+    StoreError::BlockTooLarge,
+    StoreError::TooManyDocs,
+    StoreError::Failed(Cause::Write),
+    StoreError::BadPeriod(65),
+    StoreError::Failed(Cause::Memory),
+];
+
+const NUMBERS: [u32; 17] = [1, 2, 3, 4, 5, 6, 7, 8, 9, 10, 11, 12, 13, 14, 15, 16, 15];
+
+const ERROR_TEXTS: &str = "\
+file of 27 bytes is shorter than a footer
+unknown store version 9
+block kind 1 is not raw
+index offset is past the body
+index is not the encoding of a list of checkpoints
+no document 7
+document 8 is damaged
+document bytes can't be read
+a read failed
+no memory
+a version 1 store can't be stacked
+document has no bytes in this schema
+block would reach 2^32 bytes
+store would pass 4294967295 documents
+writer has failed
+bad checkpoint period 65
+writer has failed
+";
+
+// Whether these values are printed as this text, each on a line.
+fn are_printed<D: Display>(alloc: Global, values: &[D], text: &str) -> Result<bool, Fail> {
+    let mut lines = String::new(alloc);
+    for value in values {
+        lines.push_str(format!(in alloc; "{value}\n")?.as_str())?;
+    }
+    Ok(lines.as_str() == text)
 }
 
-const ERRORS: [(u32, StoreError, &str); 17] = [
-    (
-        1,
-        StoreError::ShortFile(27),
-        "file of 27 bytes is shorter than a footer",
-    ),
-    (2, StoreError::BadVersion(9), "unknown store version 9"),
-    (3, StoreError::BadBlockKind(1), "block kind 1 is not raw"),
-    (4, StoreError::BadOffset, "index offset is past the body"),
-    (
-        5,
-        StoreError::BadIndex,
-        "index is not the encoding of a list of checkpoints",
-    ),
-    (6, StoreError::InvalidArgument(7), "no document 7"),
-    (7, StoreError::DamagedDocument(8), "document 8 is damaged"),
-    (8, StoreError::BadDocument, "document bytes can't be read"),
-    (9, StoreError::Read, "a read failed"),
-    (10, StoreError::Memory, "no memory"),
-    (
-        11,
-        StoreError::OldVersion,
-        "a version 1 store can't be stacked",
-    ),
-    (
-        12,
-        StoreError::Unserializable,
-        "document has no bytes in this schema",
-    ),
-    (
-        13,
-        StoreError::BlockTooLarge,
-        "block would reach 2^32 bytes",
-    ),
-    (
-        14,
-        StoreError::TooManyDocs,
-        "store would pass 4294967295 documents",
-    ),
-    (15, StoreError::Failed(Cause::Write), "writer has failed"),
-    (15, StoreError::Failed(Cause::Memory), "writer has failed"),
-    (16, StoreError::BadPeriod(65), "bad checkpoint period 65"),
-];
+// Whether the errors have their numbers.
+fn have_numbers() -> bool {
+    for (error, number) in ERRORS.iter().zip(NUMBERS) {
+        if error.number() != number {
+            return false;
+        }
+    }
+    true
+}
 
 #[test]
 fn errors_have_their_numbers_and_texts(rt: HostRuntime) -> Result<(), Fail> {
-    for (number, error, text) in ERRORS {
-        assert_eq!(rt; error.number(), number);
-        prints(&rt, rt.alloc(), &error, text)?;
-    }
-    prints(&rt, rt.alloc(), &Cause::Write, "a write failed")?;
-    prints(&rt, rt.alloc(), &Cause::Memory, "no memory")
+    assert!(rt; have_numbers() && are_printed(rt.alloc(), &ERRORS, ERROR_TEXTS)?);
+    Ok(())
 }
+
+const FAULTS: [DecodeFault; 6] = [
+    DecodeFault::Short,
+    DecodeFault::Malformed,
+    DecodeFault::Version(9),
+    DecodeFault::Kind(1),
+    DecodeFault::Period(65),
+    DecodeFault::Memory,
+];
+
+const FAULT_TEXTS: &str = "\
+bytes end too early
+bytes spell no value
+unknown version 9
+unknown block kind 1
+bad checkpoint period 65
+no memory
+";
 
 #[test]
 fn faults_have_their_texts(rt: HostRuntime) -> Result<(), Fail> {
-    let faults: [(DecodeFault, &str); 6] = [
-        (DecodeFault::Short, "bytes end too early"),
-        (DecodeFault::Malformed, "bytes spell no value"),
-        (DecodeFault::Version(9), "unknown version 9"),
-        (DecodeFault::Kind(1), "unknown block kind 1"),
-        (DecodeFault::Period(65), "bad checkpoint period 65"),
-        (DecodeFault::Memory, "no memory"),
-    ];
-    for (fault, text) in faults {
-        prints(&rt, rt.alloc(), &fault, text)?;
-    }
-    prints(&rt, rt.alloc(), &ReadFault::Device, "the device failed")?;
-    prints(&rt, rt.alloc(), &ReadFault::Memory, "no memory")?;
-    prints(&rt, rt.alloc(), &WriteFault, "the output failed")?;
-    prints(&rt, rt.alloc(), &DocFault::Refused, "no document")?;
-    prints(&rt, rt.alloc(), &DocFault::Memory, "no memory")?;
-    prints(&rt, rt.alloc(), &NoMemory, "no memory")
-}
-
-#[test]
-fn versions_and_checkpoints_have_their_texts(rt: HostRuntime) -> Result<(), Fail> {
-    prints(&rt, rt.alloc(), &DocStoreVersion::V1, "V1")?;
-    prints(&rt, rt.alloc(), &DocStoreVersion::V2, "V2")?;
-    prints(&rt, rt.alloc(), &DocStoreVersion::V3, "V3")?;
-    let checkpoint = Checkpoint {
-        doc_range: 0..3,
-        byte_range: 0..9,
-    };
-    let text = format!(in rt.alloc(); "{checkpoint:?} {:?}", Checkpoint::default())?;
-    assert_eq!(rt;
-        text.as_str(),
-        "(doc=0..3, bytes=0..9) (doc=0..0, bytes=0..0)"
+    let alloc = rt.alloc();
+    let causes = [Cause::Write, Cause::Memory];
+    let reads = [ReadFault::Device, ReadFault::Memory];
+    let documents = [DocFault::Refused, DocFault::Memory];
+    assert!(rt;
+        are_printed(alloc, &FAULTS, FAULT_TEXTS)?
+            && are_printed(alloc, &causes, "a write failed\nno memory\n")?
+            && are_printed(alloc, &reads, "the device failed\nno memory\n")?
+            && are_printed(alloc, &documents, "no document\nno memory\n")?
+            && are_printed(alloc, &[WriteFault], "the output failed\n")?
+            && are_printed(alloc, &[NoMemory], "no memory\n")?
     );
     Ok(())
 }
 
 #[test]
+fn versions_and_checkpoints_have_their_texts(rt: HostRuntime) -> Result<(), Fail> {
+    let (one, two) = (DocStoreVersion::V1, DocStoreVersion::V2);
+    let checkpoint = Checkpoint {
+        doc_range: 0..3,
+        byte_range: 0..9,
+    };
+    let text = format!(in rt.alloc(); "{one} {two} {DOC_STORE_VERSION} {checkpoint:?}")?;
+    assert!(rt; text.as_str() == "V1 V2 V3 (doc=0..3, bytes=0..9)");
+    Ok(())
+}
+
+#[test]
 fn constants_have_their_numbers(rt: HostRuntime) {
-    assert_eq!(rt; (CHECKPOINT_PERIOD, DOCSTORE_CACHE_CAPACITY), (8, 100));
-    assert_eq!(rt; DOC_STORE_VERSION, DocStoreVersion::V3);
-    assert_eq!(rt; Compressor::default(), Compressor::None);
-    assert_eq!(rt; Decompressor::from(Compressor::None).get_id(), 0);
-    assert_eq!(rt; Decompressor::from_id(1), Err(DecodeFault::Kind(1)));
     assert!(rt;
-        DocStoreVersion::V1 < DocStoreVersion::V2 && DocStoreVersion::V2 < DocStoreVersion::V3
+        CHECKPOINT_PERIOD == 8
+            && DOCSTORE_CACHE_CAPACITY == 100
+            && DOC_STORE_VERSION == DocStoreVersion::V3
+            && u8::SIZE_IN_BYTES == 1
+            && u32::SIZE_IN_BYTES == 4
+            && u64::SIZE_IN_BYTES == 8
+            && DocStoreFooter::SIZE_IN_BYTES == 28
+            && Compressor::default() == Compressor::None
+            && Decompressor::from(Compressor::None).get_id() == 0
+            && Decompressor::from_id(1) == Err(DecodeFault::Kind(1))
+            && DocStoreVersion::V1 < DocStoreVersion::V2
+            && DocStoreVersion::V2 < DocStoreVersion::V3
     );
 }

@@ -12,124 +12,76 @@ const EXAMPLE: &[u8] = b"zevklog\x01\x07\0\0\0\0\0\0\0\
     \x01\x15\0\0\0\x34\xd2\x20\xe5\x9a\x85\x8d\x9e\x05\0\0\0hello\0\0\0\0\
     \x01\x0f\0\0\0\x5e\xf0\x1b\x3e\x14\x7f\x64\x35\x03\0\0\0log";
 
+type Log = SegmentedLog<MemFolder>;
+
 // A log whose tail has these bytes.
-fn open(alloc: Global, bytes: &[u8], commit: Commit) -> Result<SegmentedLog<MemFolder>, LogError> {
+fn open(alloc: Global, bytes: &[u8], commit: Commit) -> Result<Log, LogError> {
     let mut folder = MemFolder::new(alloc);
     folder.create(TAIL)?;
     folder.append(TAIL, bytes)?;
-    match SegmentedLog::open(alloc, folder, 1000, commit) {
-        Ok(log) => Ok(log),
-        Err((error, _)) => Err(error),
-    }
+    SegmentedLog::open(alloc, folder, 1000, commit).map_err(|refusal| refusal.0)
 }
 
-// The bytes of the tail after the calls of the example.
-fn written(alloc: Global, commit: Commit) -> Result<Vec<u8>, LogError> {
-    let mut log = open(alloc, &new_tail(alloc, 7)?, commit)?;
+// Makes the calls of the example.
+fn write(log: &mut Log) -> Result<(), LogError> {
     log.append(b"hello")?;
     log.append(b"")?;
     log.sync()?;
     log.append(b"log")?;
-    log.sync()?;
+    log.sync()
+}
+
+// Whether the tail after these calls has the bytes of the example.
+fn is_written(alloc: Global, commit: Commit) -> Result<bool, LogError> {
+    let mut log = open(alloc, &new_tail(alloc, 7)?, commit)?;
+    write(&mut log)?;
     let tail = log.into_folder().read(alloc, TAIL)?;
-    Ok(tail.unwrap_or(Vec::new(alloc)))
+    Ok(tail.is_some_and(|tail| tail.as_slice() == EXAMPLE))
 }
 
 #[test]
 fn a_tail_has_the_bytes_of_the_example(rt: HostRuntime) -> Result<(), Fail> {
     let alloc = rt.alloc();
-    for commit in [Commit::OneSync, Commit::TwoSyncs] {
-        assert!(rt; written(alloc, commit)?.as_slice() == EXAMPLE, "{commit:?}");
-    }
+    assert!(rt; is_written(alloc, Commit::OneSync)? && is_written(alloc, Commit::TwoSyncs)?);
     Ok(())
 }
 
-// How many records a tail of these bytes has, or none if it is no tail.
-fn length(alloc: Global, bytes: &[u8]) -> Result<Option<usize>, Fail> {
+// How many bytes of a tail are whole, or none if it is no tail.
+fn whole_len(alloc: Global, bytes: &[u8]) -> Option<usize> {
     match TailView::new(alloc, bytes) {
-        Ok(Some(view)) => Ok(Some(view.len())),
-        Ok(None) => Ok(None),
-        Err(error) => Err(error.into()),
+        Ok(Some(view)) => Some(view.whole_len()),
+        _ => None,
     }
 }
 
 #[test]
 fn a_changed_byte_ends_the_tail_before_its_batch(rt: HostRuntime) -> Result<(), Fail> {
     let alloc = rt.alloc();
-    assert!(rt; length(alloc, EXAMPLE)? == Some(3));
+    assert!(rt; whole_len(alloc, EXAMPLE) == Some(EXAMPLE.len()));
     for at in 16..EXAMPLE.len() {
         let mut bytes = EXAMPLE.to_vec(alloc)?;
         if let Some(byte) = bytes.get_mut(at) {
             *byte ^= 0x10;
         }
-        let kept = if at < 42 { 0 } else { 2 };
-        assert!(rt; length(alloc, &bytes)? == Some(kept), "at {at}");
+        let kept = if at < 42 { 16 } else { 42 };
+        assert!(rt; whole_len(alloc, &bytes) == Some(kept));
     }
     Ok(())
 }
 
-// Whether these bytes are a tail of the records of the example.
-fn is_example(alloc: Global, bytes: &[u8]) -> Result<bool, Fail> {
-    let view = match TailView::new(alloc, bytes) {
-        Ok(Some(view)) => view,
-        Ok(None) => return Ok(false),
-        Err(error) => return Err(error.into()),
-    };
-    let found = [
-        view.get(6),
-        view.get(7),
-        view.get(8),
-        view.get(9),
-        view.get(10),
-    ];
-    let numbers = (view.first(), view.len(), view.whole_len());
-    Ok(
-        numbers == (7, 3, EXAMPLE.len())
-            && found == [None, Some(&b"hello"[..]), Some(b""), Some(b"log"), None],
-    )
+// Whether a view has the records of the example under their numbers.
+fn is_viewed(view: &TailView<'_>) -> bool {
+    view.first() == 7
+        && view.get(6).is_none()
+        && view.get(7) == Some(b"hello".as_slice())
+        && view.get(8) == Some(b"".as_slice())
+        && view.get(9) == Some(b"log".as_slice())
+        && view.get(10).is_none()
 }
 
 #[test]
 fn a_view_has_the_records_of_the_example(rt: HostRuntime) -> Result<(), Fail> {
-    assert!(rt; is_example(rt.alloc(), EXAMPLE)?);
-    Ok(())
-}
-
-// The records of a log from a number on.
-fn records_from(alloc: Global, number: u64) -> Result<Vec<Vec<u8>>, LogError> {
-    let mut log = open(alloc, EXAMPLE, Commit::OneSync)?;
-    let mut records = Vec::new(alloc);
-    for record in log.iter_from(number)? {
-        records.push(record?)?;
-    }
-    Ok(records)
-}
-
-#[test]
-fn an_iteration_begins_at_its_number(rt: HostRuntime) -> Result<(), Fail> {
-    let alloc = rt.alloc();
-    let lengths = [(0, 3), (7, 3), (9, 1), (10, 0), (u64::MAX, 0)];
-    for (number, length) in lengths {
-        assert!(rt; records_from(alloc, number)?.len() == length, "{number}");
-    }
-    assert!(rt;
-        records_from(alloc, 9)?
-            .first()
-            .is_some_and(|record| record.as_slice() == b"log".as_slice())
-    );
-    Ok(())
-}
-
-#[test]
-fn other_files_are_no_tails(rt: HostRuntime) -> Result<(), Fail> {
-    let alloc = rt.alloc();
-    for bytes in [
-        &b""[..],
-        b"zevklog\x01\0\0\0\0\0\0\0",
-        b"zevklog\x02\0\0\0\0\0\0\0\0",
-    ] {
-        assert!(rt; length(alloc, bytes)?.is_none());
-        assert!(rt; matches!(open(alloc, bytes, Commit::OneSync), Err(LogError::NoLog)));
-    }
+    let view = TailView::new(rt.alloc(), EXAMPLE)?;
+    assert!(rt; view.is_some_and(|view| is_viewed(&view)));
     Ok(())
 }

@@ -1,13 +1,13 @@
 //! Lists of calls on logs in folders, by processes that crash or are killed, one after another, beside a plain list.
 
 use crate::dice::Dice;
-use crate::torn_kills::killed;
-use crate::torn_logs::{Log, SEAL_SIZE, crashed, has_from};
-use crate::watched::Watched;
+use crate::torn_logs::{Log, crashed, has_from, killed};
 use segmented_log::{Call, Commit, call_all, open_and_call};
 use std::alloc::{AllocError, Global};
 use std::test::Fail;
-use torn_folder::Event;
+use torn_folder::{Event, TornFolder};
+
+const SEAL_SIZE: usize = 120;
 
 const PROCESSES: usize = 5;
 
@@ -32,7 +32,7 @@ struct Run {
 }
 
 // Opens a folder's log and makes calls.
-fn called(alloc: Global, folder: Watched, commit: Commit, calls: &[Call]) -> Result<Log, Fail> {
+fn called(alloc: Global, folder: TornFolder, commit: Commit, calls: &[Call]) -> Result<Log, Fail> {
     match open_and_call(alloc, folder, SEAL_SIZE, commit, calls) {
         Ok(log) => Ok(log),
         Err(_) => Err(std::io::Error::from(std::io::ErrorKind::Other))?,
@@ -139,7 +139,7 @@ impl Run {
     }
 
     // The folder as it is once the process ends after this many calls: by a crash of the machine, or alone.
-    fn ended(&mut self, events: &[Event], count: usize) -> Result<Watched, Fail> {
+    fn ended(&mut self, events: &[Event], count: usize) -> Result<TornFolder, Fail> {
         match self.dice.roll(2) {
             0 => crashed(self.alloc, events, count, &mut self.dice),
             _ => Ok(killed(self.alloc, events, count)?),
@@ -153,7 +153,7 @@ impl Run {
         events: &[Event],
         from: usize,
         to: usize,
-    ) -> Result<Option<Watched>, Fail> {
+    ) -> Result<Option<TornFolder>, Fail> {
         let count = from.saturating_add(self.dice.roll(to.saturating_sub(from)));
         let folder = self.ended(events, count)?;
         let start = folder.events().len();
@@ -174,7 +174,7 @@ impl Run {
     }
 
     // A process, of which every crash is played. The folder that one of them left, if each left what it may.
-    fn process(&mut self, folder: Watched) -> Result<Option<Watched>, Fail> {
+    fn process(&mut self, folder: TornFolder) -> Result<Option<TornFolder>, Fail> {
         let from = folder.events().len();
         let commit = self.commit();
         let calls = self.calls()?;
@@ -208,7 +208,7 @@ fn play(alloc: Global, seed: u64) -> Result<Option<(usize, usize)>, Fail> {
         dropped: 0,
     };
     run.ends.push(0)?;
-    let mut folder = Watched::new(alloc);
+    let mut folder = TornFolder::new(alloc);
     for _ in 0..PROCESSES {
         match run.process(folder)? {
             Some(left) => folder = left,

@@ -1,4 +1,4 @@
-//! Is a log what a crash at any moment leaves of it? Tests of the log over folders that tear.
+//! Is a log what a crash at any moment leaves of it, and has its tail the bytes of the format's description?
 #![tactic(auto)]
 
 #[cfg(test)]
@@ -8,16 +8,6 @@ mod dice;
 #[cfg(test)]
 mod folder_runs;
 #[cfg(test)]
-mod sealing;
-#[cfg(test)]
-mod segmented;
-#[cfg(test)]
-mod torn_failures;
-#[cfg(test)]
 mod torn_files;
 #[cfg(test)]
-mod torn_kills;
-#[cfg(test)]
 mod torn_logs;
-#[cfg(test)]
-mod watched;

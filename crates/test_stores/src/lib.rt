@@ -1,4 +1,4 @@
-//! Does a store give back what was written, are its own numbers right, and is it stacked and merged whole?
+//! Are lists of calls, the functions of the main theorem, views and merges answered where there is memory?
 #![tactic(auto)]
 
 #[cfg(test)]
@@ -7,8 +7,5 @@ mod describing;
 mod lists;
 #[cfg(test)]
 mod merging;
-#[cfg(test)]
-mod records;
-#[cfg(test)]
 #[cfg(test)]
 mod viewing;

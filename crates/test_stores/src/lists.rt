@@ -1,11 +1,14 @@
 //! Whole lists of calls, and the functions of the main theorem.
 
 use docstore::{
-    Answer, Field, MemFile, MemSink, ReadCall, RecordDocument, Schema, StoreCommand, StoreError,
-    write_store,
+    Answer, BlockCompressor, Compressor, Field, MemFile, MemSink, ReadCall, RecordDocument, Schema,
+    StoreCommand, StoreError, write_store,
 };
-use main_theorem::{stacked_in_two_orders, written_and_asked};
+use main_theorem::{
+    CountedBlock, IndexAnswer, index_read_and_written, stacked_in_two_orders, written_and_asked,
+};
 use std::alloc::Global;
+use std::process::Abort;
 use std::test::Fail;
 use test_support::making::{opened_bytes, written};
 
@@ -25,23 +28,32 @@ fn commands(alloc: Global) -> Result<Commands, StoreError> {
     let mut commands = Vec::new(alloc);
     commands.push(StoreCommand::Bytes(Vec::from_slice(alloc, b"x")?))?;
     let reader = opened_bytes(alloc, written(alloc, 16384, &[b"abc"])?)?;
-    commands.push(StoreCommand::Stack(reader))?;
+    commands.push(StoreCommand::Stack(Box::into_inner(reader)))?;
     commands.push(StoreCommand::Doc(record(alloc)?))?;
     Ok(commands)
 }
 
+// Whether a list of calls has its results, and its file is that of the calls that were taken.
+fn is_written(alloc: Global) -> Result<bool, StoreError> {
+    let schema = Schema::with_fields(1);
+    match write_store(
+        alloc,
+        MemSink::new(alloc),
+        16384,
+        &schema,
+        &mut commands(alloc)?,
+    ) {
+        Ok(report) => {
+            let has_results = report.results.as_slice() == RESULTS.as_slice();
+            Ok(has_results && report.output.into_bytes() == written(alloc, 0, &[b"x", b"abc"])?)
+        }
+        Err(refusal) => Err(refusal.error),
+    }
+}
+
 #[test]
 fn a_list_of_calls_is_written(rt: HostRuntime) -> Result<(), Fail> {
-    let alloc = rt.alloc();
-    let mut commands = commands(alloc)?;
-    let schema = Schema::with_fields(1);
-    let report = match write_store(alloc, MemSink::new(alloc), 16384, &schema, &mut commands) {
-        Ok(report) => report,
-        Err(refusal) => return Err(refusal.error)?,
-    };
-    drop(commands);
-    assert_eq!(rt; report.results.as_slice(), RESULTS.as_slice());
-    assert!(rt; report.output.into_bytes() == written(alloc, 0, &[b"x", b"abc"])?);
+    assert!(rt; is_written(rt.alloc())?);
     Ok(())
 }
 
@@ -66,15 +78,18 @@ fn are_right(answers: &[Answer]) -> bool {
     }
 }
 
-#[test]
-fn what_was_written_is_answered_with_every_capacity(rt: HostRuntime) -> Result<(), Fail> {
-    let mut commands = commands(rt.alloc())?;
+// Whether what was written has its results, and is answered with both capacities.
+fn is_answered(alloc: Global) -> Result<bool, StoreError> {
     let schema = Schema::with_fields(1);
     let calls = [ReadCall::Bytes(0), ReadCall::Bytes(1), ReadCall::Bytes(2)];
-    let asked = written_and_asked(rt.alloc(), 0, 8, &schema, &mut commands, 0, 100, &calls)?;
-    drop(commands);
-    assert_eq!(rt; asked.results.as_slice(), RESULTS.as_slice());
-    assert!(rt; are_right(&asked.first.answers) && are_right(&asked.second.answers));
+    let asked = written_and_asked(alloc, 0, 8, &schema, &mut commands(alloc)?, 0, 100, &calls)?;
+    let has_results = asked.results.as_slice() == RESULTS.as_slice();
+    Ok(has_results && are_right(&asked.first.answers) && are_right(&asked.second.answers))
+}
+
+#[test]
+fn what_was_written_is_answered_with_every_capacity(rt: HostRuntime) -> Result<(), Fail> {
+    assert!(rt; is_answered(rt.alloc())?);
     Ok(())
 }
 
@@ -86,5 +101,42 @@ fn two_orders_of_stacking_give_one_file(rt: HostRuntime) -> Result<(), Fail> {
     let third = written(alloc, 0, &[b"d", b"e"])?;
     let (left, right) = stacked_in_two_orders(alloc, 16384, 8, &first, &second, &third)?;
     assert!(rt; left == right && left.len() == 82);
+    Ok(())
+}
+
+// The file of tantivy's test of a long index: 1000 blocks of one document, which end at the squares from 1 to 1000000.
+fn squares(rt: &impl Abort, alloc: Global) -> Result<Vec<u8>, StoreError> {
+    let zeros = [0u8; 2000];
+    let mut blocks = BlockCompressor::new(alloc, Compressor::None, MemSink::new(alloc));
+    for i in 0..1000usize {
+        assert!(rt; blocks.num_docs() < u32::MAX);
+        blocks.compress_block_and_write(&zeros[..2 * i + 1], 1)?;
+    }
+    Ok(blocks.close()?.into_bytes())
+}
+
+// Whether each seek found the checkpoint of this document, by at most ten looks.
+fn found(answer: &IndexAnswer<CountedBlock>, first: Option<u32>) -> bool {
+    let found = answer
+        .found
+        .as_ref()
+        .map(|checkpoint| checkpoint.doc_range.start);
+    let steps = answer.steps.count();
+    found == first
+        && answer.counted == answer.found
+        && answer.near == answer.found
+        && (1..=10).contains(&steps)
+}
+
+// The layers are 9, 40, 327 and 3652 bytes long.
+#[test]
+fn a_long_index_is_read_and_written(rt: HostRuntime) -> Result<(), Fail> {
+    let file = squares(&rt, rt.alloc())?;
+    let part = file.get(1000000..1004035).unwrap_or(&[]);
+    assert!(rt; part.starts_with(&[0x84, 0x89, 0xb1, 0x78, 0x82, 0x3c, 0x9f]));
+    for (target, first) in [(0, Some(0)), (999, Some(999)), (1000, None)] {
+        let answer = index_read_and_written::<CountedBlock>(rt.alloc(), part, 8, target, 3)?;
+        assert!(rt; found(&answer, first) && answer.written.as_slice() == part);
+    }
     Ok(())
 }

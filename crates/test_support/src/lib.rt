@@ -1,6 +1,6 @@
-//! What the tests share: files and outputs that fail or lie, and calls that make stores. The files and outputs meet their
-//! trait's contract and still fail a call, or return other bytes. Their proof shows that more than memory can meet these
-//! contracts.
+//! What the tests share: files and outputs that fail or lie, and calls that make stores. The files and outputs meet
+//! their trait's contract and still fail a call, or return other bytes. Their proof shows that more than memory can
+//! meet these contracts.
 #![tactic(auto)]
 
 pub mod failing_file;

@@ -2,17 +2,8 @@
 
 use docstore::{
     Compressor, FileHandle, FileSlice, MemFile, MemSink, StoreError, StoreReader, StoreWriter,
-    TerminatingWrite,
 };
 use std::alloc::Global;
-
-/// Closes a writer, and returns its output.
-pub fn closed<W: TerminatingWrite>(writer: StoreWriter<W>) -> Result<W, StoreError> {
-    match writer.close() {
-        Ok(output) => Ok(output),
-        Err(refusal) => Err(refusal.error),
-    }
-}
 
 /// The file of these documents.
 pub fn written(
@@ -24,28 +15,32 @@ pub fn written(
     for document in documents {
         writer.store_bytes(document)?;
     }
-    Ok(closed(writer)?.into_bytes())
+    Ok(writer.close()?.into_bytes())
 }
 
 /// Opens a whole file, with no cache.
-pub fn opened<H: FileHandle>(alloc: Global, file: H) -> Result<StoreReader<H>, StoreError> {
+pub fn opened<H: FileHandle>(alloc: Global, file: H) -> Result<Box<StoreReader<H>>, StoreError> {
     opened_with_cache(alloc, file, 0)
 }
 
-/// Opens a whole file, with a cache of `capacity` blocks.
+/// Opens a whole file, with a cache of `capacity` blocks. The reader is in a box, so that what owns it is proved at
+/// less cost.
 pub fn opened_with_cache<H: FileHandle>(
     alloc: Global,
     file: H,
     capacity: usize,
-) -> Result<StoreReader<H>, StoreError> {
+) -> Result<Box<StoreReader<H>>, StoreError> {
     match StoreReader::open(alloc, FileSlice::new(file), capacity) {
-        Ok(reader) => Ok(reader),
+        Ok(reader) => Ok(Box::new(alloc, reader)?),
         Err(refusal) => Err(refusal.error),
     }
 }
 
 /// Opens a file of these bytes.
-pub fn opened_bytes(alloc: Global, bytes: Vec<u8>) -> Result<StoreReader<MemFile>, StoreError> {
+pub fn opened_bytes(
+    alloc: Global,
+    bytes: Vec<u8>,
+) -> Result<Box<StoreReader<MemFile>>, StoreError> {
     opened(alloc, MemFile::new(alloc, bytes)?)
 }
 
@@ -62,20 +57,6 @@ pub fn is_found<H: FileHandle>(
     }
 }
 
-/// Whether gets return each of these documents under its id.
-pub fn are_found<H: FileHandle>(
-    alloc: Global,
-    reader: &mut StoreReader<H>,
-    documents: &[(u32, &[u8])],
-) -> bool {
-    for (doc_id, document) in documents {
-        if !is_found(alloc, reader, *doc_id, document) {
-            return false;
-        }
-    }
-    true
-}
-
 /// The items of an iteration over all documents: each document's bytes and a semicolon; for an error `!`, its number
 /// as a byte, and a semicolon.
 pub fn listed<H: FileHandle>(
@@ -86,10 +67,7 @@ pub fn listed<H: FileHandle>(
     for item in reader.iter_raw(alloc, None) {
         match item {
             Ok(bytes) => text.extend_from_slice(bytes.as_slice())?,
-            Err(error) => text.extend_from_slice(&[
-                b'!',
-                u8::try_from(error.number()).unwrap_or(u8::MAX),
-            ])?,
+            Err(error) => text.extend_from_slice(&[b'!', (error.number() & 0xff) as u8])?,
         }
         text.push(b';')?;
     }

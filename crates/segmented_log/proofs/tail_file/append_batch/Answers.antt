@@ -11,7 +11,8 @@ kind_of g c = kind g.F.Folder.seen g.F.Folder.may_hold g.F.Folder.may_leave g.F.
 
 -- the calls that were made
 made : (g : _) (c : After-carry_out g) → IsTrue g.F.Folder.honest → Carried (kind_of g c) (appending c.args.batch.now) (is_ok c.carry_out.result) c.args.folder.now c.carry_out.new.folder
-made g c h = subst (λ (calls : List Doing). Carried (kind_of g c) calls (is_ok c.carry_out.result) c.args.folder.now c.carry_out.new.folder) c.append_calls.ensures.calls (c.carry_out.ensures.carried h)
+made g c h = subst (λ (calls : List Doing). Carried (kind_of g c) calls (is_ok c.carry_out.result) c.args.folder.now c.carry_out.new.folder) c.append_calls.ensures.calls
+    (c.carry_out.ensures.carried h)
 
 pub returns-in_err-carry_out-clause-any_moment : goal.returns-in_err-carry_out-clause-any_moment
 returns-in_err-carry_out-clause-any_moment g c = λ h tail kept.
@@ -26,4 +27,5 @@ returns-clause-any_moment g c = λ h tail kept.
 pub returns-clause-kept : goal.returns-clause-kept
 returns-clause-kept g c = λ h tail kept.
     let here = (goal.at.returns-clause-kept g c).After-carry_out in
-    append_kept (kind_of g here) c.args.batch.now tail (is_ok c.carry_out.result) c.args.folder.now c.carry_out.new.folder (made g here h) kept (g.met.F.Folder.seen_may_be_left c.args.folder.now h) (ap is_ok c.in_ok-carry_out.was)
+    append_kept (kind_of g here) c.args.batch.now tail (is_ok c.carry_out.result) c.args.folder.now c.carry_out.new.folder (made g here h) kept (g.met.F.Folder.seen_may_be_left c.args.folder.now h)
+    (ap is_ok c.in_ok-carry_out.was)

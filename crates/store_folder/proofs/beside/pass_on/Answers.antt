@@ -6,14 +6,17 @@ use Rattle.store_folder.proofs.beside.pass_on.Goals.{After-append}
 use Rattle.store_folder.proofs.beside.pass_on.Goals as goal
 
 one_call : (g : _) (c : After-append g) → Follows (IsTrue g.F.Folder.honest) c.args.name.now
-    (standing g.F.Folder.seen g.F.Folder.may_hold g.F.Folder.may_leave g.F.Folder.moment g.F.Folder.left_since g.F.Folder.entry_kept g.F.Folder.trusted g.F.Folder.handle g.F.Folder.failures c.args.folder.now)
-    (standing g.F.Folder.seen g.F.Folder.may_hold g.F.Folder.may_leave g.F.Folder.moment g.F.Folder.left_since g.F.Folder.entry_kept g.F.Folder.trusted g.F.Folder.handle g.F.Folder.failures c.append.new.self)
+    (standing g.F.Folder.seen g.F.Folder.may_hold g.F.Folder.may_leave g.F.Folder.moment g.F.Folder.left_since g.F.Folder.entry_kept g.F.Folder.trusted g.F.Folder.handle g.F.Folder.failures
+    c.args.folder.now)
+    (standing g.F.Folder.seen g.F.Folder.may_hold g.F.Folder.may_leave g.F.Folder.moment g.F.Folder.left_since g.F.Folder.entry_kept g.F.Folder.trusted g.F.Folder.handle g.F.Folder.failures
+    c.append.new.self)
 one_call g c =
     let old = c.args.folder.now in
     record {
       same = c.append.ensures.same;
       count = c.append.ensures.count;
-      touched = λ h. touched c.args.name.now _ _ (g.met.F.Folder.only_now old) (c.append.ensures.elsewhere h) (c.append.ensures.files h) (λ n ne kept. c.append.ensures.entries h n kept) (λ n ne was. c.append.ensures.trust h n was)
+      touched = λ h. touched c.args.name.now _ _ (g.met.F.Folder.only_now old) (c.append.ensures.elsewhere h) (c.append.ensures.files h) (λ n ne kept. c.append.ensures.entries h n kept)
+          (λ n ne was. c.append.ensures.trust h n was)
           (written_elsewhere _ _ _ _ (c.append.ensures.crash h)) (c.append.ensures.time h);
     }
 

@@ -19,7 +19,8 @@ module _ (calls : List FolderCall) (i : ℕ) (d : FolderCall) (low : i < length 
   rest = sym (map-append doing_of (take (i + 1) calls) (drop (i + 1) calls)) ∙ ap (map doing_of) (take-append-drop (i + 1) calls)
 
   whole : map doing_of (take i calls) ++ doing_of (get_or calls i d) ∷ map doing_of (drop (i + 1) calls) ≡ map doing_of calls
-  whole = sym (append_assoc (map doing_of (take i calls)) (doing_of (get_or calls i d) ∷ []) (map doing_of (drop (i + 1) calls))) ∙ ap (λ (xs : List Doing). xs ++ map doing_of (drop (i + 1) calls)) next ∙ rest
+  whole = sym (append_assoc (map doing_of (take i calls)) (doing_of (get_or calls i d) ∷ []) (map doing_of (drop (i + 1) calls)))
+      ∙ ap (λ (xs : List Doing). xs ++ map doing_of (drop (i + 1) calls)) next ∙ rest
 
 pub make_call-requires-clause-ready : goal.make_call-requires-clause-ready
 make_call-requires-clause-ready g c = λ h.

@@ -10,12 +10,16 @@ use Rattle.store_published.proofs.exporting.publish_export.Goals as goal
 
 -- only the file beside was touched
 beside : (g : _) (c : After-export_in g) → IsTrue g.F.Folder.honest → TouchesOnly (c.args.name.now ++ part)
-    (standing g.F.Folder.seen g.F.Folder.may_hold g.F.Folder.may_leave g.F.Folder.moment g.F.Folder.left_since g.F.Folder.entry_kept g.F.Folder.trusted g.F.Folder.handle g.F.Folder.failures c.args.folder.now)
-    (standing g.F.Folder.seen g.F.Folder.may_hold g.F.Folder.may_leave g.F.Folder.moment g.F.Folder.left_since g.F.Folder.entry_kept g.F.Folder.trusted g.F.Folder.handle g.F.Folder.failures c.export_in.new.folder)
+    (standing g.F.Folder.seen g.F.Folder.may_hold g.F.Folder.may_leave g.F.Folder.moment g.F.Folder.left_since g.F.Folder.entry_kept g.F.Folder.trusted g.F.Folder.handle g.F.Folder.failures
+    c.args.folder.now)
+    (standing g.F.Folder.seen g.F.Folder.may_hold g.F.Folder.may_leave g.F.Folder.moment g.F.Folder.left_since g.F.Folder.entry_kept g.F.Folder.trusted g.F.Folder.handle g.F.Folder.failures
+    c.export_in.new.folder)
 beside g c h =
     subst (λ (n : List ℕ). TouchesOnly n
-    (standing g.F.Folder.seen g.F.Folder.may_hold g.F.Folder.may_leave g.F.Folder.moment g.F.Folder.left_since g.F.Folder.entry_kept g.F.Folder.trusted g.F.Folder.handle g.F.Folder.failures c.args.folder.now)
-    (standing g.F.Folder.seen g.F.Folder.may_hold g.F.Folder.may_leave g.F.Folder.moment g.F.Folder.left_since g.F.Folder.entry_kept g.F.Folder.trusted g.F.Folder.handle g.F.Folder.failures c.export_in.new.folder))
+    (standing g.F.Folder.seen g.F.Folder.may_hold g.F.Folder.may_leave g.F.Folder.moment g.F.Folder.left_since g.F.Folder.entry_kept g.F.Folder.trusted g.F.Folder.handle g.F.Folder.failures
+    c.args.folder.now)
+    (standing g.F.Folder.seen g.F.Folder.may_hold g.F.Folder.may_leave g.F.Folder.moment g.F.Folder.left_since g.F.Folder.entry_kept g.F.Folder.trusted g.F.Folder.handle g.F.Folder.failures
+    c.export_in.new.folder))
     (c.in-Ok-from_str.ensures.ok ∙ c.as_str.ensures.value ∙ c.in-Ok.ensures.ok) (c.export_in.ensures.touched h)
 
 pub returns-in_err-written-clause-any_moment : goal.returns-in_err-written-clause-any_moment

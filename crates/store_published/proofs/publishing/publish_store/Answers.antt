@@ -10,12 +10,16 @@ use Rattle.store_published.proofs.publishing.publish_store.Goals as goal
 
 -- only the file beside was touched
 beside : (g : _) (c : After-write_in g) → IsTrue g.F.Folder.honest → TouchesOnly (c.args.name.now ++ part)
-    (standing g.F.Folder.seen g.F.Folder.may_hold g.F.Folder.may_leave g.F.Folder.moment g.F.Folder.left_since g.F.Folder.entry_kept g.F.Folder.trusted g.F.Folder.handle g.F.Folder.failures c.args.folder.now)
-    (standing g.F.Folder.seen g.F.Folder.may_hold g.F.Folder.may_leave g.F.Folder.moment g.F.Folder.left_since g.F.Folder.entry_kept g.F.Folder.trusted g.F.Folder.handle g.F.Folder.failures c.write_in.new.folder)
+    (standing g.F.Folder.seen g.F.Folder.may_hold g.F.Folder.may_leave g.F.Folder.moment g.F.Folder.left_since g.F.Folder.entry_kept g.F.Folder.trusted g.F.Folder.handle g.F.Folder.failures
+    c.args.folder.now)
+    (standing g.F.Folder.seen g.F.Folder.may_hold g.F.Folder.may_leave g.F.Folder.moment g.F.Folder.left_since g.F.Folder.entry_kept g.F.Folder.trusted g.F.Folder.handle g.F.Folder.failures
+    c.write_in.new.folder)
 beside g c h =
     subst (λ (n : List ℕ). TouchesOnly n
-    (standing g.F.Folder.seen g.F.Folder.may_hold g.F.Folder.may_leave g.F.Folder.moment g.F.Folder.left_since g.F.Folder.entry_kept g.F.Folder.trusted g.F.Folder.handle g.F.Folder.failures c.args.folder.now)
-    (standing g.F.Folder.seen g.F.Folder.may_hold g.F.Folder.may_leave g.F.Folder.moment g.F.Folder.left_since g.F.Folder.entry_kept g.F.Folder.trusted g.F.Folder.handle g.F.Folder.failures c.write_in.new.folder))
+    (standing g.F.Folder.seen g.F.Folder.may_hold g.F.Folder.may_leave g.F.Folder.moment g.F.Folder.left_since g.F.Folder.entry_kept g.F.Folder.trusted g.F.Folder.handle g.F.Folder.failures
+    c.args.folder.now)
+    (standing g.F.Folder.seen g.F.Folder.may_hold g.F.Folder.may_leave g.F.Folder.moment g.F.Folder.left_since g.F.Folder.entry_kept g.F.Folder.trusted g.F.Folder.handle g.F.Folder.failures
+    c.write_in.new.folder))
     (c.in-Ok-from_str.ensures.ok ∙ c.as_str.ensures.value ∙ c.in-Ok.ensures.ok) (c.write_in.ensures.touched h)
 
 pub returns-in_err-written-clause-any_moment : goal.returns-in_err-written-clause-any_moment
@@ -25,7 +29,8 @@ returns-in_err-written-clause-any_moment g c = λ h.
     beside_run F.may_leave F.moment F.left_since c.args.name.now _ c.args.folder.now c.write_in.new.folder (record { later = b.later; each = b.each; before = b.before })
 
 published : (g : _) (c : After-publish g) → IsTrue g.F.Folder.honest
-    → Run g.F.Folder.may_leave g.F.Folder.moment g.F.Folder.left_since c.args.name.now (IsStoreOf (g.S.Filling.brings c.args.filling.now c.write_in.new.filling) c.args.period) c.args.folder.now c.publish.new.folder
+    → Run g.F.Folder.may_leave g.F.Folder.moment g.F.Folder.left_since c.args.name.now (IsStoreOf (g.S.Filling.brings c.args.filling.now c.write_in.new.filling) c.args.period) c.args.folder.now
+    c.publish.new.folder
 published g c h =
     let F = g.F.Folder in
     let mid = c.write_in.new.folder in

@@ -54,7 +54,8 @@ returns-in_default-clause-stays g c = λ h no.
 -- what the log knows before the segment is removed
 known_is : (g : _) (c : In-Some g)
     → IsSettledTail c.self.inside.sealed c.self.inside.tail_first c.self.inside.next c.self.inside.tail.bytes c.self.inside.places.items c.self.inside.tail.pending
-    × (IsTrue g.F.Folder.honest → IsSettledFolder (g.F.Folder.may_hold c.self.inside.folder) (g.F.Folder.may_leave c.self.inside.folder) (g.F.Folder.entry_kept c.self.inside.folder) (g.F.Folder.trusted c.self.inside.folder)
+    × (IsTrue g.F.Folder.honest → IsSettledFolder (g.F.Folder.may_hold c.self.inside.folder) (g.F.Folder.may_leave c.self.inside.folder) (g.F.Folder.entry_kept c.self.inside.folder)
+    (g.F.Folder.trusted c.self.inside.folder)
     c.self.inside.first c.self.inside.sealed (map (λ x. part_of x.first x.reader) c.self.inside.segments.items) c.self.inside.tail.bytes
     × All (λ x. IsTrue x.reader.file.honest) c.self.inside.segments.items)
 known_is g c = OnFalse_at (ap (λ v. v.is_broken) c.self.view_is ∙ c.requires.works) c.self.invariant
@@ -143,7 +144,8 @@ invariant_of-self-2 g c =
         subst (λ l. IsSettledFolder (F.may_hold new) (F.may_leave new) (F.entry_kept new) (F.trusted new) next log.sealed l log.tail.bytes) (sym left)
             (dropped_folder log.first c.args.number next segments log.tail.bytes (known.1 h).0.parts (can_go g here) log.sealed
             (F.may_hold log.folder) (F.may_hold new) (F.may_leave log.folder) (F.may_leave new) (F.entry_kept log.folder) (F.entry_kept new) (F.trusted log.folder) (F.trusted new) (known.1 h).0
-            (c.remove_segment.ensures.files h) (c.in_ok-remove_segment.ensures.kept h) (c.remove_segment.ensures.trust h tail_name (λ e. segment_no_tail _ (sym e))) (c.remove_segment.ensures.crash h) (c.in_ok-remove_segment.ensures.gone h)),
+            (c.remove_segment.ensures.files h) (c.in_ok-remove_segment.ensures.kept h) (c.remove_segment.ensures.trust h tail_name (λ e. segment_no_tail _ (sym e))) (c.remove_segment.ensures.crash h)
+            (c.in_ok-remove_segment.ensures.gone h)),
         All-same (λ x. IsTrue x.reader.file.honest) c.remove.new.self.items (drop 1 log.segments.items) c.remove.ensures.by_index.2
             (All-drop (λ x. IsTrue x.reader.file.honest) 1 log.segments.items (known.1 h).1),
       ),

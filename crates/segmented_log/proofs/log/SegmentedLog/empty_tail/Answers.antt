@@ -26,7 +26,8 @@ returns-in_err-tail-clause-any_moment g c = λ h.
 
 -- what the log knows before the tail is replaced
 known_is : (g : _) (c : After-deref g) → IsSettledTail c.self.inside.sealed c.self.inside.tail_first c.self.inside.next c.self.inside.tail.bytes c.self.inside.places.items c.self.inside.tail.pending
-    × (IsTrue g.F.Folder.honest → IsSettledFolder (g.F.Folder.may_hold c.self.inside.folder) (g.F.Folder.may_leave c.self.inside.folder) (g.F.Folder.entry_kept c.self.inside.folder) (g.F.Folder.trusted c.self.inside.folder)
+    × (IsTrue g.F.Folder.honest → IsSettledFolder (g.F.Folder.may_hold c.self.inside.folder) (g.F.Folder.may_leave c.self.inside.folder) (g.F.Folder.entry_kept c.self.inside.folder)
+    (g.F.Folder.trusted c.self.inside.folder)
     c.self.inside.first c.self.inside.sealed (map (λ x. part_of x.first x.reader) c.self.inside.segments.items) c.self.inside.tail.bytes
     × All (λ x. IsTrue x.reader.file.honest) c.self.inside.segments.items)
 known_is g c = OnFalse_at (ap (λ v. v.is_broken) c.self.view_is ∙ c.requires.works) c.self.invariant
@@ -107,7 +108,8 @@ invariant_of-self-2 g c =
         subst (λ t. IsSettledFolder (F.may_hold new) (F.may_leave new) (F.entry_kept new) (F.trusted new) log.first log.sealed segments t) is
             (folder_empty _ _ _ _ _ _ known.0 _ _ (end_is g here) (sealed_is g here) made.0 made.1 (none_is g here) made.3 log.first segments
             (F.may_hold log.folder) (F.may_hold new) (F.may_leave log.folder) (F.may_leave new) (F.entry_kept log.folder) (F.entry_kept new) (F.trusted log.folder) (F.trusted new) (known.1 h).0
-            (subst (λ b. TailIsKept (F.may_hold new) (F.may_leave new) (F.entry_kept new) (F.trusted new) b) c.deref.ensures.value (c.in_ok-replace_tail.ensures.kept h)) (c.replace_tail.ensures.crash h)),
+            (subst (λ b. TailIsKept (F.may_hold new) (F.may_leave new) (F.entry_kept new) (F.trusted new) b) c.deref.ensures.value (c.in_ok-replace_tail.ensures.kept h))
+            (c.replace_tail.ensures.crash h)),
         (known.1 h).1,
       ),
     )

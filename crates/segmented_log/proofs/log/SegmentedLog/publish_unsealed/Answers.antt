@@ -31,7 +31,8 @@ returns-then-self-end-clause-any_moment g c = λ h.
 -- what the log knows before the segment is added
 known_is : (g : _) (c : After-deref g)
     → IsSettledTail c.self.inside.sealed c.self.inside.tail_first c.self.inside.next c.self.inside.tail.bytes c.self.inside.places.items c.self.inside.tail.pending
-    × (IsTrue g.F.Folder.honest → IsSettledFolder (g.F.Folder.may_hold c.self.inside.folder) (g.F.Folder.may_leave c.self.inside.folder) (g.F.Folder.entry_kept c.self.inside.folder) (g.F.Folder.trusted c.self.inside.folder)
+    × (IsTrue g.F.Folder.honest → IsSettledFolder (g.F.Folder.may_hold c.self.inside.folder) (g.F.Folder.may_leave c.self.inside.folder) (g.F.Folder.entry_kept c.self.inside.folder)
+    (g.F.Folder.trusted c.self.inside.folder)
     c.self.inside.first c.self.inside.sealed (map (λ x. part_of x.first x.reader) c.self.inside.segments.items) c.self.inside.tail.bytes
     × All (λ x. IsTrue x.reader.file.honest) c.self.inside.segments.items)
 known_is g c = OnFalse_at (ap (λ v. v.is_broken) c.self.view_is ∙ c.requires.works) c.self.invariant
@@ -122,8 +123,10 @@ invariant_of-self-2 g c =
                 (known.1 h).0.sealed_is
                 (rest g here) (rest_is g here)
                 (part_of segment.first segment.reader) part_is
-                (F.may_hold log.folder) (F.may_hold new) (F.may_leave log.folder) (F.may_leave new) (F.entry_kept log.folder) (F.entry_kept new) (F.trusted log.folder) (F.trusted new) (known.1 h).0.on_disk published
-                (c.add_segment.ensures.files h) (c.in_ok-segment.ensures.kept h) (c.add_segment.ensures.trust h tail_name (beside_no_tail _) (λ e. segment_no_tail _ (sym e))) (c.add_segment.ensures.crash h)),
+                (F.may_hold log.folder) (F.may_hold new) (F.may_leave log.folder) (F.may_leave new) (F.entry_kept log.folder) (F.entry_kept new) (F.trusted log.folder) (F.trusted new)
+                (known.1 h).0.on_disk published
+                (c.add_segment.ensures.files h) (c.in_ok-segment.ensures.kept h) (c.add_segment.ensures.trust h tail_name (beside_no_tail _) (λ e. segment_no_tail _ (sym e)))
+                (c.add_segment.ensures.crash h)),
             All-same (λ x. IsTrue x.reader.file.honest) c.push.new.self.items (log.segments.items ++ segment ∷ []) c.in_ok-push.ensures.items
                 (All-push (λ x. IsTrue x.reader.file.honest) log.segments.items segment (known.1 h).1 (c.in_ok-segment.ensures.honest h)),
           ),

@@ -25,7 +25,8 @@ use Rattle.segmented_log.proofs.log.SegmentedLog.remove_covered.Goals as goal
 
 -- what the log knows of its folder
 settled : (g : _) (c : After-remove_segment g) → IsTrue g.F.Folder.honest → IsSettledFolder (g.F.Folder.may_hold c.self.inside.folder) (g.F.Folder.may_leave c.self.inside.folder)
-    (g.F.Folder.entry_kept c.self.inside.folder) (g.F.Folder.trusted c.self.inside.folder) c.self.inside.first c.self.inside.sealed (map (λ s. part_of s.first s.reader) c.self.inside.segments.items) c.self.inside.tail.bytes
+    (g.F.Folder.entry_kept c.self.inside.folder) (g.F.Folder.trusted c.self.inside.folder) c.self.inside.first c.self.inside.sealed (map (λ s. part_of s.first s.reader) c.self.inside.segments.items)
+    c.self.inside.tail.bytes
 settled g c h = ((OnFalse_at (ap (λ v. v.is_broken) c.self.view_is ∙ c.requires.works) c.self.invariant).1 h).0
 
 -- the segment at the place is covered

@@ -59,7 +59,8 @@ write_batch-requires-clause-kept g c = λ h.
     let F = g.F.Folder in
     let log = c.self.inside in
     let known = OnFalse_at (ap (λ v. v.is_broken) c.self.view_is ∙ c.requires.works) c.self.invariant in
-    subst (λ t. TailIsKept (F.may_hold log.folder) (F.may_leave log.folder) (F.entry_kept log.folder) (F.trusted log.folder) t) (sym (front_is g (goal.at.write_batch-requires-clause-kept g c).After-bytes))
+    subst (λ t. TailIsKept (F.may_hold log.folder) (F.may_leave log.folder) (F.entry_kept log.folder) (F.trusted log.folder) t)
+    (sym (front_is g (goal.at.write_batch-requires-clause-kept g c).After-bytes))
     (known.1 h).0.on_disk.tail_kept
 
 -- while the batch is written, each moment has the old records, or the batch's after them
@@ -125,9 +126,11 @@ invariant_of-self-2 g c =
     let size : end ≤ length new = omega (arith, new_size tail body new is) in (
       settled_batch log.sealed log.tail_first log.next tail body new log.places.items s (fits_is g here) is later c.take_batch.new.self.pending end adds within size c.take_batch.ensures.none_pending,
       λ h.
-          let kept = subst (λ t. TailIsKept (F.may_hold new_folder) (F.may_leave new_folder) (F.entry_kept new_folder) (F.trusted new_folder) t) (written_is g here) (c.in_ok-write_batch.ensures.kept h) in (
+          let kept = subst (λ t. TailIsKept (F.may_hold new_folder) (F.may_leave new_folder) (F.entry_kept new_folder) (F.trusted new_folder) t) (written_is g here)
+          (c.in_ok-write_batch.ensures.kept h) in (
             folder_batch log.sealed log.tail_first log.next tail body new log.places.items s (fits_is g here) is log.first (map (λ x. part_of x.first x.reader) log.segments.items)
-                (F.may_hold log.folder) (F.may_hold new_folder) (F.may_leave log.folder) (F.may_leave new_folder) (F.entry_kept log.folder) (F.entry_kept new_folder) (F.trusted log.folder) (F.trusted new_folder) (known.1 h).0 kept
+                (F.may_hold log.folder) (F.may_hold new_folder) (F.may_leave log.folder) (F.may_leave new_folder) (F.entry_kept log.folder) (F.entry_kept new_folder) (F.trusted log.folder)
+                (F.trusted new_folder) (known.1 h).0 kept
                 (c.write_batch.ensures.crash h),
             (known.1 h).1,
           ),

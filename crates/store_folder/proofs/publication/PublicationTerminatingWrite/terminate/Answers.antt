@@ -47,7 +47,8 @@ old_or_whole g c h =
     let run_beside = subst (λ (b : List ℕ). LeavesOnly F.moment F.left_since mid new (IsOldOrWhole (F.may_leave mid) b c.as_str-2.result.now (F.seen mid b)))
     (c.as_str.ensures.value ∙ beside_is g c) run in
     let run_named = subst (λ (n : List ℕ). LeavesOnly F.moment F.left_since mid new (IsOldOrWhole (F.may_leave mid) beside n (F.seen mid beside))) c.as_str-2.ensures.value run_beside in
-    named F.seen F.trusted F.may_leave F.moment F.left_since beside (string_bytes s.name) c.self.invariant.0 s.first.value mid (s.beside.sent.bytes ++ s.beside.buffer.items) (whole g c h) new run_named
+    named F.seen F.trusted F.may_leave F.moment F.left_since beside (string_bytes s.name) c.self.invariant.0 s.first.value mid (s.beside.sent.bytes ++ s.beside.buffer.items) (whole g c h) new
+    run_named
 
 -- the bytes that were sent then are those that were written
 content_is : (g : _) (c : After-publish-named g) → c.self.inside.beside.sent.bytes ++ c.self.inside.beside.buffer.items ≡ c.hand_over.new.self.sent.bytes ++ c.hand_over.new.self.buffer.items
@@ -83,7 +84,8 @@ invariant_of-self-2 g c =
           let kept = c.in_default-named.ensures.published h in
           let kept_beside = subst (λ (b : List ℕ). Keeps c.as_str-2.result.now (F.seen mid b) (F.may_leave new)) (c.as_str.ensures.value ∙ beside_is g here) kept in
           let kept_named = subst (λ (n : List ℕ). Keeps n (F.seen mid beside) (F.may_leave new)) c.as_str-2.ensures.value kept_beside in
-          let kept_all = named_kept F.seen F.trusted F.may_leave F.moment F.left_since beside name c.self.invariant.0 first mid (s.beside.sent.bytes ++ s.beside.buffer.items) (whole g here h) new kept_named in
+          let kept_all = named_kept F.seen F.trusted F.may_leave F.moment F.left_since beside name c.self.invariant.0 first mid (s.beside.sent.bytes ++ s.beside.buffer.items) (whole g here h) new
+          kept_named in
           subst (λ (n : List ℕ). IsKept F.may_leave F.moment F.left_since first new n name (c.hand_over.new.self.sent.bytes ++ c.hand_over.new.self.buffer.items)) (sym (beside_is g here))
           (subst (λ (b : List ℕ). IsKept F.may_leave F.moment F.left_since first new beside name b) (content_is g here) (record { kept = kept_all; any_moment = old_or_whole g here h })),
       λ h none. absurd (omega arith),
