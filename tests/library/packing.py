@@ -7,6 +7,7 @@ from __future__ import annotations
 
 import fcntl
 import os
+import re
 import resource
 import signal
 import subprocess
@@ -20,6 +21,8 @@ THREE = bytes.fromhex(
     "6162636465 00000000 03000000 03000000 03000000 81858180808395 0300000015000000000000000008"
 ).ljust(56, b"\0")
 MANY = numbers(100_000)
+# The word by which a program replaces a file.
+REPLACE = ("--replace",)
 
 
 class PackingTests:
@@ -39,9 +42,9 @@ class PackingTests:
         """The program, and the environment in which it runs."""
         raise NotImplementedError
 
-    def pack(self, name: str, text: bytes, **how) -> subprocess.CompletedProcess:
+    def pack(self, name: str, text: bytes, words: tuple[str, ...] = REPLACE, **how) -> subprocess.CompletedProcess:
         """Runs the program to its end."""
-        command = [self.program, name]
+        command = [self.program, *words, name]
         how = {"cwd": self.work, "env": self.environment, "capture_output": True, "timeout": 120} | how
         return subprocess.run(command, input=text, **how)
 
@@ -83,10 +86,34 @@ class PackingTests:
         self.assertEqual(os.listdir(self.work), ["store"])
         self.assertGreater((self.work / "store").stat().st_size, len(MANY))
 
+    def test_a_file_is_replaced_only_if_that_is_asked(self):
+        (self.work / "link").symlink_to("store")
+        for name in ("store", "link"):
+            done = self.pack(name, numbers(9), ())
+            self.assertEqual(done.returncode, 1)
+            self.assertIn(b"File exists", done.stderr)
+            self.assert_same((self.work / "store").read_bytes(), THREE, "the store that was there")
+        self.assertEqual(sorted(os.listdir(self.work)), ["link", "store"])
+        self.assertEqual(self.pack("new", b"abc\n\nde", ()).returncode, 0)
+        self.assert_same((self.work / "new").read_bytes(), THREE, "the new store")
+        self.assertEqual(sorted(os.listdir(self.work)), ["link", "new", "store"])
+
+    def test_a_file_that_gets_the_name_meanwhile_is_kept(self):
+        how = {"cwd": self.work, "env": self.environment, "stdin": subprocess.PIPE, "stderr": subprocess.PIPE}
+        with subprocess.Popen([self.program, "new"], **how) as packing:
+            while not (self.work / "new.part").exists():
+                self.assertIsNone(packing.poll())
+            (self.work / "new").write_bytes(b"another's\n")
+            errors = packing.communicate(numbers(9), timeout=60)[1]
+        self.assertEqual(packing.returncode, 1)
+        self.assertIn(b"File exists", errors)
+        self.assertEqual((self.work / "new").read_bytes(), b"another's\n")
+        self.assertEqual(sorted(os.listdir(self.work)), ["new", "store"])
+
     def kill_a_pack(self) -> None:
         """Kills the program when it has written a part of its store."""
         how = {"cwd": self.work, "env": self.environment, "stdin": subprocess.PIPE, "stderr": subprocess.DEVNULL}
-        with subprocess.Popen([self.program, "store"], **how) as packing:
+        with subprocess.Popen([self.program, *REPLACE, "store"], **how) as packing:
             packing.stdin.write(self.many)
             packing.stdin.flush()
             for _ in range(600):
@@ -101,6 +128,26 @@ class PackingTests:
 
 class LockedPackingTests(PackingTests):
     """The same of a program whose writers lock the file beside, so that one that no writer holds is taken over."""
+
+    def modes_made(self, name: str) -> list[str]:
+        """The modes with which the program makes the file beside, as strace prints them."""
+        trace = self.folder / "made"
+        command = ["strace", "-f", "-e", "trace=openat", "-o", trace, self.program, *REPLACE, name]
+        done = subprocess.run(command, input=numbers(9), cwd=self.work, env=self.environment, timeout=120)
+        self.assertEqual(done.returncode, 0)
+        return re.findall(r'store\.part", [^\n]*O_CREAT[^\n]*, (0\d+)\) = ', trace.read_text())
+
+    def test_the_file_beside_is_private_until_it_has_the_mode_of_the_file(self):
+        self.require("strace")
+        for mode in (0o600, 0o640, 0o644):
+            (self.work / "store").chmod(mode)
+            self.assertEqual(self.modes_made("store"), ["0600"])
+            self.assertEqual((self.work / "store").stat().st_mode & 0o777, mode)
+        self.assertEqual(self.modes_made("new.store"), ["0666"])
+
+    def test_a_file_beside_that_is_a_pipe_is_refused_at_once(self):
+        os.mkfifo(self.work / "store.part")
+        self.assert_fails("store", numbers(9), ("store.part",), timeout=20)
 
     def test_a_file_that_another_writes_is_kept(self):
         part = self.work / "store.part"

@@ -9,7 +9,7 @@ from library.compiling import prefix, wrapped
 OLD, NEW = b"an old line\n" * 40, b"a new line\n" * 9
 # What bindings/c/tests/failing_paths.c wraps, and those of its calls without which a store is written all the same: an
 # index is decoded twice where there is no memory for a table that is surely long enough.
-WRAPPED = r"(?:^WRAPPED\([^,]*, |__wrap_)([a-z_]+)"
+WRAPPED = r"(?:^WRAPPED\([^,]*, |__wrap_)([a-z0-9_]+)"
 MEMORY = {"malloc", "calloc", "realloc", "strdup"}
 SPARED = {"fchown", "ioctl", "copy_file_range", "close", "malloc"}
 
@@ -33,7 +33,7 @@ class FailingPaths(WrappedCase):
         super().setUp()
         self.program = self.built(self.new_folder(), "pack_lines.c")
         self.old = self.packed(OLD)
-        self.new = self.packed(NEW)
+        self.new = self.packed(NEW, "--replace")
         self.write("a.store", self.old)
         self.appended = self.packed(NEW, "--append")
         self.write("a.store", self.old)
@@ -75,8 +75,41 @@ class FailingPaths(WrappedCase):
         self.assertEqual(replaced, ["fsync"])
         self.assertLessEqual({"lstat", "open", "flock", "fchmod", "ftruncate", "write", "fsync", "renameat"}, failed)
 
-    def test_each_failing_call_of_a_new_store(self):
-        self.assert_each_failure(self.new)
+    def test_each_failing_call_of_a_store_that_replaces_another(self):
+        self.assert_each_failure(self.new, "--replace")
+
+    def test_each_failing_call_of_a_new_store_leaves_it_whole_or_no_file(self):
+        for old_rename in ({}, {"OLD_RENAME": "yes"}):
+            failed = set()
+            for call in range(1, 1000):
+                (self.folder / "a.store").unlink(missing_ok=True)
+                done = self.pack(NEW, FAIL_AT=str(call), **old_rename)
+                self.assert_missing("a.store.part")
+                if b"failing: " not in done.stderr:
+                    break
+                name, what = done.stderr.split()[1].decode(), f"call {call}: {done.stderr}"
+                if done.returncode == 0:
+                    self.assertIn(name, SPARED, what)
+                    self.assert_same(self.read("a.store"), self.new, what)
+                    continue
+                self.assertEqual(done.returncode, 1, what)
+                failed.add(name)
+                # The new store has its name where the last sync fails.
+                if name == "fsync" and "a.store" in self.names():
+                    self.assert_same(self.read("a.store"), self.new, what)
+                else:
+                    self.assert_missing("a.store")
+            self.assert_same(self.read("a.store"), self.new, "the store at the end")
+            self.assertLessEqual({"open", "flock", "write", "fsync", "renameat2"}, failed)
+            self.assertEqual("renameat" in failed, bool(old_rename))
+
+    def test_a_file_that_takes_the_name_meanwhile_is_kept(self):
+        """Where the file system renames without replacing, and where the name is looked up."""
+        for old_rename in ({}, {"OLD_RENAME": "yes"}):
+            (self.folder / "a.store").unlink(missing_ok=True)
+            done = self.pack(NEW, TAKEN="yes", **old_rename)
+            self.assertEqual((done.returncode, done.stderr), (1, b"a.store: File exists\n"))
+            self.assertEqual((self.read("a.store"), self.names()), (b"", ["a.store"]))
 
     def test_each_failing_call_of_appending_in_each_way(self):
         for share in ("clone", "copy", "part", "none"):
@@ -86,7 +119,7 @@ class FailingPaths(WrappedCase):
                 self.assert_each_failure(self.appended, "--append", SHARE=share)
 
     def test_a_second_file_that_lost_its_name_is_busy(self):
-        done = self.pack(NEW, LOST="yes")
+        done = self.pack(NEW, "--replace", LOST="yes")
         self.assertEqual(done.returncode, 1)
         self.assertIn(b"another writer writes this file", done.stderr)
         self.assert_same(self.read("a.store"), self.old, "the store that was there")

@@ -5,13 +5,13 @@ import resource
 import subprocess
 
 from harness import limited, numbers
-from library.packing import MANY, LockedPackingTests
+from library.packing import MANY, REPLACE, LockedPackingTests
 from library.test_examples import ExampleCase, with_library
 
 # Packs over the old store on a device.
 ON_DEVICE = """
 cp store "$1/store"
-"$2" "$1/store"
+"$2" --replace "$1/store"
 echo $?
 cmp store "$1/store" && ls "$1"
 """
@@ -23,7 +23,7 @@ class PackLines(LockedPackingTests, ExampleCase):
 
     def test_a_second_writer_is_refused_and_the_first_one_ends(self):
         how = {"cwd": self.work, "env": self.environment, "stdin": subprocess.PIPE}
-        with subprocess.Popen([self.program, "store"], **how) as first:
+        with subprocess.Popen([self.program, *REPLACE, "store"], **how) as first:
             while not (self.work / "store.part").exists():
                 self.assertIsNone(first.poll())
             self.assert_fails("store", numbers(9), ("store.part",))
@@ -67,6 +67,12 @@ class PackLines(LockedPackingTests, ExampleCase):
         for name, program in (("by_path", self.program), ("in_memory", other)):
             subprocess.run([program, name], input=MANY, cwd=self.work, env=self.environment, check=True)
         self.assert_same((self.work / "by_path").read_bytes(), (self.work / "in_memory").read_bytes(), "the file")
+
+    def test_documents_with_a_byte_0_are_printed_whole(self):
+        lines = b"a\0b\n\0\nc\0\0d\n"
+        self.assertEqual(self.pack("zeros", lines).returncode, 0)
+        done = self.run_example(self.example("print_store.c"), self.work / "zeros")
+        self.assertEqual((done.returncode, done.stdout), (0, lines), done.stderr)
 
     def test_a_store_that_cannot_be_printed_is_reported(self):
         printing = self.example("print_store.c")

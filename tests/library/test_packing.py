@@ -31,12 +31,11 @@ class FailingCalls(LibraryCase):
         )
         self.old, self.new = (self.packed(name, text) for name, text in (("old", b"old\n"), ("new", LINES)))
 
-    def pack(self, name, text, call):
+    def pack(self, name, text, call, *words):
         """Packs lines while the call of this number fails."""
         names = os.environ | {"FAIL_AT": str(call)}
-        return subprocess.run(
-            [self.program, name], input=text, env=names, cwd=self.folder, capture_output=True, timeout=60
-        )
+        command = [self.program, *words, name]
+        return subprocess.run(command, input=text, env=names, cwd=self.folder, capture_output=True, timeout=60)
 
     def packed(self, name, text):
         """The bytes of a store, which are packed while no call fails."""
@@ -47,7 +46,7 @@ class FailingCalls(LibraryCase):
         self.write("lines", self.old)
         replaced = []
         for call in range(1, 1000):
-            done = self.pack("lines", LINES, call)
+            done = self.pack("lines", LINES, call, "--replace")
             self.assert_missing("lines.part")
             if done.returncode == 0:
                 break
@@ -60,3 +59,16 @@ class FailingCalls(LibraryCase):
         self.assert_same(self.read("lines"), self.new, "the store at the end")
         self.assertGreater(call, 20, "calls")
         self.assertEqual(replaced, [call - 3, call - 2, call - 1], "calls after which the new store has its name")
+
+    def test_each_failing_call_of_a_new_store_leaves_it_whole_or_no_file(self):
+        for call in range(1, 1000):
+            done = self.pack("lines", LINES, call)
+            self.assert_missing("lines.part")
+            if done.returncode == 0:
+                break
+            self.assertEqual(done.returncode, 1, f"call {call}: {done.stderr}")
+            if "lines" in self.names():
+                self.assert_same(self.read("lines"), self.new, f"call {call}")
+                (self.folder / "lines").unlink()
+        self.assert_same(self.read("lines"), self.new, "the store at the end")
+        self.assertGreater(call, 20, "calls")

@@ -76,7 +76,7 @@ class ReplayedPacking(Replaying):
 
     def test_a_store_is_replaced(self):
         files = self.pack_old()
-        self.check(self.recorded("", numbers(20000)), numbers(20000), files)
+        self.check(self.recorded("--replace", numbers(20000)), numbers(20000), files)
 
     def test_a_store_is_written_where_there_was_none(self):
         self.check(self.recorded("", numbers(100)), numbers(100), {})

@@ -9,13 +9,13 @@ from collections import Counter
 from collections.abc import Iterator
 from pathlib import Path
 
-from library.packing import MANY, THREE, LockedPackingTests
+from library.packing import MANY, REPLACE, THREE, LockedPackingTests
 
 NOBODY = 65534
 # Packs over the old store on a device.
 ON_DEVICE = """
 cp "$2" "$1/store"
-seq 200000 | "$3" "$1/store"
+seq 200000 | "$3" --replace "$1/store"
 echo $?
 cmp "$2" "$1/store" && ls "$1"
 """
@@ -60,7 +60,7 @@ class FailingCallTests:
     def pack(self, strace: list[str | Path], text: bytes) -> subprocess.CompletedProcess:
         """Runs the program under strace with these options, or by itself."""
         tracer = ["strace", "-f", "-o", self.trace, *strace] if strace else []
-        command = [*tracer, self.program, self.work / "store"]
+        command = [*tracer, self.program, *REPLACE, self.work / "store"]
         return subprocess.run(command, cwd=self.work, input=text, capture_output=True, timeout=60)
 
     def calls(self, path: Path) -> Iterator[tuple[str, int]]:

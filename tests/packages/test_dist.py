@@ -84,6 +84,8 @@ class Used(DistCase):
         for python in ("environment/bin/python", "compiled/bin/python"):
             printed = self.alone(python, "-W", "error", "-c", piece)
             self.assertRegex(printed, r"\A3\n4 b'apple' b'date' \[b'banana', b'cherry'\]\n", python)
+            # The piece replaces no file.
+            (self.folder / "fruits.store").unlink()
 
     def test_the_archive_has_the_program_and_the_library(self):
         self.alone("tar", "-xzf", dist() / f"{ARCHIVE}.tar.gz")

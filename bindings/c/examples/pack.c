@@ -1,17 +1,19 @@
 /* Packs the lines of standard input into a store, as documents without their line ends.
  *
- * usage: pack FILE
+ * usage: pack [--replace] FILE
  *
  * The store is written to FILE.part, which gets the name FILE after the system has kept all its bytes. If anything
- * fails before that, FILE stays as it was and FILE.part is removed. Only one pack at a time writes to a name: if there
- * is a FILE.part already, it stays as it is.
+ * fails before that, FILE stays as it was and FILE.part is removed. A file FILE is replaced only by --replace. Only one
+ * pack at a time writes to a name: if there is a FILE.part already, it stays as it is.
  */
-#define _POSIX_C_SOURCE 200809L
+#define _GNU_SOURCE
+#include <errno.h>
 #include <fcntl.h>
 #include <libgen.h>
 #include <stdio.h>
 #include <stdlib.h>
 #include <string.h>
+#include <sys/stat.h>
 #include <unistd.h>
 
 #include "zevkhadun.h"
@@ -129,31 +131,52 @@ static int keep_names(const char *path) {
     return (close(folder) == 0 || failed(path)) && kept;
 }
 
+/* Whether a file has this name, which is printed. */
+static int is_taken(const char *path) {
+    struct stat found;
+    if (lstat(path, &found) != 0) {
+        return 0;
+    }
+    errno = EEXIST;
+    return !failed(path);
+}
+
+/* Gives the file `part` the name `path`, which without `replaces` no file may have. */
+static int name_it(const char *part, const char *path, int replaces) {
+    unsigned flags = replaces ? 0 : RENAME_NOREPLACE;
+    return renameat2(AT_FDCWD, part, AT_FDCWD, path, flags) == 0 || failed(path);
+}
+
 /* Writes the store to the file `part`, gives it the name `path`, and cuts `part` to the name of the folder. */
-static int pack(char *part, const char *path) {
+static int pack(char *part, const char *path, int replaces) {
+    if (!replaces && is_taken(path)) {
+        return 0;
+    }
     FILE *file = fopen(part, "wbx");
     if (file == NULL) {
         return failed(part);
     }
-    if (!write_store(file) || !(rename(part, path) == 0 || failed(path))) {
+    if (!write_store(file) || !name_it(part, path, replaces)) {
         return remove(part) == 0 ? 0 : failed(part);
     }
     return keep_names(dirname(part));
 }
 
 int main(int argc, char **argv) {
-    if (argc != 2) {
-        fprintf(stderr, "usage: %s FILE\n", argv[0]);
+    int replaces = argc == 3 && strcmp(argv[1], "--replace") == 0;
+    if (argc != 2 + replaces) {
+        fprintf(stderr, "usage: %s [--replace] FILE\n", argv[0]);
         return 2;
     }
-    size_t len = strlen(argv[1]);
+    const char *path = argv[argc - 1];
+    size_t len = strlen(path);
     char *part = (char *)malloc(len + sizeof ".part");
     if (part == NULL) {
         return !done(ZEVK_NO_MEMORY);
     }
-    memcpy(part, argv[1], len);
+    memcpy(part, path, len);
     memcpy(part + len, ".part", sizeof ".part");
-    int packed = pack(part, argv[1]);
+    int packed = pack(part, path, replaces);
     free(part);
     return !packed;
 }

@@ -15,7 +15,10 @@ int print_store(const char *path) {
     if (error != 0) return error;
     for (uint32_t id = 0; error == 0 && id < zevk_file_num_docs(file); id++) {
         error = zevk_file_get(file, id, &document);
-        if (error == 0) printf("%.*s\n", (int)document.len, (const char *)document.bytes);
+        if (error == 0) {
+            fwrite(document.bytes, 1, document.len, stdout);
+            putchar('\n');
+        }
     }
     zevk_file_close(file);
     return error;

@@ -12,7 +12,10 @@
  *         if (error != 0) return error;
  *         for (uint32_t id = 0; error == 0 && id < zevk_file_num_docs(file); id++) {
  *             error = zevk_file_get(file, id, &document);
- *             if (error == 0) printf("%.*s\n", (int)document.len, (const char *)document.bytes);
+ *             if (error == 0) {
+ *                 fwrite(document.bytes, 1, document.len, stdout);
+ *                 putchar('\n');
+ *             }
  *         }
  *         zevk_file_close(file);
  *         return error;
@@ -21,6 +24,9 @@
  * A call returns 0, or an error: a number above 0 of `enum zevk_refusal` or `enum zevk_path_error`, or, if a call of
  * the system failed, its errno as a negative number; errno itself has it too. zevk_strerror returns the text of each.
  * A call that fails leaves everything that its pointers point to unchanged, unless its comment says otherwise.
+ *
+ * No file that a writer keeps open has the descriptor 0, 1 or 2, also where the program was started without these: its
+ * messages don't get into a store.
  *
  * The rules for callers, threads among them, are at the end of this file.
  */
@@ -71,7 +77,7 @@ typedef struct zevk_document {
 /* Opens the file of this name: maps it, checks its whole index unless a flag says otherwise, and sets `file`. `flags`
  * is 0 or ZEVK_FILE_UNCHECKED.
  *
- * Errors: those of the system; NOT_PLAIN_FILE; the file errors; NO_MEMORY. */
+ * Errors: -EINVAL for any other flag; those of the system; NOT_PLAIN_FILE; the file errors; NO_MEMORY. */
 int zevk_file_open(const char *path, unsigned flags, zevk_file **file);
 
 /* Unmaps the file and frees all that belongs to it. NULL is allowed. */
@@ -126,28 +132,40 @@ void zevk_file_facts(const zevk_file *file, zevk_facts *facts);
  *
  * A store is written to a second file, whose name is that of the store with `.part` after it. zevk_file_publish asks
  * the system to keep its bytes, renames it to the name of the store, and asks the system to keep that name. So a crash
- * at any moment leaves under the name the file that was there before, or the whole new one; and after publish returns 0
- * it leaves the new one. */
+ * at any moment leaves under the name what was there before, a file or none, or the whole new file; and after publish
+ * returns 0 it leaves the new one.
+ *
+ * A file is replaced only if the caller asks, by ZEVK_FILE_REPLACE or by zevk_file_append. */
 
 /* A store that is being written. */
 typedef struct zevk_file_writer zevk_file_writer;
 
-/* Begins a store without documents for the file of this name, and sets `writer`. tantivy's block size is 16384 and its
- * period 8; a period is from 2 to 64.
+/* A flag of zevk_file_create: a file that has the name is replaced. */
+#define ZEVK_FILE_REPLACE 2u
+
+/* Begins a store without documents for the file of this name, and sets `writer`. `flags` is 0 or ZEVK_FILE_REPLACE.
+ * tantivy's block size is 16384 and its period 8; a period is from 2 to 64.
+ *
+ * Without ZEVK_FILE_REPLACE a plain file that has the name is the error -EEXIST, and nothing is written.
+ * zevk_file_publish looks again: a file that got the name meanwhile is that error, and stays. Where the file system can
+ * rename without replacing (renameat2 with RENAME_NOREPLACE), as ext4, XFS, Btrfs and tmpfs can, this holds whenever
+ * that file came; elsewhere a file that comes between that look and the rename is replaced.
  *
  * Links are followed. Only a plain file is replaced; the new one gets its mode, and its owner and group where the
- * system allows it. The second file is locked: one that a crash left is taken over, and one that another writer holds,
- * of this library or of the program zevkhadun, is an error. The folder is opened, and synced at the end.
+ * system allows it. Until then it has the mode 0600, so nobody else opens it meanwhile. The second file is locked: one
+ * that a crash left is taken over, and one that another writer holds, of this library or of the program zevkhadun, is
+ * an error. A pipe, a device or a folder of the second file's name is NOT_PLAIN_FILE, and is not opened; a link of that
+ * name is not followed. The folder is opened, and synced at the end.
  *
- * Errors: BAD_PERIOD; those of the system; NOT_PLAIN_FILE; BUSY; NO_MEMORY. */
-int zevk_file_create(const char *path, size_t block_size, unsigned period, zevk_file_writer **writer);
+ * Errors: -EINVAL for any other flag; BAD_PERIOD; -EEXIST and others of the system; NOT_PLAIN_FILE; BUSY; NO_MEMORY. */
+int zevk_file_create(const char *path, unsigned flags, size_t block_size, unsigned period, zevk_file_writer **writer);
 
 /* Begins a store with the documents of the one of this name, which it will replace, and sets `writer`. Documents that
  * are put come after them. The blocks of the old store are shared with the new file where the file system can
  * (FICLONE); else the system copies them (copy_file_range), or they are read and written. A period of 0 is that of the
- * old store. Everything else is as zevk_file_create does it.
+ * old store. Everything else is as zevk_file_create does it with ZEVK_FILE_REPLACE.
  *
- * Errors: those of zevk_file_create; the file errors; OLD_VERSION for a store of version 1. */
+ * Errors: those of zevk_file_create with that flag; the file errors; OLD_VERSION for a store of version 1. */
 int zevk_file_append(const char *path, size_t block_size, unsigned period, zevk_file_writer **writer);
 
 /* Adds a document, and sets `doc_id` to its number, unless that is NULL. The writer ends a block once its documents
@@ -177,7 +195,7 @@ uint32_t zevk_file_writer_num_docs(const zevk_file_writer *writer);
  * was and the second file is removed; one case differs: if the last step fails, the sync of the folder, the name has
  * the new file, and a crash may bring the old one back.
  *
- * Errors: FAILED; NO_MEMORY; those of the system. */
+ * Errors: FAILED; NO_MEMORY; -EEXIST, as zevk_file_create says, and others of the system. */
 int zevk_file_publish(zevk_file_writer *writer);
 
 /* Removes the second file and frees the writer: the file of the name stays as it was. NULL is allowed. errno stays as

@@ -19,6 +19,11 @@ uint32_t zevk_proved_locate(const uint8_t *file, size_t file_len, const zevk_blo
 /* Returns an error, and sets errno again to one of the system: calls that clean up may have changed it. */
 int zevk_returned(int error);
 
+/* Returns a descriptor of the same open file that is none of those of the standard input and outputs, or -1; the given
+ * one is closed. A program that was started without these may give one of them to the file, and then write messages
+ * into it. -1 is allowed. */
+int zevk_above_standard(int descriptor);
+
 /* Opens the file of a name in a folder for reading, and returns its descriptor or -1. A pipe is opened without waiting
  * for its other end. */
 int zevk_descriptor(int folder, const char *path);
@@ -32,12 +37,13 @@ typedef struct zevk_part {
     int file;      /* the second file, open and locked, or -1 */
     char *name;    /* the name that it will get */
     char *part;    /* the name that it has */
+    int replaces;  /* whether it may take the name from another file */
     int is_owned;  /* whether the file of that name is the one to remove */
 } zevk_part;
 
-/* Begins the second file of a path: locked, empty, and with the access of the file that it will replace. After an error
- * zevk_part_release frees what there is. */
-int zevk_part_begin(zevk_part *part, const char *path);
+/* Begins the second file of a path: locked, empty, and with the access of the file that it will replace. If it replaces
+ * none, a file of that name is an error. After an error zevk_part_release frees what there is. */
+int zevk_part_begin(zevk_part *part, const char *path, int replaces);
 
 /* Writes bytes after those that were written. */
 int zevk_part_write(const zevk_part *part, const uint8_t *bytes, size_t len);
@@ -46,7 +52,8 @@ int zevk_part_write(const zevk_part *part, const uint8_t *bytes, size_t len);
  * system can share them, or else copied by the system, or else written from the map. */
 int zevk_part_share(const zevk_part *part, int descriptor, const uint8_t *bytes, size_t len);
 
-/* Asks the system to keep the second file, renames it, and asks the system to keep the name. */
+/* Asks the system to keep the second file, renames it, and asks the system to keep the name. If it replaces no file,
+ * one that has the name by now is an error. */
 int zevk_part_publish(zevk_part *part);
 
 /* Removes the second file, unless it has got its name or is another writer's, and frees what belongs to it. */

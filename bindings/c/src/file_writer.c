@@ -85,14 +85,14 @@ static void release(zevk_file_writer *writer) {
 }
 
 /* Begins a writer. */
-static int begin(const char *path, size_t block_size, unsigned period, zevk_file_writer **begun) {
+static int begin(const char *path, int replaces, size_t block_size, unsigned period, zevk_file_writer **begun) {
     zevk_file_writer *writer = calloc(1, sizeof *writer);
     if (writer == NULL) {
         return ZEVK_NO_MEMORY;
     }
     writer->period = (uint8_t)period;
     zevk_writer_begin(&writer->numbers, block_size);
-    int error = zevk_part_begin(&writer->part, path);
+    int error = zevk_part_begin(&writer->part, path, replaces);
     if (error != 0) {
         release(writer);
         return error;
@@ -101,11 +101,14 @@ static int begin(const char *path, size_t block_size, unsigned period, zevk_file
     return 0;
 }
 
-int zevk_file_create(const char *path, size_t block_size, unsigned period, zevk_file_writer **writer) {
+int zevk_file_create(const char *path, unsigned flags, size_t block_size, unsigned period, zevk_file_writer **writer) {
+    if ((flags & ~ZEVK_FILE_REPLACE) != 0) {
+        return zevk_returned(-EINVAL);
+    }
     if (period < 2 || period > 64) {
         return ZEVK_BAD_PERIOD;
     }
-    return zevk_returned(begin(path, block_size, period, writer));
+    return zevk_returned(begin(path, (flags & ZEVK_FILE_REPLACE) != 0, block_size, period, writer));
 }
 
 /* Adds the rows of a store to the table, and sets `len` to how many bytes of its file are to be written. */
@@ -152,7 +155,7 @@ int zevk_file_append(const char *path, size_t block_size, unsigned period, zevk_
     if (period == 1 || period > 64) {
         return ZEVK_BAD_PERIOD;
     }
-    int error = begin(path, block_size, period, &begun);
+    int error = begin(path, 1, block_size, period, &begun);
     if (error == 0) {
         error = begin_with_old(begun);
         if (error == 0) {

@@ -39,11 +39,20 @@ static int open_folder(zevk_part *part, char *path) {
     if (slash != NULL) {
         slash[slash == path] = '\0';
     }
-    part->folder = open(slash == NULL ? "." : path, O_RDONLY | O_DIRECTORY | O_CLOEXEC);
+    part->folder = zevk_above_standard(open(slash == NULL ? "." : path, O_RDONLY | O_DIRECTORY | O_CLOEXEC));
     if (part->folder < 0) {
         return -errno;
     }
     return len > 0 ? 0 : ZEVK_NOT_PLAIN_FILE;
+}
+
+/* Sets `found` to what a name of the folder is, without following a link. Returns 1, or 0 if there is nothing of this
+ * name, or an error. */
+static int look(const zevk_part *part, const char *name, struct stat *found) {
+    if (fstatat(part->folder, name, found, AT_SYMLINK_NOFOLLOW) == 0) {
+        return 1;
+    }
+    return errno == ENOENT ? 0 : -errno;
 }
 
 /* Locks the second file. One that another holds, or that took its name in the meantime, is busy. */
@@ -55,10 +64,14 @@ static int lock(const zevk_part *part) {
     if (fstat(part->file, &opened) != 0) {
         return -errno;
     }
-    if (fstatat(part->folder, part->part, &named, AT_SYMLINK_NOFOLLOW) != 0) {
-        return errno == ENOENT ? ZEVK_BUSY : -errno;
+    if (!S_ISREG(opened.st_mode)) {
+        return ZEVK_NOT_PLAIN_FILE;
     }
-    return opened.st_dev == named.st_dev && opened.st_ino == named.st_ino ? 0 : ZEVK_BUSY;
+    int is_there = look(part, part->part, &named);
+    if (is_there < 0) {
+        return is_there;
+    }
+    return is_there && opened.st_dev == named.st_dev && opened.st_ino == named.st_ino ? 0 : ZEVK_BUSY;
 }
 
 /* Gives the second file the mode of the file that it will replace, and its group and owner where the system lets us. */
@@ -69,20 +82,31 @@ static int copy_access(const zevk_part *part, const struct stat *replaced) {
     return fchmod(part->file, replaced->st_mode & 0777) == 0 ? 0 : -errno;
 }
 
-/* Opens the second file, and locks it. */
-static int claim(zevk_part *part) {
-    part->file = openat(part->folder, part->part, O_WRONLY | O_CREAT | O_CLOEXEC | O_NOFOLLOW, 0666);
+/* Opens the second file, and locks it. A pipe or a device of its name is not opened; one that comes meanwhile is not
+ * waited for. */
+static int claim(zevk_part *part, mode_t mode) {
+    static const int flags = O_WRONLY | O_CREAT | O_CLOEXEC | O_NOFOLLOW | O_NONBLOCK | O_NOCTTY;
+    struct stat found;
+    int is_there = look(part, part->part, &found);
+    if (is_there < 0) {
+        return is_there;
+    }
+    if (is_there && !S_ISREG(found.st_mode) && !S_ISLNK(found.st_mode)) {
+        return ZEVK_NOT_PLAIN_FILE;
+    }
+    part->file = zevk_above_standard(openat(part->folder, part->part, flags, mode));
     if (part->file < 0) {
-        return -errno;
+        /* ENXIO: a pipe that nobody reads, or a socket. */
+        return errno == ENXIO ? ZEVK_NOT_PLAIN_FILE : -errno;
     }
     int error = lock(part);
-    part->is_owned = error != ZEVK_BUSY;
+    part->is_owned = error != ZEVK_BUSY && error != ZEVK_NOT_PLAIN_FILE;
     return error;
 }
 
-int zevk_part_begin(zevk_part *part, const char *path) {
+int zevk_part_begin(zevk_part *part, const char *path, int replaces) {
     struct stat replaced;
-    *part = (zevk_part){.folder = -1, .file = -1};
+    *part = (zevk_part){.folder = -1, .file = -1, .replaces = replaces};
     char *whole = without_links(path);
     if (whole == NULL) {
         return -errno;
@@ -92,14 +116,18 @@ int zevk_part_begin(zevk_part *part, const char *path) {
     if (error != 0) {
         return error;
     }
-    int is_there = fstatat(part->folder, part->name, &replaced, AT_SYMLINK_NOFOLLOW) == 0;
-    if (!is_there && errno != ENOENT) {
-        return -errno;
+    int is_there = look(part, part->name, &replaced);
+    if (is_there < 0) {
+        return is_there;
     }
     if (is_there && !S_ISREG(replaced.st_mode)) {
         return ZEVK_NOT_PLAIN_FILE;
     }
-    error = claim(part);
+    if (is_there && !replaces) {
+        return -EEXIST;
+    }
+    /* Nobody else may open it before it has the mode of the file that it will replace. */
+    error = claim(part, is_there ? 0600 : 0666);
     if (error == 0 && is_there) {
         error = copy_access(part, &replaced);
     }
@@ -130,9 +158,35 @@ int zevk_part_share(const zevk_part *part, int descriptor, const uint8_t *bytes,
     return zevk_part_write(part, bytes + done, len - (size_t)done);
 }
 
-int zevk_part_publish(zevk_part *part) {
-    if (fsync(part->file) != 0 || renameat(part->folder, part->part, part->folder, part->name) != 0) {
+/* Gives the second file a name that no file has. Where the file system has no such call, the name is looked up before
+ * it is given. */
+static int take_free_name(const zevk_part *part) {
+    struct stat found;
+    if (renameat2(part->folder, part->part, part->folder, part->name, RENAME_NOREPLACE) == 0) {
+        return 0;
+    }
+    if (errno != EINVAL && errno != ENOSYS) {
         return -errno;
+    }
+    int is_there = look(part, part->name, &found);
+    if (is_there != 0) {
+        return is_there < 0 ? is_there : -EEXIST;
+    }
+    return renameat(part->folder, part->part, part->folder, part->name) == 0 ? 0 : -errno;
+}
+
+/* Gives the second file its name. */
+static int take_name(const zevk_part *part) {
+    if (!part->replaces) {
+        return take_free_name(part);
+    }
+    return renameat(part->folder, part->part, part->folder, part->name) == 0 ? 0 : -errno;
+}
+
+int zevk_part_publish(zevk_part *part) {
+    int error = fsync(part->file) == 0 ? take_name(part) : -errno;
+    if (error != 0) {
+        return error;
     }
     part->is_owned = 0;
     return fsync(part->folder) == 0 ? 0 : -errno;

@@ -133,11 +133,25 @@ int zevk_open_descriptor(int descriptor, unsigned flags, zevk_file **opened) {
     return 0;
 }
 
+int zevk_above_standard(int descriptor) {
+    if (descriptor < 0 || descriptor > STDERR_FILENO) {
+        return descriptor;
+    }
+    int moved = fcntl(descriptor, F_DUPFD_CLOEXEC, STDERR_FILENO + 1);
+    int error = errno;
+    close(descriptor);
+    errno = error;
+    return moved;
+}
+
 int zevk_descriptor(int folder, const char *path) {
-    return openat(folder, path, O_RDONLY | O_CLOEXEC | O_NONBLOCK | O_NOCTTY);
+    return zevk_above_standard(openat(folder, path, O_RDONLY | O_CLOEXEC | O_NONBLOCK | O_NOCTTY));
 }
 
 int zevk_file_open(const char *path, unsigned flags, zevk_file **file) {
+    if ((flags & ~ZEVK_FILE_UNCHECKED) != 0) {
+        return zevk_returned(-EINVAL);
+    }
     int descriptor = zevk_descriptor(AT_FDCWD, path);
     if (descriptor < 0) {
         return -errno;

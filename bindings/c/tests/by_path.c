@@ -32,7 +32,7 @@ static void put_documents(zevk_file_writer *writer, uint32_t first, uint32_t end
 /* Writes the store of documents from one number to another. */
 static void write_store(const char *path, uint32_t first, uint32_t end, size_t block_size, unsigned period) {
     zevk_file_writer *writer = NULL;
-    WANT(zevk_file_create(path, block_size, period, &writer) == 0);
+    WANT(zevk_file_create(path, ZEVK_FILE_REPLACE, block_size, period, &writer) == 0);
     put_documents(writer, first, end);
     WANT(zevk_file_writer_num_docs(writer) == end - first);
     WANT(zevk_file_publish(writer) == 0);
@@ -104,7 +104,7 @@ static void are_long(void) {
     zevk_document found;
     const char *path = in_folder("long");
     uint8_t *bytes = (uint8_t *)malloc(1 << 20);
-    WANT(bytes != NULL && zevk_file_create(path, 200000, 8, &writer) == 0);
+    WANT(bytes != NULL && zevk_file_create(path, 0, 200000, 8, &writer) == 0);
     for (size_t at = 0; at < COUNT; at++) {
         memset(bytes, (int)(at + 1), lengths[at]);
         WANT(zevk_file_put(writer, bytes, lengths[at], NULL) == 0);
@@ -138,8 +138,8 @@ static void are_stacked(void) {
     write_store(in_folder("middle"), 10, 200, 300, 4);
     WANT(zevk_file_open(in_folder("middle"), 0, &checked) == 0);
     WANT(zevk_file_open(in_folder("middle"), ZEVK_FILE_UNCHECKED, &unchecked) == 0);
-    WANT(zevk_file_create(in_folder("stacked"), 300, 8, &writer) == 0);
-    WANT(zevk_file_create(in_folder("other"), 300, 8, &other) == 0);
+    WANT(zevk_file_create(in_folder("stacked"), 0, 300, 8, &writer) == 0);
+    WANT(zevk_file_create(in_folder("other"), 0, 300, 8, &other) == 0);
     put_documents(writer, 0, 10);
     put_documents(other, 0, 10);
     WANT(zevk_file_stack(writer, checked) == 0 && zevk_file_writer_num_docs(writer) == 200);
@@ -162,7 +162,7 @@ static void are_appended(void) {
     for (size_t at = 0; at < 3; at++) {
         write_store(in_folder("old"), 0, ends[at], 300, 5);
         WANT(zevk_file_open(in_folder("old"), 0, &file) == 0);
-        WANT(zevk_file_create(in_folder("wanted"), 200, at == 2 ? 3 : 5, &writer) == 0);
+        WANT(zevk_file_create(in_folder("wanted"), ZEVK_FILE_REPLACE, 200, at == 2 ? 3 : 5, &writer) == 0);
         WANT(zevk_file_stack(writer, file) == 0);
         zevk_file_close(file);
         put_documents(writer, ends[at], ends[at] + 20);

@@ -17,7 +17,8 @@ WRAPPED(ssize_t, getline, (char **line, size_t *room, FILE *file), (line, room, 
 WRAPPED(int, fflush, (FILE *file), (file), EOF)
 WRAPPED(int, fsync, (int descriptor), (descriptor), -1)
 WRAPPED(int, fclose, (FILE *file), (file), EOF)
-WRAPPED(int, rename, (const char *from, const char *to), (from, to), -1)
+WRAPPED(int, renameat2, (int folder, const char *from, int other, const char *to, unsigned flags),
+        (folder, from, other, to, flags), -1)
 WRAPPED(int, open, (const char *path, int flags), (path, flags), -1)
 WRAPPED(int, close, (int descriptor), (descriptor), -1)
 

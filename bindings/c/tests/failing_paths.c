@@ -2,7 +2,9 @@
  * goes to standard error.
  *
  * SHARE says how the system shares bytes between files: "clone", "copy", "part" (a few bytes, and then an error), or
- * not. With LOST the second file loses its name before it is locked, as where another writer has just renamed it.
+ * not. With OLD_RENAME the file system can't rename without replacing; with TAKEN another file takes the name before
+ * the last look at it. With LOST the second file loses its name before it is locked, as where another writer has just
+ * renamed it.
  * The program is linked with --wrap for each of these calls.
  */
 #define _GNU_SOURCE
@@ -48,6 +50,23 @@ WRAPPED(ssize_t, write, (int file, const void *bytes, size_t len), (file, bytes,
 WRAPPED(int, fsync, (int file), (file), -1)
 WRAPPED(int, renameat, (int folder, const char *from, int other, const char *to), (folder, from, other, to), -1)
 WRAPPED(ssize_t, getline, (char **line, size_t *room, FILE *file), (line, room, file), -1)
+
+/* A rename that replaces no file, by a file system that may not have it. */
+int __real_renameat2(int folder, const char *from, int other, const char *to, unsigned flags);
+int __wrap_renameat2(int folder, const char *from, int other, const char *to, unsigned flags);
+int __wrap_renameat2(int folder, const char *from, int other, const char *to, unsigned flags) {
+    if (is_failing("renameat2")) {
+        return -1;
+    }
+    if (getenv("TAKEN") != NULL) {
+        close(openat(other, to, O_WRONLY | O_CREAT | O_EXCL | O_CLOEXEC, 0600));
+    }
+    if (getenv("OLD_RENAME") != NULL) {
+        errno = EINVAL;
+        return -1;
+    }
+    return __real_renameat2(folder, from, other, to, flags);
+}
 
 static int shares_by(const char *kind) {
     const char *share = getenv("SHARE");

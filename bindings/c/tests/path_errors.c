@@ -5,6 +5,7 @@
 #include <errno.h>
 #include <fcntl.h>
 #include <sys/stat.h>
+#include <sys/sysmacros.h>
 #include <unistd.h>
 
 #include "stores.h"
@@ -84,6 +85,24 @@ static void files_are_refused(void) {
     }
 }
 
+/* Flags that the library doesn't know are refused, also beside one that it knows, and for a name that has no file. */
+static void unknown_flags_are_refused(void) {
+    write_file("flags", two, sizeof two);
+    for (unsigned bit = 1; bit < 32; bit++) {
+        WANT(opening("flags", 1u << bit) == -EINVAL && opening("none", 1u << bit) == -EINVAL);
+        WANT(opening("flags", ZEVK_FILE_UNCHECKED | 1u << bit) == -EINVAL);
+    }
+    for (unsigned bit = 0; bit < 32; bit++) {
+        zevk_file_writer *writer = NULL;
+        int is_known = 1u << bit == ZEVK_FILE_REPLACE;
+        unsigned flags = ZEVK_FILE_REPLACE | (is_known ? ZEVK_FILE_UNCHECKED : 1u << bit);
+        errno = 0;
+        WANT(zevk_file_create("flags", flags, 16384, 8, &writer) == -EINVAL && errno == EINVAL && writer == NULL);
+        WANT(is_known || zevk_file_create("none", 1u << bit, 16384, 1, &writer) == -EINVAL);
+        WANT(writer == NULL && is_kept("flags", "flags.part") && is_missing("none") && is_missing("none.part"));
+    }
+}
+
 /* Damaged documents are passed one by one, up to the last one that there can be. */
 static void damage_is_passed(unsigned flags) {
     zevk_file *file = NULL;
@@ -101,21 +120,72 @@ static void damage_is_passed(unsigned flags) {
     zevk_file_close(file);
 }
 
-/* The errors of beginning a writer in two ways. Nothing is set, and there is no second file. */
+/* The errors of beginning a writer in three ways. Nothing is set, and there is no second file. */
 static int beginning(const char *path) {
     zevk_file_writer *writer = NULL;
-    int error = zevk_file_create(path, 16384, 8, &writer);
+    int error = zevk_file_create(path, ZEVK_FILE_REPLACE, 16384, 8, &writer);
     WANT(error != 0 && writer == NULL && (error > 0 || errno == -error));
+    int without = zevk_file_create(path, 0, 16384, 8, &writer);
+    WANT((without == error || without == -EEXIST) && writer == NULL);
     WANT(zevk_file_append(path, 16384, 8, &writer) == error && writer == NULL);
     return error;
+}
+
+/* Second files that are no plain files are refused without waiting, with and without somebody at the pipe's other end,
+ * and are left as they are. */
+static void other_second_files_are_refused(void) {
+    struct stat found;
+    write_file("store", two, sizeof two);
+    WANT(mkfifo("store.part", 0600) == 0 && beginning("store") == ZEVK_NOT_PLAIN_FILE);
+    int reader = open("store.part", O_RDONLY | O_NONBLOCK);
+    WANT(reader >= 0 && beginning("store") == ZEVK_NOT_PLAIN_FILE && close(reader) == 0);
+    WANT(lstat("store.part", &found) == 0 && S_ISFIFO(found.st_mode) && unlink("store.part") == 0);
+    WANT(mkdir("store.part", 0700) == 0 && beginning("store") == ZEVK_NOT_PLAIN_FILE && rmdir("store.part") == 0);
+    /* Only root makes a device. */
+    if (mknod("store.part", S_IFCHR | 0600, makedev(1, 3)) == 0) {
+        WANT(beginning("store") == ZEVK_NOT_PLAIN_FILE && unlink("store.part") == 0);
+    }
+    WANT(is_kept("store", "store.part"));
+}
+
+/* The error of a writer that doesn't replace a file. Nothing is set, and there is no second file. */
+static int creating(const char *path) {
+    zevk_file_writer *writer = NULL;
+    errno = 0;
+    int error = zevk_file_create(path, 0, 16384, 8, &writer);
+    WANT(error != 0 && writer == NULL && (error > 0 || errno == -error));
+    return error;
+}
+
+/* A file is replaced only if the caller asks: at the beginning, and where it came meanwhile. */
+static void files_are_not_replaced_unasked(void) {
+    zevk_file_writer *writer = NULL;
+    struct stat before, after;
+    write_file("kept", two, sizeof two);
+    WANT(stat("kept", &before) == 0 && symlink("kept", "to_kept") == 0 && link("kept", "again") == 0);
+    WANT(creating("kept") == -EEXIST && creating("to_kept") == -EEXIST && creating("../folder/again") == -EEXIST);
+    WANT(creating(".") == ZEVK_NOT_PLAIN_FILE && creating("/dev/null") == ZEVK_NOT_PLAIN_FILE);
+    WANT(stat("kept", &after) == 0 && is_kept("kept", "kept.part") && before.st_ino == after.st_ino);
+    for (int is_link = 0; is_link < 2; is_link++) {
+        WANT(zevk_file_create("came", 0, 16384, 8, &writer) == 0 && zevk_file_put(writer, "new", 3, NULL) == 0);
+        WANT((is_link ? symlink("kept", "came") : link("kept", "came")) == 0);
+        errno = 0;
+        WANT(zevk_file_publish(writer) == -EEXIST && errno == EEXIST);
+        WANT(is_kept("came", "came.part") && unlink("came") == 0 && is_kept("kept", "kept.part"));
+    }
+    WANT(zevk_file_create("came", ZEVK_FILE_REPLACE, 16384, 8, &writer) == 0 && link("kept", "came") == 0);
+    WANT(zevk_file_put(writer, "abc", 3, NULL) == 0 && zevk_file_put(writer, "de", 2, NULL) == 0);
+    WANT(zevk_file_publish(writer) == 0 && is_kept("came", "came.part") && stat("came", &after) == 0);
+    WANT(after.st_ino != before.st_ino && strcmp(zevk_strerror(-EEXIST), "File exists") == 0);
 }
 
 static void writers_are_refused(void) {
     zevk_file_writer *writer = NULL, *second = NULL;
     write_file("store", two, sizeof two);
-    WANT(zevk_file_create("store", 0, 1, &writer) == ZEVK_BAD_PERIOD && is_kept("store", "store.part"));
-    WANT(zevk_file_create("store", 0, 65, &writer) == ZEVK_BAD_PERIOD);
-    WANT(zevk_file_create("store", 0, 256 + 8, &writer) == ZEVK_BAD_PERIOD);
+    WANT(zevk_file_create("store", ZEVK_FILE_REPLACE, 0, 1, &writer) == ZEVK_BAD_PERIOD);
+    WANT(is_kept("store", "store.part"));
+    WANT(zevk_file_create("store", ZEVK_FILE_REPLACE, 0, 65, &writer) == ZEVK_BAD_PERIOD);
+    WANT(zevk_file_create("store", ZEVK_FILE_REPLACE, 0, 256 + 8, &writer) == ZEVK_BAD_PERIOD);
     WANT(zevk_file_append("store", 0, 1, &writer) == ZEVK_BAD_PERIOD && is_kept("store", "store.part"));
     WANT(zevk_file_append("store", 0, 256 + 8, &writer) == ZEVK_BAD_PERIOD && writer == NULL);
     WANT(beginning("none/store") == -ENOENT && beginning("") == ZEVK_NOT_PLAIN_FILE);
@@ -127,9 +197,9 @@ static void writers_are_refused(void) {
     WANT(zevk_file_append("nothing", 16384, 0, &writer) == -ENOENT && is_missing("nothing.part"));
     write_file("text", (const uint8_t *)"words and words and words and words", 35);
     WANT(zevk_file_append("text", 16384, 0, &writer) == ZEVK_BAD_VERSION && is_missing("text.part"));
-    WANT(zevk_file_create("store", 16384, 8, &writer) == 0);
+    WANT(zevk_file_create("store", ZEVK_FILE_REPLACE, 16384, 8, &writer) == 0);
     WANT(beginning("store") == ZEVK_BUSY && beginning("../folder/store") == ZEVK_BUSY);
-    WANT(zevk_file_create("other", 16384, 8, &second) == 0);
+    WANT(zevk_file_create("other", 0, 16384, 8, &second) == 0);
     zevk_file_discard(second);
     errno = 77;
     zevk_file_discard(writer);
@@ -152,7 +222,7 @@ static void old_versions_are_refused(void) {
     WANT(zevk_file_open("old", 0, &file) == 0);
     zevk_file_facts(file, &facts);
     WANT(facts.version == 1 && facts.period == 8 && facts.num_docs == 2 && facts.data_len == 17);
-    WANT(zevk_file_create("store", 16384, 8, &writer) == 0);
+    WANT(zevk_file_create("store", ZEVK_FILE_REPLACE, 16384, 8, &writer) == 0);
     WANT(zevk_file_stack(writer, file) == ZEVK_OLD_VERSION && zevk_file_writer_num_docs(writer) == 0);
     WANT(zevk_file_put(writer, "abc", 3, NULL) == 0 && zevk_file_put(writer, "", (size_t)1 << 32, NULL) != 0);
     WANT(zevk_file_put(writer, "de", 2, NULL) == 0 && zevk_file_publish(writer) == 0);
@@ -163,10 +233,39 @@ static void old_versions_are_refused(void) {
 /* A writer and its folder stay together where the program changes its working folder. */
 static void folders_are_kept(void) {
     zevk_file_writer *writer = NULL;
-    WANT(mkdir("below", 0700) == 0 && zevk_file_create("store", 16384, 8, &writer) == 0);
+    WANT(mkdir("below", 0700) == 0 && zevk_file_create("store", ZEVK_FILE_REPLACE, 16384, 8, &writer) == 0);
     WANT(chdir("below") == 0 && zevk_file_put(writer, "abc", 3, NULL) == 0);
     WANT(zevk_file_put(writer, "de", 2, NULL) == 0 && zevk_file_publish(writer) == 0);
     WANT(is_missing("store") && chdir("..") == 0 && is_kept("store", "store.part"));
+}
+
+static int is_open(int descriptor) {
+    return fcntl(descriptor, F_GETFD) >= 0;
+}
+
+/* Files are opened and written while the standard input and outputs are closed, and take none of their descriptors. A
+ * failure is in the status alone. */
+static void standard_descriptors_stay_free(void) {
+    zevk_file *file = NULL;
+    zevk_file_writer *writers[2] = {NULL, NULL};
+    int kept[3];
+    for (int number = 0; number < 3; number++) {
+        kept[number] = fcntl(number, F_DUPFD_CLOEXEC, 3);
+        close(number);
+    }
+    write_file("store", two, sizeof two);
+    WANT(zevk_file_append("store", 16384, 0, &writers[0]) == 0);
+    WANT(zevk_file_create("new", 0, 16384, 8, &writers[1]) == 0);
+    WANT(zevk_file_open("store", 0, &file) == 0 && zevk_file_stack(writers[1], file) == 0);
+    for (int number = 0; number < 3; number++) {
+        WANT(!is_open(number) && write(number, "a message", 9) == -1);
+    }
+    WANT(zevk_file_publish(writers[0]) == 0 && zevk_file_publish(writers[1]) == 0);
+    WANT(is_kept("store", "store.part") && is_kept("new", "new.part"));
+    zevk_file_close(file);
+    for (int number = 0; number < 3; number++) {
+        WANT(kept[number] < 0 || (dup2(kept[number], number) == number && close(kept[number]) == 0));
+    }
 }
 
 static void errors_have_texts(void) {
@@ -183,11 +282,15 @@ static void errors_have_texts(void) {
 int main(int argc, char **argv) {
     WANT(argc == 2 && chdir(argv[1]) == 0 && mkdir("folder", 0700) == 0 && chdir("folder") == 0);
     files_are_refused();
+    unknown_flags_are_refused();
     damage_is_passed(0);
     damage_is_passed(ZEVK_FILE_UNCHECKED);
+    other_second_files_are_refused();
+    files_are_not_replaced_unasked();
     writers_are_refused();
     old_versions_are_refused();
     folders_are_kept();
+    standard_descriptors_stay_free();
     errors_have_texts();
     return 0;
 }

@@ -68,7 +68,7 @@ static void is_stacked(const struct shared *shared) {
     zevk_file *own = NULL;
     zevk_document found;
     WANT(snprintf(path, sizeof path, "%s/%d.store", shared->folder, shared->number) < (int)sizeof path);
-    WANT(zevk_file_create(path, 300, 8, &writer) == 0);
+    WANT(zevk_file_create(path, 0, 300, 8, &writer) == 0);
     WANT(zevk_file_stack(writer, shared->files[0]) == 0 && zevk_file_stack(writer, shared->files[1]) == 0);
     WANT(zevk_file_publish(writer) == 0 && zevk_file_open(path, 0, &own) == 0);
     for (uint32_t id = 0; id < 2 * COUNT; id++) {
@@ -96,7 +96,7 @@ int main(int argc, char **argv) {
     zevk_file_writer *writer = NULL;
     zevk_file *checked = NULL, *unchecked = NULL;
     WANT(argc == 2 && snprintf(path, sizeof path, "%s/store", argv[1]) < (int)sizeof path);
-    WANT(zevk_file_create(path, 300, 8, &writer) == 0);
+    WANT(zevk_file_create(path, 0, 300, 8, &writer) == 0);
     write_documents(writer);
     WANT(zevk_file_publish(writer) == 0);
     WANT(zevk_file_open(path, 0, &checked) == 0 && zevk_file_open(path, ZEVK_FILE_UNCHECKED, &unchecked) == 0);

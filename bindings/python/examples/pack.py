@@ -1,5 +1,5 @@
 #!/usr/bin/env python3
-"""Packs the lines of its input into a store: pack.py STORE."""
+"""Packs the lines of its input into a store: pack.py [--replace] STORE. It replaces a file only if that is asked."""
 
 import sys
 
@@ -7,8 +7,9 @@ from zevkhadun import Refused, Writer
 
 
 def main() -> int:
+    replace = sys.argv[1] == "--replace"
     try:
-        with Writer(sys.argv[1]) as writer:
+        with Writer(sys.argv[1 + replace], replace=replace) as writer:
             writer.extend(line.removesuffix(b"\n") for line in sys.stdin.buffer)
     except (OSError, Refused) as error:
         print(f"pack: {error}", file=sys.stderr)

@@ -23,14 +23,14 @@ class InFolder(unittest.TestCase):
             return file.read()
 
     def written(self, documents, name="a.store", **options):
-        with Writer(self.at(name), **options) as writer:
+        with Writer(self.at(name), replace=True, **options) as writer:
             numbers = [writer.put(document) for document in documents]
             self.assertEqual(numbers, list(range(len(documents))))
             self.assertEqual(len(writer), len(documents))
         return self.at(name)
 
     def stacked(self, name, *parts, **options):
-        with Writer(self.at(name), **options) as writer:
+        with Writer(self.at(name), replace=True, **options) as writer:
             for part in parts:
                 with Store(self.at(part)) as store:
                     writer.stack(store)

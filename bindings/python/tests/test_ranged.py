@@ -1,6 +1,11 @@
 """A store that is read by ranges: what it gives, and which requests it makes."""
 
+import http.server
 import os
+import re
+import runpy
+import subprocess
+import sys
 import tempfile
 import threading
 import unittest
@@ -33,6 +38,74 @@ class Elsewhere:
         return RangedStore(self, len(self.content), **options)
 
 
+class Server(http.server.BaseHTTPRequestHandler):
+    """A web server with one file, of which it sends ranges."""
+
+    content, etag = b"", '"1"'
+
+    def answer(self, status, part):
+        self.send_response(status)
+        self.send_header("Content-Length", str(len(part)))
+        self.send_header("ETag", self.etag)
+        self.end_headers()
+        return part
+
+    def do_HEAD(self):
+        self.answer(200, self.content)
+
+    def do_GET(self):
+        first, last = map(int, re.fullmatch(r"bytes=(\d+)-(\d+)", self.headers["Range"]).groups())
+        self.wfile.write(self.answer(206, self.content[first:last + 1]))
+
+    def log_message(self, *words):
+        pass
+
+
+class OverHttp(unittest.TestCase):
+    """The example that reads a store on a web server."""
+
+    def setUp(self):
+        self.handler = type("Handler", (Server,), {"content": FILE})
+        server = http.server.ThreadingHTTPServer(("127.0.0.1", 0), self.handler)
+        thread = threading.Thread(target=server.serve_forever)
+        thread.start()
+        self.addCleanup(server.server_close)
+        self.addCleanup(thread.join)
+        self.addCleanup(server.shutdown)
+        self.url = f"http://127.0.0.1:{server.server_port}/a.store"
+        self.example = runpy.run_path(os.path.join(os.path.dirname(__file__), "..", "examples", "over_http.py"))
+
+    def test_documents_are_read(self):
+        file = self.example["WebFile"](self.url)
+        with RangedStore(file.read, file.size, version=file.version) as store:
+            self.assertEqual(list(store), DOCUMENTS)
+        command = [sys.executable, self.example["__file__"], self.url, "7", "-1"]
+        printed = subprocess.run(command, capture_output=True, timeout=60, check=True)
+        self.assertEqual(printed.stdout, DOCUMENTS[7] + b"\n" + DOCUMENTS[-1] + b"\n")
+
+    def test_a_file_that_is_replaced_is_an_error(self):
+        file = self.example["WebFile"](self.url)
+        with RangedStore(file.read, file.size, tail=100, cache=0, version=file.version) as store:
+            self.assertEqual(store[7], DOCUMENTS[7])
+            self.handler.etag = '"2"'
+            wrong = []
+
+            def read():
+                try:
+                    store[7]
+                except refusals.Changed:
+                    wrong.append(1)
+
+            threads = [threading.Thread(target=read) for _ in range(3)]
+            for thread in threads:
+                thread.start()
+            for thread in threads:
+                thread.join()
+            self.assertEqual(len(wrong), 3)
+        with self.assertRaises(refusals.Changed):
+            RangedStore(file.read, file.size, version=iter([1, 2]).__next__)
+
+
 class Ranged(unittest.TestCase):
     def many(self, count=3000, length=100):
         """A file of blocks of about 1000 bytes, and its documents."""
@@ -52,6 +125,19 @@ class Ranged(unittest.TestCase):
                     self.assertEqual([store[number] for number in range(-len(store), len(store))], list(wanted) * 2)
                     self.assertEqual(store[::-3], wanted[::-3])
                     self.assertEqual(store.get_many(range(len(store))), list(wanted))
+
+    def test_read_may_use_the_memory_of_its_result_again(self):
+        file, documents = self.many()
+        buffer = bytearray(len(file.content))
+
+        def read(start, length):
+            buffer[:length] = file.content[start:start + length]
+            return memoryview(buffer)[:length]
+
+        for tail in [28, 1 << 20]:
+            with RangedStore(read, len(file.content), tail=tail, cache=0) as store:
+                self.assertEqual([store[number] for number in range(0, 3000, 97)], documents[::97])
+                self.assertEqual(list(store), documents)
 
     def test_one_request_opens_a_short_index_and_two_a_long_one(self):
         file, documents = self.many()
@@ -156,6 +242,34 @@ class Ranged(unittest.TestCase):
             store.get_many([1, 2000])
         store._read = file
         self.assertEqual(store[0], documents[0])
+
+    def test_a_file_that_is_another_one_is_noticed_at_the_first_request(self):
+        file, documents = self.many()
+        versions = ["first"]
+        store = file.open(version=lambda: versions[0], path="far/a.store", cache=5000)
+        self.assertEqual(store[1000], documents[1000])
+        other = Elsewhere(file.content)
+        for content in [bytes(len(file.content)), b""]:
+            store._read = lambda start, length: content[start:start + length]
+            versions[0] = "second"
+            for call in [lambda: store[0], lambda: store.get_many([1, 2]), lambda: list(store), lambda: store[5:7]]:
+                with self.assertRaises(refusals.Changed) as caught:
+                    call()
+                self.assertEqual((caught.exception.path, caught.exception.number), ("far/a.store", 0))
+                self.assertIn("far/a.store: The file is another one", str(caught.exception))
+            self.assertEqual(store[1000], documents[1000])
+            self.assertIsInstance(caught.exception, refusals.Refused)
+        store._read, versions[0] = other, "first"
+        self.assertEqual(store[0], documents[0])
+
+    def test_a_file_that_changes_while_it_is_opened_is_noticed(self):
+        file, _ = self.many()
+        for answers in [[1, 2], [1, 1, 2]]:
+            with self.assertRaises(refusals.Changed):
+                file.open(version=iter(answers).__next__, tail=28)
+        self.assertEqual(len(file.open(version=iter([1, 1, 1]).__next__, tail=28)), 3000)
+        with self.assertRaises(ZeroDivisionError):
+            file.open(version=lambda: 1 // 0)
 
     def test_numbers_that_no_document_has_and_a_closed_store_are_refused(self):
         store = Elsewhere(FILE).open()

@@ -247,7 +247,7 @@ class Kinds(InFile):
             self.assertEqual(store.path, self.path)
             self.assertEqual(repr(store), f"Store({self.path!r}, 64 documents)")
         self.assertEqual(repr(store), f"Store({self.path!r}, closed)")
-        self.assertEqual((len(store), store.size), (64, len(FILE)))
+        self.assertEqual((len(store), store.num_blocks, store.size), (64, 13, len(FILE)))
         with self.assertRaises(refusals.Closed):
             store.version
         old = bytearray(FILE[:1524] + end_of([(64, 1524)]))
@@ -292,6 +292,7 @@ class Errors(InFile):
             store[64]
         self.assertEqual((caught.exception.path, caught.exception.document), (self.path, 64))
         self.assertIn("document 64", str(caught.exception))
+        os.remove(self.path)
         with Writer(self.path), self.assertRaises(refusals.Busy) as caught:
             Writer(self.path)
         self.assertEqual(caught.exception.path, self.path + ".part")

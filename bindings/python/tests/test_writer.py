@@ -40,6 +40,34 @@ class Contents(InFolder):
         self.written(self.documents("known"), block_size=120, period=3)
         self.assertEqual(self.content(), FILE)
 
+    def test_an_iterable_may_use_the_memory_of_a_document_again(self):
+        """Of short and long ones, and by a view; one that is `bytes` never changes."""
+        for length in (4, 1 << 16, (1 << 16) + 1, 2 << 20):
+            buffer = bytearray(length)
+            wanted = [b"%04d" % number * (length // 4) for number in range(9)]
+
+            def documents(given):
+                for content in wanted:
+                    buffer[:len(content)] = content
+                    yield given
+
+            for given in (buffer, memoryview(buffer)):
+                with Writer(self.at("b.store"), replace=True) as writer:
+                    writer.extend(documents(given))
+                self.assertTrue(self.documents("b.store") == [content.ljust(length, b"\0") for content in wanted])
+
+    def test_an_iterable_may_change_the_length_of_its_buffer(self):
+        def documents():
+            buffer = bytearray()
+            for length in (1, 1 << 17, 5, 0, 70_000):
+                buffer[:] = bytes([length % 251]) * length
+                yield buffer
+
+        with Writer(self.path) as writer:
+            writer.extend(documents())
+        wanted = [bytes([length % 251]) * length for length in (1, 1 << 17, 5, 0, 70_000)]
+        self.assertTrue(self.documents() == wanted)
+
     def test_all_kinds_of_bytes_are_put(self):
         numbers = array.array("I", [1, 2, 3])
         grid = memoryview(bytes(range(6))).cast("B", (2, 3))
@@ -191,7 +219,7 @@ class Ends(InFolder):
     def failing(self, patched, act):
         """A call of the system fails, and the writer refuses all that follows."""
         self.written([b"old"])
-        writer = Writer(self.path)
+        writer = Writer(self.path, replace=True)
         writer.put(b"new")
         with patched, self.assertRaises(OSError):
             act(writer)
@@ -212,7 +240,7 @@ class Ends(InFolder):
     def test_a_file_that_may_not_grow_leaves_the_old_one(self):
         soft, hard = resource.getrlimit(resource.RLIMIT_FSIZE)
         self.written([b"old"])
-        writer = Writer(self.path)
+        writer = Writer(self.path, replace=True)
         resource.setrlimit(resource.RLIMIT_FSIZE, (1 << 16, hard))
         try:
             with self.assertRaises(OSError):

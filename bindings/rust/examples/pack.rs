@@ -1,8 +1,9 @@
 //! Packs the lines of standard input into a store, as documents without their line ends.
 //!
-//! usage: pack FILE
+//! usage: pack [--replace] FILE
 //!
-//! The file takes its name only once it is whole. If anything fails before that, the file that was there stays.
+//! The file takes its name only once it is whole. If anything fails before that, the file that was there stays. It is
+//! replaced only by `--replace`.
 
 use std::error::Error;
 use std::io::{self, BufRead};
@@ -10,8 +11,12 @@ use std::process::ExitCode;
 use zevkhadun::FileWriter;
 
 fn pack() -> Result<(), Box<dyn Error>> {
-    let path = std::env::args_os().nth(1).ok_or("usage: pack FILE")?;
-    let mut writer = FileWriter::create(path)?;
+    let mut words = std::env::args_os().skip(1);
+    let mut writer = match (words.next(), words.next()) {
+        (Some(path), None) => FileWriter::create(path)?,
+        (Some(word), Some(path)) if word == "--replace" => FileWriter::replace(path)?,
+        _ => return Err("usage: pack [--replace] FILE".into()),
+    };
     for line in io::stdin().lock().split(b'\n') {
         writer.put(&line?)?;
     }

@@ -61,6 +61,7 @@ mod ranged_blocks;
 mod ranged_documents;
 mod raw;
 mod read_error;
+mod renaming;
 mod store;
 mod unopened;
 mod writer;

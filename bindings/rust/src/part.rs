@@ -1,16 +1,22 @@
 //! The file beside, to which a store is written until it is whole.
 
 use crate::error::Error;
+use crate::renaming::{rename_new, taken};
 use std::fs::{self, File, Metadata, OpenOptions, Permissions, TryLockError};
 use std::io::{self, Write};
+use std::os::fd::AsRawFd;
 use std::os::unix::fs::{fchown, MetadataExt, OpenOptionsExt, PermissionsExt};
 use std::path::{Path, PathBuf};
 
 /// How many bytes are gathered before they go to the system.
 const BUFFER_SIZE: usize = 1 << 16;
 
-/// The flag `O_NOFOLLOW` of Linux on x86-64, the target that `build.rs` asks for: a link is not opened.
-const NO_FOLLOW: i32 = 0o400_000;
+/// The flags `O_NOFOLLOW`, `O_NONBLOCK` and `O_NOCTTY` of Linux on x86-64, the target that `build.rs` asks for: a link
+/// is not opened, and a pipe not waited for.
+const FLAGS: i32 = 0o400_000 | 0o4000 | 0o400;
+
+/// The error `ENXIO` of Linux, of a pipe that nobody reads and of a socket.
+const ENXIO: i32 = 6;
 
 /// The file beside: locked, and removed when it is dropped, unless it was published. It does what `DiskSink` of the
 /// crate `store_files` does, by the same names and locks, so that writers of both kinds exclude one another.
@@ -22,28 +28,30 @@ pub(crate) struct Part {
     file: File,
     buffer: Vec<u8>,
     is_beside: bool,
+    /// Whether it may take the name from another file.
+    replaces: bool,
 }
 
 impl Part {
     /// Begins the file beside: locked, empty, and with the access that the replaced file has. What a crash left there
-    /// is taken over. After an error nothing is changed.
-    pub(crate) fn create(path: &Path) -> Result<Part, Error> {
+    /// is taken over. After an error nothing is changed. If it replaces no file, one that has the name is an error.
+    pub(crate) fn create(path: &Path, replaces: bool) -> Result<Part, Error> {
         let (path, replaced) = replaced_file(path)?;
+        if replaced.is_some() && !replaces {
+            return Err(failed(&path, taken()));
+        }
         let folder_path = path.parent().unwrap_or(Path::new("/"));
-        let folder = File::open(folder_path).map_err(|error| failed(folder_path, error))?;
+        let folder = File::open(folder_path).and_then(above_standard);
+        let folder = folder.map_err(|error| failed(folder_path, error))?;
         let mut beside = path.clone().into_os_string();
         beside.push(".part");
         let beside = PathBuf::from(beside);
-        let file = OpenOptions::new()
-            .write(true)
-            .create(true)
-            .truncate(false)
-            .custom_flags(NO_FOLLOW)
-            .open(&beside)
-            .map_err(|error| failed(&beside, error))?;
-        let is_ours = lock(&file, &beside);
-        if let Ok(false) = is_ours {
-            return Err(Error::Busy { path: beside });
+        let file = open_beside(&beside, replaced.is_some())?;
+        let owner = lock(&file, &beside);
+        match owner {
+            Ok(Owner::Another) => return Err(Error::Busy { path: beside }),
+            Ok(Owner::Nobody) => return Err(Error::NotPlainFile { path: beside }),
+            Ok(Owner::Us) | Err(_) => {}
         }
         let part = Part {
             path,
@@ -52,8 +60,9 @@ impl Part {
             file,
             buffer: Vec::with_capacity(BUFFER_SIZE),
             is_beside: true,
+            replaces,
         };
-        let begun = is_ours.and_then(|_| begin(&part.file, replaced.as_ref()));
+        let begun = owner.and_then(|_| begin(&part.file, replaced.as_ref()));
         begun.map_err(|error| part.failed(error))?;
         Ok(part)
     }
@@ -76,7 +85,10 @@ impl Part {
     fn keep(&mut self) -> io::Result<()> {
         self.hand_over()?;
         self.file.sync_all()?;
-        fs::rename(&self.beside, &self.path)?;
+        match self.replaces {
+            true => fs::rename(&self.beside, &self.path)?,
+            false => rename_new(&self.beside, &self.path)?,
+        }
         self.is_beside = false;
         self.folder.sync_all()
     }
@@ -113,6 +125,40 @@ impl Drop for Part {
         if self.is_beside {
             let _ = fs::remove_file(&self.beside);
         }
+    }
+}
+
+/// Opens the file beside, and leaves what it holds: another may have locked it. Only a plain file is opened. If it is
+/// private nobody else may open it before it has the mode of the file that it will replace.
+fn open_beside(path: &Path, is_private: bool) -> Result<File, Error> {
+    let other = || Error::NotPlainFile {
+        path: path.to_path_buf(),
+    };
+    let found = found_at(path).map_err(|error| failed(path, error))?;
+    if found.is_some_and(|found| !found.is_file() && !found.is_symlink()) {
+        return Err(other());
+    }
+    let opened = OpenOptions::new()
+        .write(true)
+        .create(true)
+        .truncate(false)
+        .mode(if is_private { 0o600 } else { 0o666 })
+        .custom_flags(FLAGS)
+        .open(path);
+    match opened.and_then(above_standard) {
+        Ok(file) => Ok(file),
+        Err(error) if error.raw_os_error() == Some(ENXIO) => Err(other()),
+        Err(error) => Err(failed(path, error)),
+    }
+}
+
+/// The same open file with a descriptor that is none of those of the standard input and outputs. A process that was
+/// started without these may give one of them to a file, and then write messages into it.
+fn above_standard(file: File) -> io::Result<File> {
+    // A clone never has one of them.
+    match file.as_raw_fd() {
+        0..=2 => file.try_clone(),
+        _ => Ok(file),
     }
 }
 
@@ -155,20 +201,36 @@ fn followed(path: &Path) -> io::Result<(PathBuf, Option<Metadata>)> {
     Ok((name, found))
 }
 
-/// Locks the file of this name. Returns whether it is ours: not if another holds it, or it took its name meanwhile.
-fn lock(file: &File, path: &Path) -> io::Result<bool> {
+/// Whose the file beside is.
+enum Owner {
+    /// It is locked, and has its name.
+    Us,
+    /// Another holds it, or it took its name meanwhile.
+    Another,
+    /// It is no plain file, but got the name before it was opened.
+    Nobody,
+}
+
+/// Locks the file of this name.
+fn lock(file: &File, path: &Path) -> io::Result<Owner> {
     match file.try_lock() {
-        Ok(()) => has_name(file, path),
-        Err(TryLockError::WouldBlock) => Ok(false),
+        Ok(()) => owner_of(file, path),
+        Err(TryLockError::WouldBlock) => Ok(Owner::Another),
         Err(TryLockError::Error(error)) => Err(error),
     }
 }
 
-/// Whether the open file is still the one of this name.
-fn has_name(file: &File, path: &Path) -> io::Result<bool> {
+/// Whose a locked file is: whether it is still the one of this name.
+fn owner_of(file: &File, path: &Path) -> io::Result<Owner> {
     let opened = file.metadata()?;
+    if !opened.is_file() {
+        return Ok(Owner::Nobody);
+    }
     let named = found_at(path)?;
-    Ok(named.is_some_and(|named| (named.dev(), named.ino()) == (opened.dev(), opened.ino())))
+    match named.is_some_and(|named| (named.dev(), named.ino()) == (opened.dev(), opened.ino())) {
+        true => Ok(Owner::Us),
+        false => Ok(Owner::Another),
+    }
 }
 
 /// Gives the file the mode of the one that it will replace, and its group and owner where the system lets us, and

@@ -3,9 +3,12 @@
 mod support;
 
 use std::error::Error as _;
-use std::fs::{self, File, Permissions};
+use std::fs::{self, File, OpenOptions, Permissions};
+use std::io::ErrorKind;
+use std::os::fd::{FromRawFd, OwnedFd};
 use std::os::unix::fs::{symlink, MetadataExt, PermissionsExt};
 use std::path::Path;
+use std::process::{exit, Command};
 use support::{documents, read, written, Folder};
 use zevkhadun::{Error, FileWriter, Options, Refusal, Store};
 
@@ -14,7 +17,7 @@ const ELOOP: i32 = 40;
 
 /// Publishes a store of these documents.
 fn publish(path: &Path, documents: &[Vec<u8>]) {
-    let mut writer = FileWriter::create(path).unwrap();
+    let mut writer = FileWriter::replace(path).unwrap();
     for document in documents {
         writer.put(document).unwrap();
     }
@@ -22,7 +25,7 @@ fn publish(path: &Path, documents: &[Vec<u8>]) {
 }
 
 fn assert_busy(path: &Path) {
-    let error = FileWriter::create(path).unwrap_err();
+    let error = FileWriter::replace(path).unwrap_err();
     let mut beside = path.as_os_str().to_owned();
     beside.push(".part");
     assert!(
@@ -51,7 +54,7 @@ fn the_name_has_the_old_file_until_the_new_one_is_published() {
     let path = folder.path("a.store");
     publish(&path, &documents(3, 1));
     let old = fs::read(&path).unwrap();
-    let mut writer = FileWriter::create(&path).unwrap();
+    let mut writer = FileWriter::replace(&path).unwrap();
     for document in documents(60, 2) {
         writer.put(&document).unwrap();
         assert_eq!(fs::read(&path).unwrap(), old);
@@ -68,7 +71,7 @@ fn a_writer_that_is_dropped_or_discarded_leaves_the_old_file() {
     let path = folder.path("a.store");
     publish(&path, &documents(3, 1));
     for is_dropped in [false, true] {
-        let mut writer = FileWriter::create(&path).unwrap();
+        let mut writer = FileWriter::replace(&path).unwrap();
         writer.put(b"new").unwrap();
         match is_dropped {
             true => drop(writer),
@@ -115,6 +118,57 @@ fn a_store_is_stacked_between_documents() {
     assert_eq!(read(&fs::read(&path).unwrap()), wanted);
 }
 
+/// The kind of a system's error for a path.
+fn kind_of(error: Error, wanted: &Path) -> ErrorKind {
+    match error {
+        Error::File { path, source } if path == wanted => source.kind(),
+        other => panic!("{other:?}"),
+    }
+}
+
+#[test]
+fn a_file_is_replaced_only_if_that_is_asked() {
+    let folder = Folder::new();
+    let path = folder.path("a.store");
+    publish(&path, &documents(3, 1));
+    symlink("a.store", folder.path("link.store")).unwrap();
+    for name in ["a.store", "link.store"] {
+        let error = FileWriter::create(folder.path(name)).unwrap_err();
+        let real = fs::canonicalize(&path).unwrap();
+        assert_eq!(kind_of(error, &real), ErrorKind::AlreadyExists);
+        let error = FileWriter::create_with(folder.path(name), Options::default()).unwrap_err();
+        assert_eq!(kind_of(error, &real), ErrorKind::AlreadyExists);
+    }
+    assert_eq!(read(&fs::read(&path).unwrap()), documents(3, 1));
+    assert_eq!(folder.names(), ["a.store", "link.store"]);
+    let options = Options {
+        block_size: 50,
+        period: 3,
+    };
+    let mut writer = FileWriter::replace_with(&path, options).unwrap();
+    writer.put(b"new").unwrap();
+    writer.publish().unwrap();
+    assert_eq!(fs::read(&path).unwrap(), written(&[b"new".to_vec()], 50, 3));
+}
+
+#[test]
+fn a_file_that_gets_the_name_meanwhile_is_kept_or_replaced() {
+    let folder = Folder::new();
+    let path = folder.path("a.store");
+    let mut writer = FileWriter::create(&path).unwrap();
+    writer.put(b"new").unwrap();
+    fs::write(&path, b"another's").unwrap();
+    let error = writer.publish().unwrap_err();
+    assert_eq!(kind_of(error, &path), ErrorKind::AlreadyExists);
+    assert_eq!(fs::read(&path).unwrap(), b"another's");
+    assert_eq!(folder.names(), ["a.store"]);
+    fs::remove_file(&path).unwrap();
+    let writer = FileWriter::replace(&path).unwrap();
+    fs::write(&path, b"another's").unwrap();
+    writer.publish().unwrap();
+    assert_eq!(read(&fs::read(&path).unwrap()), [b""; 0]);
+}
+
 #[test]
 fn a_second_writer_of_a_name_is_busy_and_harms_nothing() {
     let folder = Folder::new();
@@ -129,7 +183,7 @@ fn a_second_writer_of_a_name_is_busy_and_harms_nothing() {
         read(&fs::read(&path).unwrap()),
         [vec![7; 100_000], b"last".to_vec()]
     );
-    let writer = FileWriter::create(folder.path("link.store")).unwrap();
+    let writer = FileWriter::replace(folder.path("link.store")).unwrap();
     assert_busy(&path);
     writer.discard();
     publish(&path, &documents(3, 1));
@@ -179,6 +233,67 @@ fn a_file_beside_that_is_a_link_is_not_opened() {
     assert_eq!(fs::read(folder.path("other")).unwrap(), b"another's");
 }
 
+/// Makes a pipe.
+fn make_pipe(path: &Path) {
+    let made = Command::new("mkfifo").arg(path).status().unwrap();
+    assert!(made.success());
+}
+
+#[test]
+fn a_file_beside_that_is_a_pipe_or_a_folder_is_refused_at_once() {
+    let folder = Folder::new();
+    let beside = folder.path("a.store.part");
+    let refused = || match FileWriter::create(folder.path("a.store")).unwrap_err() {
+        Error::NotPlainFile { path } => assert_eq!(path, beside),
+        other => panic!("{other:?}"),
+    };
+    make_pipe(&beside);
+    refused();
+    // Somebody reads it.
+    let reader = OpenOptions::new().read(true).write(true).open(&beside);
+    refused();
+    drop(reader.unwrap());
+    assert_eq!(folder.names(), ["a.store.part"]);
+    fs::remove_file(&beside).unwrap();
+    fs::create_dir(&beside).unwrap();
+    refused();
+    fs::remove_dir(&beside).unwrap();
+    publish(&folder.path("a.store"), &documents(3, 1));
+}
+
+/// Writes a store while the standard input and outputs are closed, and returns whether their descriptors stayed free.
+fn stays_free(path: &Path) -> bool {
+    for number in 0..3 {
+        // SAFETY: this process uses none of these while it has one thread, and opens them for nobody.
+        drop(unsafe { OwnedFd::from_raw_fd(number) });
+    }
+    let is_free = || (0..3).all(|number| !Path::new(&format!("/proc/self/fd/{number}")).exists());
+    let mut writer = FileWriter::create(path).unwrap();
+    let was_free = is_free();
+    writer.put(&vec![7; 1 << 20]).unwrap();
+    writer.publish().unwrap();
+    was_free && is_free()
+}
+
+#[test]
+fn no_file_has_the_descriptor_of_a_standard_input_or_output() {
+    const PATH: &str = "ZEVKHADUN_TEST_FREE";
+    if let Some(path) = std::env::var_os(PATH) {
+        exit(if stays_free(Path::new(&path)) { 0 } else { 9 });
+    }
+    let folder = Folder::new();
+    let path = folder.path("a.store");
+    let mut child = Command::new(std::env::current_exe().unwrap());
+    child.args([
+        "--exact",
+        "--nocapture",
+        "no_file_has_the_descriptor_of_a_standard_input_or_output",
+    ]);
+    let status = child.env(PATH, &path).status().unwrap();
+    assert_eq!(status.code(), Some(0));
+    assert_eq!(read(&fs::read(&path).unwrap()), [vec![7; 1 << 20]]);
+}
+
 #[test]
 fn a_link_and_the_mode_of_its_file_are_kept() {
     let folder = Folder::new();
@@ -189,7 +304,7 @@ fn a_link_and_the_mode_of_its_file_are_kept() {
     let before = fs::metadata(&path).unwrap();
     let link = folder.path("link.store");
     symlink("inner/a.store", &link).unwrap();
-    let writer = FileWriter::create(&link).unwrap();
+    let writer = FileWriter::replace(&link).unwrap();
     assert_eq!(writer.path(), fs::canonicalize(&path).unwrap());
     writer.publish().unwrap();
     assert!(fs::symlink_metadata(&link).unwrap().is_symlink());

@@ -20,12 +20,14 @@ typedef struct reader {
     Py_buffer buffer;    /* the caller's bytes; without an object if the file is mapped */
     const uint8_t *file; /* the bytes of the file */
     size_t len;          /* how many these are; 0 if it was closed */
-    size_t size;         /* how many they were */
     zevk_block *table;   /* the blocks */
-    size_t rows;         /* how many blocks there are */
-    uint32_t count;      /* how many documents there are */
+    size_t rows;         /* how many blocks there are; 0 if it was closed */
+    uint32_t count;      /* how many documents there are; 0 if it was closed */
+    size_t size;         /* how many bytes there were when it was opened */
+    size_t blocks;       /* how many blocks there were */
+    uint32_t documents;  /* how many documents there were */
     Py_ssize_t views;    /* how many memoryviews of the file there are */
-    Py_ssize_t users;    /* how many calls read without the interpreter's lock */
+    Py_ssize_t users;    /* how many calls read, during which others may close it */
     int is_open;         /* whether it was opened and not closed */
     int is_mapped;       /* whether the file is mapped */
     uint32_t next;       /* one more than the number that was asked for last */
@@ -50,20 +52,22 @@ void *raise_refusal(uint32_t number, PyObject *path, PyObject *facts);
 /* Raises an exception of the package by its name, with this text. Returns NULL. */
 void *raise_named(const char *name, const char *text);
 
-/* Frees an object of a type of this module. */
+/* Frees an object of a type of this module, all of which the collector of garbage knows. */
 void free_object(PyObject *self);
 
 /* Raises Closed and returns 0 unless the store is open. */
 int check_open(const reader *self);
 
-/* Whether a call may read without the interpreter's lock. If so `leave_reader` has to follow. */
+/* Raises Closed and returns 0 unless the store is open. If it is, its bytes and its table stay until `leave_reader`,
+ * also if it is closed meanwhile: by another thread, or by a finalizer, which runs where an object is made. */
 int enter_reader(reader *self);
 void leave_reader(reader *self);
 
 /* A document, as bytes, from its place. */
 PyObject *document_of(const reader *self, const zevk_place *place);
 
-/* The documents of a range from the first one on, each `step` after the one before, as a list. */
+/* The documents of a range from the first one on, each `step` after the one before, as a list. The caller has entered
+ * the store. */
 PyObject *documents_of(const reader *self, Py_ssize_t first, Py_ssize_t count, Py_ssize_t step);
 
 /* The documents of many numbers, as a list. Reads without the interpreter's lock. */
@@ -72,5 +76,8 @@ PyObject *get_many(PyObject *self, PyObject *numbers);
 /* Functions of the module that read parts of a file. */
 PyObject *block_of(PyObject *module, PyObject *arguments);
 PyObject *get_in(PyObject *module, PyObject *arguments);
+
+/* A function of the module that gives a file a name which no file has. Returns False where the file system can't. */
+PyObject *rename_new(PyObject *module, PyObject *arguments);
 
 #endif

@@ -239,8 +239,23 @@ static PyObject *new_documents(PyTypeObject *type, PyObject *arguments, PyObject
     return (PyObject *)self;
 }
 
+static int traverse(PyObject *object, visitproc visit, void *arg) {
+    Py_VISIT(Py_TYPE(object));
+    Py_VISIT(((documents *)object)->store);
+    return 0;
+}
+
+/* After that there are no documents left. */
+static int clear(PyObject *object) {
+    documents *self = (documents *)object;
+    self->next = self->end;
+    Py_CLEAR(self->store);
+    return 0;
+}
+
 static void deallocate(PyObject *object) {
-    Py_CLEAR(((documents *)object)->store);
+    PyObject_GC_UnTrack(object);
+    clear(object);
     free_object(object);
 }
 
@@ -290,6 +305,8 @@ static PyType_Slot slots[] = {
     {Py_tp_doc, "Documents(store, damaged)\n--\n\nAn iteration over the documents of a store."},
     {Py_tp_new, new_documents},
     {Py_tp_dealloc, deallocate},
+    {Py_tp_traverse, traverse},
+    {Py_tp_clear, clear},
     {Py_tp_iter, PyObject_SelfIter},
     {Py_tp_iternext, next_document},
     {Py_tp_methods, methods},
@@ -299,6 +316,6 @@ static PyType_Slot slots[] = {
 PyType_Spec documents_spec = {
     .name = "zevkhadun._core.Documents",
     .basicsize = sizeof(documents),
-    .flags = Py_TPFLAGS_DEFAULT,
+    .flags = Py_TPFLAGS_DEFAULT | Py_TPFLAGS_HAVE_GC,
     .slots = slots,
 };

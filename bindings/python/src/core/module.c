@@ -73,6 +73,8 @@ static PyMethodDef functions[] = {
      "of a file of `size` bytes; or an int, how many of the last bytes are needed."},
     {"get_in", get_in, METH_VARARGS,
      "get_in(bytes, block, number): a document of a block, by the bytes of the block."},
+    {"rename_new", rename_new, METH_VARARGS,
+     "rename_new(old, new): gives a file a name that no file has. Returns whether the file system can do so."},
     {NULL, NULL, 0, NULL},
 };
 

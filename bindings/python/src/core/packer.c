@@ -6,6 +6,9 @@
 /* How many documents of an iterable are gathered before they are added. */
 #define BATCH 4096
 
+/* How long a document is at most that is copied while documents are gathered. */
+#define COPY_LEN ((Py_ssize_t)1 << 16)
+
 /* ---- documents */
 
 /* Whether a call may begin. If so `leave` has to follow. */
@@ -58,14 +61,32 @@ static PyObject *put(PyObject *object, PyObject *document) {
     return is_done ? PyLong_FromUnsignedLongLong(self->count - 1) : NULL;
 }
 
-/* Gathers documents of an iterator. It stops at its end, with an exception, and where a batch is full. */
+/* Replaces bytes by a copy of them. */
+static int copy_content(Py_buffer *content) {
+    PyObject *copy = PyBytes_FromStringAndSize(content->buf, content->len);
+    PyBuffer_Release(content);
+    int is_done = copy && PyObject_GetBuffer(copy, content, PyBUF_SIMPLE) == 0;
+    Py_XDECREF(copy);
+    return is_done;
+}
+
+/* Gathers documents of an iterator. It stops at its end, with an exception, and where a batch is full. The iterator may
+ * change the memory of a document once the next one is asked for, unless that is `bytes`: so others are copied, or are
+ * the last of their batch. */
 static size_t gather(PyObject *iterator, Py_buffer *contents) {
     size_t count = 0, bytes = 0;
     PyObject *document;
     while (count < BATCH && bytes < BUFFER_LEN && (document = PyIter_Next(iterator)) != NULL) {
+        int is_fixed = PyBytes_CheckExact(document);
         int is_taken = get_content(document, &contents[count]);
         Py_DECREF(document);
         if (!is_taken) {
+            return count;
+        }
+        if (!is_fixed && contents[count].len > COPY_LEN) {
+            return count + 1;
+        }
+        if (!is_fixed && !copy_content(&contents[count])) {
             return count;
         }
         bytes += (size_t)contents[count++].len;
@@ -195,9 +216,24 @@ static PyObject *begin(PyObject *object, PyObject *arguments) {
     Py_RETURN_NONE;
 }
 
+static int traverse(PyObject *object, visitproc visit, void *arg) {
+    Py_VISIT(Py_TYPE(object));
+    Py_VISIT(((packer *)object)->output);
+    return 0;
+}
+
+/* After that it is closed: it has no output any more. */
+static int clear(PyObject *object) {
+    packer *self = (packer *)object;
+    self->stage = CLOSED;
+    Py_CLEAR(self->output);
+    return 0;
+}
+
 static void deallocate(PyObject *object) {
     packer *self = (packer *)object;
-    Py_CLEAR(self->output);
+    PyObject_GC_UnTrack(object);
+    clear(object);
     free(self->starts);
     free(self->table);
     free(self->buffer);
@@ -241,6 +277,8 @@ static PyMethodDef methods[] = {
 static PyType_Slot slots[] = {
     {Py_tp_doc, "A store that is written."},
     {Py_tp_dealloc, deallocate},
+    {Py_tp_traverse, traverse},
+    {Py_tp_clear, clear},
     {Py_tp_methods, methods},
     {Py_tp_getset, members},
     {Py_sq_length, length},
@@ -250,6 +288,6 @@ static PyType_Slot slots[] = {
 PyType_Spec packer_spec = {
     .name = "zevkhadun._core.Packer",
     .basicsize = sizeof(packer),
-    .flags = Py_TPFLAGS_DEFAULT | Py_TPFLAGS_BASETYPE,
+    .flags = Py_TPFLAGS_DEFAULT | Py_TPFLAGS_BASETYPE | Py_TPFLAGS_HAVE_GC,
     .slots = slots,
 };

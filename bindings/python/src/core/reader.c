@@ -31,6 +31,8 @@ static void release(reader *self) {
     self->table = NULL;
     self->file = NULL;
     self->len = 0;
+    self->rows = 0;
+    self->count = 0;
 }
 
 int enter_reader(reader *self) {
@@ -75,6 +77,8 @@ static PyObject *open_bytes(reader *self) {
         return raise_refusal(answer, self->path, NULL);
     }
     self->size = self->len;
+    self->blocks = self->rows;
+    self->documents = self->count;
     self->is_open = 1;
     Py_RETURN_NONE;
 }
@@ -149,8 +153,27 @@ static PyObject *close_reader(PyObject *object, PyObject *unused) {
     Py_RETURN_NONE;
 }
 
+static int traverse(PyObject *object, visitproc visit, void *arg) {
+    reader *self = (reader *)object;
+    Py_VISIT(Py_TYPE(object));
+    Py_VISIT(self->path);
+    Py_VISIT(self->buffer.obj);
+    return 0;
+}
+
+/* Closes it, unless it has views, which the collector clears too. */
+static int clear(PyObject *object) {
+    reader *self = (reader *)object;
+    if (self->views == 0 && self->users == 0) {
+        self->is_open = 0;
+        release(self);
+    }
+    return 0;
+}
+
 static void deallocate(PyObject *object) {
     reader *self = (reader *)object;
+    PyObject_GC_UnTrack(object);
     release(self);
     Py_CLEAR(self->path);
     free_object(object);
@@ -205,12 +228,12 @@ static Py_ssize_t number_of(PyObject *key) {
 
 /* Sets `place` to where a document lies; a negative number counts from the end. */
 static int find(reader *self, Py_ssize_t number, zevk_place *place) {
+    if (!check_open(self)) {
+        return 0;
+    }
     Py_ssize_t at = number < 0 ? number + (Py_ssize_t)self->count : number;
     if (at < 0 || at >= (Py_ssize_t)self->count) {
         raise_missing(self, number);
-        return 0;
-    }
-    if (!check_open(self)) {
         return 0;
     }
     uint32_t answer = locate(self, (uint32_t)at, place);
@@ -235,8 +258,13 @@ static PyObject *subscript(PyObject *object, PyObject *key) {
         if (PySlice_Unpack(key, &start, &stop, &step) < 0) {
             return NULL;
         }
+        if (!enter_reader(self)) {
+            return NULL;
+        }
         Py_ssize_t count = PySlice_AdjustIndices((Py_ssize_t)self->count, &start, &stop, step);
-        return check_open(self) ? documents_of(self, start, count, step) : NULL;
+        PyObject *list = documents_of(self, start, count, step);
+        leave_reader(self);
+        return list;
     }
     Py_ssize_t number = number_of(key);
     if (number == -1 && PyErr_Occurred()) {
@@ -246,7 +274,7 @@ static PyObject *subscript(PyObject *object, PyObject *key) {
 }
 
 static Py_ssize_t length(PyObject *object) {
-    return (Py_ssize_t)((reader *)object)->count;
+    return (Py_ssize_t)((reader *)object)->documents;
 }
 
 static PyObject *view(PyObject *object, PyObject *key) {
@@ -335,7 +363,7 @@ static PyObject *get_is_open(PyObject *object, void *closure) {
 }
 
 static PyObject *get_blocks(PyObject *object, void *closure) {
-    return PyLong_FromSize_t(((reader *)object)->rows);
+    return PyLong_FromSize_t(((reader *)object)->blocks);
 }
 
 /* ---- the type */
@@ -370,6 +398,8 @@ static PyMethodDef methods[] = {
 static PyType_Slot slots[] = {
     {Py_tp_doc, "An open store, of a mapped file or of a buffer."},
     {Py_tp_dealloc, deallocate},
+    {Py_tp_traverse, traverse},
+    {Py_tp_clear, clear},
     {Py_tp_methods, methods},
     {Py_tp_getset, members},
     {Py_mp_length, length},
@@ -383,6 +413,6 @@ static PyType_Slot slots[] = {
 PyType_Spec reader_spec = {
     .name = "zevkhadun._core.Reader",
     .basicsize = sizeof(reader),
-    .flags = Py_TPFLAGS_DEFAULT | Py_TPFLAGS_BASETYPE,
+    .flags = Py_TPFLAGS_DEFAULT | Py_TPFLAGS_BASETYPE | Py_TPFLAGS_HAVE_GC,
     .slots = slots,
 };

@@ -5,20 +5,16 @@ It does what the Rattle `DiskSink` does, by the same names and locks, so that wr
 
 from __future__ import annotations
 
+import errno
 import fcntl
 import os
 import stat
-from typing import Optional, Tuple, Type
+from typing import Optional, Tuple
 
-from .refusals import Busy, NotPlainFile, Refused
+from ._core import rename_new
+from .paths import absolute, check_plain, open_folder, open_plain
+from .refusals import Busy, NotPlainFile, error_at
 from .types import Path
-
-
-def _error(kind: Type[Refused], path: str, text: str) -> Refused:
-    """An error of the file of this name."""
-    error = kind(f"{path}: {text}")
-    error.path = path
-    return error
 
 
 def _found_at(path: str) -> Optional[os.stat_result]:
@@ -27,6 +23,12 @@ def _found_at(path: str) -> Optional[os.stat_result]:
         return os.lstat(path)
     except FileNotFoundError:
         return None
+
+
+def _check_free(path: str, found: Optional[os.stat_result]) -> None:
+    """Raises FileExistsError if a file has this name."""
+    if found is not None:
+        raise FileExistsError(errno.EEXIST, os.strerror(errno.EEXIST), path)
 
 
 def _replaced_file(path: str) -> Tuple[str, Optional[os.stat_result]]:
@@ -38,7 +40,7 @@ def _replaced_file(path: str) -> Tuple[str, Optional[os.stat_result]]:
         path = os.path.realpath(path)
         found = _found_at(path)
     if found is not None and not stat.S_ISREG(found.st_mode):
-        raise _error(NotPlainFile, path, "not a plain file")
+        raise error_at(NotPlainFile, path, "not a plain file")
     return path, found
 
 
@@ -47,10 +49,12 @@ def _lock(descriptor: int, path: str) -> None:
     try:
         fcntl.flock(descriptor, fcntl.LOCK_EX | fcntl.LOCK_NB)
     except BlockingIOError:
-        raise _error(Busy, path, "another writes to it") from None
+        raise error_at(Busy, path, "another writes to it") from None
+    opened = os.fstat(descriptor)
+    check_plain(path, opened)
     named = _found_at(path)
-    if named is None or not os.path.samestat(named, os.fstat(descriptor)):
-        raise _error(Busy, path, "another writes to it")
+    if named is None or not os.path.samestat(named, opened):
+        raise error_at(Busy, path, "another writes to it")
 
 
 def _owned_by(path: str, user: int, group: int) -> None:
@@ -68,31 +72,32 @@ def _copy_access(beside: str, replaced: os.stat_result) -> None:
     os.chmod(beside, replaced.st_mode & 0o777)
 
 
-def _open_folder(path: str) -> int:
-    """Opens the folder that the file of this name is in."""
-    return os.open(os.path.dirname(path) or ".", os.O_RDONLY | os.O_DIRECTORY | os.O_CLOEXEC)
+def _open_beside(path: str, is_private: bool) -> int:
+    """Opens a file to write to it, and leaves what it holds: another may have locked it. A link isn't followed.
 
-
-def _open_beside(path: str) -> int:
-    """Opens a file to write to it, and leaves what it holds: another may have locked it. A link isn't followed."""
-    return os.open(path, os.O_WRONLY | os.O_CREAT | os.O_CLOEXEC | os.O_NOFOLLOW, 0o666)
+    If it is private nobody else may open it before it has the mode of the file that it will replace.
+    """
+    return open_plain(path, os.O_WRONLY | os.O_CREAT | os.O_NOFOLLOW, 0o600 if is_private else 0o666)
 
 
 class Output:
     """The file beside, whose name ends in `.part`, until it is published or removed."""
 
-    def __init__(self, path: Path) -> None:
+    def __init__(self, path: Path, *, replace: bool) -> None:
         """Begins the file beside: locked, empty, and with the access that the replaced file has.
 
-        What a crash left there is taken over. The folder is opened, and synced at the end. Raises OSError, Busy and
-        NotPlainFile; nothing was changed then.
+        What a crash left there is taken over. The folder is opened, and synced at the end. Without `replace` a file of
+        the name is a FileExistsError. Raises OSError, Busy and NotPlainFile; nothing was changed then.
         """
-        self._path, replaced = _replaced_file(os.fspath(path))
+        self._path, replaced = _replaced_file(absolute(path))
+        self._replaces = replace
+        if not replace:
+            _check_free(self._path, replaced)
         self._beside = self._path + ".part"
         self._is_beside = False
-        self._folder = _open_folder(self._path)
+        self._folder = open_folder(self._path)
         try:
-            self._file = open(_open_beside(self._beside), "wb", buffering=0)
+            self._file = open(_open_beside(self._beside, replaced is not None), "wb", buffering=0)
             self._claim(replaced)
         except BaseException:
             self._close_folder()
@@ -106,7 +111,7 @@ class Output:
             if replaced is not None:
                 _copy_access(self._beside, replaced)
             os.ftruncate(self._file.fileno(), 0)
-        except Busy:
+        except (Busy, NotPlainFile):
             self._file.close()
             raise
         except BaseException:
@@ -125,10 +130,19 @@ class Output:
         Raises OSError. The file of the name is the old one then, or is whole.
         """
         os.fsync(self._file.fileno())
-        os.replace(self._beside, self._path)
+        self._take_name()
         self._is_beside = False
         os.fsync(self._folder)
         self.remove()
+
+    def _take_name(self) -> None:
+        """Gives the file beside its name. A file that got the name meanwhile is kept, unless it may be replaced."""
+        if self._replaces:
+            os.replace(self._beside, self._path)
+        elif not rename_new(self._beside, self._path):
+            # The file system has no such call: the name is looked up before it is given.
+            _check_free(self._path, _found_at(self._path))
+            os.replace(self._beside, self._path)
 
     def remove(self) -> None:
         """Removes the file beside, if it has not got the name, and lets it go."""

@@ -10,7 +10,7 @@ from typing import Callable, Dict, Iterable, Iterator, List, Optional, Tuple, Un
 
 from ._core import block_of, get_in
 from .closing import Closing
-from .refusals import Closed, DamagedDocument, NoDocument, Refused, error_of
+from .refusals import Changed, Closed, DamagedDocument, NoDocument, Refused, error_of
 from .store import Damaged
 from .types import Buffer
 
@@ -70,6 +70,10 @@ class RangedStore(Closing, Sequence[bytes]):
     the block is in the cache. Blocks that follow one another in the file are asked for by one request.
 
     Any number of threads may use it at once, and `read` is called by each of them. Damage is found in what is read.
+
+    Where the file may be replaced by another one, `version()` tells them apart: it returns the ETag of a response, or
+    the size and the time of a file, or anything else that is compared by `==`. It is called before the first request,
+    and after each request by the thread that made it, so it may return what that request saw.
     """
 
     def __init__(
@@ -81,6 +85,7 @@ class RangedStore(Closing, Sequence[bytes]):
         cache: int = 1 << 24,
         request: int = 1 << 22,
         path: Optional[str] = None,
+        version: Optional[Callable[[], object]] = None,
     ) -> None:
         """Reads the index of a store whose file has `size` bytes.
 
@@ -88,15 +93,18 @@ class RangedStore(Closing, Sequence[bytes]):
         blocks that are kept. `request` is the greatest number of bytes of a request, unless one block is longer.
         `path` is for messages.
 
-        Raises what `read` raises, EOFError if it returns another number of bytes, and ShortFile, BadVersion,
-        BadBlockKind, BadOffset, BadPeriod or BadIndex if the file is not that of a store.
+        Raises what `read` and `version` raise, EOFError if `read` returns another number of bytes, Changed if `version`
+        returns another value than before, and ShortFile, BadVersion, BadBlockKind, BadOffset, BadPeriod or BadIndex if
+        the file is not that of a store.
         """
         self._read: Optional[Callable[[int, int], Buffer]] = read
+        self._version = version
+        self._opened_version = version() if version is not None else None
         self._size = operator.index(size)
         self._request = request
         self._path = path
         self._cache = _Cache(cache)
-        self._tail: Buffer = b""
+        self._tail = b""
         self._fetch_tail(min(max(tail, 28), self._size))
         self._count = self._counted()
 
@@ -130,7 +138,7 @@ class RangedStore(Closing, Sequence[bytes]):
     def __getitem__(self, number: Union[int, slice]) -> Union[bytes, List[bytes]]:
         """A document by its number, counted from the end if it is negative; or a list of documents by a slice.
 
-        Raises NoDocument, DamagedDocument, Closed, and what `read` raises.
+        Raises NoDocument, DamagedDocument, Changed, Closed, and what `read` and `version` raise.
         """
         if isinstance(number, slice):
             return self.get_many(range(*number.indices(self._count)))
@@ -162,7 +170,7 @@ class RangedStore(Closing, Sequence[bytes]):
         return self._iterate(damaged)
 
     def __iter__(self) -> Iterator[bytes]:
-        """The documents in order. Raises DamagedDocument, Closed, and what `read` raises."""
+        """The documents in order. Raises DamagedDocument, Changed, Closed, and what `read` and `version` raise."""
         return self.iter()
 
     def block_of(self, number: int) -> Block:
@@ -189,14 +197,24 @@ class RangedStore(Closing, Sequence[bytes]):
         if read is None:
             raise Closed("the store is closed")
         content = read(start, length)
+        self._check_version()
         if memoryview(content).nbytes != length:
             raise EOFError(f"{memoryview(content).nbytes} bytes were read at {start}, and not {length}")
         return content
 
+    def _check_version(self) -> None:
+        """Raises Changed if the file is not the one that was opened."""
+        if self._version is not None and self._version() != self._opened_version:
+            text = "The file is another one than when it was opened."
+            error = Changed(f"{self._path}: {text}" if self._path else text)
+            error.path = self._path
+            raise error
+
     def _fetch_tail(self, length: int) -> None:
         """Asks for the last bytes of the file, and once more if they lack a part of the index."""
         while True:
-            self._tail = self._fetch(self._size - length, length)
+            # A copy of its own: `read` may use its memory again.
+            self._tail = bytes(self._fetch(self._size - length, length))
             try:
                 found = block_of(self._tail, self._size, 0)
             except NoDocument:
@@ -212,8 +230,7 @@ class RangedStore(Closing, Sequence[bytes]):
 
     def _needed(self) -> int:
         """How many of the last bytes the index and the footer are: the footer says where the index begins."""
-        footer = memoryview(self._tail).cast("B")[-28:]
-        return self._size - int.from_bytes(footer[4:12], "little")
+        return self._size - int.from_bytes(self._tail[-24:-16], "little")
 
     def _counted(self) -> int:
         """The number of documents: the least number that no document has."""

@@ -143,6 +143,10 @@ class Failed(Refused, ValueError):
     """The writer failed before, and its second file was removed."""
 
 
+class Changed(Refused):
+    """The file that is read by ranges is another one than when it was opened."""
+
+
 class Busy(Refused):
     """Another writer writes to the file of this name."""
 
@@ -153,6 +157,13 @@ class NotPlainFile(Refused):
 
 #: the class of each number
 REFUSALS: Dict[int, Type[Refused]] = {kind.number: kind for kind in Refused.__subclasses__() if kind.number}
+
+
+def error_at(kind: Type[Refused], path: str, text: str) -> Refused:
+    """An error of this package about the file of a name."""
+    error = kind(f"{path}: {text}")
+    error.path = path
+    return error
 
 
 def error_of(number: int, path: Optional[str] = None, **facts: Any) -> Refused:

@@ -9,6 +9,7 @@ from typing import Any, Iterator, Literal, Optional, Tuple, Union
 
 from ._core import Documents, Reader
 from .closing import Closing
+from .paths import absolute, check_plain, open_plain
 from .types import Buffer, Path
 
 #: what comes in place of a damaged document: an exception, nothing, or None
@@ -32,8 +33,8 @@ class Store(Reader, Closing, Sequence[bytes]):
 
         Bytes that may change must not change while the store is open.
 
-        Raises OSError; ShortFile, BadVersion, BadBlockKind, BadOffset, BadPeriod or BadIndex if the bytes are not a
-        store; NoMemory.
+        Raises OSError; NotPlainFile for a pipe or a device; ShortFile, BadVersion, BadBlockKind, BadOffset, BadPeriod
+        or BadIndex if the bytes are not a store; NoMemory.
         """
         self._source: Optional[Buffer] = None
         self._path: Optional[str] = None
@@ -43,9 +44,10 @@ class Store(Reader, Closing, Sequence[bytes]):
             self._open_buffer(source)
             return
         self._path = os.fspath(source)
-        self._absolute_path = os.path.abspath(self._path)
-        descriptor = os.open(self._path, os.O_RDONLY | os.O_CLOEXEC)
+        self._absolute_path = absolute(self._path)
+        descriptor = open_plain(self._path, os.O_RDONLY)
         try:
+            check_plain(self._path, os.fstat(descriptor))
             self._open_file(descriptor, self._path)
         finally:
             os.close(descriptor)

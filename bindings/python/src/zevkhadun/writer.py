@@ -22,20 +22,22 @@ class Writer(Packer, Closing):
     """A store that is written to a file, document by document.
 
     The bytes go to a second file, whose name ends in `.part`. `close`, or the end of a `with` without an exception,
-    gives it the name. Until then, and after a crash, the file of the name is as it was. A second file that a crash
+    gives it the name. Until then, and after a crash, the name has what it had. A file that is there already is replaced
+    only if `replace` is true. A second file that a crash
     left is taken over by the next writer of the name.
 
     One call at a time may use it: a second one, of another thread, raises RuntimeError.
     """
 
-    def __init__(self, path: Path, *, block_size: int = 16384, period: int = 8) -> None:
+    def __init__(self, path: Path, *, block_size: int = 16384, period: int = 8, replace: bool = False) -> None:
         """Begins a store of no documents.
 
         A block ends when the bytes of its documents, and eight more for each, exceed `block_size`. `period` is the
-        period of the index, from 2 to 64. The mode of a file of this name is kept, and links are followed.
+        period of the index, from 2 to 64. `replace` says whether a file of this name is replaced; its mode is kept.
+        Links are followed.
 
-        Raises BadPeriod, ValueError for a block size below 0 or above the greatest, Busy if another writer writes to
-        this name, NotPlainFile, and OSError.
+        Raises FileExistsError if there is a file and `replace` is false, BadPeriod, ValueError for a block size below 0
+        or above the greatest, Busy if another writer writes to this name, NotPlainFile, and OSError.
         """
         self._period = operator.index(period)
         if not 2 <= self._period <= 64:
@@ -44,7 +46,7 @@ class Writer(Packer, Closing):
             raise ValueError(f"a block size of {block_size}, which is below 0 or above {MOST}")
         self._path = os.fspath(path)
         self._process = os.getpid()
-        self._output = Output(path)
+        self._output = Output(path, replace=replace)
         self._begin(self._output, block_size)
 
     @property
@@ -56,7 +58,8 @@ class Writer(Packer, Closing):
         """Ends the store, asks the system to keep the file, and gives it its name.
 
         A second call, and one after `discard`, does nothing. Raises NoMemory and OSError, after which the writer has
-        failed; Failed.
+        failed; Failed. A file that got the name meanwhile is a FileExistsError too, unless `replace` is true. (A file
+        system that can't rename without replacing may replace one that comes just before the rename.)
         """
         if self._stage != "closed":
             self._finish(self._period)
