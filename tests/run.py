@@ -11,8 +11,10 @@ from __future__ import annotations
 import argparse
 import importlib
 import os
+import subprocess
 import sys
 import unittest
+from concurrent.futures import ThreadPoolExecutor, as_completed
 from pathlib import Path
 
 from harness import BUILT, NEEDED
@@ -92,6 +94,7 @@ def words() -> argparse.Namespace:
     for thing in BUILT:
         text = f"default: ${thing.variable}, or {thing.default}"
         parser.add_argument(f"--{thing.name}", metavar="PATH", help=text)
+    parser.add_argument("--jobs", type=int, default=1, help="how many suites run side by side, each in its own process")
     parser.add_argument("--pictures", metavar="FOLDER", help="where the suite pages leaves each page as pictures")
     parser.add_argument("-v", "--verbose", action="store_true", help="print the name of each test")
     return parser.parse_args()
@@ -105,10 +108,30 @@ def set_paths(options: argparse.Namespace) -> None:
             os.environ[variable] = str(Path(path).absolute())
 
 
+def side_by_side(names: list[str], jobs: int) -> int:
+    """Runs each in a process of its own, several at a time, and prints what it printed once it has ended."""
+    def ran(name: str) -> subprocess.CompletedProcess:
+        command = [sys.executable, __file__, name]
+        return subprocess.run(command, stdout=subprocess.PIPE, stderr=subprocess.STDOUT, text=True)
+
+    failed = []
+    with ThreadPoolExecutor(jobs) as pool:
+        runs = {pool.submit(ran, name): name for name in names}
+        for run in as_completed(runs):
+            print(f"-- {runs[run]}\n{run.result().stdout}", end="", flush=True)
+            failed += [runs[run]] if run.result().returncode else []
+    if failed:
+        print(f"failed: {', '.join(failed)}", flush=True)
+    return int(bool(failed))
+
+
 def main() -> int:
     options = words()
     set_paths(options)
-    suite = unittest.TestSuite(tests_of(name) for name in chosen(options.names))
+    names = chosen(options.names)
+    if options.jobs > 1:
+        return side_by_side(names, options.jobs)
+    suite = unittest.TestSuite(tests_of(name) for name in names)
     runner = unittest.TextTestRunner(resultclass=Result, verbosity=2 if options.verbose else 1)
     result = runner.run(suite)
     sys.stderr.flush()

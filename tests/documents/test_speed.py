@@ -100,10 +100,6 @@ class Speed(Rules):
         others = [at(HOME, line, text) for line, text in paragraphs(HOME) if re.search(r"\b(?:Xeon|GHz|EPYC)\b", text)]
         self.assert_no_faults(others)
 
-    def test_the_first_page_shows_two_plots(self):
-        plots = re.findall(r"^!\[[^\]]+\]\((docs/plots/[\w-]+\.svg)\)$", text_of(TOP / "README.md"), re.M)
-        self.assertEqual(len(plots), 2, plots)
-
 
 class Finding(Rules):
     def test_a_sentence_about_speed_is_found(self):

@@ -10,7 +10,7 @@ from documents.case import Rules
 from documents.pages import at, documents, text_of
 from harness import TOP
 
-README = TOP / "README.md"
+THEOREM = TOP / "docs/VERIFICATION.md"
 # Pages whose tables are narrow too: they are read in a terminal, beside the code. Others have rows of figures.
 NARROW = (
     *("README.md", "CONTRIBUTING.md", "RELEASING.md", "SECURITY.md", "docs/C.md", "docs/CONTRACTS.md"),
@@ -55,10 +55,9 @@ def version_faults(pattern: str, form: str, version: str) -> Iterator[str]:
 
 class Texts(Rules):
     def test_the_theorem_has_one_text_wherever_it_stands(self):
-        home = theorems_of(text_of(README))
-        self.assertEqual(len(home), 1, "theorems in README.md")
+        home = theorems_of(text_of(THEOREM))
+        self.assertEqual(len(home), 1, "theorems in docs/VERIFICATION.md")
         self.assert_no_faults(fault for path in documents() for fault in theorem_faults(path, home))
-        self.assert_looked_at(sum(len(theorems_of(text_of(path))) for path in documents()), 2, "theorems")
 
     def test_all_versions_are_that_of_the_file_version(self):
         version = text_of(TOP / "VERSION").strip()
@@ -69,9 +68,6 @@ class Texts(Rules):
     def test_the_version_for_pkg_config_is_taken_from_the_file_version(self):
         self.assertNotRegex(text_of(BUILD), re.compile(r"^Version: *\d", re.M))
         self.assertIn("VERSION", text_of(BUILD))
-
-    def test_the_first_page_is_short(self):
-        self.assertLessEqual(text_of(README).count("\n"), 120, "lines of README.md")
 
     def test_no_line_is_longer_than_120_columns(self):
         """Rows of tables aside, but for the pages that are narrow, and the page that bench/plot.py writes."""

@@ -13,16 +13,18 @@ ERRORS = TOP / "crates/store_base/src/error.rt"
 # The files whose attributes have the texts of errors, and those that write texts of errors and faults.
 DECLARED = (
     "store_commands/src/request_error.rt", "store_files/src/create_error.rt", "document_framing/src/fault.rt",
-    "segmented_log/src/error.rt",
 )
 WRITTEN = {
-    "zevkhadun/src/failure.rt": r'(?:write!\(\s*f,\s+|f\.write_str\()"([^"]+)"',
-    "zevkhadun/src/log/number_range.rt": r'"(\'\{word\}\'[^"]+)"',
-    "zevkhadun/src/merge.rt": r'format!\(in alloc; "(--[^"]+)"',
+    "program_base/src/failure.rt": r'(?:write!\(\s*f,\s+|f\.write_str\(|FailureCause::\w+ => )"([^;"][^"]*)"',
+    "program_logs/src/log_refusal.rt": r'LogError::\w+ => \(\s*"([^"]+)"',
+    "program_logs/src/number_range.rt": r'"(\'\{word\}\'[^"]+)"',
+    "program_stores/src/merge.rt": r'format!\(in alloc; "(--[^"]+)"',
     "store_commands/src/id_range.rt": r'"(\'\{word\}\'[^"]+)"',
     "store_commands/src/broken_part.rt": r'(?:f,\s+|f\.write_str\()"([^"]+)"',
     "store_commands/src/checking.rt": r'(?:f,\s+|f\.write_str\()"([^"]+)"',
 }
+# The crates of the program.
+PROGRAM = ("program_base", "program_stores", "program_logs", "zevkhadun")
 WRONG_WORDS = r'wrong_words\(\s*\w+(?:\.alloc\(\))?,\s+"([^"]+)"'
 
 
@@ -43,12 +45,11 @@ def source_texts() -> set[str]:
         texts.update(re.findall(r'#\[error\("([^"]+)"\)\]', crate_text(path)))
     for path, form in WRITTEN.items():
         texts.update(re.findall(form, crate_text(path)))
-    for path in (TOP / "crates/zevkhadun/src").rglob("*.rt"):
-        texts.update(f"{why}: '{{word}}'" for why in re.findall(WRONG_WORDS, text_of(path)))
-    # The program has texts of its own for compressed blocks, a damaged index, a broken log, a damaged record and a
-    # folder that failed.
+    for crate in PROGRAM:
+        for path in (TOP / "crates" / crate / "src").rglob("*.rt"):
+            texts.update(f"{why}: '{{word}}'" for why in re.findall(WRONG_WORDS, text_of(path)))
+    # The program has texts of its own for compressed blocks and a damaged index.
     texts -= {"block kind {0} is not raw", "index is not the encoding of a list of checkpoints"}
-    texts -= {"there is no log", "the record is damaged", "a read or a write failed"}
     return {text for text in texts if re.search("[a-z]", re.sub(r"\{[^}]*\}", "", text))}
 
 

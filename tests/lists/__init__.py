@@ -1,3 +1,3 @@
-"""Every list of up to four calls out of five, at six block sizes, written and read by storetool."""
+"""What storetool answers: every list of up to four calls out of five, the outside vectors, and index parts."""
 
 NEEDS = ("storetool",)

@@ -16,6 +16,8 @@ CRATES = TOP / "crates"
 # The beginnings of the lines that open a function and what may hold one, as `rt fmt` writes them.
 FUNCTION = re.compile(r"\s*(?:pub(?:\([\w: ]+\))? )?(?:const |unsafe |extern \"C\" )*fn (\w+)")
 HOLDER = re.compile(r"\s*(?:pub(?:\([\w: ]+\))? )?(impl|trait|mod)\b(.*)")
+# The sign of a reference to a type, and with a lifetime.
+REFERENCE = re.compile(r"&(?:'\w+ )?(mut )?")
 
 
 class BadBody(Exception):
@@ -105,7 +107,9 @@ def parameters(text: str) -> set[str]:
 
 
 def words_of(named: str, declared: set[str]) -> list[str]:
-    """The names of a type and of what it is applied to, without lifetimes, paths and declared parameters."""
+    """The names of a type and of what it is applied to, without lifetimes, paths and declared parameters. A reference
+    is named, as the prover names it."""
+    named = REFERENCE.sub(lambda found: "RefMut " if found[1] else "Ref ", named)
     names = re.findall(r"'?\b\w+\b(?!::)", named)
     return [name for name in names if name[0] != "'" and name not in declared]
 

@@ -16,6 +16,7 @@ EDITS = {
     "the_same_is_said_otherwise": ("if blocks <= FEW_BLOCKS {", "if blocks < FEW_BLOCKS + 1 {"),
     "a_name_is_unknown": ("let shown = document.len().min(most);", "let shown = document.len().min(more);"),
     "a_function_is_unknown": ("if number < 10 {", "if number <= 10 {"),
+    "a_variable_has_another_name": ("for byte in bytes {", "for octet in bytes { let byte = octet;"),
 }
 SOURCE = """\
 impl<'a, H: Fn(u8) -> u8> Iterator for Items<'a, H, Walk> {
@@ -29,6 +30,12 @@ impl<'a, H: Fn(u8) -> u8> Iterator for Items<'a, H, Walk> {
 impl<T: Drop> From<Failed<T>> for Fault {
     fn from(failed: Failed<T>) -> Fault {
         Fault
+    }
+}
+
+impl<P: Pages> Pages for &mut P {
+    fn next_page(&mut self) -> u8 {
+        Pages::next_page(&mut **self)
     }
 }
 
@@ -74,6 +81,8 @@ class Teeth(FolderCase):
         self.assertRegex(trial.faults["the_same_is_said_otherwise"], "^NOT REFUSED: excerpts::excerpt_bytes is proved")
         self.assertRegex(trial.faults["a_name_is_unknown"], "^BAD EDIT: .*more")
         self.assertRegex(trial.faults["a_function_is_unknown"], "^BAD EDIT: .*has no function `no::such`")
+        # It means the same, but the proof names the variable that is gone.
+        self.assertRegex(trial.faults["a_variable_has_another_name"], "^BAD EDIT: no contract was tried, as a proof")
 
 
 class Words(unittest.TestCase):
@@ -82,6 +91,7 @@ class Words(unittest.TestCase):
         for line, name in (
             ("        None", "ItemsWalkIterator::next"), ("        Fault", "FaultFromFailed::from"),
             ("            note(byte);", "Page::title"), ("        first();", "pages::page::inner::second"),
+            ("        Pages::next_page(&mut **self)", "RefMutPages::next_page"),
         ):
             with self.subTest(line):
                 self.assertEqual(function_at("src/pages/page.rt", SOURCE, lines.index(line)), name)
@@ -98,16 +108,19 @@ class Words(unittest.TestCase):
         output = (
             "./proofs/log/Log/sync/Answers.antt:3:5: error: `returns`: computed, the two types differ\n"
             "./proofs/log/Log/join/Answers.antt:3:5: error: `gone` is not in scope\n"
+            "./proofs/log/Log/seal/Answers.antt:3:5: error: `returns`: record `logs.Lts.View.After`\n"
+            "  (nearest: .from-in) has no field `from`\n"
             "fn logs::log::Log::sync: not proved\n"
+            "fn logs::log::Log::seal: not proved\n"
             "fn logs::log::Log::join: not proved\n"
             "fn logs::log::Log::close: no proof: it calls `logs::log::Log::sync`, which is not proved\n"
             "fn logs::log::Log::open: no proof: expected answers in ./proofs; `search` did not prove `returns`\n"
-            "only=4 proved=0\n"
+            "only=5 proved=0\n"
         )
         check = Check(output, 1)
         for function, wanted in (
             ("log::Log::sync", True), ("Log::join", False), ("Log::close", False), ("Log::open", True), ("sync", True),
-            ("Log::none", False),
+            ("Log::none", False), ("Log::seal", False),
         ):
             with self.subTest(function):
                 self.assertEqual(check.verdict(function).is_of_contract(), wanted)

@@ -61,7 +61,9 @@ class Check:
         if not path:
             return Verdict("", [])
         folder = re.escape(path.replace("::", "/"))
-        errors = re.findall(rf"^(?:\./)?proofs/{folder}/\w+\.antt:\d+:\d+: error: (.*)$", self.output, re.M)
+        # A long error goes on in lines that are indented.
+        error = rf"^(?:\./)?proofs/{folder}/\w+\.antt:\d+:\d+: error: (.*(?:\n  .*)*)$"
+        errors = re.findall(error, self.output, re.M)
         return Verdict(said[path], errors)
 
     def proved(self) -> int:

@@ -229,7 +229,8 @@ class Logs(ProgramCase):
         killed = [call for call in recorded(self.program.path, self.log, *words, kind=LogRecording)
                   if call[0] != "print"]
         new = self.write("next.txt", replay.text)
-        for done, later in itertools.product(range(len(killed) + 1), (("append", "--sync", "every", "--number"), ("seal",))):
+        ways = ("append", "--sync", "every", "--number"), ("seal",)
+        for done, later in itertools.product(range(len(killed) + 1), ways):
             disk = Disk(files)
             for call in killed[:done]:
                 disk.do(call)

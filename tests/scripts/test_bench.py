@@ -17,11 +17,12 @@ BENCH = TOP / "bench"
 # After the folders of the tests, of which some have the names of scripts there.
 sys.path.append(str(BENCH))
 
-import measuring  # noqa: E402 (the path is set before)
+import front  # noqa: E402 (the path is set before)
+import measuring  # noqa: E402 (the same)
 import plan  # noqa: E402 (the same)
 import sides  # noqa: E402 (the same)
 from figures import LABELS, spread_of  # noqa: E402 (the same)
-from texts import between, factor_text, in_sentence, in_table  # noqa: E402 (the same)
+from texts import between, factor_text, in_sentence, in_table, two_digit_time  # noqa: E402 (the same)
 
 COMMAND = re.compile(r"<!-- run by: tests/scripts/test_bench.py -->\n    (python3 bench/run\.py .*)\n")
 EVEN, UNEVEN = [1.0, 1.01, 1.02, 1.03], [1.0, 2.0, 3.0, 4.0]
@@ -188,6 +189,13 @@ class Figures(unittest.TestCase):
     def test_a_figure_whose_rounds_lie_close_is_alone(self):
         self.assertEqual(in_table(spread_of(EVEN), factor_text), "1.02")
         self.assertEqual(between([spread_of(EVEN)] * 2, factor_text), "1.02")
+
+    def test_the_first_page_has_two_digits_and_the_least_of_a_row_is_bold(self):
+        for value, text in ((61.4, "61 ns"), (8.04, "8.0 ns"), (995, "1.0 µs"), (1493, "1.5 µs"), (1.768e8, "180 ms")):
+            self.assertEqual(two_digit_time(value), text)
+        values = [12_549.0, None, 13_300.0, 247_900.0]
+        texts = ["" if value is None else two_digit_time(value) for value in values]
+        self.assertEqual(front.row_of("open", values, texts), "| open | **13 µs** |  | **13 µs** | 250 µs |")
 
 
 class Rounds(unittest.TestCase):
