@@ -11,7 +11,7 @@ GETS = {"uniform": "uniform", "hot": "hot", "zipf": "zipf", "sequence": "in sequ
 ITERATE = {"iterate": "iterate"}
 
 WALK = "each get decodes the index from its top"
-MAPPED = "the steps are the same; the mapped file's part was not measured alone"
+CALLED = "each get calls the library, which seeks in another table; `StoreView` is compiled into the loop"
 BYTES = "both only read each document's bytes"
 LAYERS = "each get decodes eight layers of the index"
 OBJECT = "each document becomes an object in new memory"
@@ -61,7 +61,7 @@ def _beside_view() -> List[Goal]:
     return [
         Goal(f"`zevk_locate`, {mapped} / `StoreView`, get, {told}", 1.2,
              _ratio(dict(group=group, place=place, side="zevk", workload=workload, length=100),
-                    dict(group="memory", place=PROCESS, side="view", workload=workload, length=100)), MAPPED)
+                    dict(group="memory", place=PROCESS, side="view", workload=workload, length=100)), CALLED)
         for group, place, mapped in places
         for workload, told in GETS.items()
     ]

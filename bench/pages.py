@@ -11,8 +11,8 @@ from pathlib import Path
 from typing import Callable, Dict, List, Match
 
 import comparisons
+import front
 import goals
-import pictures
 import plot
 import scaling
 import tables
@@ -59,16 +59,6 @@ def _pictures_of(figures: Figures) -> Lines:
     return lines[:-1]
 
 
-def _front(figures: Figures) -> Lines:
-    """The two plots of README.md."""
-    lines: Lines = []
-    told = {name: (title, says(figures)) for name, title, says, _ in pictures.PICTURES}
-    for name in ("reading", "slower"):
-        title, says = told[name]
-        lines += [*plot.wrapped(says), "", f"![{title}](docs/plots/{name}.svg)", ""]
-    return lines[:-1]
-
-
 def _program(figures: Figures) -> str:
     shares = tables.program_shares(figures)
     if not shares:
@@ -79,7 +69,7 @@ def _program(figures: Figures) -> str:
 
 
 PARTS: Dict[str, Made] = {
-    "front": _front,
+    "front": front.front,
     "machine": paragraph(plot.machine_sentence),
     "moment": paragraph(plot.moment_sentence),
     "spread": paragraph(plot.spread_sentence),

@@ -34,9 +34,14 @@ RATIOS = [
 ]
 
 
+def shares_of(figures: Figures) -> List[float]:
+    """How far the quartiles of each row's rounds lie apart, as shares of the median: the least first."""
+    return sorted(figures.share_of(row) for row in figures.rows if len(row["rounds"]) > 1)
+
+
 def spread_sentence(figures: Figures) -> str:
     """How far the rounds of a row lie apart."""
-    shares = sorted(figures.share_of(row) for row in figures.rows if len(row["rounds"]) > 1)
+    shares = shares_of(figures)
     wide = sum(share > EVEN for share in shares)
     again = sum(bool(row["again"]) for row in figures.rows)
     return (f"In the median row the quartiles of the rounds lie {shares[len(shares) // 2]:.0%} of the median apart; in "

@@ -28,13 +28,13 @@ class Zevkhadun:
 
     @staticmethod
     def write(path: str, given: Iterable[bytes]) -> None:
-        with zevkhadun.Writer(path) as writer:
+        with zevkhadun.Writer(path, replace=True) as writer:
             writer.extend(given)
 
     @staticmethod
     def append(path: str, first: int, given: Iterable[bytes]) -> None:
         """The new store takes the blocks of the old one, and its name."""
-        with zevkhadun.Store(path) as old, zevkhadun.Writer(path) as writer:
+        with zevkhadun.Store(path) as old, zevkhadun.Writer(path, replace=True) as writer:
             writer.stack(old)
             writer.extend(given)
 

@@ -21,6 +21,24 @@ def time_text(value: float) -> str:
     return f"{value:.3g} ns"
 
 
+def rounded(value: float) -> float:
+    """The value with two digits that say something."""
+    return float(f"{value:.1e}")
+
+
+def two_digits(value: float) -> str:
+    """A number with two digits that say something."""
+    return f"{rounded(value):.1f}" if rounded(value) < 10 else f"{rounded(value):.0f}"
+
+
+def two_digit_time(value: float) -> str:
+    """Nanoseconds as a time with two digits, in the unit that suits it."""
+    for size, unit in [(1e9, "s"), (1e6, "ms"), (1e3, "µs")]:
+        if rounded(value) >= size:
+            return f"{two_digits(value / size)} {unit}"
+    return f"{two_digits(value)} ns"
+
+
 def factor_text(value: float) -> str:
     """A ratio, with as many digits as tell it from 1."""
     return f"{value:.2f}" if value < 10 else f"{value:.0f}"

@@ -20,7 +20,7 @@ static void put_all(zevk_file_writer *writer, const struct documents *documents,
 
 static void path_write(const char *path, const struct documents *documents, const struct settings *settings) {
     zevk_file_writer *writer;
-    expect(zevk_file_create(path, settings->block_size, PERIOD, &writer));
+    expect(zevk_file_create(path, ZEVK_FILE_REPLACE, settings->block_size, PERIOD, &writer));
     put_all(writer, documents, 0, settings->count);
 }
 
