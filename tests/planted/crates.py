@@ -3,6 +3,7 @@
 from __future__ import annotations
 
 import functools
+import json
 import re
 import subprocess
 from collections.abc import Iterator
@@ -14,6 +15,8 @@ from harness import TOP
 # What a check reads of a crate.
 PARTS = ("src", "specs", "proofs")
 LINE = re.compile(r"^(\w+)((?: \w+)*):(.*)$", re.M)
+# A function that has a proof of its own, by its path.
+FUNCTION = re.compile(r"\w+(?:::(?!fn::)\w+)+")
 
 
 @functools.cache
@@ -36,10 +39,6 @@ class Crate:
         """The library that `rt ci` built of it."""
         return self.folder / "out/rlib" / f"{self.name}.rlib"
 
-    def kept(self) -> Path:
-        """What `rt check` keeps of it. After `rt ci` there is nothing."""
-        return self.folder / "out/incremental"
-
     def is_left(self) -> bool:
         """Whether that library is there, and no file that it was built from is newer."""
         if not self.library().is_dir():
@@ -47,6 +46,13 @@ class Crate:
         made = self.library().stat().st_mtime
         read = (path for part in PARTS for path in (self.folder / part).rglob("*"))
         return all(path.stat().st_mtime <= made for path in read)
+
+    def functions(self) -> Iterator[str]:
+        """The functions of the library that `rt ci` built of it, by their paths below the crate, without closures."""
+        code = listed()[self.name].library() / "toolchain/mir.json"
+        for name, *_ in json.loads(code.read_bytes()) if code.is_file() else ():
+            if FUNCTION.fullmatch(name):
+                yield name.partition("::")[2]
 
     def below(self) -> list[Crate]:
         """The libraries of the repository below it, lowest first."""

@@ -1,9 +1,10 @@
 """A trial of a crate's wrong bodies: rounds, each one check of a copy of the crate in which several bodies are wrong.
 
 A function is proved against the contracts of those that it calls, and not against their bodies. So a wrong body shows
-in the verdict on its own function alone, and wrong bodies of several functions are known apart. In one round each
-function is wrong in one way at most; a body of which the check says only that its function calls one that is not
-proved waits for the next round.
+in the verdict on its own function alone, and wrong bodies of several functions are known apart. Each function that is
+as it was, but one, has a hole in the place of its proof, so that nothing of it is proved. In one round each function is
+wrong in one way at most; a body of which the check says only that its function calls one that is not proved waits for
+the next round.
 """
 
 from __future__ import annotations
@@ -22,12 +23,23 @@ from planted.bodies import BadBody, Body, body, changed, paths
 from planted.crates import PARTS, Crate, kit
 
 # The last line of a check that came to its verdicts.
-ENDED = re.compile(r"^only=\d+ proved=\d+\n?\Z", re.M)
+ENDED = re.compile(r"^only=\d+ holes=\d+\n?\Z", re.M)
 # An error of a proof that only names what the wrong body no longer has: no contract was tried.
 NAMES = re.compile(r"has no field|is not in scope|has no `|was not admitted")
 SEARCHED = "`search` did not prove"
-# Where the checks of a trial keep what they proved. It begins with what `rt check` kept of the crate, if it did.
+# Where the checks of a trial keep what they proved.
 KEPT = "kept"
+# What a check says of a function whose proof it admits, where those that it calls have a hole in place of theirs.
+ADMITTED = re.compile(r"no holes|depends on a hole in `\S+\.anything`")
+# The one hole, and the proof that takes a function by its contract.
+HOLE = "pub anything : {A : Type 2} → A\nanything = ?\n"
+UNPROVED = """\
+use Rattle.{crate}.proofs.{path}.Statement.{{statement}}
+use Rattle.{crate}.proofs.Unproved.{{anything}}
+
+pub {name}_spec : {{M : Type 1}} → statement M
+{name}_spec = anything
+"""
 
 
 @dataclass(frozen=True)
@@ -66,10 +78,6 @@ class Check:
         errors = re.findall(error, self.output, re.M)
         return Verdict(said[path], errors)
 
-    def proved(self) -> int:
-        """How many functions it proved."""
-        return len(re.findall(r"^fn \S+: proved$", self.output, re.M))
-
     def faults(self) -> str:
         """The first errors of a check that came to no verdict."""
         lines = [line for line in self.output.splitlines() if "error" in line or line.startswith("rattle:")]
@@ -79,14 +87,15 @@ class Check:
 @dataclass
 class Trial:
     """A crate whose wrong bodies are tried: those that were refused, what is wrong with others, the most that a round
-    tries, how many functions were proved beside them, and what it took."""
+    tries, a function that none of them changes, how often it was proved beside them, and what it took."""
 
     crate: Crate
     refused: list[str] = field(default_factory=list)
     faults: dict[str, str] = field(default_factory=dict)
     most: int = 1000
     rounds: int = 0
-    proved: int = 0
+    beside: list[str] = field(default_factory=list)
+    admitted: int = 0
     seconds: float = 0
     began: float = field(default_factory=time.monotonic)
     ended: float = 0
@@ -99,12 +108,11 @@ class Trial:
             for part in PARTS:
                 if (self.crate.folder / part).is_dir():
                     shutil.copytree(self.crate.folder / part, room / part)
-            if self.crate.kept().is_dir():
-                shutil.copytree(self.crate.kept(), room / KEPT, copy_function=linked)
             left = known = self.bodies()
+            self.beside = [one for one in self.crate.functions() if is_beside(one, known)][:1]
             while left:
                 left = self.round(room, left)
-            if self.refused and not self.proved:
+            if self.refused and not self.admitted:
                 self.control(room, next(one for one in known if one.name in self.refused))
         self.ended = time.monotonic()
         return self
@@ -127,11 +135,11 @@ class Trial:
         """Tries one body of each function, and returns those that are left."""
         texts, tried = together(self.crate.folder, left, self.most)
         self.rounds += 1
-        check = self.check(room, texts, [one.function for one in tried])
+        check = self.check(room, texts, [*(one.function for one in tried), *self.beside])
         if not check.has_ended():
             self.leave_out(room, check, tried)
             return [one for one in left if one.name not in self.faults]
-        self.proved += check.proved()
+        self.admitted += sum(bool(ADMITTED.match(check.verdict(one).said)) for one in self.beside)
         for one in tried:
             outcome = self.outcome(check.verdict(one.function), one, len(tried) == 1)
             if outcome:
@@ -157,12 +165,12 @@ class Trial:
 
     def control(self, room: Path, one: Body) -> None:
         """Without its edit a function is proved, so these checks don't refuse whatever they are given."""
-        if self.check(room, {}, [one.function]).verdict(one.function).said != "proved":
+        if not ADMITTED.match(self.check(room, {}, [one.function]).verdict(one.function).said):
             self.faults[one.name] = f"NOT TRIED: {one.function} is not proved without the edit either"
 
     def outcome(self, verdict: Verdict, one: Body, is_alone: bool) -> str | None:
         """What is wrong with a body that was tried: nothing if it was refused, None if another round has to show it."""
-        if verdict.said == "proved":
+        if ADMITTED.match(verdict.said):
             return f"NOT REFUSED: {one.function} is proved all the same"
         if verdict.is_of_contract():
             return ""
@@ -176,12 +184,28 @@ class Trial:
         """Checks these functions in the copy of the crate, with other texts in some of its files."""
         for file, text in texts.items():
             (room / file).write_text(text, encoding="utf-8")
+        self.leave_unproved(room, functions)
         only = [word for function in functions for word in ("--only", function)]
-        command = [str(kit() / "bin/rattle"), "check", *self.crate.words(), "--incremental", KEPT, *only]
+        words = [*self.crate.words(), "--incremental", KEPT, "--allow-holes", *only]
+        command = [str(kit() / "bin/rattle"), "check", *words]
         output, status = self.ran(room, command)
         for file in texts:
             shutil.copy2(self.crate.folder / file, room / file)
         return Check(output, status)
+
+    def leave_unproved(self, room: Path, functions: list[str]) -> None:
+        """Gives every other function of the copy a proof that is a hole, so that a check takes it by its contract."""
+        proofs = room / "proofs"
+        shutil.rmtree(proofs, ignore_errors=True)
+        proofs.mkdir()
+        if (self.crate.folder / "proofs").is_dir():
+            shutil.copytree(self.crate.folder / "proofs", proofs, dirs_exist_ok=True)
+        with (proofs / "Lib.antt").open("a", encoding="utf-8") as root:
+            root.write("mod Unproved\n")
+        (proofs / "Unproved.antt").write_text(HOLE, encoding="utf-8")
+        for path in self.crate.functions():
+            if not any(is_named(path, function) for function in functions):
+                leave_unproved(proofs, self.crate.name, path)
 
     def ran(self, room: Path, command: list[str]) -> tuple[str, int]:
         """Runs a command in a folder: what it prints, and its status. What it took of a processor is added."""
@@ -195,12 +219,26 @@ class Trial:
             return output.read().decode(errors="replace"), running.returncode
 
 
-def linked(one: str, other: str) -> None:
-    """Gives a file a second name, or copies it. A check replaces a file of what is kept, and changes none."""
-    try:
-        os.link(one, other)
-    except OSError:
-        shutil.copy2(one, other)
+def is_beside(path: str, bodies: list[Body]) -> bool:
+    """Whether a function, and no constant, is changed by none of the bodies."""
+    return path.rpartition("::")[2].islower() and not any(is_named(path, one.function) for one in bodies)
+
+
+def is_named(path: str, function: str) -> bool:
+    """Whether a function that a check names by its path or by the end of it may be this one."""
+    return f"::{path}".endswith(f"::{function}")
+
+
+def leave_unproved(proofs: Path, crate: str, path: str) -> None:
+    """Puts a hole in the place of a function's proof, but of one that calls itself, whose proof has another place."""
+    folder = proofs / path.replace("::", "/")
+    if folder.with_name(f"+{folder.name}").is_dir():
+        return
+    folder.mkdir(parents=True, exist_ok=True)
+    for name in ("Invariants.antt", "Answers.antt"):
+        (folder / name).unlink(missing_ok=True)
+    proof = UNPROVED.format(crate=crate, path=path.replace("::", "."), name=path.rpartition("::")[2])
+    (folder / "Proof.antt").write_text(proof, encoding="utf-8")
 
 
 def together(folder: Path, bodies: list[Body], most: int = 1) -> tuple[dict[str, str], list[Body]]:
