@@ -95,6 +95,7 @@ def words() -> argparse.Namespace:
         text = f"default: ${thing.variable}, or {thing.default}"
         parser.add_argument(f"--{thing.name}", metavar="PATH", help=text)
     parser.add_argument("--jobs", type=int, default=1, help="how many suites run side by side, each in its own process")
+    parser.add_argument("--beside", metavar="PID", help="a process that builds what the suite planted waits for")
     parser.add_argument("--pictures", metavar="FOLDER", help="where the suite pages leaves each page as pictures")
     parser.add_argument("-v", "--verbose", action="store_true", help="print the name of each test")
     return parser.parse_args()
@@ -106,6 +107,8 @@ def set_paths(options: argparse.Namespace) -> None:
     for name, variable in variables.items():
         if path := getattr(options, name):
             os.environ[variable] = str(Path(path).absolute())
+    if options.beside:
+        os.environ["ZEVKHADUN_TEST_BESIDE"] = options.beside
 
 
 def side_by_side(names: list[str], jobs: int) -> int:

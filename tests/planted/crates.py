@@ -6,6 +6,7 @@ import functools
 import json
 import re
 import subprocess
+import time
 from collections.abc import Iterator
 from dataclasses import dataclass
 from pathlib import Path
@@ -15,6 +16,8 @@ from harness import TOP
 # What a check reads of a crate.
 PARTS = ("src", "specs", "proofs")
 LINE = re.compile(r"^(\w+)((?: \w+)*):(.*)$", re.M)
+# The seconds after which a library that another process makes is whole.
+SETTLED = 10
 # A function that has a proof of its own, by its path.
 FUNCTION = re.compile(r"\w+(?:::(?!fn::)\w+)+")
 
@@ -46,6 +49,11 @@ class Crate:
         made = self.library().stat().st_mtime
         read = (path for part in PARTS for path in (self.folder / part).rglob("*"))
         return all(path.stat().st_mtime <= made for path in read)
+
+    def is_settled(self) -> bool:
+        """Whether its library and those below it are there, and none was made just now: it may not be whole."""
+        needed = [*self.below(), *([] if self.kind else [self])]
+        return all(one.is_left() and one.library().stat().st_mtime < time.time() - SETTLED for one in needed)
 
     def functions(self) -> Iterator[str]:
         """The functions of the library that `rt ci` built of it, by their paths below the crate, without closures."""

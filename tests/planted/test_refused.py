@@ -1,11 +1,16 @@
-"""Every wrong body is refused: a test for each crate, whose bodies are tried beside those of the other crates."""
+"""Every wrong body is refused: a test for each crate, whose bodies are tried beside those of the other crates.
+
+Beside a process that builds the libraries, the bodies of a crate are tried as soon as the libraries are there.
+"""
 
 from __future__ import annotations
 
 import os
 import re
+import time
 from concurrent.futures import Future, ThreadPoolExecutor
 from pathlib import Path
+from threading import Semaphore
 
 from harness import Case
 from planted.crates import Crate, planted
@@ -14,6 +19,8 @@ from planted.trial import Trial
 # What a check may need: the most that was seen is 2.5 GB.
 ROOM = 3 << 30
 MEMORY = Path("/proc/meminfo")
+# The number of the process that builds the libraries, if it still runs.
+BUILDING = os.environ.get("ZEVKHADUN_TEST_BESIDE", "")
 
 
 def lanes() -> int:
@@ -26,6 +33,14 @@ def weight(crate: Crate) -> int:
     """What tells which crate takes longest: how many bodies it has, and how large it is."""
     lines = sum(path.read_bytes().count(b"\n") for path in crate.folder.glob("src/**/*.rt"))
     return lines * (4 + len(list((crate.folder / "planted").glob("*.edit"))))
+
+
+def tried(crate: Crate, turns: Semaphore) -> Trial | None:
+    """A trial of a crate's bodies, once its libraries are there; nothing if nobody builds them."""
+    while Path("/proc", BUILDING or "none").is_dir() and not crate.is_settled():
+        time.sleep(2)
+    with turns:
+        return None if crate.lack() else Trial(crate).run()
 
 
 class WrongBodies(Case):
@@ -42,21 +57,22 @@ class WrongBodies(Case):
 
     @classmethod
     def setUpClass(cls) -> None:
-        cls.pool = ThreadPoolExecutor(lanes())
+        turns = Semaphore(lanes())
+        cls.pool = ThreadPoolExecutor(len(cls.asked))
         for crate in sorted(set(cls.asked), key=weight, reverse=True):
-            if not crate.lack():
-                cls.trials[crate.name] = cls.pool.submit(Trial(crate).run)
+            cls.trials[crate.name] = cls.pool.submit(tried, crate, turns)
 
     @classmethod
     def tearDownClass(cls) -> None:
         cls.pool.shutdown(cancel_futures=True)
-        done = [trial.result() for trial in cls.trials.values() if trial.done() and not trial.cancelled()]
+        ended = [trial.result() for trial in cls.trials.values() if trial.done() and not trial.cancelled()]
+        done = [trial for trial in ended if trial]
         refused, seconds = sum(len(trial.refused) for trial in done), sum(trial.seconds for trial in done)
         print(f"wrong bodies: {refused} refused, {seconds:.0f} processor seconds", flush=True)
 
     def all_are_refused(self) -> None:
-        self.assertEqual(self.crate.lack(), "")
         trial = self.trials[self.crate.name].result()
+        self.assertEqual(self.crate.lack(), "")
         print(trial, flush=True)
         if trial.faults:
             self.fail("\n".join(f"{trial.crate.name}/{name}: {fault}" for name, fault in trial.faults.items()))
