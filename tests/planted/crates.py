@@ -50,10 +50,10 @@ class Crate:
         read = (path for part in PARTS for path in (self.folder / part).rglob("*"))
         return all(path.stat().st_mtime <= made for path in read)
 
-    def is_settled(self) -> bool:
-        """Whether its library and those below it are there, and none was made just now: it may not be whole."""
+    def is_settled(self, since: float) -> bool:
+        """Whether its library and those below it were made after a time, and none just now: it may not be whole."""
         needed = [*self.below(), *([] if self.kind else [self])]
-        return all(one.is_left() and one.library().stat().st_mtime < time.time() - SETTLED for one in needed)
+        return all(one.is_left() and since < one.library().stat().st_mtime < time.time() - SETTLED for one in needed)
 
     def functions(self) -> Iterator[str]:
         """The functions of the library that `rt ci` built of it, by their paths below the crate, without closures."""

@@ -19,8 +19,8 @@ from planted.trial import Trial
 # What a check may need: the most that was seen is 2.5 GB.
 ROOM = 3 << 30
 MEMORY = Path("/proc/meminfo")
-# The number of the process that builds the libraries, if it still runs.
-BUILDING = os.environ.get("ZEVKHADUN_TEST_BESIDE", "")
+# The process that builds the libraries, if one does.
+BUILDING = Path("/proc", os.environ.get("ZEVKHADUN_TEST_BESIDE") or "none")
 
 
 def lanes() -> int:
@@ -37,7 +37,8 @@ def weight(crate: Crate) -> int:
 
 def tried(crate: Crate, turns: Semaphore) -> Trial | None:
     """A trial of a crate's bodies, once its libraries are there; nothing if nobody builds them."""
-    while Path("/proc", BUILDING or "none").is_dir() and not crate.is_settled():
+    since = BUILDING.stat().st_mtime if BUILDING.is_dir() else 0
+    while BUILDING.is_dir() and not crate.is_settled(since):
         time.sleep(2)
     with turns:
         return None if crate.lack() else Trial(crate).run()
