@@ -4,6 +4,7 @@ use crate::command_words::Argument;
 use crate::failure::{Failure, FailureCause};
 use crate::word_files::text_in;
 use clap::ArgMatches;
+use document_framing::Framing;
 use std::alloc::{AllocError, Global};
 use std::fs::File;
 use std::io::{BufReader, Read};
@@ -103,4 +104,13 @@ pub fn total_bytes(rt: &HostRuntime, paths: &[&str]) -> Option<u64> {
         total = total.saturating_add(found.len());
     }
     Some(total)
+}
+
+/// How many bytes of an input delimit a document.
+pub fn framing_bytes(framing: Framing) -> u64 {
+    match framing {
+        Framing::Lines | Framing::Nul => 1,
+        Framing::Lengths => 4,
+        Framing::Text | Framing::Files => 0,
+    }
 }

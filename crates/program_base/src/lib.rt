@@ -1,5 +1,5 @@
 //! What all commands of the program share: how they fail and end, their arguments and words, the files that they read
-//! and write, and how far they are.
+//! and write, how they check a store, and how far they are.
 #![tactic(auto)]
 
 pub mod arguments;
@@ -14,6 +14,8 @@ pub mod named_numbers;
 pub mod progress;
 pub mod replacing;
 pub mod status;
+pub mod store_check;
 pub mod store_file;
 pub mod store_output;
+pub mod verify_output;
 pub mod word_files;

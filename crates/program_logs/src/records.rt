@@ -5,8 +5,8 @@ use crate::sync_policy::SyncPolicy;
 use document_framing::Framing;
 use program_base::document_output::DocumentOutput;
 use program_base::failure::{Failure, FailureCause, to_output, with_file};
+use program_base::input_files::framing_bytes;
 use program_base::progress::Progress;
-use program_stores::pack::framing_bytes;
 use std::io::Write;
 
 // How many bytes the records of a batch take before it is synced.

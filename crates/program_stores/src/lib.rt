@@ -13,4 +13,3 @@ pub mod pack;
 pub mod stat;
 mod stat_output;
 pub mod verify;
-pub mod verify_output;

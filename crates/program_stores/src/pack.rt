@@ -10,7 +10,7 @@ use program_base::arguments::{self, framing_of, output_path, shape_of};
 use program_base::command_words::{Argument, command_of};
 use program_base::failure::{Failure, with_file};
 use program_base::input_files::{
-    buffered, files_from, inputs, names_of, open_input, split_names, total_bytes,
+    buffered, files_from, framing_bytes, inputs, names_of, open_input, split_names, total_bytes,
 };
 use program_base::progress::Progress;
 use program_base::store_output::{end_output, output_place};
@@ -59,15 +59,6 @@ pub struct Packing<'a, 'o, 'p, 'w> {
     framing: Framing,
     framing_bytes: u64,
     pub progress: Progress<'a>,
-}
-
-/// How many bytes of an input delimit a document.
-pub fn framing_bytes(framing: Framing) -> u64 {
-    match framing {
-        Framing::Lines | Framing::Nul => 1,
-        Framing::Lengths => 4,
-        Framing::Text | Framing::Files => 0,
-    }
 }
 
 impl<'a, 'o, 'p, 'w> Packing<'a, 'o, 'p, 'w> {

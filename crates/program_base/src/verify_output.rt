@@ -1,8 +1,8 @@
-//! What `verify` prints.
+//! What a check of a store found, and how it is printed.
 
+use crate::failure::{FailureCause, to_output};
+use crate::named_numbers::{NamedNumber, add_numbers};
 use docstore::StoreError;
-use program_base::failure::{FailureCause, to_output};
-use program_base::named_numbers::{NamedNumber, add_numbers};
 use serde_json::{Map, Value, put};
 use std::alloc::{AllocError, Global};
 use store_commands::broken_part::BrokenPart;
