@@ -31,6 +31,14 @@ pub fn output<'a>() -> Argument<'a> {
     }
 }
 
+/// That the file that is written may replace one.
+pub fn replace<'a>() -> Argument<'a> {
+    Argument::Flag {
+        id: "replace",
+        help: "Replace OUT if it exists, whatever it holds",
+    }
+}
+
 /// That files have to be as tantivy's directory leaves them.
 pub fn tantivy<'a>() -> Argument<'a> {
     Argument::Flag {

@@ -87,6 +87,12 @@ pub enum Argument<'a> {
         default: &'a str,
         help: &'a str,
     },
+    /// An option for a number below 2^64.
+    Number {
+        id: &'a str,
+        value: &'a str,
+        help: &'a str,
+    },
     /// An option for a number below 2^64, with a default.
     NumberOr {
         id: &'a str,
@@ -189,6 +195,9 @@ impl<'a> Argument<'a> {
                 default,
                 help,
             } => option(alloc, id, value, help).default_value(default),
+            Argument::Number { id, value, help } => option(alloc, id, value, help).value_parser(
+                value_parser!(u64),
+            ),
             Argument::NumberOr {
                 id,
                 value,

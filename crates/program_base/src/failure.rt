@@ -42,6 +42,12 @@ pub enum FailureCause {
     Request(RequestError),
     /// The input of lengths and documents ends within one.
     CutInput,
+    /// Another number of documents or records came than was expected.
+    OtherCount {
+        things: &'static str,
+        expected: u64,
+        came: u64,
+    },
     /// There is no log in the folder, and no place for a new one.
     NotLog,
     /// Another process writes the log.
@@ -101,6 +107,7 @@ impl FailureCause {
             FailureCause::OtherFile(_)
             | FailureCause::Request(_)
             | FailureCause::CutInput
+            | FailureCause::OtherCount { .. }
             | FailureCause::NotLog
             | FailureCause::NoRecord { .. }
             | FailureCause::DamagedRecord(_) => Status::Broken,
@@ -194,6 +201,13 @@ impl Display for FailureCause {
             FailureCause::OtherFile(kind) => write!(f, "the file exists and is not a {kind}"),
             FailureCause::Store(error) => write_store_error(f, error),
             FailureCause::Request(error) => error.fmt(f),
+            FailureCause::OtherCount {
+                things,
+                expected,
+                came,
+            } => {
+                write!(f, "{expected} {things} were expected and {came} came; nothing was written")
+            }
             FailureCause::NoRecord { number, first, end } => {
                 write_no_record(f, *number, *first, *end)
             }

@@ -6,6 +6,7 @@ pub mod arguments;
 pub mod byte_size;
 pub mod command_words;
 pub mod document_output;
+pub mod expected_count;
 pub mod failure;
 pub mod findings;
 pub mod input_files;
