@@ -55,7 +55,22 @@ where
     ensures failures { IfOk result (λ p. p.failures ≡ 0) }
 {
     let (folder, name) = OsFolder::of_file(alloc, rt, path)?;
-    match Publication::create(alloc, folder, name.as_str()) {
+    publication_in(alloc, folder, name.as_str())
+}
+
+// An output of nothing yet for a file of this name in its folder.
+fn publication_in<R: Files + Drop>(
+    alloc: Global,
+    folder: OsFolder<R>,
+    name: &str,
+) -> Result<Publication<OsFolder<R>>, CreateError>
+where
+    R::File: LockFile,
+    ensures content { IfOk result (λ p. p.content ≡ []) }
+    ensures termination { IfOk result (λ p. p.termination ≡ never_terminated) }
+    ensures failures { IfOk result (λ p. p.failures ≡ 0) }
+{
+    match Publication::create(alloc, folder, name) {
         Ok(output) => Ok(output),
         Err((error, _)) => Err(CreateError::System(error)),
     }
@@ -74,6 +89,18 @@ where
         ensures failures { IfOk result (λ s. s.failures ≡ 0) }
     {
         let output = begin_publication(alloc, rt, path)?;
+        Ok(DiskSink { output })
+    }
+
+    /// The same for a file that may not replace another: one that has the name is refused, and again if it came before
+    /// the output's end.
+    pub fn create_new(alloc: Global, rt: R, path: &str) -> Result<DiskSink<R>, CreateError>
+        ensures content { IfOk result (λ s. s.content ≡ []) }
+        ensures termination { IfOk result (λ s. s.termination ≡ never_terminated) }
+        ensures failures { IfOk result (λ s. s.failures ≡ 0) }
+    {
+        let (folder, name) = OsFolder::of_new_file(alloc, rt, path)?;
+        let output = publication_in(alloc, folder, name.as_str())?;
         Ok(DiskSink { output })
     }
 

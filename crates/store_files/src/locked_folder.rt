@@ -7,7 +7,7 @@ use crate::create_error::CreateError;
 use crate::disk_file::DiskFile;
 use crate::loading::read_all;
 use crate::lock_mark::{Knowledge, Standing, read_ending};
-use crate::output_file::{LockFile, lock, open_folder};
+use crate::output_file::{LockFile, lock, open_folder, plain_file};
 use crate::read_at::OsFile;
 use std::alloc::Global;
 use std::fs::{DirEntry, File, Files, OpenFile, OpenOptions};
@@ -84,6 +84,14 @@ fn check_name(name: &str) -> io::Result<()> {
     Ok(())
 }
 
+// Refuses what is there and is no plain file before it is opened: a pipe would be waited for. Links are followed.
+fn check_plain<R: Files>(rt: &R, path: &str) -> io::Result<()> {
+    match rt.metadata(path) {
+        Ok(found) if !found.is_file() => Err(ErrorKind::InvalidInput.into()),
+        _ => Ok(()),
+    }
+}
+
 // Whether a file of this name is listed: the lock is not, nor what was not published.
 fn is_listed(name: &str) -> bool {
     name != LOCK && !name.ends_with(".part")
@@ -135,13 +143,14 @@ where
     ///
     /// # Errors
     ///
-    /// `Busy` where another has it open, and those of the system.
+    /// `Busy` where another has it open, `Blocked` where `lock` is no plain file, and those of the system.
     pub fn open(alloc: Global, rt: R, path: &str) -> Result<LockedFolder<R>, CreateError>
         ensures locked { IfOk result (λ f. IsTrue (R.File.is_locked f.lock)) }
         ensures failures { IfOk result (λ f. f.failures ≡ 0) }
     {
         let folder = File::open(&rt, path)?;
         let lock_path = format!(in alloc; "{path}/{LOCK}").map_err(io::Error::from)?;
+        plain_file(&rt, alloc, lock_path.as_str())?;
         let lock_file = OpenOptions::new()
             .write(true)
             .create(true)
@@ -193,6 +202,7 @@ where
         ensures { self.new.failures ≡ self.old.failures }
     {
         let path = self.path_of(name)?;
+        check_plain(&self.rt, path.as_str())?;
         let name = String::from_str(self.alloc, name)?;
         let file = options.open(&self.rt, path.as_str())?;
         self.written = Some(WrittenFile { name, file });
@@ -464,6 +474,7 @@ impl<R: Files<File = File> + Drop> ReadableFolder for LockedFolder<R> {
 
     fn read(&self, alloc: Global, name: &str) -> io::Result<Option<Vec<u8>>> {
         let path = self.path_of(name)?;
+        check_plain(&self.rt, path.as_str())?;
         match File::open(&self.rt, path.as_str()) {
             Ok(mut file) => Ok(Some(read_all(alloc, &mut file)?)),
             Err(error) if error.kind() == ErrorKind::NotFound => Ok(None),
@@ -473,6 +484,7 @@ impl<R: Files<File = File> + Drop> ReadableFolder for LockedFolder<R> {
 
     fn open(&self, _alloc: Global, name: &str) -> io::Result<DiskFile<OsFile>> {
         let path = self.path_of(name)?;
+        check_plain(&self.rt, path.as_str())?;
         DiskFile::new(OsFile::open(&self.rt, path.as_str())?)
     }
 }

@@ -4,7 +4,7 @@ ghost use Rattle.std.specs.Prelude.{◌≡◌, ◌≤◌, OnErr};
 ghost use Rattle.store_base.specs.Counts.{HasRisen};
 
 use crate::create_error::CreateError;
-use crate::output_file::{LockFile, begin, open_folder, replaced_file};
+use crate::output_file::{LockFile, begin, found_at, open_folder, replaced_file};
 use std::alloc::Global;
 use std::fs::{Files, OpenFile};
 use std::io::Write;
@@ -24,6 +24,7 @@ where
     file: R::File,
     beside: String,
     is_beside: bool,
+    replaces: bool,
     failures: u64,
 }
 
@@ -40,7 +41,34 @@ where
     ///
     /// See `CreateError`. Nothing was changed.
     pub fn of_file(alloc: Global, rt: R, path: &str) -> Result<(OsFolder<R>, String), CreateError> {
+        OsFolder::begin(alloc, rt, path, true)
+    }
+
+    /// The same for a file that may not replace another. One that has the name is refused, and again if it came before
+    /// the file beside is renamed.
+    ///
+    /// # Errors
+    ///
+    /// See `CreateError`. Nothing was changed.
+    pub fn of_new_file(
+        alloc: Global,
+        rt: R,
+        path: &str,
+    ) -> Result<(OsFolder<R>, String), CreateError> {
+        OsFolder::begin(alloc, rt, path, false)
+    }
+
+    // The folder of the file of this name, which may replace one or not.
+    fn begin(
+        alloc: Global,
+        rt: R,
+        path: &str,
+        replaces: bool,
+    ) -> Result<(OsFolder<R>, String), CreateError> {
         let (path, replaced) = replaced_file(&rt, alloc, path)?;
+        if replaced.is_some() && !replaces {
+            return Err(CreateError::Exists);
+        }
         let beside = format!(in alloc; "{path}.part").map_err(io::Error::from)?;
         let folder = open_folder(&rt, path.as_str())?;
         let file = begin(&rt, alloc, beside.as_str(), &replaced)?;
@@ -50,6 +78,7 @@ where
             file,
             beside,
             is_beside: true,
+            replaces,
             failures: 0,
         };
         Ok((place, path))
@@ -89,6 +118,14 @@ where
     fn sync_beside(&self, name: &str) -> io::Result<()> {
         self.check_beside(name)?;
         self.file.sync_all()
+    }
+
+    // Renames the file beside, unless that would replace a file that may not be replaced.
+    fn rename_beside(&self, from: &str, to: &str) -> io::Result<()> {
+        if !self.replaces && found_at(&self.rt, to)?.is_some() {
+            return Err(io::ErrorKind::AlreadyExists.into());
+        }
+        fs::rename(&self.rt, from, to)
     }
 }
 
@@ -141,7 +178,7 @@ where
     }
 
     fn rename(&mut self, from: &str, to: &str) -> io::Result<()> {
-        let outcome = fs::rename(&self.rt, from, to);
+        let outcome = self.rename_beside(from, to);
         if outcome.is_ok() {
             self.is_beside = false;
         }
@@ -182,6 +219,7 @@ where
             file: _file,
             beside,
             is_beside,
+            replaces: _,
             failures: _,
         } = self;
         if is_beside {

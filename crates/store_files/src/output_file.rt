@@ -6,7 +6,13 @@ use crate::create_error::CreateError;
 use std::alloc::Global;
 use std::fs::{File, Files, Metadata, OpenFile, OpenOptions, Permissions, TryLockError};
 use std::io;
-use std::os::unix::fs::{MetadataExt, PermissionsExt};
+use std::os::unix::fs::{MetadataExt, OpenOptionsExt, PermissionsExt};
+
+// The mode of a file beside that will replace another, until it has that one's mode: nobody else may open it before.
+const PRIVATE: u32 = 0o600;
+
+// The mode of a file beside that replaces none; the process takes its mask from it.
+const USUAL: u32 = 0o666;
 
 /// An open file that can be locked.
 pub trait LockFile: OpenFile {
@@ -49,8 +55,8 @@ pub(crate) fn open_folder<R: Files>(rt: &R, path: &str) -> Result<R::File, Creat
     }
 }
 
-// What the file of this name is, if there is one.
-fn found_at<R: Files>(rt: &R, path: &str) -> io::Result<Option<Metadata>> {
+/// What the file of this name is, if there is one. Links are not followed.
+pub(crate) fn found_at<R: Files>(rt: &R, path: &str) -> io::Result<Option<Metadata>> {
     match rt.symlink_metadata(path) {
         Ok(found) => Ok(Some(found)),
         Err(error) if error.kind() == io::ErrorKind::NotFound => Ok(None),
@@ -85,6 +91,27 @@ fn has_name<R: Files>(rt: &R, file: &R::File, path: &str) -> io::Result<bool> {
         Some(named) => named.dev() == opened.dev() && named.ino() == opened.ino(),
         None => false,
     })
+}
+
+// That the file of this name can't be locked, since it is not a plain file.
+fn blocked(alloc: Global, path: &str) -> CreateError {
+    match String::from_str(alloc, path) {
+        Ok(name) => CreateError::Blocked(name),
+        Err(error) => CreateError::System(error.into()),
+    }
+}
+
+/// What the file of this name is, if there is one. What is no plain file is refused before it is opened: a pipe would
+/// be waited for.
+pub(crate) fn plain_file<R: Files>(
+    rt: &R,
+    alloc: Global,
+    path: &str,
+) -> Result<Option<Metadata>, CreateError> {
+    match found_at(rt, path)? {
+        Some(found) if !found.is_file() => Err(blocked(alloc, path)),
+        found => Ok(found),
+    }
 }
 
 // That the file of this name is being written by another.
@@ -143,19 +170,28 @@ where
     Ok(())
 }
 
-// Opens the file beside, which is made unless it is there. A link of its name is removed, so none is followed. A file
-// that came or went in the meantime is another's.
-fn open_beside<R: Files>(rt: &R, alloc: Global, beside: &str) -> Result<R::File, CreateError> {
-    let is_new = match found_at(rt, beside)? {
-        Some(found) if found.file_type().is_symlink() => {
-            rt.remove_file(beside)?;
-            true
-        }
-        found => found.is_none(),
-    };
+// Removes a link of this name, so that none is followed.
+fn remove_link<R: Files>(rt: &R, path: &str) -> io::Result<()> {
+    match found_at(rt, path)? {
+        Some(found) if found.file_type().is_symlink() => rt.remove_file(path),
+        _ => Ok(()),
+    }
+}
+
+// Opens the file beside, which is made with this mode unless it is there. A file that came or went in the meantime is
+// another's.
+fn open_beside<R: Files>(
+    rt: &R,
+    alloc: Global,
+    beside: &str,
+    mode: u32,
+) -> Result<R::File, CreateError> {
+    remove_link(rt, beside)?;
+    let is_new = plain_file(rt, alloc, beside)?.is_none();
     match OpenOptions::new()
         .write(true)
         .create_new(is_new)
+        .mode(mode)
         .open(rt, beside)
     {
         Ok(file) => Ok(file),
@@ -166,7 +202,7 @@ fn open_beside<R: Files>(rt: &R, alloc: Global, beside: &str) -> Result<R::File,
     }
 }
 
-/// Opens the file beside: locked, and with the access that the replaced file has. One that a crash left is taken over.
+/// Opens the file beside: locked, and with the access that the replaced file has. It is private until then. One that a crash left is taken over.
 /// Where the system refuses a call nothing is left beside.
 pub(crate) fn begin<R: Files>(
     rt: &R,
@@ -178,7 +214,8 @@ where
     R::File: LockFile,
     ensures { IfOk result (λ file. IsTrue (R.File.is_locked file)) }
 {
-    let file = open_beside(rt, alloc, beside)?;
+    let mode = if replaced.is_some() { PRIVATE } else { USUAL };
+    let file = open_beside(rt, alloc, beside, mode)?;
     match claim(rt, alloc, &file, beside, replaced) {
         Ok(()) => Ok(file),
         Err(CreateError::System(error)) => {
