@@ -10,6 +10,7 @@ import shutil
 import signal
 import subprocess
 import tempfile
+import time
 import unittest
 from dataclasses import dataclass
 from pathlib import Path
@@ -166,6 +167,14 @@ class FolderCase(Case):
         """The files of the folder."""
         return sorted(os.listdir(self.folder))
 
+    def wait_for(self, name: str) -> None:
+        """Waits until a file of the folder has this name."""
+        for _ in range(1000):
+            if name in self.names():
+                return
+            time.sleep(0.01)
+        self.fail(f"there is no {name}: the writer has not begun")
+
     def assert_missing(self, name: str) -> None:
         """No file of the folder has this name."""
         self.assertNotIn(name, self.names(), f"{name} is left in the folder")
@@ -226,8 +235,8 @@ class ProgramCase(FolderCase):
         self.program = Program(PROGRAM.path(), self)
 
     def pack(self, name: str, documents: bytes, *words: str) -> bytes:
-        """Writes a store from the standard input, and returns its bytes."""
-        self.program.gives("pack", name, *words, input=documents)
+        """Writes a store from the standard input, also over another one, and returns its bytes."""
+        self.program.gives("pack", "--replace", name, *words, input=documents)
         return self.read(name)
 
     def cat(self, name: str, *words: str) -> bytes:

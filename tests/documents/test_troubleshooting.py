@@ -16,6 +16,7 @@ DECLARED = (
 )
 WRITTEN = {
     "program_base/src/failure.rt": r'(?:write!\(\s*f,\s+|f\.write_str\(|FailureCause::\w+ => )"([^;"][^"]*)"',
+    "program_base/src/number_words.rt": r'"(\'\{part\}\'[^"]+)"',
     "program_logs/src/log_refusal.rt": r'LogError::\w+ => \(\s*"([^"]+)"',
     "program_logs/src/number_range.rt": r'"(\'\{word\}\'[^"]+)"',
     "program_stores/src/merge.rt": r'format!\(in alloc; "(--[^"]+)"',
@@ -25,7 +26,7 @@ WRITTEN = {
 }
 # The crates of the program.
 PROGRAM = ("program_base", "program_stores", "program_logs", "zevkhadun")
-WRONG_WORDS = r'wrong_words\(\s*\w+(?:\.alloc\(\))?,\s+"([^"]+)"'
+WRONG_WORDS = r'(?:wrong_words|check_name)\(\s*\w+(?:\.alloc\(\))?,\s+"([^"]+)"'
 
 
 def crate_text(path: str) -> str:

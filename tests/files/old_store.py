@@ -46,9 +46,9 @@ class OldStoreCase(ProgramCase):
         self.assertEqual(self.text(), self.OLD)
         self.assert_missing("a.store.part")
 
-    def assert_refused(self, file: str, reason: str, *words, **how) -> None:
+    def assert_refused(self, status: int, file: str, reason: str, *words, **how) -> None:
         """A command fails with one line, which names the file and the reason; the old store is whole and alone."""
-        done = self.program.fails(3, reason, *words, **how)
+        done = self.program.fails(status, reason, *words, **how)
         self.assertIn(file, done.stderr.decode(errors="replace"))
         self.assert_old()
 

@@ -61,7 +61,7 @@ class Claimed(OldStoreCase):
 
     def test_inspect_counts_the_damaged_documents(self):
         for path, sound in self.stores():
-            self.assert_succeeds("inspect", path, "--html", self.folder / "page.html")
+            self.assert_succeeds("inspect", "--replace", path, "--html", self.folder / "page.html")
             self.assertIn(f"damaged documents</th><td>{CLAIM - sound}<", self.read("page.html").decode())
 
     def test_cat_leaves_documents_out(self):

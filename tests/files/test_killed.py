@@ -13,24 +13,26 @@ class Killed(OldStoreCase):
         super().setUp()
         self.write("input", self.NEW)
 
-    def write_whole(self, command="pack"):
+    PACK = ("pack", "--replace")
+
+    def write_whole(self, command=PACK):
         """Writes the new store, and returns how many seconds it takes."""
         self.pack_old()
         start = time.monotonic()
-        self.program.gives(command, "a.store", "input")
+        self.program.gives(*command, "a.store", "input")
         return time.monotonic() - start
 
-    def write_until(self, seconds, command="pack"):
+    def write_until(self, seconds, command=PACK):
         """Ends a write after this time, and returns whether it left an unfinished file."""
-        writing = self.begin(command, "a.store", "input")
+        writing = self.begin(*command, "a.store", "input")
         time.sleep(seconds)
         writing.kill()
         writing.wait()
         return "a.store.part" in self.names()
 
     def test_a_kill_at_any_moment_leaves_the_old_store_or_the_new_one(self):
-        for command, new in (("pack", self.NEW), ("append", self.OLD + self.NEW)):
-            with self.subTest(command):
+        for command, new in ((self.PACK, self.NEW), (("append",), self.OLD + self.NEW)):
+            with self.subTest(command[0]):
                 self.kill_at_moments(command, new)
 
     def kill_at_moments(self, command, new):

@@ -10,7 +10,7 @@ from harness import limited
 ON_DEVICE = """
 cp "$3" "$1/a.store"
 sh -c "$4" "" "$1"
-"$2" pack "$1/a.store"
+"$2" pack --replace "$1/a.store"
 echo $?
 "$2" cat "$1/a.store"
 test ! -e "$1/a.store.part"
@@ -23,7 +23,8 @@ class NoRoom(OldStoreCase):
     def assert_too_large(self, most, text):
         """No file may have more bytes than this, and the text needs more."""
         limit = limited(resource.RLIMIT_FSIZE, most)
-        self.assert_refused("a.store", "File too large", "pack", "a.store", input=text, preexec_fn=limit)
+        words = ["pack", "--replace", "a.store"]
+        self.assert_refused(3, "a.store", "File too large", *words, input=text, preexec_fn=limit)
 
     def assert_full_device(self, fill, text):
         """Packs a text over the old store on a device, after the command `fill` wrote other files to it."""
@@ -36,7 +37,7 @@ class NoRoom(OldStoreCase):
 
     def test_a_signal_about_the_size_of_files_leaves_the_old_store(self):
         limit = limited(resource.RLIMIT_FSIZE, MIB, signal.SIG_DFL)
-        done = self.program.run("pack", "a.store", input=self.NEW, preexec_fn=limit)
+        done = self.program.run("pack", "--replace", "a.store", input=self.NEW, preexec_fn=limit)
         self.assertNotEqual(done.returncode, 0)
         self.assertEqual(self.text(), self.OLD)
 

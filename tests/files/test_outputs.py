@@ -7,23 +7,30 @@ from files.old_store import NOBODY, OldStoreCase
 
 class Refused(OldStoreCase):
     def test_a_missing_folder_is_refused(self):
-        self.assert_refused("b.store", "No such file or directory", "pack", self.folder / "none/b.store")
+        self.assert_refused(3, "b.store", "No such file or directory", "pack", self.folder / "none/b.store")
 
     def test_a_folder_is_refused(self):
-        self.assert_refused(str(self.folder), "not a plain file", "pack", self.folder)
+        self.assert_refused(1, str(self.folder), "not a plain file", "pack", self.folder)
 
     def test_a_device_is_refused(self):
-        self.assert_refused("/dev/full", "not a plain file", "pack", "/dev/full", input=b"x")
+        self.assert_refused(1, "/dev/full", "not a plain file", "pack", "/dev/full", input=b"x")
+
+    def test_a_pipe_is_refused_and_not_waited_for(self):
+        for name, reason in (("pipe.store", "not a plain file"), ("b.store.part", "b.store.part is not a plain file")):
+            with self.subTest(name):
+                os.mkfifo(self.folder / name)
+                output = name.removesuffix(".part")
+                self.assert_refused(1, output, reason, "pack", "--replace", output, input=b"x", timeout=20)
 
     def test_a_link_to_nothing_is_refused(self):
         (self.folder / "link.store").symlink_to("none.store")
-        self.assert_refused("link.store", "No such file or directory", "pack", "link.store", input=b"x")
+        self.assert_refused(3, "link.store", "No such file or directory", "pack", "link.store", input=b"x")
 
     def test_a_folder_without_rights_is_refused(self):
         self.folder.chmod(0o555)
         self.addCleanup(self.folder.chmod, 0o755)
         how = {"user": NOBODY, "group": NOBODY, "extra_groups": []} if os.geteuid() == 0 else {}
-        self.assert_refused("a.store", "Permission denied", "pack", "a.store", input=b"x", **how)
+        self.assert_refused(3, "a.store", "Permission denied", "pack", "--replace", "a.store", input=b"x", **how)
 
 
 class Kept(OldStoreCase):
@@ -34,7 +41,7 @@ class Kept(OldStoreCase):
         if os.geteuid() == 0:
             os.chown(self.path, NOBODY, NOBODY)
         before = self.path.stat()
-        self.program.gives("pack", "link.store", input=b"new\n")
+        self.program.gives("pack", "--replace", "link.store", input=b"new\n")
         self.assertEqual(self.text(), b"new\n")
         self.assertTrue(link.is_symlink(), "the link is replaced")
         after = self.path.stat()
@@ -46,7 +53,7 @@ class Kept(OldStoreCase):
         for target in ("other", "none"):
             with self.subTest(target):
                 (self.folder / "a.store.part").symlink_to(target)
-                self.program.gives("pack", "a.store", input=target.encode())
+                self.program.gives("pack", "--replace", "a.store", input=target.encode())
                 self.assertEqual(self.text(), target.encode() + b"\n")
                 self.assertEqual(other.read_bytes(), b"other")
                 self.assertEqual(self.names(), ["a.store", "other"])

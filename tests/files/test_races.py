@@ -12,7 +12,7 @@ class Writers(OldStoreCase):
     def begun(self):
         """A writer that has begun, and waits for its input."""
         how = {"stdin": subprocess.PIPE, "stderr": subprocess.PIPE, "preexec_fn": heed_signals}
-        writing = self.begin("pack", "a.store", **how)
+        writing = self.begin("pack", "--replace", "a.store", **how)
         for _ in range(1000):
             if "a.store.part" in self.names():
                 return writing
@@ -24,7 +24,7 @@ class Writers(OldStoreCase):
     def test_a_second_writer_is_refused_and_the_first_one_ends(self):
         first = self.begun()
         reason = "a.store.part is being written by another"
-        self.program.fails(3, reason, "pack", "a.store", input=b"second\n")
+        self.program.fails(3, reason, "pack", "--replace", "a.store", input=b"second\n")
         self.assertEqual(self.text(), self.OLD)
         first.communicate(b"first\n", timeout=60)
         self.assertEqual(first.returncode, 0)

@@ -3,7 +3,6 @@
 import os
 import resource
 import subprocess
-import time
 
 from harness import ProgramCase, changed, limited, numbers
 from program.texts import LINES, NUMBERS
@@ -60,7 +59,7 @@ class Refused(ProgramCase):
 
     def test_a_file_that_is_no_store_is_kept(self):
         self.write("text", NUMBERS)
-        self.program.fails(1, "text: the file exists and is not a store", "append", "text", input=LINES)
+        self.program.fails(1, "text: unknown store version", "append", "text", input=LINES)
         self.assert_kept("text", NUMBERS)
 
     def test_a_store_of_version_1_is_kept(self):
@@ -99,14 +98,12 @@ class OtherWriter(ProgramCase):
         command = [self.program.path, "append", "a.store"]
         self.first = subprocess.Popen(command, cwd=self.folder, stdin=subprocess.PIPE)
         self.addCleanup(self.first.communicate)
-        for _ in range(1000):
-            if "a.store.part" in self.names():
-                return
-            time.sleep(0.01)
-        self.fail("the append has not begun")
+        self.wait_for("a.store.part")
 
     def test_a_second_one_is_refused_and_the_first_one_ends(self):
-        for words in (["append", "a.store"], ["pack", "a.store"], ["merge", "a.store", "a.store"]):
+        self.pack("b.store", LINES)
+        for words in (["append", "a.store"], ["pack", "--replace", "a.store"],
+                      ["merge", "--replace", "a.store", "b.store"]):
             self.program.fails(3, "a.store.part is being written by another", *words, input=b"second\n")
         self.first.communicate(b"first\n", timeout=60)
         self.assert_documents("a.store", LINES + b"first\n")

@@ -106,7 +106,7 @@ class Unreadable(DamagedCase):
     def test_a_missing_file_and_a_folder_are_reported(self):
         for words in (["cat", "gone"], ["get", "gone", "0"], ["merge", "x.store", "gone"]):
             self.program.fails(3, "gone: No such file", *words)
-        self.program.fails(3, f"{self.folder}: not a plain file", "cat", self.folder)
+        self.program.fails(1, f"{self.folder}: not a plain file", "cat", self.folder)
 
 
 class DamagedDocuments(DamagedCase):

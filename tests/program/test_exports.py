@@ -21,7 +21,7 @@ STORES = (
 class Exports(ProgramCase):
     def export(self, out: str, store: str) -> bytes:
         """The bytes of a store's export."""
-        self.program.gives("export", "--tantivy", out, store)
+        self.program.gives("export", "--tantivy", "--replace", out, store)
         return self.read(out)
 
     def test_the_files_are_those_that_tantivy_opened(self):
@@ -46,7 +46,7 @@ class Exports(ProgramCase):
     def test_version_1_is_refused_and_the_file_is_kept(self):
         store = self.export("out.store", self.pack("a.store", b"a\n") and "a.store")
         self.write("old.store", changed(store, -28, b"\1"))
-        self.program.fails(1, "old.store: ", "export", "--tantivy", "out.store", "old.store")
+        self.program.fails(1, "old.store: ", "export", "--tantivy", "--replace", "out.store", "old.store")
         self.assertEqual(self.read("out.store"), store)
         self.assert_missing("out.store.part")
 

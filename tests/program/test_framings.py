@@ -27,7 +27,7 @@ class Framings(ProgramCase):
         for what, (framing, content) in COMES_BACK.items():
             with self.subTest(what):
                 self.write("input", content)
-                self.program.gives("pack", "--framing", framing, "a.store", "input")
+                self.program.gives("pack", "--replace", "--framing", framing, "a.store", "input")
                 self.assert_documents("a.store", content, "--framing", framing)
 
     def test_a_last_line_without_its_end_gets_one_as_lines(self):

@@ -32,7 +32,7 @@ class Elements(html.parser.HTMLParser):
 class Inspect(ProgramCase):
     def page(self, store, *words):
         """The text of a store's page."""
-        self.program.gives("inspect", *words, store, "--html", "page.html")
+        self.program.gives("inspect", "--replace", *words, store, "--html", "page.html")
         return self.read("page.html").decode()
 
     def test_each_element_is_closed_and_nothing_is_loaded(self):
@@ -86,6 +86,12 @@ class Inspect(ProgramCase):
         self.pack("two.store", NUMBERS)
         one, two = self.page("one.store"), self.page("two.store")
         self.assertNotEqual(one, two)
+
+    def test_a_page_is_not_written_to_the_standard_output(self):
+        self.pack("a.store", b"a\n")
+        for words in (["a.store", "-"], ["a.store", "--html", "-"]):
+            self.program.fails(2, "a page can't be written to standard output: '-'", "inspect", *words)
+            self.assertEqual(self.names(), ["a.store"])
 
 
 class Printed(ProgramCase):

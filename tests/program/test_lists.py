@@ -63,7 +63,7 @@ class FilesFrom(ProgramCase):
     def test_files_are_packed_in_the_order_of_the_list(self):
         self.program.gives("pack", "a.store", "--files-from", "list")
         self.assert_documents("a.store", b"two\n" + LINES)
-        self.program.gives("pack", "a.store", "one.txt", "--files-from", "list")
+        self.program.gives("pack", "--replace", "a.store", "one.txt", "--files-from", "list")
         self.assert_documents("a.store", LINES + b"two\n" + LINES)
 
     def test_a_list_may_be_the_standard_input(self):

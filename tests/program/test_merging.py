@@ -13,7 +13,7 @@ class Merge(ProgramCase):
         self.pack("numbers.store", NUMBERS)
 
     def merge(self, out, *words):
-        self.program.gives("merge", out, *words)
+        self.program.gives("merge", "--replace", out, *words)
 
     def test_stores_come_in_order(self):
         self.pack("small.store", NUMBERS, "--block-size", "100", "--period", "3")
@@ -33,9 +33,9 @@ class Merge(ProgramCase):
                 self.merge("less.store", *inputs, *(word for one in ids for word in ("--without", one)))
                 self.assert_documents("less.store", wanted)
 
-    def test_a_store_may_be_merged_into_its_own_name(self):
-        self.merge("a.store", "a.store", "a.store")
-        self.assert_documents("a.store", LINES * 2)
+    def test_a_store_may_come_twice(self):
+        self.merge("all.store", "a.store", "a.store")
+        self.assert_documents("all.store", LINES * 2)
 
     def test_more_stores_are_merged_than_files_may_be_open(self):
         names = [f"{number}.store" for number in range(100, 141)]

@@ -29,6 +29,13 @@ class Get(ProgramCase):
         self.program.fails(1, reason, "get", "a.store", "20000")
         self.program.fails(1, "no document 20000", "get", "a.store", "19999..20001")
 
+    def test_a_number_that_no_store_has_is_refused_as_one_that_this_store_lacks(self):
+        for word in ("20001", "4294967294", "4294967295", "99999999999999999999"):
+            self.program.fails(1, f"a.store: no document {word}", "get", "a.store", word)
+
+    def test_a_range_that_ends_before_it_begins_is_refused(self):
+        self.program.fails(2, "'5..3' ends before it begins", "get", "a.store", "0", "5..3")
+
     def test_a_word_that_is_no_number_is_refused(self):
         self.program.fails(2, "'seven' is not a document number or a range", "get", "a.store", "seven")
         self.program.fails(2, "is not a document number or a range", "get", "a.store", "3..x")
@@ -65,7 +72,16 @@ class GetListed(ProgramCase):
     def test_wrong_lines_are_refused_after_the_documents_before_them(self):
         done = self.program.fails(1, "a.store: no document 20000", "get", "a.store", "-", input=b"0\n20000\n1\n")
         self.assertEqual(done.stdout, b"1\n")
-        self.program.fails(2, "'x' is not a document number", "get", "a.store", "-", input=b"x\n")
+
+    def test_a_wrong_line_is_told_by_its_number(self):
+        for lines, said in (
+            (b"x\n", "standard input: line 1: 'x' is not a document number"),
+            (b"0\n\n3..x\n1\n", "standard input: line 3: '3..x' is not a document number"),
+            (b"0\n1\n5..3\n", "standard input: line 3: '5..3' ends before it begins"),
+            (b"0\n\xff\n", "standard input: line 2: it is not UTF-8"),
+        ):
+            with self.subTest(said):
+                self.program.fails(1, said, "get", "a.store", "-", input=lines)
 
     def test_a_dash_is_alone(self):
         self.program.fails(2, "'-' is not a document number", "get", "a.store", "0", "-")
@@ -121,7 +137,7 @@ class Cat(ProgramCase):
             ("by one option", ["0,2..19998"], b"2\n19999\n20000\n"),
             ("by two options", ["0", "2..19998"], b"2\n19999\n20000\n"),
             ("in any order, some twice", ["9..19998,0", "1..3,2..9", "5"], numbers(20_000, 19_999)),
-            ("a range without documents", ["3..19998,19999..3"], numbers(3) + numbers(20_000, 19_999)),
+            ("a range without documents", ["3..19998,3..3"], numbers(3) + numbers(20_000, 19_999)),
         ):
             with self.subTest(what):
                 options = [word for ids in words for word in ("--without", ids)]
@@ -129,6 +145,13 @@ class Cat(ProgramCase):
 
     def test_a_document_that_is_not_there_cannot_be_left_out(self):
         self.program.fails(1, "no document 20000", "cat", "a.store", "--without", "20000")
+        self.program.fails(1, "no document 4294967295", "cat", "a.store", "--without", "4294967295")
+
+    def test_a_range_that_ends_before_it_begins_leaves_nothing_out_unnoticed(self):
+        self.program.fails(2, "'5..3' ends before it begins", "cat", "a.store", "--without", "0,5..3")
+        words = ["merge", "b.store", "a.store", "--without", "a.store=5..3"]
+        self.program.fails(2, "'5..3' ends before it begins", *words)
+        self.assert_missing("b.store")
 
     def test_a_word_that_is_no_number_cannot_be_left_out(self):
         self.program.fails(2, "'x' is not a document number", "cat", "a.store", "--without", "1,x")

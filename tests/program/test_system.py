@@ -3,7 +3,6 @@
 import os
 import re
 import subprocess
-import time
 
 from harness import ProgramCase, numbers, read_to_end
 from program.texts import LINES, NUMBERS
@@ -30,6 +29,11 @@ class Outputs(ProgramCase):
             with self.subTest(words[0]), open("/dev/full", "wb") as full:
                 self.program.fails(3, "standard output: No space", *words, stdout=full)
 
+    def test_a_full_output_is_reported_by_the_help_and_the_version(self):
+        for words in (["--help"], ["pack", "--help"], ["--version"]):
+            with self.subTest(words), open("/dev/full", "wb") as full:
+                self.program.fails(3, "standard output: No space", *words, stdout=full)
+
     def test_a_closed_pipe_is_silent_and_ends_with_0(self):
         for words in READERS:
             with self.subTest(words[0]):
@@ -54,7 +58,7 @@ class OtherWriter(ProgramCase):
         super().setUp()
         self.old = self.pack("kept.store", LINES)
         os.mkfifo(self.folder / "slow")
-        command = [self.program.path, "pack", "kept.store", "slow"]
+        command = [self.program.path, "pack", "--replace", "kept.store", "slow"]
         self.writer = subprocess.Popen(command, cwd=self.folder)
         self.addCleanup(self.end)
         # For reading too, so that it opens even if no program does.
@@ -63,20 +67,13 @@ class OtherWriter(ProgramCase):
         os.write(self.input, b"begun\n")
         self.wait_for("kept.store.part")
 
-    def wait_for(self, name):
-        for _ in range(1000):
-            if name in self.names():
-                return
-            time.sleep(0.01)
-        self.fail(f"there is no {name}: the writer has not begun")
-
     def end(self):
         self.writer.kill()
         self.writer.wait()
 
     def test_an_output_that_another_writes_is_refused(self):
         reason = "kept.store.part is being written by another"
-        self.program.fails(3, reason, "pack", "kept.store", input=LINES)
+        self.program.fails(3, reason, "pack", "--replace", "kept.store", input=LINES)
         self.assert_same(self.read("kept.store"), self.old, "kept.store")
 
     def test_a_writer_that_is_killed_leaves_the_old_file(self):
@@ -116,7 +113,7 @@ class Terminal(ProgramCase):
         self.assertRegex(text, rf"{int(size * 100_000 / len(self.MORE))}% 0:00 left {int(size)} KB [0-9.]+ [KM]B/s")
         text = self.program.shows("append", "a.store", "more.txt")
         self.assertRegex(text, r"[0-9]+% 0:00 left [0-9.]+ KB [0-9.]+ [KMG]B/s")
-        text = self.program.shows("merge", "all.store", "a.store", "a.store")
+        text = self.program.shows("merge", "--replace", "all.store", "a.store", "a.store")
         self.assertRegex(text, r"400000 documents [0-9.]+ MB [0-9.]+ [KMG]B/s")
 
     def test_progress_fits_into_forty_columns(self):

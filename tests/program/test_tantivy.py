@@ -20,13 +20,13 @@ class Segment(ProgramCase):
 
     def test_it_has_a_page(self):
         for option in ([], ["--tantivy"]):
-            self.program.gives("inspect", *option, "segment.store", "--html", "page.html")
+            self.program.gives("inspect", "--replace", *option, "segment.store", "--html", "page.html")
             self.assertIn(b"<td>20000</td>", self.read("page.html"))
 
     def test_it_is_merged(self):
         self.program.gives("merge", "--tantivy", "merged.store", "segment.store")
         self.assert_documents("merged.store", NUMBERS)
-        self.program.gives("merge", "merged.store", "segment.store", "numbers.store")
+        self.program.gives("merge", "--replace", "merged.store", "segment.store", "numbers.store")
         self.assert_documents("merged.store", NUMBERS * 2)
 
     def test_its_store_is_found_by_every_length_of_the_text(self):
@@ -35,12 +35,10 @@ class Segment(ProgramCase):
             self.write("segment.store", store + text + len(text).to_bytes(4, "little") + b"\x39\5\0\0")
             self.assert_documents("segment.store", NUMBERS)
 
-    def test_it_is_never_replaced(self):
+    def test_nothing_is_appended_to_it(self):
         before = self.read("segment.store")
-        for command, *inputs in (["pack"], ["append"], ["merge", "numbers.store"]):
-            reason = "segment.store: the file exists and is not a store"
-            self.program.fails(1, reason, command, "segment.store", *inputs)
-            self.assert_kept("segment.store", before)
+        self.program.fails(1, "segment.store: unknown store version", "append", "segment.store", input=b"more\n")
+        self.assert_kept("segment.store", before)
 
     def test_a_length_past_the_file_is_no_footer(self):
         self.write("segment.store", b"x" * 40 + b"\xff\0\0\0\x39\5\0\0")

@@ -83,13 +83,13 @@ class Publishing(OldStoreCase):
     def test_a_store_is_packed(self):
         new = lines(20000)
         self.write("new.txt", new)
-        self.check(new, "pack", "a.store", "new.txt", before=("a.store",))
+        self.check(new, "pack", "--replace", "a.store", "new.txt", before=("a.store",))
 
     def test_a_store_is_packed_over_what_a_crash_left_beside(self):
         new = lines(100)
         self.write("new.txt", new)
         self.write("a.store.part", b"torn" * 1000)
-        self.check(new, "pack", "a.store", "new.txt", before=("a.store", "a.store.part"))
+        self.check(new, "pack", "--replace", "a.store", "new.txt", before=("a.store", "a.store.part"))
 
     def test_a_store_is_packed_where_there_was_none(self):
         new = lines(100)
@@ -107,9 +107,4 @@ class Publishing(OldStoreCase):
         names = ["1.store", "2.store", "3.store"]
         for name, text in zip(names, texts):
             self.pack(name, text)
-        self.check(b"".join(texts), "merge", "a.store", *names, before=("a.store",))
-
-    def test_a_store_is_merged_into_its_own_name(self):
-        new = lines(20000)
-        self.pack("1.store", new)
-        self.check(self.OLD + new, "merge", "a.store", "a.store", "1.store", before=("a.store",))
+        self.check(b"".join(texts), "merge", "--replace", "a.store", *names, before=("a.store",))

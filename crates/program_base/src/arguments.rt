@@ -27,7 +27,7 @@ pub fn input<'a>() -> Argument<'a> {
 pub fn output<'a>() -> Argument<'a> {
     Argument::Word {
         id: OUTPUT,
-        help: "Output file. It replaces an existing store or empty file when writing succeeds, never any other file",
+        help: "Output file. It appears when writing succeeds; one that exists is refused, unless with --replace",
     }
 }
 

@@ -243,6 +243,8 @@ pub fn command_of<'a>(
     Command::new(alloc, name)
         .about(about)
         .after_help(after_help)
+        // Of an option that is given twice the last one counts, so that an alias can have options.
+        .args_override_self(true)
         .args(args)
 }
 

@@ -26,6 +26,10 @@ pub struct LogRefusal {
 pub enum FailureCause {
     /// The words of the command line are wrong.
     Words(String),
+    /// A line of the standard input, counted from 1, is wrong.
+    Line { number: u64, text: String },
+    /// A number is named that no document has.
+    NoSuchNumber(String),
     /// The words are not UTF-8.
     NoText,
     /// The system refused a call.
@@ -34,8 +38,8 @@ pub enum FailureCause {
     Output(io::Error),
     /// The output can't be begun.
     Create(CreateError),
-    /// A file that is none of this kind has the output's name.
-    OtherFile(&'static str),
+    /// An input is the file that is written.
+    InputIsOutput,
     /// A call on a store was refused.
     Store(StoreError),
     /// A request to a store was refused.
@@ -63,10 +67,19 @@ pub enum FailureCause {
 }
 
 impl FailureCause {
+    /// Why the system refused a call on an output.
+    pub fn of_output(error: io::Error) -> FailureCause {
+        if error.kind() == io::ErrorKind::AlreadyExists {
+            return FailureCause::Create(CreateError::Exists);
+        }
+        FailureCause::System(error)
+    }
+
     // What is said of a cause that carries nothing which is printed.
     fn text(&self) -> &'static str {
         match self {
             FailureCause::NoText => "file names and other arguments have to be UTF-8",
+            FailureCause::InputIsOutput => "this input is the output too",
             FailureCause::CutInput => "the input ends inside a document",
             FailureCause::NotLog => "not a log",
             FailureCause::BusyLog => "the log is being written by another",
@@ -85,7 +98,8 @@ impl FailureCause {
             FailureCause::NotLog => "; 'zevkhadun log append' begins one in a new or empty folder",
             FailureCause::DamagedRecord(_) => "; 'zevkhadun log verify' says where",
             FailureCause::Log(refusal) => refusal.advice,
-            FailureCause::OtherFile(_) => "; choose another name, or remove it",
+            FailureCause::Create(CreateError::Exists) => "; choose another name, or give '--replace'",
+            FailureCause::InputIsOutput => "; write to another name, and rename that file",
             FailureCause::CutInput => "; does it have another framing?",
             FailureCause::Request(error) => advice_for_request(error),
             FailureCause::Store(error) => advice_for(error),
@@ -97,14 +111,16 @@ impl FailureCause {
     fn status(&self) -> Status {
         match self {
             FailureCause::Words(_) | FailureCause::NoText => Status::Usage,
-            FailureCause::System(_)
-            | FailureCause::Output(_)
-            | FailureCause::Create(_)
-            | FailureCause::BusyLog => Status::System,
+            FailureCause::Create(error) => status_of_output(error),
+            FailureCause::System(_) | FailureCause::Output(_) | FailureCause::BusyLog => {
+                Status::System
+            }
             FailureCause::Log(refusal) => refusal.status,
             FailureCause::Store(error) => status_of(error),
             FailureCause::Request(RequestError::Store(error)) => status_of(error),
-            FailureCause::OtherFile(_)
+            FailureCause::Line { .. }
+            | FailureCause::NoSuchNumber(_)
+            | FailureCause::InputIsOutput
             | FailureCause::Request(_)
             | FailureCause::CutInput
             | FailureCause::OtherCount { .. }
@@ -113,6 +129,14 @@ impl FailureCause {
             | FailureCause::DamagedRecord(_) => Status::Broken,
             FailureCause::Reported(status) => *status,
         }
+    }
+}
+
+// The status where an output can't be begun.
+fn status_of_output(error: &CreateError) -> Status {
+    match error {
+        CreateError::Exists | CreateError::NotPlainFile | CreateError::Blocked(_) => Status::Broken,
+        CreateError::Busy(_) | CreateError::Folder(_) | CreateError::System(_) => Status::System,
     }
 }
 
@@ -198,7 +222,10 @@ impl Display for FailureCause {
             FailureCause::System(error) => error.fmt(f),
             FailureCause::Output(error) => write!(f, "standard output: {error}"),
             FailureCause::Create(error) => error.fmt(f),
-            FailureCause::OtherFile(kind) => write!(f, "the file exists and is not a {kind}"),
+            FailureCause::Line { number, text } => write!(f, "standard input: line {number}: {text}"),
+            FailureCause::NoSuchNumber(word) => {
+                write!(f, "no document {word}; a store has at most 4294967295 documents")
+            }
             FailureCause::Store(error) => write_store_error(f, error),
             FailureCause::Request(error) => error.fmt(f),
             FailureCause::OtherCount {
@@ -308,9 +335,10 @@ impl From<FailureCause> for Failure {
 }
 
 impl Failure {
-    /// At this file. What is wrong with the words or the standard output is at none.
+    /// At this file. What is wrong with the words, the standard input or the standard output is at none.
     pub fn at_file(alloc: Global, path: &str, cause: FailureCause) -> Failure {
-        if let FailureCause::Words(_) | FailureCause::Output(_) = &cause {
+        if let FailureCause::Words(_) | FailureCause::Line { .. } | FailureCause::Output(_) = &cause
+        {
             return Failure::from(cause);
         }
         Failure {

@@ -1,9 +1,8 @@
 //! A store that is written to disk.
 
-use crate::arguments::wrong_words;
 use crate::failure::{Failure, FailureCause, with_file};
+use crate::output_path::OutputPath;
 use crate::progress::Progress;
-use crate::replacing::check_store;
 use std::alloc::Global;
 use store_commands::StoreShape;
 use store_files::OsFolder;
@@ -42,14 +41,15 @@ impl OutputPlace {
     }
 }
 
-/// The place of a store of this name. A store that has it is replaced at the end; any other file is kept.
-pub fn output_place(rt: &HostRuntime, path: &str) -> Result<OutputPlace, Failure> {
-    let alloc = rt.alloc();
-    if path == "-" {
-        return Err(wrong_words(alloc, "a store can't be written to standard output", path));
-    }
-    with_file(alloc, path, check_store(rt, path))?;
-    let (folder, name) = with_file(alloc, path, OsFolder::of_file(alloc, *rt, path))?;
+/// The place of a store that is made of these inputs, of which none may be the output.
+pub fn output_place(
+    rt: &HostRuntime,
+    output: OutputPath<'_>,
+    inputs: &[&str],
+) -> Result<OutputPlace, Failure> {
+    output.check_name(rt.alloc(), "a store can't be written to standard output")?;
+    output.check_inputs(rt, inputs)?;
+    let (folder, name) = with_file(rt.alloc(), output.path, output.folder(rt))?;
     Ok(OutputPlace { folder, name })
 }
 
@@ -57,7 +57,7 @@ pub fn output_place(rt: &HostRuntime, path: &str) -> Result<OutputPlace, Failure
 fn failure_of<E: Into<Failure> + Drop>(alloc: Global, path: &str, error: FillError<E>) -> Failure {
     let cause = match error {
         FillError::Filling(error) => return error.into(),
-        FillError::Folder(error) => FailureCause::System(error),
+        FillError::Folder(error) => FailureCause::of_output(error),
         FillError::Store(error) => FailureCause::Store(error),
     };
     Failure::at_file(alloc, path, cause)

@@ -1,6 +1,7 @@
 //! Words that are in files, one on each line.
 
 use crate::failure::{Failure, FailureCause, with_file};
+use crate::number_words::check_id_word;
 use std::alloc::{AllocError, Global};
 use std::{fs, io};
 
@@ -23,7 +24,20 @@ pub struct IdWord {
 
 impl IdWord {
     /// The word, or the text of its file.
+    ///
+    /// # Errors
+    ///
+    /// Those of `check_id_word`, and that the file can't be read.
     pub fn read(rt: &HostRuntime, word: &str) -> Result<IdWord, Failure> {
+        let read = IdWord::text_of(rt, word)?;
+        match read.check(rt.alloc()) {
+            Ok(()) => Ok(read),
+            Err(cause) => Err(Failure::from(cause)),
+        }
+    }
+
+    // The word, or the text of its file, unchecked.
+    fn text_of(rt: &HostRuntime, word: &str) -> Result<IdWord, Failure> {
         if let Some(path) = word.strip_prefix('@') {
             let text = text_in(rt, path)?;
             return Ok(IdWord {
@@ -38,6 +52,14 @@ impl IdWord {
             }),
             Err(error) => Err(Failure::from(FailureCause::from(error))),
         }
+    }
+
+    // Refuses what no store has.
+    fn check(&self, alloc: Global) -> Result<(), FailureCause> {
+        for line in self.text.as_str().lines() {
+            check_id_word(alloc, line)?;
+        }
+        Ok(())
     }
 
     /// Adds the words that it has: itself, or the lines of the file that are not empty.

@@ -5,14 +5,16 @@ ghost use Rattle.store_published.specs.Filling.{IsSameFile};
 ghost use Rattle.store_commands.specs.Appending.{CopiesStore};
 
 use crate::merge::PART_BYTES;
-use crate::pack::Packing;
+use crate::pack::{EXPECT_HELP, Packing, PackingOptions};
 use clap::{ArgMatches, Command};
 use docstore::{DocStoreVersion, StoreError, StoreWriter, TerminatingWrite};
-use program_base::arguments::{self, block_size_of, framing_of, word};
+use program_base::arguments::{self, block_size_of, word};
 use program_base::command_words::{Argument, command_of};
+use program_base::expected_count::expect;
 use program_base::failure::{Failure, FailureCause, with_file};
 use program_base::input_files::{files_from, inputs, names_of, split_names};
-use program_base::store_file::{DiskReader, OpenReader, StorePath};
+use program_base::output_path::OutputPath;
+use program_base::store_file::{DiskReader, OpenReader, reader_of, whole_file};
 use program_base::store_output::{end_output, output_place};
 use std::alloc::{AllocError, Global};
 use store_commands::StoreShape;
@@ -41,6 +43,7 @@ pub fn command<'a>(alloc: Global) -> Result<Command<'a>, AllocError> {
             },
             inputs(),
             files_from(),
+            expect(EXPECT_HELP),
             arguments::framing(),
             arguments::block_size(),
             arguments::quiet(),
@@ -56,13 +59,10 @@ struct OldStore<'a, 'w> {
 }
 
 impl<'a, 'w> OldStore<'a, 'w> {
-    // A reader of the store, which must be one that can be copied.
+    // A reader of the store, which must be one that can be copied. What tantivy's directory puts after a store would be
+    // lost, so a file that has it is refused as no store.
     fn reader(&self) -> Result<DiskReader, FailureCause> {
-        let store = StorePath {
-            path: self.path,
-            is_tantivy: false,
-        };
-        let reader = store.reader(self.rt)?;
+        let reader = reader_of(self.rt, whole_file(self.rt, self.path)?)?;
         if reader.version() == DocStoreVersion::V1 {
             return Err(FailureCause::Store(StoreError::OldVersion));
         }
@@ -132,7 +132,11 @@ fn append<'a, 'o>(
     documents: Packing<'a, 'o, '_, '_>,
 ) -> Result<(), Failure> {
     let OldStore { rt, path } = store;
-    let place = output_place(rt, path)?;
+    let output = OutputPath {
+        path,
+        replaces: true,
+    };
+    let place = output_place(rt, output, documents.inputs())?;
     let shape = with_file(rt.alloc(), path, store.shape(block_size))?;
     let mut appending = Appending {
         store,
@@ -148,10 +152,9 @@ pub fn run(rt: &HostRuntime, matches: &ArgMatches<'_>) -> Result<(), Failure> {
     let alloc = rt.alloc();
     let path = word(alloc, matches, "STORE")?;
     let block_size = block_size_of(alloc, matches)?;
-    let framing = framing_of(alloc, matches)?;
+    let options = PackingOptions::of(alloc, matches)?;
     let text = names_of(rt, matches)?;
     let names = with_file(alloc, path, split_names(alloc, text.as_deref()))?;
-    let is_quiet = matches.get_flag("quiet");
-    let documents = Packing::of_files(rt, path, names.as_deref(), framing, is_quiet);
+    let documents = Packing::of_files(rt, path, names.as_deref(), options);
     append(OldStore { rt, path }, block_size, documents)
 }

@@ -2,9 +2,10 @@
 
 use clap::{ArgMatches, Command};
 use docstore::StoreError;
-use program_base::arguments::{self, input_path, output_path};
+use program_base::arguments::{self, input_path};
 use program_base::command_words::{Argument, command_of};
 use program_base::failure::{Failure, FailureCause, with_file};
+use program_base::output_path::{OutputPath, output_of};
 use program_base::progress::Progress;
 use program_base::store_file::StorePath;
 use program_base::store_output::{OutputPlace, output_place, summarize};
@@ -36,6 +37,7 @@ pub fn command<'a>(alloc: Global) -> Result<Command<'a>, AllocError> {
                 id: "tantivy",
                 help: "Write a file of version 2, which tantivy's store reader opens",
             },
+            arguments::replace(),
             arguments::quiet(),
         ],
     )
@@ -44,7 +46,7 @@ pub fn command<'a>(alloc: Global) -> Result<Command<'a>, AllocError> {
 // The failure of an export: of the store that is read, or of the file that is written.
 fn failure_of(alloc: Global, input: &str, out: &str, error: FillError<StoreError>) -> Failure {
     match error {
-        FillError::Folder(error) => Failure::at_file(alloc, out, FailureCause::System(error)),
+        FillError::Folder(error) => Failure::at_file(alloc, out, FailureCause::of_output(error)),
         FillError::Filling(StoreError::Failed(cause)) => {
             Failure::at_file(alloc, out, FailureCause::Store(StoreError::Failed(cause)))
         }
@@ -57,15 +59,15 @@ fn failure_of(alloc: Global, input: &str, out: &str, error: FillError<StoreError
 fn export(
     rt: &HostRuntime,
     store: StorePath<'_>,
-    out: &str,
+    output: OutputPath<'_>,
     progress: &Progress<'_>,
 ) -> Result<(), Failure> {
     let alloc = rt.alloc();
     let mut reader = with_file(alloc, store.path, store.reader(rt))?;
-    let OutputPlace { mut folder, name } = output_place(rt, out)?;
+    let OutputPlace { mut folder, name } = output_place(rt, output, &[store.path])?;
     match publish_export(alloc, &mut folder, name.as_str(), &mut *reader, PART_BYTES) {
-        Ok(written) => summarize(rt, out, written, progress),
-        Err(error) => Err(failure_of(alloc, store.path, out, error)),
+        Ok(written) => summarize(rt, output.path, written, progress),
+        Err(error) => Err(failure_of(alloc, store.path, output.path, error)),
     }
 }
 
@@ -76,7 +78,7 @@ pub fn run(rt: &HostRuntime, matches: &ArgMatches<'_>) -> Result<(), Failure> {
         path: input_path(alloc, matches)?,
         is_tantivy: false,
     };
-    let out = output_path(alloc, matches)?;
+    let output = output_of(alloc, matches)?;
     let progress = Progress::begin(rt, matches.get_flag("quiet"), None);
-    export(rt, store, out, &progress)
+    export(rt, store, output, &progress)
 }

@@ -6,6 +6,7 @@ use program_base::command_words::{Argument, command_of};
 use program_base::document_output::{self, DocumentForm, DocumentOutput, form_of, standard_output};
 use program_base::failure::{Failure, FailureCause, to_output, with_file};
 use program_base::listed_numbers::{NumberPrinter, print_listed};
+use program_base::number_words::check_id_word;
 use program_base::store_file::{DiskReader, StorePath, store_path};
 use std::alloc::{AllocError, Global};
 use std::io::Write;
@@ -85,6 +86,7 @@ impl<'a> Printer<'a> {
 
 impl<'a> NumberPrinter for Printer<'a> {
     fn print_word(&mut self, word: &str) -> Result<(), FailureCause> {
+        check_id_word(self.alloc, word)?;
         let range = range_of(self.alloc, word)?;
         self.print(range)
     }
@@ -111,6 +113,9 @@ fn print_named(
     form: DocumentForm,
     words: &[&str],
 ) -> Result<(), FailureCause> {
+    for word in words {
+        check_id_word(rt.alloc(), word)?;
+    }
     let ranges = ranges_of(rt.alloc(), words)?;
     Printer::open(rt, store, form)?.print_all(&ranges)
 }

@@ -6,7 +6,7 @@ use docstore::{DataPart, FOOTER_LEN, StoreError, TerminatingWrite, block_read_in
 use program_base::arguments;
 use program_base::command_words::{Argument, command_of};
 use program_base::failure::{Failure, FailureCause, with_file};
-use program_base::replacing::check_page;
+use program_base::output_path::OutputPath;
 use program_base::store_file::{DiskReader, StorePath, store_path};
 use std::alloc::{AllocError, Global};
 use std::fs;
@@ -34,7 +34,7 @@ pub fn command<'a>(alloc: Global) -> Result<Command<'a>, AllocError> {
             arguments::input(),
             Argument::OptionalWord {
                 id: "OUT",
-                help: "Page of HTML to write. It replaces an existing page of HTML or empty file, never any other file",
+                help: "Page of HTML to write; a file that exists is refused, unless with --replace",
             },
             Argument::OptionAgainst {
                 id: "html",
@@ -42,6 +42,7 @@ pub fn command<'a>(alloc: Global) -> Result<Command<'a>, AllocError> {
                 others: &["OUT"],
                 help: "The same as OUT",
             },
+            arguments::replace(),
             arguments::tantivy(),
         ],
     )
@@ -196,28 +197,37 @@ fn page_of(rt: &HostRuntime, store: StorePath<'_>) -> Result<String, FailureCaus
 // Why an output refused a call.
 fn refusal_of(sink: &DiskSink<HostRuntime>) -> FailureCause {
     match sink.last_error() {
-        Some(error) => FailureCause::System(error),
+        Some(error) => FailureCause::of_output(error),
         None => FailureCause::Store(StoreError::Memory),
     }
 }
 
-// Writes the page in place of one of this name.
-fn write_page(rt: &HostRuntime, path: &str, page: &str) -> Result<(), FailureCause> {
-    check_page(rt, path)?;
-    let mut sink = DiskSink::create(rt.alloc(), *rt, path)?;
+// Writes the page.
+fn write_page(sink: &mut DiskSink<HostRuntime>, page: &str) -> Result<(), FailureCause> {
     if sink.write_all(page.as_bytes()).is_err() || sink.terminate().is_err() {
-        return Err(refusal_of(&sink));
+        return Err(refusal_of(sink));
     }
     Ok(())
 }
 
+// Draws a store on the page of this name, which is begun before the store is read.
+fn draw(rt: &HostRuntime, store: StorePath<'_>, output: OutputPath<'_>) -> Result<(), Failure> {
+    let alloc = rt.alloc();
+    output.check_name(alloc, "a page can't be written to standard output")?;
+    output.check_inputs(rt, &[store.path])?;
+    let mut sink = with_file(alloc, output.path, output.sink(rt))?;
+    let page = with_file(alloc, store.path, page_of(rt, store))?;
+    with_file(alloc, output.path, write_page(&mut sink, page.as_str()))
+}
+
 /// Writes the page, or prints what the store has.
 pub fn run(rt: &HostRuntime, matches: &ArgMatches<'_>) -> Result<(), Failure> {
-    let alloc = rt.alloc();
     let store = store_path(rt, matches)?;
-    let Some(out) = matches.get_str("html").or(matches.get_str("OUT")) else {
-        return with_file(alloc, store.path, print_store(rt, store));
-    };
-    let page = with_file(alloc, store.path, page_of(rt, store))?;
-    with_file(alloc, out, write_page(rt, out, page.as_str()))
+    match matches.get_str("html").or(matches.get_str("OUT")) {
+        Some(path) => {
+            let replaces = matches.get_flag("replace");
+            draw(rt, store, OutputPath { path, replaces })
+        }
+        None => with_file(rt.alloc(), store.path, print_store(rt, store)),
+    }
 }

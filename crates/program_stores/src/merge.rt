@@ -5,9 +5,10 @@ ghost use Rattle.store_published.specs.Filling.{IsSameFile};
 
 use clap::{ArgMatches, Command};
 use docstore::{DocStoreVersion, StoreError, StoreWriter, TerminatingWrite};
-use program_base::arguments::{self, output_path, shape_of};
+use program_base::arguments::{self, shape_of};
 use program_base::command_words::{Argument, command_of};
 use program_base::failure::{Failure, FailureCause, with_file};
+use program_base::output_path::{OutputPath, output_of};
 use program_base::progress::Progress;
 use program_base::store_file::{DiskReader, StorePath};
 use program_base::store_output::{end_output, output_place};
@@ -46,6 +47,7 @@ pub fn command<'a>(alloc: Global) -> Result<Command<'a>, AllocError> {
                 help: "Documents of an input to leave out, as a.store=0,3..9, or a.store=@FILE with such words on its \
                        lines; may be given several times",
             },
+            arguments::replace(),
             arguments::block_size(),
             Argument::Period,
             arguments::tantivy(),
@@ -241,7 +243,7 @@ impl<'a, 'm, 'w> Filling for StoreFiles<'a, 'm, 'w> {
 // Merges as the words say.
 fn merge_stores<'a, 'm, 'w>(
     rt: &'a HostRuntime,
-    out: &str,
+    output: OutputPath<'_>,
     shape: StoreShape,
     merging: Merging<'m, 'w>,
     progress: Progress<'a>,
@@ -252,8 +254,9 @@ fn merge_stores<'a, 'm, 'w>(
         merging,
         progress,
     };
-    let outcome = output_place(rt, out)?.publish(rt.alloc(), shape, &mut stores);
-    end_output(rt, out, outcome, &stores.progress)
+    let place = output_place(rt, output, merging.paths)?;
+    let outcome = place.publish(rt.alloc(), shape, &mut stores);
+    end_output(rt, output.path, outcome, &stores.progress)
 }
 
 /// Writes the store.
@@ -267,7 +270,7 @@ pub fn run(rt: &HostRuntime, matches: &ArgMatches<'_>) -> Result<(), Failure> {
         without: &left_out,
         is_tantivy: matches.get_flag("tantivy"),
     };
-    let out = output_path(rt.alloc(), matches)?;
+    let output = output_of(rt.alloc(), matches)?;
     let progress = Progress::begin(rt, matches.get_flag("quiet"), None);
-    merge_stores(rt, out, shape, merging, progress)
+    merge_stores(rt, output, shape, merging, progress)
 }

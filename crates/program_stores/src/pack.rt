@@ -6,18 +6,23 @@ ghost use Rattle.store_published.specs.Filling.{AddsSome};
 use clap::{ArgMatches, Command};
 use docstore::{StoreWriter, TerminatingWrite};
 use document_framing::{Framing, split_after};
-use program_base::arguments::{self, framing_of, output_path, shape_of};
+use program_base::arguments::{self, framing_of, shape_of};
 use program_base::command_words::{Argument, command_of};
+use program_base::expected_count::{ExpectedCount, expect};
 use program_base::failure::{Failure, with_file};
 use program_base::input_files::{
     buffered, files_from, framing_bytes, inputs, names_of, open_input, split_names, total_bytes,
 };
+use program_base::output_path::{OutputPath, output_of};
 use program_base::progress::Progress;
 use program_base::store_output::{end_output, output_place};
 use std::alloc::{AllocError, Global};
 use std::io::{BufRead, IsTerminal};
 use store_commands::StoreShape;
 use store_published::{Filling, store_document};
+
+// The inputs where none are named: the standard input.
+const NO_INPUT: [&str; 1] = ["-"];
 
 // The name of the standard input in messages.
 const STANDARD_INPUT: &str = "standard input";
@@ -42,6 +47,8 @@ pub fn command<'a>(alloc: Global) -> Result<Command<'a>, AllocError> {
             arguments::output(),
             inputs(),
             files_from(),
+            arguments::replace(),
+            expect(EXPECT_HELP),
             arguments::framing(),
             arguments::block_size(),
             Argument::Period,
@@ -50,14 +57,38 @@ pub fn command<'a>(alloc: Global) -> Result<Command<'a>, AllocError> {
     )
 }
 
+/// The help of the option for an expected number of documents.
+pub const EXPECT_HELP: &str =
+    "Write nothing unless exactly COUNT documents come; else an input that ends early is not noticed";
+
+/// How documents are packed, by the words.
+#[derive(Clone, Copy)]
+pub struct PackingOptions {
+    framing: Framing,
+    expected: ExpectedCount,
+    is_quiet: bool,
+}
+
+impl PackingOptions {
+    /// By the words.
+    pub fn of(alloc: Global, matches: &ArgMatches<'_>) -> Result<PackingOptions, Failure> {
+        Ok(PackingOptions {
+            framing: framing_of(alloc, matches)?,
+            expected: ExpectedCount::of("documents", matches),
+            is_quiet: matches.get_flag("quiet"),
+        })
+    }
+}
+
 /// What is packed: documents of files or of the standard input.
 #[derive(Drop)]
 pub struct Packing<'a, 'o, 'p, 'w> {
     rt: &'a HostRuntime,
     out: &'o str,
-    paths: Option<&'p [&'w str]>,
+    paths: &'p [&'w str],
     framing: Framing,
     framing_bytes: u64,
+    expected: ExpectedCount,
     pub progress: Progress<'a>,
 }
 
@@ -67,18 +98,28 @@ impl<'a, 'o, 'p, 'w> Packing<'a, 'o, 'p, 'w> {
         rt: &'a HostRuntime,
         out: &'o str,
         paths: Option<&'p [&'w str]>,
-        framing: Framing,
-        is_quiet: bool,
+        options: PackingOptions,
     ) -> Packing<'a, 'o, 'p, 'w> {
-        let total = paths.and_then(|paths| total_bytes(rt, paths));
+        let PackingOptions {
+            framing,
+            expected,
+            is_quiet,
+        } = options;
+        let paths = paths.unwrap_or(&NO_INPUT);
         Packing {
             rt,
             out,
             paths,
             framing,
             framing_bytes: framing_bytes(framing),
-            progress: Progress::begin(rt, is_quiet, total),
+            expected,
+            progress: Progress::begin(rt, is_quiet, total_bytes(rt, paths)),
         }
+    }
+
+    /// The names of the files, of which `-` is the standard input.
+    pub fn inputs(&self) -> &'p [&'w str] {
+        self.paths
     }
 
     // Stores a document.
@@ -213,17 +254,18 @@ impl<'a, 'o, 'p, 'w> Packing<'a, 'o, 'p, 'w> {
         Ok(())
     }
 
-    /// Stores each document of each file, or of the standard input where none is named.
+    /// Stores each document of each file, or of the standard input where none is named. Fails if another number of them
+    /// came than was expected.
     pub fn store_inputs<W: TerminatingWrite>(
         &mut self,
         writer: &mut StoreWriter<W>,
     ) -> Result<(), Failure>
         ensures { OnOk result (AddsSome writer.old writer.new) }
     {
-        match self.paths {
-            Some(paths) => self.store_files(writer, paths),
-            None => self.store_standard_input(writer),
-        }
+        let documents_before = writer.num_docs();
+        self.store_files(writer, self.paths)?;
+        let came = u64::from(writer.num_docs().saturating_sub(documents_before));
+        with_file(self.rt.alloc(), self.out, self.expected.check(came))
     }
 }
 
@@ -243,23 +285,23 @@ impl<'a, 'o, 'p, 'w> Filling for Packing<'a, 'o, 'p, 'w> {
 // Writes a store of this name.
 fn pack(
     rt: &HostRuntime,
-    out: &str,
+    output: OutputPath<'_>,
     shape: StoreShape,
     packing: &mut Packing<'_, '_, '_, '_>,
 ) -> Result<(), Failure> {
-    let outcome = output_place(rt, out)?.publish(rt.alloc(), shape, packing);
-    end_output(rt, out, outcome, &packing.progress)
+    let place = output_place(rt, output, packing.inputs())?;
+    let outcome = place.publish(rt.alloc(), shape, packing);
+    end_output(rt, output.path, outcome, &packing.progress)
 }
 
 /// Writes the store.
 pub fn run(rt: &HostRuntime, matches: &ArgMatches<'_>) -> Result<(), Failure> {
     let alloc = rt.alloc();
-    let out = output_path(alloc, matches)?;
-    let framing = framing_of(alloc, matches)?;
+    let output = output_of(alloc, matches)?;
+    let options = PackingOptions::of(alloc, matches)?;
     let shape = shape_of(alloc, matches)?;
     let text = names_of(rt, matches)?;
-    let names = with_file(alloc, out, split_names(alloc, text.as_deref()))?;
-    let is_quiet = matches.get_flag("quiet");
-    let mut packing = Packing::of_files(rt, out, names.as_deref(), framing, is_quiet);
-    pack(rt, out, shape, &mut packing)
+    let names = with_file(alloc, output.path, split_names(alloc, text.as_deref()))?;
+    let mut packing = Packing::of_files(rt, output.path, names.as_deref(), options);
+    pack(rt, output, shape, &mut packing)
 }

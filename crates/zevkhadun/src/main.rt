@@ -4,11 +4,13 @@
 //! error, and 3 if the system refused a call.
 #![tactic(auto)]
 
+mod descriptors;
 mod words;
 
-use clap::ArgMatches;
+use clap::{ArgMatches, Error};
+use descriptors::hold_closed;
 use program_base::arguments::wrong_words;
-use program_base::failure::Failure;
+use program_base::failure::{Failure, FailureCause};
 use program_stores::{append, cat, export, get, inspect, merge, pack, stat, verify};
 use std::process::ExitCode;
 
@@ -40,19 +42,34 @@ fn end(rt: &HostRuntime, failure: &Failure) -> ExitCode {
     }
 }
 
-fn main(rt: HostRuntime) -> ExitCode {
-    let given = match words::given(&rt) {
+// Prints the help, the version, or what is wrong with the words, and returns the program's status.
+fn end_words(rt: &HostRuntime, error: &Error) -> ExitCode {
+    match error.print(rt) {
+        Err(failed) if !error.use_stderr() => {
+            end(rt, &Failure::from(FailureCause::Output(failed)))
+        }
+        _ => ExitCode::from(error.exit_code() as u8),
+    }
+}
+
+// Does what the words that were given ask.
+fn run_given(rt: &HostRuntime) -> ExitCode {
+    let given = match words::given(rt) {
         Ok(given) => given,
-        Err(failure) => return end(&rt, &failure),
+        Err(failure) => return end(rt, &failure),
     };
     match words::parse(rt.alloc(), given.as_slice()) {
-        Ok(matches) => match run(&rt, &matches) {
+        Ok(matches) => match run(rt, &matches) {
             Ok(()) => ExitCode::SUCCESS,
-            Err(failure) => end(&rt, &failure),
+            Err(failure) => end(rt, &failure),
         },
-        Err(error) => {
-            let _ = error.print(&rt);
-            ExitCode::from(error.exit_code() as u8)
-        }
+        Err(error) => end_words(rt, &error),
+    }
+}
+
+fn main(rt: HostRuntime) -> ExitCode {
+    match hold_closed(&rt) {
+        Ok(_held) => run_given(&rt),
+        Err(error) => end(&rt, &Failure::from(FailureCause::System(error))),
     }
 }
