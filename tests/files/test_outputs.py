@@ -22,6 +22,15 @@ class Refused(OldStoreCase):
                 output = name.removesuffix(".part")
                 self.assert_refused(1, output, reason, "pack", "--replace", output, input=b"x", timeout=20)
 
+    def test_a_lock_that_is_no_plain_file_is_refused_and_not_waited_for(self):
+        self.program.gives("log", "append", "events", input=b"one\n")
+        lock = self.folder / "events/lock"
+        for make in (os.mkfifo, lambda path: path.symlink_to("elsewhere"), lambda path: path.mkdir()):
+            lock.unlink()
+            make(lock)
+            self.program.fails(1, "events/lock is not a plain file", "log", "append", "events", input=b"x", timeout=20)
+        self.assertEqual(sorted(os.listdir(self.folder / "events")), ["lock", "tail.log"])
+
     def test_a_link_to_nothing_is_refused(self):
         (self.folder / "link.store").symlink_to("none.store")
         self.assert_refused(3, "link.store", "No such file or directory", "pack", "link.store", input=b"x")

@@ -1,5 +1,6 @@
 """Damaged files, to each command that reads."""
 
+import os
 from dataclasses import dataclass
 from typing import Callable
 
@@ -107,6 +108,22 @@ class Unreadable(DamagedCase):
         for words in (["cat", "gone"], ["get", "gone", "0"], ["merge", "x.store", "gone"]):
             self.program.fails(3, "gone: No such file", *words)
         self.program.fails(1, f"{self.folder}: not a plain file", "cat", self.folder)
+
+    def test_a_pipe_is_refused_and_not_waited_for(self):
+        self.pack("a.store", NUMBERS)
+        os.mkfifo(self.folder / "pipe")
+        for words in (["get", "pipe", "0"], ["cat", "pipe"], ["stat", "pipe"], ["verify", "pipe"], ["inspect", "pipe"],
+                      ["merge", "x.store", "pipe"], ["export", "--tantivy", "x.store", "pipe"], ["append", "pipe"]):
+            with self.subTest(words):
+                self.program.fails(1, "pipe: not a plain file", *words, timeout=20)
+        self.assertEqual(self.names(), ["a.store", "pipe"])
+
+    def test_the_note_of_verify_follows_stores_that_were_read(self):
+        self.pack("a.store", NUMBERS)
+        for names, notes in ((["gone"], 0), (["a.store"], 1), (["gone", "a.store"], 1)):
+            with self.subTest(names):
+                said = self.program.run("verify", *names).stderr
+                self.assertEqual(said.count(b"note: changes"), notes)
 
 
 class DamagedDocuments(DamagedCase):

@@ -41,6 +41,11 @@ class Words(ProgramCase):
                 self.assertEqual((done.returncode, done.stdout), (2, b""), done.stderr)
                 self.assertTrue(done.stderr, "there is no message")
 
+    def test_of_an_option_that_is_given_twice_the_last_one_counts(self):
+        self.pack("a.store", b"a\0b\0c\0", "--framing", "lines", "--framing", "nul", "-qq")
+        self.program.prints('"documents":3', "stat", "--json", "--json", "a.store")
+        self.assertEqual(self.cat("a.store", "--without", "0", "--without", "2", "--framing", "lines"), b"b\n")
+
     def test_words_that_are_no_utf_8_end_with_2(self):
         self.program.fails(2, "have to be UTF-8", "cat", b"\xff")
 

@@ -6,6 +6,7 @@ use crate::status::Status;
 /// What a command found so far in the stores that it goes over.
 #[derive(Clone, Copy)]
 pub struct Findings {
+    has_read: bool,
     has_broken: bool,
     has_unread: bool,
 }
@@ -14,9 +15,21 @@ impl Findings {
     /// Nothing yet.
     pub fn new() -> Findings {
         Findings {
+            has_read: false,
             has_broken: false,
             has_unread: false,
         }
+    }
+
+    /// Adds a store that was read, and is sound or broken.
+    pub fn add_read(&mut self, is_sound: bool) {
+        self.has_read = true;
+        self.has_broken |= !is_sound;
+    }
+
+    /// Whether any store was read.
+    pub fn has_read(self) -> bool {
+        self.has_read
     }
 
     /// Adds a store of which this is the status.

@@ -48,7 +48,7 @@ fn is_same(one: &Option<Metadata>, other: &Option<Metadata>) -> bool {
 }
 
 impl<'a> OutputPath<'a> {
-    /// Refuses the standard output, `-`, to which these things can't be written.
+    /// Refuses `-`, the standard output, by this text: an output takes its name at its end, so it has to be a file.
     pub fn check_name(self, alloc: Global, refusal: &str) -> Result<(), Failure> {
         if self.path == "-" {
             return Err(wrong_words(alloc, refusal, self.path));

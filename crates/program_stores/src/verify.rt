@@ -5,7 +5,6 @@ use program_base::arguments::{self, wrong_words};
 use program_base::command_words::{Argument, command_of};
 use program_base::failure::{Failure, FailureCause};
 use program_base::findings::Findings;
-use program_base::status::Status;
 use program_base::store_check::{BLIND_SPOT, Verifying};
 use program_base::store_file::StorePath;
 use program_base::verify_output::ReportForm;
@@ -78,8 +77,7 @@ fn verify_all(
             is_tantivy: verifying.is_tantivy,
         };
         match verify(rt, verifying, store) {
-            Ok(true) => (),
-            Ok(false) => findings.add(Status::Broken),
+            Ok(is_sound) => findings.add_read(is_sound),
             Err(cause) => findings.add_failed(rt, path, cause)?,
         }
     }
@@ -108,7 +106,7 @@ pub fn run(rt: &HostRuntime, matches: &ArgMatches<'_>) -> Result<(), Failure> {
         is_quiet: matches.get_flag("quiet"),
     };
     let findings = verify_all(rt, &verifying, matches.get_strs("FILE").unwrap_or(&[]))?;
-    if verifying.form.has_note() && !verifying.is_quiet {
+    if findings.has_read() && verifying.form.has_note() && !verifying.is_quiet {
         let _ = eprintln!(rt; "{BLIND_SPOT}");
     }
     findings.result()

@@ -82,6 +82,40 @@ fn a_second_output_of_a_name_is_refused(rt: HostRuntime) -> Result<(), Fail> {
     Ok(remove(&rt, "test_files_second")?)
 }
 
+// Begins an output that may replace no file.
+fn begun_new(rt: &HostRuntime, path: &str) -> Result<Sink, Fail> {
+    Ok(Box::new(rt.alloc(), DiskSink::create_new(rt.alloc(), rt.clone()?, path)?)?)
+}
+
+// Whether a new output is refused where a file has the name, and leaves the file.
+fn new_is_refused(rt: &HostRuntime, path: &str) -> Result<bool, Fail> {
+    fs::write(rt, path, OLD)?;
+    let is_refused = begun_new(rt, path).is_err();
+    Ok(is_refused && holds(rt, path, OLD)?)
+}
+
+// Whether a new output takes a name that is free, and leaves a file that came to it meanwhile.
+fn new_leaves_a_late_file(rt: &HostRuntime, path: &str, is_late: bool) -> Result<bool, Fail> {
+    let mut sink = begun_new(rt, path)?;
+    sink.write_all(WHOLE)?;
+    if is_late {
+        fs::write(rt, path, OLD)?;
+    }
+    let has_ended = sink.terminate().is_ok();
+    drop(sink);
+    Ok(has_ended != is_late && holds(rt, path, if is_late { OLD } else { WHOLE })?)
+}
+
+#[test]
+fn a_new_output_replaces_no_file(rt: HostRuntime) -> Result<(), Fail> {
+    make(&rt, "test_files_new")?;
+    assert!(rt; new_is_refused(&rt, "test_files_new/a.store")?);
+    assert!(rt; new_leaves_a_late_file(&rt, "test_files_new/b.store", false)?);
+    assert!(rt; new_leaves_a_late_file(&rt, "test_files_new/c.store", true)?);
+    assert!(rt; count(&rt, "test_files_new")? == 3);
+    Ok(remove(&rt, "test_files_new")?)
+}
+
 // How an output stands after the call of the system of this number failed.
 #[derive(Clone, Copy, PartialEq, Eq)]
 enum End {

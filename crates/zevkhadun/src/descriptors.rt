@@ -4,42 +4,42 @@ use std::fs::{File, OpenOptions};
 use std::io;
 use std::os::fd::AsRawFd;
 
+// How many standard descriptors there are.
+const COUNT: i32 = 3;
+
 // The device that is opened in place of one that is closed.
 const NULL_DEVICE: &str = "/dev/null";
 
-// How many standard descriptors there are.
-const COUNT: usize = 3;
-
-/// What is open in place of the standard descriptors that were closed. They stay open until it is dropped.
-#[derive(Drop)]
-pub struct HeldDescriptors {
-    _input: Option<File>,
-    _outputs: Vec<File>,
+// The number that the system gives to the next file: the lowest that is free.
+fn lowest_free(rt: &HostRuntime) -> io::Result<i32> {
+    let opened = match File::open(rt, "/") {
+        Ok(folder) => folder,
+        Err(_) => File::open(rt, NULL_DEVICE)?,
+    };
+    Ok(opened.as_raw_fd())
 }
 
-// Opens the null device. The system gives it the lowest number that is free; one that is no standard descriptor's is
-// closed again.
-fn open_null(rt: &HostRuntime, options: &OpenOptions) -> io::Result<Option<File>> {
-    let file = options.open(rt, NULL_DEVICE)?;
-    if file.as_raw_fd() < COUNT as i32 {
-        return Ok(Some(file));
+// Opens the null device to be read, and keeps it if it has the number of a standard descriptor.
+fn hold_output(rt: &HostRuntime, held: &mut Vec<File>) -> io::Result<()> {
+    let file = File::open(rt, NULL_DEVICE)?;
+    if file.as_raw_fd() < COUNT {
+        held.push(file)?;
     }
-    Ok(None)
+    Ok(())
 }
 
 /// Opens the standard descriptors that are closed, so that no file of the program gets their numbers: what is printed
 /// would go into it. They are opened the wrong way round, the input to be written and the outputs to be read, so that a
-/// use of one is an error, as of one that is closed.
-pub fn hold_closed(rt: &HostRuntime) -> io::Result<HeldDescriptors> {
-    let input = open_null(rt, OpenOptions::new().write(true))?;
-    let mut outputs = Vec::new(rt.alloc());
-    for _ in 0..COUNT {
-        if let Some(file) = open_null(rt, OpenOptions::new().read(true))? {
-            outputs.push(file)?;
-        }
+/// use of one is an error, as of one that is closed. They are open as long as the result is kept.
+pub fn hold_closed(rt: &HostRuntime) -> io::Result<Vec<File>> {
+    let mut held = Vec::new(rt.alloc());
+    let lowest = lowest_free(rt)?;
+    if lowest == 0 {
+        held.push(OpenOptions::new().write(true).open(rt, NULL_DEVICE)?)?;
     }
-    Ok(HeldDescriptors {
-        _input: input,
-        _outputs: outputs,
-    })
+    if lowest < COUNT {
+        hold_output(rt, &mut held)?;
+        hold_output(rt, &mut held)?;
+    }
+    Ok(held)
 }
