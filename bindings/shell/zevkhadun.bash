@@ -10,10 +10,12 @@ _zevkhadun() {
     for ((i = 1; i < COMP_CWORD; i++)); do
         case "$command ${COMP_WORDS[i]}" in
             'pack --files-from' | \
+                'pack --expect' | \
                 'pack --framing' | \
                 'pack --block-size' | \
                 'pack --period' | \
                 'append --files-from' | \
+                'append --expect' | \
                 'append --framing' | \
                 'append --block-size' | \
                 'get --framing' | \
@@ -43,10 +45,12 @@ _zevkhadun() {
     done
     case "$command $before" in
         'pack --files-from') files=yes ;;
+        'pack --expect') : ;;
         'pack --framing') words='lines text nul lengths files' ;;
         'pack --block-size') : ;;
         'pack --period') : ;;
         'append --files-from') files=yes ;;
+        'append --expect') : ;;
         'append --framing') words='lines text nul lengths files' ;;
         'append --block-size') : ;;
         'get --framing') words='lines text nul lengths files' ;;
@@ -89,13 +93,13 @@ _zevkhadun() {
                 'log append '*) files=yes ;;
                 'log '*' -'*) words='-h --help' ;;
                 'log 0 '*) words='append get cat stat verify seal compact drop help' ;;
-                'inspect '*' -'*) words='--html --tantivy -h --help' ;;
+                'inspect '*' -'*) words='--html --replace --tantivy -h --help' ;;
                 'inspect 0 '*) files=yes ;;
                 'inspect 1 '*) files=yes ;;
-                'export '*' -'*) words='--tantivy -q --quiet -h --help' ;;
+                'export '*' -'*) words='--tantivy --replace -q --quiet -h --help' ;;
                 'export 0 '*) files=yes ;;
                 'export 1 '*) files=yes ;;
-                'merge '*' -'*) words='--without --block-size --period --tantivy -q --quiet -h --help' ;;
+                'merge '*' -'*) words='--without --replace --block-size --period --tantivy -q --quiet -h --help' ;;
                 'merge 0 '*) files=yes ;;
                 'merge '*) files=yes ;;
                 'verify '*' -'*) words='--list --json --tantivy -q --quiet -h --help' ;;
@@ -106,10 +110,10 @@ _zevkhadun() {
                 'cat 0 '*) files=yes ;;
                 'get '*' -'*) words='--number --json --framing --tantivy -h --help' ;;
                 'get 0 '*) files=yes ;;
-                'append '*' -'*) words='--files-from --framing --block-size -q --quiet -h --help' ;;
+                'append '*' -'*) words='--files-from --expect --framing --block-size -q --quiet -h --help' ;;
                 'append 0 '*) files=yes ;;
                 'append '*) files=yes ;;
-                'pack '*' -'*) words='--files-from --framing --block-size --period -q --quiet -h --help' ;;
+                'pack '*' -'*) words='--files-from --replace --expect --framing --block-size --period -q --quiet -h --help' ;;
                 'pack 0 '*) files=yes ;;
                 'pack '*) files=yes ;;
             esac

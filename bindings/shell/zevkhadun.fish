@@ -15,6 +15,8 @@ complete -c zevkhadun -n __fish_use_subcommand -a log -d 'Keep a log: records th
 complete -c zevkhadun -n __fish_use_subcommand -a help -d 'Print help'
 complete -c zevkhadun -n '__fish_seen_subcommand_from help' -a 'pack append get cat stat verify merge export inspect log help'
 complete -c zevkhadun -n '__fish_seen_subcommand_from pack' -l files-from -r -F -d 'Take further input files from the lines of LIST, after the others; \'-\' is standard input'
+complete -c zevkhadun -n '__fish_seen_subcommand_from pack' -l replace -d 'Replace OUT if it exists, whatever it holds'
+complete -c zevkhadun -n '__fish_seen_subcommand_from pack' -l expect -x -d 'Write nothing unless exactly COUNT documents come; else an input that ends early is not noticed'
 complete -c zevkhadun -n '__fish_seen_subcommand_from pack' -l framing -x -a 'lines text nul lengths files' -d 'How documents are delimited'
 complete -c zevkhadun -n '__fish_seen_subcommand_from pack' -l block-size -x -d 'Write a block once its documents plus 8 bytes each exceed BYTES; suffixes K, M, G (powers of 1024)'
 complete -c zevkhadun -n '__fish_seen_subcommand_from pack' -l period -x -d 'Entries per index run, 2 to 64; rarely worth changing, gets don\'t depend on it'
@@ -22,6 +24,7 @@ complete -c zevkhadun -n '__fish_seen_subcommand_from pack' -s q -l quiet -d 'Sh
 complete -c zevkhadun -n '__fish_seen_subcommand_from pack' -s h -l help -d 'Print help (see a summary with \'-h\')'
 complete -c zevkhadun -n '__fish_seen_subcommand_from pack' -F
 complete -c zevkhadun -n '__fish_seen_subcommand_from append; and not __fish_seen_subcommand_from log' -l files-from -r -F -d 'Take further input files from the lines of LIST, after the others; \'-\' is standard input'
+complete -c zevkhadun -n '__fish_seen_subcommand_from append; and not __fish_seen_subcommand_from log' -l expect -x -d 'Write nothing unless exactly COUNT documents come; else an input that ends early is not noticed'
 complete -c zevkhadun -n '__fish_seen_subcommand_from append; and not __fish_seen_subcommand_from log' -l framing -x -a 'lines text nul lengths files' -d 'How documents are delimited'
 complete -c zevkhadun -n '__fish_seen_subcommand_from append; and not __fish_seen_subcommand_from log' -l block-size -x -d 'Write a block once its documents plus 8 bytes each exceed BYTES; suffixes K, M, G (powers of 1024)'
 complete -c zevkhadun -n '__fish_seen_subcommand_from append; and not __fish_seen_subcommand_from log' -s q -l quiet -d 'Show no progress and no summary on standard error'
@@ -52,6 +55,7 @@ complete -c zevkhadun -n '__fish_seen_subcommand_from verify; and not __fish_see
 complete -c zevkhadun -n '__fish_seen_subcommand_from verify; and not __fish_seen_subcommand_from log' -s h -l help -d 'Print help'
 complete -c zevkhadun -n '__fish_seen_subcommand_from verify; and not __fish_seen_subcommand_from log' -F
 complete -c zevkhadun -n '__fish_seen_subcommand_from merge' -l without -r -F -d 'Documents of an input to leave out, as a.store=0,3..9, or a.store=@FILE with such words on its lines; may be given several times'
+complete -c zevkhadun -n '__fish_seen_subcommand_from merge' -l replace -d 'Replace OUT if it exists, whatever it holds'
 complete -c zevkhadun -n '__fish_seen_subcommand_from merge' -l block-size -x -d 'Write a block once its documents plus 8 bytes each exceed BYTES; suffixes K, M, G (powers of 1024)'
 complete -c zevkhadun -n '__fish_seen_subcommand_from merge' -l period -x -d 'Entries per index run, 2 to 64; rarely worth changing, gets don\'t depend on it'
 complete -c zevkhadun -n '__fish_seen_subcommand_from merge' -l tantivy -d 'Require the footer that tantivy\'s directory adds to a segment\'s .store file; it is recognized without this'
@@ -59,10 +63,12 @@ complete -c zevkhadun -n '__fish_seen_subcommand_from merge' -s q -l quiet -d 'S
 complete -c zevkhadun -n '__fish_seen_subcommand_from merge' -s h -l help -d 'Print help'
 complete -c zevkhadun -n '__fish_seen_subcommand_from merge' -F
 complete -c zevkhadun -n '__fish_seen_subcommand_from export' -l tantivy -d 'Write a file of version 2, which tantivy\'s store reader opens'
+complete -c zevkhadun -n '__fish_seen_subcommand_from export' -l replace -d 'Replace OUT if it exists, whatever it holds'
 complete -c zevkhadun -n '__fish_seen_subcommand_from export' -s q -l quiet -d 'Show no progress and no summary on standard error'
 complete -c zevkhadun -n '__fish_seen_subcommand_from export' -s h -l help -d 'Print help'
 complete -c zevkhadun -n '__fish_seen_subcommand_from export' -F
 complete -c zevkhadun -n '__fish_seen_subcommand_from inspect' -l html -r -F -d 'The same as OUT'
+complete -c zevkhadun -n '__fish_seen_subcommand_from inspect' -l replace -d 'Replace OUT if it exists, whatever it holds'
 complete -c zevkhadun -n '__fish_seen_subcommand_from inspect' -l tantivy -d 'Require the footer that tantivy\'s directory adds to a segment\'s .store file; it is recognized without this'
 complete -c zevkhadun -n '__fish_seen_subcommand_from inspect' -s h -l help -d 'Print help'
 complete -c zevkhadun -n '__fish_seen_subcommand_from inspect' -F
