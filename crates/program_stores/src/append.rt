@@ -5,14 +5,14 @@ ghost use Rattle.store_published.specs.Filling.{IsSameFile};
 ghost use Rattle.store_commands.specs.Appending.{CopiesStore};
 
 use crate::merge::PART_BYTES;
-use crate::pack::{EXPECT_HELP, Packing, PackingOptions};
+use crate::pack::{EXPECT_HELP, Packing, PackingOptions, names_in};
 use clap::{ArgMatches, Command};
 use docstore::{DocStoreVersion, StoreError, StoreWriter, TerminatingWrite};
 use program_base::arguments::{self, block_size_of, word};
 use program_base::command_words::{Argument, command_of};
 use program_base::expected_count::expect;
 use program_base::failure::{Failure, FailureCause, with_file};
-use program_base::input_files::{files_from, inputs, names_of, split_names};
+use program_base::input_files::{files_from, inputs, names_of};
 use program_base::output_path::OutputPath;
 use program_base::store_file::{DiskReader, OpenReader, reader_of, whole_file};
 use program_base::store_output::{end_output, output_place};
@@ -154,7 +154,7 @@ pub fn run(rt: &HostRuntime, matches: &ArgMatches<'_>) -> Result<(), Failure> {
     let block_size = block_size_of(alloc, matches)?;
     let options = PackingOptions::of(alloc, matches)?;
     let text = names_of(rt, matches)?;
-    let names = with_file(alloc, path, split_names(alloc, text.as_deref()))?;
-    let documents = Packing::of_files(rt, path, names.as_deref(), options);
+    let names = with_file(alloc, path, names_in(alloc, text.as_deref()))?;
+    let documents = Packing::of_files(rt, path, &names, options);
     append(OldStore { rt, path }, block_size, documents)
 }

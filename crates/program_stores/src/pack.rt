@@ -21,8 +21,8 @@ use std::io::{BufRead, IsTerminal};
 use store_commands::StoreShape;
 use store_published::{Filling, store_document};
 
-// The inputs where none are named: the standard input.
-const NO_INPUT: [&str; 1] = ["-"];
+// The names of the inputs where none are named: the standard input, and a byte 0 after it.
+const NO_NAMES: &str = "-\0";
 
 // The name of the standard input in messages.
 const STANDARD_INPUT: &str = "standard input";
@@ -93,11 +93,11 @@ pub struct Packing<'a, 'o, 'p, 'w> {
 }
 
 impl<'a, 'o, 'p, 'w> Packing<'a, 'o, 'p, 'w> {
-    /// Of the documents of these files, or of the standard input where none are named, into a store of this name.
+    /// Of the documents of these files, of which `-` is the standard input, into a store of this name.
     pub fn of_files(
         rt: &'a HostRuntime,
         out: &'o str,
-        paths: Option<&'p [&'w str]>,
+        paths: &'p [&'w str],
         options: PackingOptions,
     ) -> Packing<'a, 'o, 'p, 'w> {
         let PackingOptions {
@@ -105,7 +105,6 @@ impl<'a, 'o, 'p, 'w> Packing<'a, 'o, 'p, 'w> {
             expected,
             is_quiet,
         } = options;
-        let paths = paths.unwrap_or(&NO_INPUT);
         Packing {
             rt,
             out,
@@ -254,8 +253,7 @@ impl<'a, 'o, 'p, 'w> Packing<'a, 'o, 'p, 'w> {
         Ok(())
     }
 
-    /// Stores each document of each file, or of the standard input where none is named. Fails if another number of them
-    /// came than was expected.
+    /// Stores each document of each file. Fails if another number of them came than was expected.
     pub fn store_inputs<W: TerminatingWrite>(
         &mut self,
         writer: &mut StoreWriter<W>,
@@ -282,6 +280,14 @@ impl<'a, 'o, 'p, 'w> Filling for Packing<'a, 'o, 'p, 'w> {
     }
 }
 
+/// The names in a text as `names_of` gives it, or `-` where none are named.
+pub fn names_in<'t>(alloc: Global, text: Option<&'t str>) -> Result<Vec<&'t str>, AllocError> {
+    match split_names(alloc, text.or(Some(NO_NAMES)))? {
+        Some(names) => Ok(names),
+        None => Ok(Vec::new(alloc)),
+    }
+}
+
 // Writes a store of this name.
 fn pack(
     rt: &HostRuntime,
@@ -301,7 +307,7 @@ pub fn run(rt: &HostRuntime, matches: &ArgMatches<'_>) -> Result<(), Failure> {
     let options = PackingOptions::of(alloc, matches)?;
     let shape = shape_of(alloc, matches)?;
     let text = names_of(rt, matches)?;
-    let names = with_file(alloc, output.path, split_names(alloc, text.as_deref()))?;
-    let mut packing = Packing::of_files(rt, output.path, names.as_deref(), options);
+    let names = with_file(alloc, output.path, names_in(alloc, text.as_deref()))?;
+    let mut packing = Packing::of_files(rt, output.path, &names, options);
     pack(rt, output, shape, &mut packing)
 }
