@@ -3,14 +3,15 @@
 ghost use Rattle.std.specs.Prelude.{◌≡◌, ◌≤◌, OnErr};
 ghost use Rattle.store_base.specs.Counts.{HasRisen};
 
+use crate::places::file_in;
 use crate::segments::segment_numbers;
 use program_base::failure::FailureCause;
 use segmented_log::{TAIL, segment_file};
 use std::alloc::{AllocError, Global};
 use std::cell::Cell;
 use std::fs::{File, Files};
+use std::io;
 use std::io::ErrorKind;
-use std::{fs, io};
 use store_files::{DiskFile, LockedFolder, OsFile, read_all};
 use store_folder::{Folder, ReadableFolder};
 
@@ -21,6 +22,31 @@ fn names_of(alloc: Global, numbers: &[u64]) -> Result<Vec<String>, AllocError> {
         names.push(segment_file(alloc, *number)?)?;
     }
     Ok(names)
+}
+
+// The bytes of the tail in a log's folder, if there is one.
+fn tail_in(rt: &HostRuntime, path: &str) -> Result<Option<Vec<u8>>, FailureCause> {
+    let path = file_in(rt.alloc(), path, TAIL)?;
+    match File::open(rt, path.as_str()) {
+        Ok(mut file) => Ok(Some(read_all(rt.alloc(), &mut file)?)),
+        Err(error) if error.kind() == ErrorKind::NotFound => Ok(None),
+        Err(error) => Err(FailureCause::System(error)),
+    }
+}
+
+// The numbers of the segments in a log's folder, and its tail, if there is one.
+type Found = (Vec<u64>, Option<Vec<u8>>);
+
+// What is in the folder at one moment, or none where a writer sealed the log meanwhile. The name of a segment is there
+// before the tail is replaced. So if the same segments are there before and after the tail is read, they are in line
+// with it.
+fn found_at_once(rt: &HostRuntime, path: &str) -> Result<Option<Found>, FailureCause> {
+    let before = segment_numbers(rt, path)?;
+    let tail = tail_in(rt, path)?;
+    let after = segment_numbers(rt, path)?;
+    let is_same = before == after;
+    drop(before);
+    Ok(is_same.then_some((after, tail)))
 }
 
 /// Why the last call on a log's folder that failed did so. A log reports only that one failed.
@@ -47,16 +73,17 @@ impl SystemCause {
 }
 
 /// A log's folder. A reader has no lock, and what it is asked to write is dropped: as a log is opened, that is the tail
-/// without a torn end. It lists the segments and reads the tail at one moment, and an opening gets these.
+/// without a torn end. It lists the segments and reads the tail at one moment, and an opening, which asks once for each,
+/// gets these.
 #[derive(Drop)]
 pub struct LogFolder<'a, R: Files<File = File> + Drop> {
     rt: &'a R,
     path: &'a str,
-    writer: Option<LockedFolder<R>>,
+    writer: Option<Box<LockedFolder<R>>>,
     cause: &'a SystemCause,
     failures: u64,
     // What a reader found, until it is asked for.
-    names: Cell<Option<Vec<String>>>,
+    segments: Cell<Option<Vec<u64>>>,
     tail: Cell<Option<Vec<u8>>>,
 }
 
@@ -65,7 +92,7 @@ impl<'a> LogFolder<'a, HostRuntime> {
     fn new(
         rt: &'a HostRuntime,
         path: &'a str,
-        writer: Option<LockedFolder<HostRuntime>>,
+        writer: Option<Box<LockedFolder<HostRuntime>>>,
         cause: &'a SystemCause,
     ) -> LogFolder<'a, HostRuntime> {
         LogFolder {
@@ -74,7 +101,7 @@ impl<'a> LogFolder<'a, HostRuntime> {
             writer,
             cause,
             failures: 0,
-            names: Cell::new(None),
+            segments: Cell::new(None),
             tail: Cell::new(None),
         }
     }
@@ -83,29 +110,24 @@ impl<'a> LogFolder<'a, HostRuntime> {
     pub fn of_writer(
         rt: &'a HostRuntime,
         path: &'a str,
-        writer: LockedFolder<HostRuntime>,
+        writer: Box<LockedFolder<HostRuntime>>,
         cause: &'a SystemCause,
     ) -> LogFolder<'a, HostRuntime> {
         LogFolder::new(rt, path, Some(writer), cause)
     }
 
     /// The folder of this path, without a lock: as it was at one moment, or none where a writer sealed the log
-    /// meanwhile. The name of a segment is there before the tail is replaced. So if the same segments are there before
-    /// and after the tail is read, they are in line with it.
+    /// meanwhile.
     pub fn of_reader(
         rt: &'a HostRuntime,
         path: &'a str,
         cause: &'a SystemCause,
     ) -> Result<Option<LogFolder<'a, HostRuntime>>, FailureCause> {
-        let alloc = rt.alloc();
-        let folder = LogFolder::new(rt, path, None, cause);
-        let before = segment_numbers(rt, path)?;
-        let tail = folder.load(alloc, TAIL)?;
-        let after = segment_numbers(rt, path)?;
-        if before != after {
+        let Some((segments, tail)) = found_at_once(rt, path)? else {
             return Ok(None);
-        }
-        folder.names.set(Some(names_of(alloc, &after)?));
+        };
+        let folder = LogFolder::new(rt, path, None, cause);
+        folder.segments.set(Some(segments));
         folder.tail.set(tail);
         Ok(Some(folder))
     }
@@ -134,35 +156,19 @@ impl<'a, R: Files<File = File> + Drop> LogFolder<'a, R> {
         }
     }
 
-    // The path of the file of this name.
-    fn path_of(&self, alloc: Global, name: &str) -> io::Result<String> {
+    // The names of the segments that a reader found.
+    fn found_names(&self, alloc: Global) -> io::Result<Vec<String>> {
+        match self.segments.take() {
+            Some(segments) => Ok(names_of(alloc, &segments)?),
+            None => Ok(Vec::new(alloc)),
+        }
+    }
+
+    // A segment's file, opened by a reader.
+    fn open_file(&self, alloc: Global, name: &str) -> io::Result<DiskFile<OsFile>> {
         let folder = self.path;
-        Ok(format!(in alloc; "{folder}/{name}")?)
-    }
-
-    fn list(&self, alloc: Global) -> io::Result<Vec<String>> {
-        let mut names = Vec::new(alloc);
-        for entry in fs::read_dir(&(self.rt, alloc), self.path)? {
-            let entry = entry?;
-            if entry.file_type()?.is_file() {
-                names.push(String::from_str(alloc, entry.file_name())?)?;
-            }
-        }
-        Ok(names)
-    }
-
-    fn load(&self, alloc: Global, name: &str) -> io::Result<Option<Vec<u8>>> {
-        let path = self.path_of(alloc, name)?;
-        match File::open(self.rt, path.as_str()) {
-            Ok(mut file) => Ok(Some(read_all(alloc, &mut file)?)),
-            Err(error) if error.kind() == ErrorKind::NotFound => Ok(None),
-            Err(error) => Err(error),
-        }
-    }
-
-    fn open_file(&self, alloc: Global, name: &str) -> io::Result<OsFile> {
-        let path = self.path_of(alloc, name)?;
-        OsFile::open(self.rt, path.as_str())
+        let path = format!(in alloc; "{folder}/{name}")?;
+        DiskFile::new(OsFile::open(self.rt, path.as_str())?)
     }
 }
 
@@ -275,26 +281,23 @@ impl<'a, R: Files<File = File> + Drop> ReadableFolder for LogFolder<'a, R> {
     ghost is_readable = { false };
 
     fn names(&self, alloc: Global) -> io::Result<Vec<String>> {
-        match self.names.take() {
-            Some(names) => Ok(names),
-            None => self.noted(self.list(alloc)),
-        }
+        self.noted(match &self.writer {
+            Some(folder) => folder.names(alloc),
+            None => self.found_names(alloc),
+        })
     }
 
     fn read(&self, alloc: Global, name: &str) -> io::Result<Option<Vec<u8>>> {
-        if name == TAIL {
-            if let Some(bytes) = self.tail.take() {
-                return Ok(Some(bytes));
-            }
+        match &self.writer {
+            Some(folder) => self.noted(folder.read(alloc, name)),
+            None => Ok(self.tail.take()),
         }
-        self.noted(self.load(alloc, name))
     }
 
     fn open(&self, alloc: Global, name: &str) -> io::Result<DiskFile<OsFile>> {
-        let file = self.noted(self.open_file(alloc, name))?;
-        match DiskFile::new(file) {
-            Ok(file) => Ok(file),
-            Err(error) => Err(self.cause.note(error)),
-        }
+        self.noted(match &self.writer {
+            Some(folder) => folder.open(alloc, name),
+            None => self.open_file(alloc, name),
+        })
     }
 }

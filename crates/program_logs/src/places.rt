@@ -73,12 +73,13 @@ fn check_place(rt: &HostRuntime, path: &str) -> Result<(), FailureCause> {
     Err(FailureCause::NotLog)
 }
 
-// The folder that a writer locked, or why it is not to be had.
+// The folder that a writer locked, in a box, or why it is not to be had.
 fn locked(
+    alloc: Global,
     folder: Result<LockedFolder<HostRuntime>, CreateError>,
-) -> Result<LockedFolder<HostRuntime>, FailureCause> {
+) -> Result<Box<LockedFolder<HostRuntime>>, FailureCause> {
     match folder {
-        Ok(folder) => Ok(folder),
+        Ok(folder) => Ok(Box::new(alloc, folder)?),
         Err(CreateError::Busy(_)) => Err(FailureCause::BusyLog),
         Err(error) => Err(FailureCause::Create(error)),
     }
@@ -88,7 +89,7 @@ fn locked(
 fn open_locked<'a>(
     rt: &'a HostRuntime,
     path: &'a str,
-    writer: LockedFolder<HostRuntime>,
+    writer: Box<LockedFolder<HostRuntime>>,
     cause: &'a SystemCause,
     tail: TailOptions,
 ) -> Result<OpenedLog<'a>, FailureCause> {
@@ -113,7 +114,7 @@ pub fn open_or_begin<'a>(
     tail: TailOptions,
 ) -> Result<OpenedLog<'a>, FailureCause> {
     check_place(rt, path)?;
-    let writer = locked(LockedFolder::create(rt.alloc(), *rt, path))?;
+    let writer = locked(rt.alloc(), LockedFolder::create(rt.alloc(), *rt, path))?;
     open_locked(rt, path, writer, cause, tail)
 }
 
@@ -124,7 +125,7 @@ pub fn open_to_write<'a>(
     cause: &'a SystemCause,
 ) -> Result<OpenedLog<'a>, FailureCause> {
     check_log(rt, path)?;
-    let writer = locked(LockedFolder::open(rt.alloc(), *rt, path))?;
+    let writer = locked(rt.alloc(), LockedFolder::open(rt.alloc(), *rt, path))?;
     open_locked(rt, path, writer, cause, NOT_APPENDED)
 }
 

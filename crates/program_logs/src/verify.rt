@@ -14,7 +14,8 @@ use program_base::store_file::StorePath;
 use program_base::verify_output::ReportForm;
 use segmented_log::{TAIL, segment_file};
 use std::alloc::{AllocError, Global};
-use std::fs;
+use std::fmt::Display;
+use std::{fmt, fs};
 
 const EXAMPLE: &str = "\
 Checks each segment as a store, the batches of the tail by their sums, and that no number is missing between them. Bytes
@@ -45,58 +46,96 @@ pub fn command<'a>(alloc: Global) -> Result<Command<'a>, AllocError> {
     )
 }
 
-// Whether all segments of a log are sound. Each other one is reported.
+// How the segments of a log are checked.
+fn verifying(is_quiet: bool) -> Verifying {
+    Verifying {
+        form: ReportForm::Lines,
+        is_tantivy: false,
+        is_quiet,
+    }
+}
+
+// Whether the segment of this number is sound. Another one is reported.
+fn check_segment(
+    rt: &HostRuntime,
+    folder: &str,
+    first: u64,
+    is_quiet: bool,
+) -> Result<bool, FailureCause> {
+    let name = segment_file(rt.alloc(), first)?;
+    let path = file_in(rt.alloc(), folder, name.as_str())?;
+    drop(name);
+    let store = StorePath {
+        path: path.as_str(),
+        is_tantivy: false,
+    };
+    let found = verifying(is_quiet).look_at(rt, store)?;
+    if found.is_sound() {
+        return Ok(true);
+    }
+    found.print(rt, store.path, ReportForm::Lines)?;
+    Ok(false)
+}
+
+// Whether all segments of a log are sound.
 fn check_segments(
     rt: &HostRuntime,
     folder: &str,
     segments: &[u64],
     is_quiet: bool,
 ) -> Result<bool, FailureCause> {
-    let alloc = rt.alloc();
-    let verifying = Verifying {
-        form: ReportForm::Lines,
-        is_tantivy: false,
-        is_quiet,
-    };
     let mut are_sound = true;
     for first in segments {
-        let name = segment_file(alloc, *first)?;
-        let path = file_in(alloc, folder, name.as_str())?;
-        let store = StorePath {
-            path: path.as_str(),
-            is_tantivy: false,
-        };
-        let found = verifying.look_at(rt, store)?;
-        if !found.is_sound() {
-            found.print(rt, store.path, ReportForm::Lines)?;
-            are_sound = false;
-        }
+        are_sound &= check_segment(rt, folder, *first, is_quiet)?;
     }
     Ok(are_sound)
 }
 
-// Whether the tail of a log is whole to its end. What is wrong is reported.
-fn check_tail(rt: &HostRuntime, folder: &str) -> Result<bool, FailureCause> {
-    let alloc = rt.alloc();
-    let path = file_in(alloc, folder, TAIL)?;
-    let bytes = fs::read(rt, path.as_str())?;
-    let view = match TailView::new(alloc, &bytes) {
-        Ok(Some(view)) => view,
-        Ok(None) => {
-            to_output(println!(rt; "{path}: broken: not a tail: its first bytes are others"))?;
-            return Ok(false);
+// What is wrong with the tail of a log.
+#[derive(Clone, Copy)]
+enum TailFault {
+    // It is none.
+    NoTail,
+    // How many records are whole, and how many bytes, from which one on, are no whole batch.
+    Torn {
+        records: usize,
+        end: usize,
+        rest: usize,
+    },
+}
+
+impl Display for TailFault {
+    fn fmt<W: fmt::Write>(&self, f: &mut fmt::Formatter<W>) -> fmt::Result {
+        match self {
+            TailFault::NoTail => f.write_str("broken: not a tail: its first bytes are others"),
+            TailFault::Torn { records, end, rest } => write!(
+                f,
+                "torn: {records} records are whole; the {rest} bytes from byte {end} on are no whole batch"
+            ),
         }
-        Err(error) => return Err(error.into()),
+    }
+}
+
+// What is wrong with these bytes of a tail, if something is.
+fn fault_in(alloc: Global, bytes: &[u8]) -> Result<Option<TailFault>, AllocError> {
+    let Some(view) = TailView::new(alloc, bytes)? else {
+        return Ok(Some(TailFault::NoTail));
     };
     let (records, end) = (view.len(), view.whole_len());
     let rest = bytes.len().saturating_sub(end);
-    if rest == 0 {
+    Ok((rest > 0).then_some(TailFault::Torn { records, end, rest }))
+}
+
+// Whether the tail of a log is whole to its end. What is wrong is reported.
+fn check_tail(rt: &HostRuntime, folder: &str) -> Result<bool, FailureCause> {
+    let path = file_in(rt.alloc(), folder, TAIL)?;
+    let bytes = fs::read(rt, path.as_str())?;
+    let fault = fault_in(rt.alloc(), &bytes)?;
+    drop(bytes);
+    let Some(fault) = fault else {
         return Ok(true);
-    }
-    let report = println!(rt;
-        "{path}: torn: {records} records are whole; the {rest} bytes from byte {end} on are no whole batch"
-    );
-    to_output(report)?;
+    };
+    to_output(println!(rt; "{path}: {fault}"))?;
     Ok(false)
 }
 
