@@ -27,6 +27,7 @@ _zevkhadun() {
                 'inspect --html' | \
                 'log append --files-from' | \
                 'log append --sync' | \
+                'log append --expect' | \
                 'log append --framing' | \
                 'log append --seal-size' | \
                 'log get --framing' | \
@@ -62,6 +63,7 @@ _zevkhadun() {
         'inspect --html') files=yes ;;
         'log append --files-from') files=yes ;;
         'log append --sync') words='every batch end' ;;
+        'log append --expect') : ;;
         'log append --framing') words='lines text nul lengths files' ;;
         'log append --seal-size') : ;;
         'log get --framing') words='lines text nul lengths files' ;;
@@ -74,11 +76,11 @@ _zevkhadun() {
                 ' 0 -'*) words='-h --help -V --version' ;;
                 ' 0 '*) words='pack append get cat stat verify merge export inspect log help' ;;
                 'help 0 '*) words='pack append get cat stat verify merge export inspect log help' ;;
-                'log drop '*' -'*) words='--before -h --help' ;;
+                'log drop '*' -'*) words='--before -q --quiet -h --help' ;;
                 'log drop 0 '*) files=yes ;;
-                'log compact '*' -'*) words='--size -h --help' ;;
+                'log compact '*' -'*) words='--size -q --quiet -h --help' ;;
                 'log compact 0 '*) files=yes ;;
-                'log seal '*' -'*) words='-h --help' ;;
+                'log seal '*' -'*) words='-q --quiet -h --help' ;;
                 'log seal 0 '*) files=yes ;;
                 'log verify '*' -'*) words='-q --quiet -h --help' ;;
                 'log verify '*) files=yes ;;
@@ -88,7 +90,7 @@ _zevkhadun() {
                 'log cat 0 '*) files=yes ;;
                 'log get '*' -'*) words='--number --json --framing -h --help' ;;
                 'log get 0 '*) files=yes ;;
-                'log append '*' -'*) words='--files-from --sync --number --framing --seal-size --two-syncs -q --quiet -h --help' ;;
+                'log append '*' -'*) words='--files-from --sync --expect --number --framing --seal-size --two-syncs -q --quiet -h --help' ;;
                 'log append 0 '*) files=yes ;;
                 'log append '*) files=yes ;;
                 'log '*' -'*) words='-h --help' ;;

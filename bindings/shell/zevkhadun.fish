@@ -84,6 +84,7 @@ complete -c zevkhadun -n '__fish_seen_subcommand_from log; and not __fish_seen_s
 complete -c zevkhadun -n '__fish_seen_subcommand_from log' -s h -l help -d 'Print help'
 complete -c zevkhadun -n '__fish_seen_subcommand_from log; and __fish_seen_subcommand_from append' -l files-from -r -F -d 'Take further input files from the lines of LIST, after the others; \'-\' is standard input'
 complete -c zevkhadun -n '__fish_seen_subcommand_from log; and __fish_seen_subcommand_from append' -l sync -x -a 'every batch end' -d 'When records are put on the disk'
+complete -c zevkhadun -n '__fish_seen_subcommand_from log; and __fish_seen_subcommand_from append' -l expect -x -d 'Append no record unless exactly COUNT of them come; all are put on the disk at the end, as by \'--sync end\''
 complete -c zevkhadun -n '__fish_seen_subcommand_from log; and __fish_seen_subcommand_from append' -l number -d 'Print the number of each record, one per line, once it is on the disk'
 complete -c zevkhadun -n '__fish_seen_subcommand_from log; and __fish_seen_subcommand_from append' -l framing -x -a 'lines text nul lengths files' -d 'How documents are delimited'
 complete -c zevkhadun -n '__fish_seen_subcommand_from log; and __fish_seen_subcommand_from append' -l seal-size -x -d 'Put the tail\'s records into a segment once it exceeds BYTES (64M, or 1M with \'--two-syncs\'); suffixes K, M, G'
@@ -108,11 +109,14 @@ complete -c zevkhadun -n '__fish_seen_subcommand_from log; and __fish_seen_subco
 complete -c zevkhadun -n '__fish_seen_subcommand_from log; and __fish_seen_subcommand_from verify' -s q -l quiet -d 'Print what is broken only, and show no progress'
 complete -c zevkhadun -n '__fish_seen_subcommand_from log; and __fish_seen_subcommand_from verify' -s h -l help -d 'Print help'
 complete -c zevkhadun -n '__fish_seen_subcommand_from log; and __fish_seen_subcommand_from verify' -F
+complete -c zevkhadun -n '__fish_seen_subcommand_from log; and __fish_seen_subcommand_from seal' -s q -l quiet -d 'Show no progress and no summary on standard error'
 complete -c zevkhadun -n '__fish_seen_subcommand_from log; and __fish_seen_subcommand_from seal' -s h -l help -d 'Print help'
 complete -c zevkhadun -n '__fish_seen_subcommand_from log; and __fish_seen_subcommand_from seal' -F
 complete -c zevkhadun -n '__fish_seen_subcommand_from log; and __fish_seen_subcommand_from compact' -l size -x -d 'Join neighbouring segments while their data has at most BYTES; suffixes K, M, G'
+complete -c zevkhadun -n '__fish_seen_subcommand_from log; and __fish_seen_subcommand_from compact' -s q -l quiet -d 'Show no progress and no summary on standard error'
 complete -c zevkhadun -n '__fish_seen_subcommand_from log; and __fish_seen_subcommand_from compact' -s h -l help -d 'Print help'
 complete -c zevkhadun -n '__fish_seen_subcommand_from log; and __fish_seen_subcommand_from compact' -F
 complete -c zevkhadun -n '__fish_seen_subcommand_from log; and __fish_seen_subcommand_from drop' -l before -x -d 'Remove segments whose records all have smaller numbers'
+complete -c zevkhadun -n '__fish_seen_subcommand_from log; and __fish_seen_subcommand_from drop' -s q -l quiet -d 'Show no progress and no summary on standard error'
 complete -c zevkhadun -n '__fish_seen_subcommand_from log; and __fish_seen_subcommand_from drop' -s h -l help -d 'Print help'
 complete -c zevkhadun -n '__fish_seen_subcommand_from log; and __fish_seen_subcommand_from drop' -F

@@ -17,7 +17,7 @@ DECLARED = (
 WRITTEN = {
     "program_base/src/failure.rt": r'(?:write!\(\s*f,\s+|f\.write_str\(|FailureCause::\w+ => )"([^;"][^"]*)"',
     "program_base/src/number_words.rt": r'"(\'\{part\}\'[^"]+)"',
-    "program_logs/src/log_refusal.rt": r'LogError::\w+ => \(\s*"([^"]+)"',
+    "program_logs/src/log_refusal.rt": r'(?:LogError::\w+ => \(\s*|text: )"([^"]+)"',
     "program_logs/src/number_range.rt": r'"(\'\{word\}\'[^"]+)"',
     "program_stores/src/merge.rt": r'format!\(in alloc; "(--[^"]+)"',
     "store_commands/src/id_range.rt": r'"(\'\{word\}\'[^"]+)"',

@@ -15,6 +15,15 @@ class LogCase(ProgramCase):
         """Appends records from the standard input, and returns what is printed."""
         return self.program.gives("log", "append", "events", *words, input=text)
 
+    def append_fails(self, status: int, reason: str, appended: str, *words: str, **how) -> None:
+        """An append ends with this status. Its errors are a line that has the reason in it, and one that says what was
+        appended."""
+        done = self.program.run("log", "append", "events", *words, **how)
+        self.assertEqual(done.returncode, status, done.stderr)
+        said = done.stderr.decode().splitlines()
+        self.assertEqual(said[1:], [f"zevkhadun: events: appended: {appended}"])
+        self.assertIn(reason, said[0])
+
     def records(self, *words: str, name: str = "events") -> bytes:
         """What `log cat` prints."""
         return self.program.gives("log", "cat", name, *words)

@@ -27,6 +27,10 @@ class SegmentCase(LogCase):
         """Removes the segments before a number."""
         self.assertEqual(self.program.gives("log", "drop", "events", "--before", str(number)), b"")
 
+    def told(self, *words: str) -> str:
+        """What a command says on a terminal."""
+        return self.program.shows("log", *words, "events").replace("\r\n", "\n")
+
     def counts(self) -> dict:
         """What `log stat` counts."""
         return json.loads(self.program.gives("log", "stat", "--json", "events"))
@@ -145,3 +149,36 @@ class Drop(SegmentCase):
         self.compact()
         self.assertEqual(self.segments(), ["%020d.store" % 10])
         self.assertEqual(self.records(), numbers(34, 10))
+
+
+class Told(SegmentCase):
+    """What commands that change segments say on a terminal, where nothing was done too."""
+
+    def test_seal_says_which_records_are_in_which_segment(self):
+        self.append(LINES)
+        self.assertEqual(self.told("seal"), f"sealed 3 records, numbers 0 to 2, into {FIRST}\n")
+        self.assertEqual(self.told("seal"), "sealed 0 records: the tail has none that is not sealed\n")
+        self.append(b"four\n")
+        self.assertEqual(self.told("seal"), "sealed 1 record, number 3, into 00000000000000000003.store\n")
+        self.append(b"five\n")
+        self.assertEqual(self.told("seal", "-q"), "")
+        self.assertEqual(len(self.segments()), 3)
+
+    def test_compact_says_how_many_segments_there_are(self):
+        for i in range(3):
+            self.seal(LINES)
+        self.assertEqual(self.told("compact", "--size", "1"), "segments: 3 before, 3 now; none were joined\n")
+        self.assertEqual(self.told("compact"), "segments: 3 before, 1 now\n")
+        self.assertEqual(self.told("compact", "--quiet"), "")
+
+    def test_drop_says_which_records_went_and_how_many_stay(self):
+        for i in range(3):
+            self.seal(LINES)
+        self.append(LINES)
+        stay = "a segment goes whole, and records of the tail go once they are sealed\n"
+        self.assertEqual(self.told("drop", "--before", "0"), "dropped 0 records\n")
+        self.assertEqual(self.told("drop", "--before", "2"), f"dropped 0 records; of those before 2 stay 2: {stay}")
+        self.assertEqual(self.told("drop", "--before", "6"), "dropped 6 records, numbers 0 to 5\n")
+        said = f"dropped 3 records, numbers 6 to 8; of those before 99 stay 3: {stay}"
+        self.assertEqual(self.told("drop", "--before", "99"), said)
+        self.assertEqual(self.told("drop", "-q", "--before", "99"), "")

@@ -69,16 +69,20 @@ class Append(LogCase):
     def test_numbers_that_can_not_be_printed_are_an_error_and_all_records_are_kept(self):
         with open("/dev/full", "wb") as full:
             reason = "standard output: No space left"
-            self.program.fails(3, reason, "log", "append", "events", "--number", input=LINES, stdout=full)
+            self.append_fails(3, reason, "3 records, numbers 0 to 2", "--number", input=LINES, stdout=full)
         self.assertEqual(self.records(), LINES)
 
-    def test_a_failed_input_leaves_the_records_before_it(self):
+    def test_a_failed_input_leaves_the_records_before_it_and_says_which_they_are(self):
         self.write("one.txt", LINES)
-        words = ["log", "append", "events", "one.txt", "gone", "one.txt"]
-        self.program.fails(3, "gone: No such file", *words)
+        words = ("one.txt", "gone", "one.txt")
+        self.append_fails(3, "gone: No such file", "3 records, numbers 0 to 2", *words)
         self.assertEqual(self.records(), LINES)
-        self.program.fails(3, "gone: No such file", *words, "--sync", "end")
+        self.append_fails(3, "gone: No such file", "0 records", *words, "--sync", "end", "-q")
         self.assertEqual(self.records(), LINES)
+        cut = b"\4\0\0\0four\4\0\0\0fi"
+        reason = "standard input: the input ends inside a document"
+        self.append_fails(1, reason, "1 record, number 3", "-q", "--framing", "lengths", input=cut)
+        self.assertEqual(self.records(), LINES + b"four\n")
 
     def test_progress_is_shown_on_a_terminal(self):
         self.write("one.txt", b"one\n")
@@ -88,6 +92,39 @@ class Append(LogCase):
         self.assertIn("200000 records, numbers 1 to 200000, ", shown)
         self.assertIn(" left ", shown)
         self.assertEqual(self.program.shows("log", "append", "-q", "events", "one.txt"), "")
+
+
+class Expected(LogCase):
+    """`--expect`: all records come in, or none."""
+
+    def test_exactly_so_many_records_are_appended(self):
+        self.append(LINES, "--expect", "3")
+        self.append(b"", "--expect", "0")
+        self.assertEqual(self.append(numbers(2), "--expect", "2", "--sync", "end", "--number"), b"3\n4\n")
+        self.assertEqual(self.records(), LINES + numbers(2))
+
+    def test_of_more_or_fewer_records_none_is_appended(self):
+        self.append(b"old\n")
+        before = self.files()
+        for text, came in ((LINES, 3), (b"", 0), (numbers(300_000), 300_000)):
+            for count in (came + 1, came - 1 if came else 2):
+                said = f"events: {count} records were expected and {came} came; nothing was written"
+                self.append_fails(1, said, "0 records", "--expect", str(count), input=text)
+        self.assertEqual(self.files(), before)
+
+    def test_records_are_not_on_the_disk_before_the_last_one_came(self):
+        self.append(b"old\n")
+        writing = self.begin("--expect", "2", "--number")
+        writing.stdin.write(numbers(2))
+        writing.stdin.flush()
+        self.assertEqual(self.records(), b"old\n")
+        self.assertEqual(writing.communicate(timeout=60), (b"1\n2\n", b""))
+
+    def test_a_policy_that_acknowledges_before_the_end_is_refused(self):
+        for policy in ("every", "batch"):
+            said = f"'--expect' takes no other '--sync' than 'end': '{policy}'"
+            self.program.fails(2, said, "log", "append", "events", "--expect", "3", "--sync", policy, input=LINES)
+        self.assertEqual(self.names(), [])
 
 
 class Segments(LogCase):
@@ -261,7 +298,8 @@ class Broken(LogCase):
             self.assertEqual(self.files()["tail.log"], torn)
             done = self.program.run("log", "verify", "events")
             self.assertEqual(done.returncode, 1)
-            self.assertRegex(done.stdout.decode(), r"^events/tail.log: torn: [01] records are whole; the \d+ bytes")
+            said = r"^events/tail.log: torn: (0 records are|1 record is) whole; the \d+ bytes"
+            self.assertRegex(done.stdout.decode(), said)
             done = self.program.run("log", "append", "events", input=b"new\n")
             said = r"^zevkhadun: events: \d+ bytes at the end of the tail were no whole batch, as after a crash; they"
             self.assertEqual(done.returncode, 0)
@@ -303,6 +341,26 @@ class Broken(LogCase):
                 done = self.program.run("log", "verify", "events")
                 self.assertEqual(done.returncode, 1)
                 self.assertIn("broken", (done.stdout + done.stderr).decode())
+
+
+    def test_a_lost_tail_is_named_and_an_empty_one_takes_its_place(self):
+        (self.folder / "events" / "tail.log").unlink()
+        said = "events: tail.log is missing; get it from a copy, or make an empty one as docs/LOG.md says\n"
+        for words in ("append events", "cat events", "get events 0", "stat events", "verify -q events", "seal events",
+                      "compact events", "drop events --before 1"):
+            self.program.fails(1, said, "log", *words.split(), input=LINES)
+        self.change("tail.log", b"zevklog\1" + (3).to_bytes(8, "little"))
+        self.assertEqual(self.records(), LINES)
+        self.assertEqual(self.append(b"new\n", "--number"), b"3\n")
+
+    def test_a_folder_that_is_named_as_a_segment_is_named(self):
+        name = "%020d.store" % 5
+        (self.folder / "events" / name).mkdir()
+        said = f"zevkhadun: events/{name}: not a plain file\n"
+        for words in ("cat events", "get events 0", "stat events", "verify -q events", "seal events", "compact events"):
+            self.program.fails(1, said, "log", *words.split())
+        (self.folder / "events" / name).rmdir()
+        self.assertEqual(self.records(), LINES + b"four\nfive\n")
 
 
 class Races(LogCase):

@@ -4,6 +4,7 @@ use crate::FOLDER;
 use crate::log_folder::SystemCause;
 use crate::opened_log::TailOptions;
 use crate::places::open_or_begin;
+use crate::record_span::RecordSpan;
 use crate::records::Appending;
 use crate::sync_policy::{SyncPolicy, policy_of, sync};
 use clap::{ArgMatches, Command};
@@ -12,7 +13,8 @@ use program_base::arguments::{self, framing_of, word, wrong_words};
 use program_base::byte_size::parse_size;
 use program_base::command_words::{Argument, command_of};
 use program_base::document_output::standard_output;
-use program_base::failure::{Failure, with_file};
+use program_base::expected_count::{ExpectedCount, expect};
+use program_base::failure::{Failure, FailureCause, with_file};
 use program_base::input_files::{files_from, inputs, names_of, split_names, total_bytes};
 use program_base::progress::Progress;
 use segmented_log::Commit;
@@ -22,12 +24,17 @@ const EXAMPLE: &str = "\
 The log is begun if FOLDER is missing or empty. Once 'append' ends with status 0, all records are on the disk. A crash
 or failure leaves the log as it was, and then the first records, as far as they reached the disk: of a batch all or
 none.
-If an input can't be read, the records before it are appended; with '--sync end' none are.
+If an input can't be read, the records before it are appended; with '--sync end' none are. A second line on standard
+error says how many were.
 
 Examples:
   zevkhadun log append events new.txt     a record for each line
   tail -f app.log | zevkhadun log append events     the records that come, as they come
-  zevkhadun log append --number --sync every events     the number of each record, once it is on the disk";
+  zevkhadun log append --number --sync every events     the number of each record, once it is on the disk
+  make_records | zevkhadun log append events --expect 1000     all thousand records, or none";
+
+// What is said after a call on the log's files failed: records of the batch that was being written may be in.
+const UNKNOWN_MORE: &str = "; 'zevkhadun log stat' says whether more are in";
 
 // The sizes past which a tail is sealed if the words name none: one to which batches are appended, and one that is
 // replaced at each sync.
@@ -55,6 +62,10 @@ pub fn command<'a>(alloc: Global) -> Result<Command<'a>, AllocError> {
             inputs(),
             files_from(),
             sync(),
+            expect(
+                "Append no record unless exactly COUNT of them come; all are put on the disk at the end, \
+                 as by '--sync end'",
+            ),
             Argument::Flag {
                 id: "number",
                 help: "Print the number of each record, one per line, once it is on the disk",
@@ -96,6 +107,7 @@ fn tail_options_of(alloc: Global, matches: &ArgMatches<'_>) -> Result<TailOption
 struct AppendOptions {
     policy: SyncPolicy,
     framing: Framing,
+    expected: ExpectedCount,
     tail: TailOptions,
     prints_numbers: bool,
     is_quiet: bool,
@@ -103,9 +115,11 @@ struct AppendOptions {
 
 // How the words say that records are appended.
 fn options_of(alloc: Global, matches: &ArgMatches<'_>) -> Result<AppendOptions, Failure> {
+    let expected = ExpectedCount::of("records", matches);
     Ok(AppendOptions {
-        policy: policy_of(alloc, matches)?,
+        policy: policy_of(alloc, matches, expected.is_given())?,
         framing: framing_of(alloc, matches)?,
+        expected,
         tail: tail_options_of(alloc, matches)?,
         prints_numbers: matches.get_flag("number"),
         is_quiet: matches.get_flag("quiet"),
@@ -126,49 +140,62 @@ fn appending_of<'a>(
         false => None,
     };
     let opened = open_or_begin(rt, path, cause, options.tail);
+    let log = with_file(alloc, path, opened)?;
+    let end = log.end();
     Ok(Appending {
         rt,
         path,
-        log: with_file(alloc, path, opened)?,
+        log,
         policy: options.policy,
         framing: options.framing,
+        expected: options.expected,
         progress: Progress::begin(rt, options.is_quiet, total).of_records(),
         numbers,
         output_failure: None,
+        appended: RecordSpan { from: end, to: end },
         waiting: 0,
     })
 }
 
 // Prints a line on what was appended, where progress is shown.
-fn summarize(appending: &Appending<'_>, from: u64) {
-    if !appending.progress.is_shown() {
-        return;
+fn summarize(appending: &Appending<'_>) {
+    if appending.progress.is_shown() {
+        let (appended, seconds) = (
+            appending.appended,
+            appending.progress.elapsed().as_secs_f64(),
+        );
+        let _ = eprintln!(appending.rt; "{appended}, {seconds:.3} seconds");
     }
-    let to = appending.log.end();
-    let seconds = appending.progress.elapsed().as_secs_f64();
-    let count = to.saturating_sub(from);
-    let last = to.saturating_sub(1);
-    let _ = match count {
-        0 => eprintln!(appending.rt; "0 records"),
-        1 => eprintln!(appending.rt; "1 record, number {from}, {seconds:.3} seconds"),
-        _ => {
-            eprintln!(appending.rt;
-                "{count} records, numbers {from} to {last}, {seconds:.3} seconds"
-            )
-        }
+}
+
+// Reports why not all records were appended, or their numbers not printed, and then which records are in the log.
+fn report(appending: &Appending<'_>, failure: &Failure) -> Result<(), Failure> {
+    let Some(status) = failure.report(appending.rt) else {
+        return Ok(());
     };
+    let (path, appended) = (appending.path, appending.appended);
+    let more = if appending.log.is_broken() {
+        UNKNOWN_MORE
+    } else {
+        ""
+    };
+    let _ = eprintln!(appending.rt; "zevkhadun: {path}: appended: {appended}{more}");
+    Err(Failure::from(FailureCause::Reported(status)))
 }
 
 // Appends the records of these files, or of the standard input where none are named, and says how many there were.
 fn append_all(appending: &mut Appending<'_>, paths: Option<&[&str]>) -> Result<(), Failure> {
-    let from = appending.log.end();
-    let appended = appending.append_inputs(paths);
+    let failure = match appending.append_inputs(paths) {
+        Ok(()) => appending.output_failure.take(),
+        Err(failure) => Some(failure),
+    };
     appending.progress.end();
-    appended?;
-    summarize(appending, from);
-    match appending.output_failure.take() {
-        Some(failure) => Err(failure),
-        None => Ok(()),
+    match failure {
+        Some(failure) => report(appending, &failure),
+        None => {
+            summarize(appending);
+            Ok(())
+        }
     }
 }
 

@@ -2,7 +2,8 @@
 
 use crate::log_folder::SystemCause;
 use crate::places::open_to_write;
-use crate::{FOLDER, folder};
+use crate::segments::segment_numbers;
+use crate::{FOLDER, folder, is_seen};
 use clap::{ArgMatches, Command};
 use program_base::arguments::{self, wrong_words};
 use program_base::byte_size::parse_size;
@@ -35,6 +36,7 @@ pub fn command<'a>(alloc: Global) -> Result<Command<'a>, AllocError> {
                 default: "256M",
                 help: "Join neighbouring segments while their data has at most BYTES; suffixes K, M, G",
             },
+            arguments::quiet(),
         ],
     )
 }
@@ -48,11 +50,23 @@ fn size_of(alloc: Global, matches: &ArgMatches<'_>) -> Result<u64, Failure> {
     }
 }
 
-// Joins segments of the log at a path.
-fn compact(rt: &HostRuntime, path: &str, size: u64) -> Result<(), FailureCause> {
+// Joins segments of the log at a path, and says what it did if that is seen.
+fn compact(rt: &HostRuntime, path: &str, size: u64, is_seen: bool) -> Result<(), FailureCause> {
     let cause = SystemCause::new();
     let mut log = open_to_write(rt, path, &cause)?;
-    log.compact(size)
+    let before = segment_numbers(rt, path)?.len();
+    log.compact(size)?;
+    drop(log);
+    let after = segment_numbers(rt, path)?.len();
+    if is_seen {
+        let none = if before == after {
+            "; none were joined"
+        } else {
+            ""
+        };
+        eprintln!(rt; "segments: {before} before, {after} now{none}")?;
+    }
+    Ok(())
 }
 
 /// Joins the segments.
@@ -60,5 +74,6 @@ pub fn run(rt: &HostRuntime, matches: &ArgMatches<'_>) -> Result<(), Failure> {
     let alloc = rt.alloc();
     let path = arguments::word(alloc, matches, FOLDER)?;
     let size = size_of(alloc, matches)?;
-    with_file(alloc, path, compact(rt, path, size))
+    let is_seen = is_seen(rt, matches);
+    with_file(alloc, path, compact(rt, path, size, is_seen))
 }

@@ -2,7 +2,8 @@
 
 use crate::log_folder::SystemCause;
 use crate::places::open_to_write;
-use crate::{FOLDER, folder};
+use crate::record_span::RecordSpan;
+use crate::{FOLDER, folder, is_seen};
 use clap::{ArgMatches, Command};
 use program_base::arguments::{self, wrong_words};
 use program_base::command_words::{Argument, command_of};
@@ -33,6 +34,7 @@ pub fn command<'a>(alloc: Global) -> Result<Command<'a>, AllocError> {
                 value: "NUMBER",
                 help: "Remove segments whose records all have smaller numbers",
             },
+            arguments::quiet(),
         ],
     )
 }
@@ -46,11 +48,45 @@ fn number_of(alloc: Global, matches: &ArgMatches<'_>) -> Result<u64, Failure> {
     }
 }
 
-// Removes segments of the log at a path.
-fn drop_before(rt: &HostRuntime, path: &str, number: u64) -> Result<(), FailureCause> {
+// What is said where records that might go stay.
+const STAYING: &str = "a segment goes whole, and records of the tail go once they are sealed";
+
+// Says which records went, and how many of those before a number stay.
+fn tell(
+    rt: &HostRuntime,
+    dropped: RecordSpan,
+    number: u64,
+    staying: u64,
+) -> Result<(), FailureCause> {
+    match staying {
+        0 => eprintln!(rt; "dropped {dropped}")?,
+        _ => eprintln!(rt;
+            "dropped {dropped}; of those before {number} stay {staying}: {STAYING}"
+        )?,
+    }
+    Ok(())
+}
+
+// Removes segments of the log at a path, and says what it did if that is seen.
+fn drop_before(
+    rt: &HostRuntime,
+    path: &str,
+    number: u64,
+    is_seen: bool,
+) -> Result<(), FailureCause> {
     let cause = SystemCause::new();
     let mut log = open_to_write(rt, path, &cause)?;
-    log.drop_before(number)
+    let from = log.first();
+    log.drop_before(number)?;
+    let (first, end) = (log.first(), log.end());
+    drop(log);
+    match is_seen {
+        true => {
+            let staying = number.min(end).saturating_sub(first);
+            tell(rt, RecordSpan { from, to: first }, number, staying)
+        }
+        false => Ok(()),
+    }
 }
 
 /// Removes the segments.
@@ -58,5 +94,6 @@ pub fn run(rt: &HostRuntime, matches: &ArgMatches<'_>) -> Result<(), Failure> {
     let alloc = rt.alloc();
     let path = arguments::word(alloc, matches, FOLDER)?;
     let number = number_of(alloc, matches)?;
-    with_file(alloc, path, drop_before(rt, path, number))
+    let is_seen = is_seen(rt, matches);
+    with_file(alloc, path, drop_before(rt, path, number, is_seen))
 }

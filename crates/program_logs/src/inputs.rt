@@ -118,15 +118,24 @@ impl<'a> Appending<'a> {
         Ok(())
     }
 
+    // Fails if another number of records came than was expected. All of them wait then.
+    fn check_count(&self) -> Result<(), Failure> {
+        let checked = self.expected.check(self.log.pending());
+        with_file(self.rt.alloc(), self.path, checked)
+    }
+
     /// Appends each record of each file, or of the standard input where none is named. Where an input fails the records
-    /// before it are put on the disk, unless all are to be one batch.
+    /// before it are put on the disk, unless all are to be one batch: then none are, nor where another number of them
+    /// came than was expected.
     pub fn append_inputs(&mut self, paths: Option<&[&str]>) -> Result<(), Failure> {
         let read = match paths {
             Some(paths) => self.append_files(paths),
             None => self.append_standard_input(),
         };
-        if read.is_err() && self.policy == SyncPolicy::End {
-            return read;
+        if self.policy == SyncPolicy::End {
+            read?;
+            self.check_count()?;
+            return self.sync();
         }
         let synced = self.sync();
         read?;

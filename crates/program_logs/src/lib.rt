@@ -12,6 +12,7 @@ mod log_refusal;
 mod number_range;
 mod opened_log;
 mod places;
+mod record_span;
 mod records;
 mod seal;
 mod segments;
@@ -24,6 +25,7 @@ use program_base::arguments::wrong_words;
 use program_base::command_words::{Argument, add};
 use program_base::failure::Failure;
 use std::alloc::{AllocError, Global};
+use std::io::IsTerminal;
 
 /// The name of the argument for the folder.
 const FOLDER: &str = "FOLDER";
@@ -71,6 +73,11 @@ fn folder<'a>() -> Argument<'a> {
         id: FOLDER,
         help: "The log's folder",
     }
+}
+
+/// Whether what a command says of its work is seen: on a terminal, unless the words say that nothing is shown.
+fn is_seen(rt: &HostRuntime, matches: &ArgMatches<'_>) -> bool {
+    !matches.get_flag("quiet") && rt.stderr().is_terminal()
 }
 
 /// Does what the words ask.

@@ -7,13 +7,24 @@ use segmented_log::LogError;
 // What to do where files or a record of a log are broken.
 const VERIFY: &str = "; 'zevkhadun log verify' says where";
 
+/// That a folder has segments of a log, and no tail.
+pub const NO_TAIL: FailureCause = FailureCause::Log(LogRefusal {
+    text: "tail.log is missing",
+    advice: "; get it from a copy, or make an empty one as docs/LOG.md says",
+    status: Status::Broken,
+});
+
 /// Why a call failed that a log refuses with this error.
 pub fn refused(error: LogError) -> FailureCause {
     let (text, advice, status) = match error {
         LogError::Memory => ("no memory", "", Status::System),
         LogError::Failed => ("the folder failed", "", Status::System),
         LogError::Full => ("the log is full", "", Status::Broken),
-        LogError::BatchFull => ("the batch is full", "; use '--sync batch'", Status::Broken),
+        LogError::BatchFull => (
+            "the batch is full",
+            "; use '--sync batch', without '--expect'",
+            Status::Broken,
+        ),
         LogError::TooLong => ("the record is too long", "", Status::Broken),
         LogError::Broken => ("the log must be opened again", "", Status::System),
         LogError::NoLog => ("the log's files are broken", VERIFY, Status::Broken),

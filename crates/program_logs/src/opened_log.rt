@@ -72,6 +72,16 @@ impl<'a> OpenedLog<'a> {
         self.log.end()
     }
 
+    /// How many records wait for a sync.
+    pub fn pending(&self) -> u64 {
+        self.log.pending()
+    }
+
+    /// Whether a call on the folder failed: then the log may have more records than were acknowledged.
+    pub fn is_broken(&self) -> bool {
+        self.log.is_broken()
+    }
+
     /// Puts a record after the others. It is on the disk once `sync` returns Ok.
     pub fn append(&mut self, record: &[u8]) -> Result<u64, FailureCause> {
         let number = self.log.append(record);

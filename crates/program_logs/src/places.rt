@@ -1,7 +1,9 @@
 //! What is at the path of a log, and how it is opened.
 
 use crate::log_folder::{LogFolder, SystemCause};
+use crate::log_refusal::NO_TAIL;
 use crate::opened_log::{OpenedLog, TailOptions};
+use crate::segments::segment_numbers;
 use program_base::failure::FailureCause;
 use segmented_log::{Commit, TAIL};
 use std::alloc::Global;
@@ -35,12 +37,25 @@ pub fn tail_bytes(rt: &HostRuntime, folder: &str) -> Result<Option<u64>, Failure
     }
 }
 
+// Fails, as a folder has no tail of a log.
+fn fail_without_tail(rt: &HostRuntime, path: &str) -> Result<(), FailureCause> {
+    let segments = segment_numbers(rt, path)?;
+    Err(if segments.is_empty() {
+        FailureCause::NotLog
+    } else {
+        NO_TAIL
+    })
+}
+
 /// Fails if there is no log at the path.
 pub fn check_log(rt: &HostRuntime, path: &str) -> Result<(), FailureCause> {
-    if fs::metadata(rt, path)?.is_dir() && tail_bytes(rt, path)?.is_some() {
-        return Ok(());
+    if !fs::metadata(rt, path)?.is_dir() {
+        return Err(FailureCause::NotLog);
     }
-    Err(FailureCause::NotLog)
+    match tail_bytes(rt, path)? {
+        Some(_) => Ok(()),
+        None => fail_without_tail(rt, path),
+    }
 }
 
 // Whether a crash during the beginning of a log may have left this file.
@@ -67,10 +82,13 @@ fn check_place(rt: &HostRuntime, path: &str) -> Result<(), FailureCause> {
         Err(error) if error.kind() == ErrorKind::NotFound => return Ok(()),
         Err(error) => return Err(FailureCause::System(error)),
     };
-    if found.is_dir() && (tail_bytes(rt, path)?.is_some() || is_blank(rt, path)?) {
+    if !found.is_dir() {
+        return Err(FailureCause::NotLog);
+    }
+    if tail_bytes(rt, path)?.is_some() || is_blank(rt, path)? {
         return Ok(());
     }
-    Err(FailureCause::NotLog)
+    fail_without_tail(rt, path)
 }
 
 // The folder that a writer locked, in a box, or why it is not to be had.

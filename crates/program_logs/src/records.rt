@@ -1,9 +1,11 @@
 //! Records that are appended to a log, and put on the disk when the policy says so.
 
 use crate::opened_log::OpenedLog;
+use crate::record_span::RecordSpan;
 use crate::sync_policy::SyncPolicy;
 use document_framing::Framing;
 use program_base::document_output::DocumentOutput;
+use program_base::expected_count::ExpectedCount;
 use program_base::failure::{Failure, FailureCause, to_output, with_file};
 use program_base::input_files::framing_bytes;
 use program_base::progress::Progress;
@@ -20,10 +22,13 @@ pub struct Appending<'a> {
     pub log: OpenedLog<'a>,
     pub policy: SyncPolicy,
     pub framing: Framing,
+    pub expected: ExpectedCount,
     pub progress: Progress<'a>,
     // Where the numbers of records that are on the disk are printed, if they are, and why that failed.
     pub numbers: Option<DocumentOutput<'a>>,
     pub output_failure: Option<Failure>,
+    // The records that are on the disk, of those of the inputs.
+    pub appended: RecordSpan,
     // How many bytes the records that wait take.
     pub waiting: u64,
 }
@@ -43,12 +48,12 @@ impl<'a> Appending<'a> {
     /// Puts the records that wait on the disk, and then prints their numbers. Where these can't be printed the log
     /// still takes all records, and the error is kept.
     pub fn sync(&mut self) -> Result<(), Failure> {
-        let from = self.log.end();
         let synced = self.log.sync();
         with_file(self.rt.alloc(), self.path, synced)?;
         self.waiting = 0;
-        let to = self.log.end();
-        if let Err(cause) = self.print_numbers(from, to) {
+        let from = self.appended.to;
+        self.appended.to = self.log.end();
+        if let Err(cause) = self.print_numbers(from, self.appended.to) {
             self.numbers = None;
             self.output_failure = Some(Failure::from(cause));
         }

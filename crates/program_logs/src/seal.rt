@@ -2,11 +2,14 @@
 
 use crate::log_folder::SystemCause;
 use crate::places::open_to_write;
-use crate::{FOLDER, folder};
+use crate::record_span::RecordSpan;
+use crate::segments::segment_numbers;
+use crate::{FOLDER, folder, is_seen};
 use clap::{ArgMatches, Command};
 use program_base::arguments;
 use program_base::command_words::command_of;
 use program_base::failure::{Failure, FailureCause, with_file};
+use segmented_log::segment_file;
 use std::alloc::{AllocError, Global};
 
 const EXAMPLE: &str = "\
@@ -23,20 +26,44 @@ pub fn command<'a>(alloc: Global) -> Result<Command<'a>, AllocError> {
         "seal",
         "Put the records of the tail into a segment, which is a store",
         EXAMPLE,
-        &[folder()],
+        &[folder(), arguments::quiet()],
     )
 }
 
-// Seals the log at a path.
-fn seal(rt: &HostRuntime, path: &str) -> Result<(), FailureCause> {
+// Says which records a seal put into the last segment, unless there were as many segments before.
+fn tell(rt: &HostRuntime, path: &str, before: usize, end: u64) -> Result<(), FailureCause> {
+    let segments = segment_numbers(rt, path)?;
+    let Some(first) = segments.last().filter(|_| segments.len() > before) else {
+        eprintln!(rt; "sealed 0 records: the tail has none that is not sealed")?;
+        return Ok(());
+    };
+    let sealed = RecordSpan {
+        from: *first,
+        to: end,
+    };
+    let name = segment_file(rt.alloc(), *first)?;
+    eprintln!(rt; "sealed {sealed}, into {name}")?;
+    Ok(())
+}
+
+// Seals the log at a path, and says what it did if that is seen.
+fn seal(rt: &HostRuntime, path: &str, is_seen: bool) -> Result<(), FailureCause> {
     let cause = SystemCause::new();
     let mut log = open_to_write(rt, path, &cause)?;
-    log.seal()
+    let before = segment_numbers(rt, path)?.len();
+    log.seal()?;
+    let end = log.end();
+    drop(log);
+    match is_seen {
+        true => tell(rt, path, before, end),
+        false => Ok(()),
+    }
 }
 
 /// Seals the log.
 pub fn run(rt: &HostRuntime, matches: &ArgMatches<'_>) -> Result<(), Failure> {
     let alloc = rt.alloc();
     let path = arguments::word(alloc, matches, FOLDER)?;
-    with_file(alloc, path, seal(rt, path))
+    let is_seen = is_seen(rt, matches);
+    with_file(alloc, path, seal(rt, path, is_seen))
 }

@@ -1,6 +1,7 @@
 //! When appended records are put on the disk.
 
 use clap::ArgMatches;
+use clap::parser::ValueSource;
 use program_base::arguments::{word, wrong_words};
 use program_base::command_words::Argument;
 use program_base::failure::Failure;
@@ -43,9 +44,20 @@ pub fn sync<'a>() -> Argument<'a> {
     }
 }
 
-/// The policy that the words name.
-pub fn policy_of(alloc: Global, matches: &ArgMatches<'_>) -> Result<SyncPolicy, Failure> {
-    match word(alloc, matches, "sync")? {
+/// The policy that the words name. Where the records are counted it has to be `End`, which is then the default.
+pub fn policy_of(
+    alloc: Global,
+    matches: &ArgMatches<'_>,
+    is_counted: bool,
+) -> Result<SyncPolicy, Failure> {
+    let name = word(alloc, matches, "sync")?;
+    if is_counted && name != END {
+        return match matches.value_source("sync") {
+            Some(ValueSource::DefaultValue) => Ok(SyncPolicy::End),
+            _ => Err(wrong_words(alloc, "'--expect' takes no other '--sync' than 'end'", name)),
+        };
+    }
+    match name {
         EVERY => Ok(SyncPolicy::Every),
         BATCH => Ok(SyncPolicy::Batch),
         END => Ok(SyncPolicy::End),

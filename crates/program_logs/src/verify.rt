@@ -108,10 +108,17 @@ impl Display for TailFault {
     fn fmt<W: fmt::Write>(&self, f: &mut fmt::Formatter<W>) -> fmt::Result {
         match self {
             TailFault::NoTail => f.write_str("broken: not a tail: its first bytes are others"),
-            TailFault::Torn { records, end, rest } => write!(
-                f,
-                "torn: {records} records are whole; the {rest} bytes from byte {end} on are no whole batch"
-            ),
+            TailFault::Torn { records, end, rest } => {
+                let are_whole = if *records == 1 {
+                    "record is whole"
+                } else {
+                    "records are whole"
+                };
+                write!(
+                    f,
+                    "torn: {records} {are_whole}; the {rest} bytes from byte {end} on are no whole batch"
+                )
+            }
         }
     }
 }
