@@ -5,12 +5,17 @@
 pub mod create_error;
 pub mod disk_file;
 pub mod disk_sink;
+pub mod knowledge;
+pub mod laws;
 pub mod loading;
 mod lock_mark;
 pub mod locked_folder;
+pub mod mark;
+mod names;
 pub mod os_folder;
 pub mod output_file;
 pub mod read_at;
+mod written_file;
 
 pub use create_error::CreateError;
 pub use disk_file::DiskFile;

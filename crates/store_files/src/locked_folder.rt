@@ -5,25 +5,25 @@ ghost use Rattle.store_base.specs.Counts.{HasRisen};
 
 use crate::create_error::CreateError;
 use crate::disk_file::DiskFile;
+use crate::knowledge::Doing;
 use crate::loading::read_all;
-use crate::lock_mark::{Knowledge, Standing, read_ending};
-use crate::output_file::{LockFile, lock, open_folder, plain_file};
+use crate::lock_mark::LockMark;
+use crate::names::{LOCK, check_name, listed_names};
+use crate::output_file::{LockFile, check_plain, lock, open_folder, plain_file};
 use crate::read_at::OsFile;
+use crate::written_file::{Written, WrittenFile};
 use std::alloc::Global;
-use std::fs::{DirEntry, File, Files, OpenFile, OpenOptions};
-use std::io::{ErrorKind, Write};
+use std::fs::{File, Files, OpenFile, OpenOptions};
+use std::io::ErrorKind;
 use std::{fs, io};
 use store_folder::{Folder, ReadableFolder};
-
-// The file by which a writer keeps others out.
-const LOCK: &str = "lock";
 
 /// A folder of the system. Its names are those of plain files in it. Its file `lock` is locked as long as the folder is
 /// open, and is never renamed or removed, so a second writer is refused at once. The file that was written last stays
 /// open: an append is one write, and the sync of a file one call.
 ///
-/// A mark in `lock` tells the next writer whether this one ended well. If it did, no file needs a sync; nor after a
-/// restart of the machine. If it did not, the files are known of which a sync may have failed.
+/// A mark in `lock` tells the next writer of this start of the machine whether this one ended well. If it did, no file
+/// needs a sync. If it did not, the files are known of which a sync may have failed.
 ///
 /// It promises nothing of what the system does: see `Folder::honest`.
 pub struct LockedFolder<R: Files + Drop>
@@ -36,85 +36,8 @@ where
     folder: R::File,
     lock: R::File,
     written: Option<WrittenFile<R::File>>,
-    knowledge: Knowledge,
+    mark: LockMark,
     failures: u64,
-}
-
-// How far a write came.
-enum Written {
-    Whole,
-    /// It failed, and nothing of it is left in the file, whose bytes are on the disk.
-    Undone(io::Error),
-    /// It failed.
-    Partly(io::Error),
-}
-
-// A file that is open to be written at its end.
-#[derive(Drop)]
-struct WrittenFile<F> {
-    name: String,
-    file: F,
-}
-
-impl<F: OpenFile + Write> WrittenFile<F> {
-    // Writes bytes at the end. What was written of them is cut off where a write fails: on a full device a torn end
-    // would take room, and the next opening of a log would need more, to write the whole tail without it.
-    fn write(&mut self, bytes: &[u8]) -> Written {
-        let length = match self.file.metadata() {
-            Ok(found) => found.len(),
-            Err(error) => return Written::Partly(error),
-        };
-        match self.file.write_all(bytes) {
-            Ok(()) => Written::Whole,
-            Err(error) => {
-                if self.file.set_len(length).is_ok() && self.file.sync_data().is_ok() {
-                    return Written::Undone(error);
-                }
-                Written::Partly(error)
-            }
-        }
-    }
-}
-
-// Refuses what is no name of a file in the folder, and the name of the lock.
-fn check_name(name: &str) -> io::Result<()> {
-    if name.is_empty() || name == "." || name == ".." || name == LOCK || name.contains('/') {
-        return Err(ErrorKind::InvalidInput.into());
-    }
-    Ok(())
-}
-
-// Refuses what is there and is no plain file before it is opened: a pipe would be waited for. Links are followed.
-fn check_plain<R: Files>(rt: &R, path: &str) -> io::Result<()> {
-    match rt.metadata(path) {
-        Ok(found) if !found.is_file() => Err(ErrorKind::InvalidInput.into()),
-        _ => Ok(()),
-    }
-}
-
-// Whether a file of this name is listed: the lock is not, nor what was not published.
-fn is_listed(name: &str) -> bool {
-    name != LOCK && !name.ends_with(".part")
-}
-
-// The name of this entry of a folder, if it is that of a plain file that is listed.
-fn listed_name<R: Files>(alloc: Global, entry: &DirEntry<R>) -> io::Result<Option<String>> {
-    let name = entry.file_name();
-    if is_listed(name) && entry.file_type()?.is_file() {
-        return Ok(Some(String::from_str(alloc, name)?));
-    }
-    Ok(None)
-}
-
-// The name of each plain file of this folder, but for the lock and those that were not published.
-fn listed_names<R: Files>(rt: &R, alloc: Global, path: &str) -> io::Result<Vec<String>> {
-    let mut names = Vec::new(alloc);
-    for entry in fs::read_dir(&(rt, alloc), path)? {
-        if let Some(name) = listed_name(alloc, &entry?)? {
-            names.push(name)?;
-        }
-    }
-    Ok(names)
 }
 
 impl<R: Files + Drop> LockedFolder<R>
@@ -157,8 +80,7 @@ where
             .open(&rt, lock_path.as_str())?;
         lock(&rt, &lock_file, lock_path.as_str(), alloc)?;
         let path = String::from_str(alloc, path).map_err(io::Error::from)?;
-        let ending = read_ending(&rt, alloc, &lock_file, lock_path.as_str())?;
-        let knowledge = Knowledge::after(alloc, ending).map_err(io::Error::from)?;
+        let mark = LockMark::read(&rt, alloc, &lock_file, lock_path.as_str())?;
         Ok(LockedFolder {
             rt,
             alloc,
@@ -166,7 +88,7 @@ where
             folder,
             lock: lock_file,
             written: None,
-            knowledge,
+            mark,
             failures: 0,
         })
     }
@@ -219,41 +141,34 @@ where
         self.open_as(name, OpenOptions::new().append(true))
     }
 
-    // Lets the mark say that a writer is at work, before it changes the folder.
-    fn mark(&mut self) -> io::Result<()>
+    // Lets the mark cover what is done next.
+    fn begin(&mut self, doing: &Doing<'_>) -> io::Result<()>
         ensures { self.new.failures ≡ self.old.failures }
     {
-        self.knowledge
-            .begin_change(&self.rt, self.alloc, &mut self.lock)
-    }
-
-    // Lets the mark name a file, before a sync of it may fail.
-    fn note(&mut self, name: &str) -> io::Result<()>
-        ensures { self.new.failures ≡ self.old.failures }
-    {
-        self.knowledge
-            .begin_write(&self.rt, self.alloc, &mut self.lock, name)
+        self.mark.begin(&mut self.lock, doing)
     }
 
     fn make(&mut self, name: &str) -> io::Result<()>
         ensures { self.new.failures ≡ self.old.failures }
     {
-        self.mark()?;
-        self.knowledge.set_kept_entries(false);
-        self.knowledge.set_written(self.alloc, name)?;
+        check_name(name)?;
+        self.begin(&Doing::Created(name))?;
+        self.mark.doubt_entries();
+        self.mark.note(&Doing::Appended(name));
         self.open_as(
             name,
             OpenOptions::new().write(true).create(true).truncate(true),
         )?;
-        Ok(self.knowledge.set(self.alloc, name, Standing::Written)?)
+        self.mark.note(&Doing::Created(name));
+        Ok(())
     }
 
     fn write(&mut self, name: &str, bytes: &[u8]) -> io::Result<()>
         ensures { self.new.failures ≡ self.old.failures }
     {
         self.open_to_append(name)?;
-        self.note(name)?;
-        self.knowledge.set_written(self.alloc, name)?;
+        self.begin(&Doing::Appended(name))?;
+        self.mark.note(&Doing::Appended(name));
         let outcome = match &mut self.written {
             Some(written) => written.write(bytes),
             None => return Err(ErrorKind::NotFound.into()),
@@ -261,10 +176,13 @@ where
         match outcome {
             Written::Whole => Ok(()),
             Written::Undone(error) => {
-                self.knowledge.set_synced(self.alloc, name)?;
+                self.mark.note(&Doing::FileSynced(name));
                 Err(error)
             }
-            Written::Partly(error) => Err(error),
+            Written::Partly(error) => {
+                self.mark.note(&Doing::SyncFailed(name));
+                Err(error)
+            }
         }
     }
 
@@ -282,22 +200,21 @@ where
     fn sync_written(&mut self, name: &str) -> io::Result<()>
         ensures { self.new.failures ≡ self.old.failures }
     {
-        match self.sync_open(name) {
-            Ok(()) => Ok(self.knowledge.set_synced(self.alloc, name)?),
-            Err(error) => {
-                // A file that this writer wrote is named by the mark since then.
-                self.knowledge.set(self.alloc, name, Standing::Failed)?;
-                let _ = self.note(name);
-                Err(error)
-            }
-        }
+        check_name(name)?;
+        self.begin(&Doing::SyncFailed(name))?;
+        let outcome = self.sync_open(name);
+        self.mark.note(&match &outcome {
+            Ok(()) => Doing::FileSynced(name),
+            Err(_) => Doing::SyncFailed(name),
+        });
+        outcome
     }
 
     fn sync_entries(&mut self) -> io::Result<()>
         ensures { self.new.failures ≡ self.old.failures }
     {
         self.folder.sync_all()?;
-        self.knowledge.set_kept_entries(true);
+        self.mark.note(&Doing::FolderSynced);
         Ok(())
     }
 
@@ -327,17 +244,11 @@ where
     {
         check_name(from)?;
         check_name(to)?;
-        if self.knowledge.is_synced(from) {
-            self.mark()?;
-        } else {
-            self.note(to)?;
-        }
-        self.knowledge.set_kept_entries(false);
-        self.knowledge.reserve()?;
         let name = String::from_str(self.alloc, to)?;
-        let known_name = String::from_str(self.alloc, to)?;
+        self.begin(&Doing::Moved(from, to))?;
+        self.mark.doubt_entries();
         self.rename_path(from, to)?;
-        self.knowledge.rename(from, known_name);
+        self.mark.note(&Doing::Moved(from, to));
         self.rename_written(from, name);
         Ok(())
     }
@@ -346,10 +257,10 @@ where
         ensures { self.new.failures ≡ self.old.failures }
     {
         let path = self.path_of(name)?;
-        self.mark()?;
-        self.knowledge.set_kept_entries(false);
+        self.begin(&Doing::Removed(name))?;
+        self.mark.doubt_entries();
         fs::remove_file(&self.rt, path.as_str())?;
-        self.knowledge.forget(name);
+        self.mark.note(&Doing::Removed(name));
         if self.is_open(name) {
             self.written = None;
         }
@@ -421,19 +332,19 @@ where
     }
 
     fn is_trusted(&self, name: &str) -> bool {
-        self.knowledge.is_trusted(name)
+        self.mark.knowledge().is_trusted(name)
     }
 
     fn is_synced(&self, name: &str) -> bool {
-        self.knowledge.is_synced(name)
+        self.mark.knowledge().is_synced(name)
     }
 
     fn has_kept_entries(&self) -> bool {
-        self.knowledge.has_kept_entries()
+        self.mark.knowledge().has_kept_entries()
     }
 }
 
-/// The mark tells whether all is on the disk.
+/// The mark tells what is on the disk.
 impl<R: Files + Drop> Drop for LockedFolder<R>
 where
     R::File: LockFile,
@@ -446,16 +357,13 @@ where
             folder: _folder,
             mut lock,
             written: _written,
-            mut knowledge,
+            mut mark,
             failures: _,
         } = self;
-        let listed = if knowledge.needs_listing() {
-            listed_names(&rt, alloc, path.as_str())
-        } else {
-            Ok(Vec::new(alloc))
-        };
-        if let Ok(listed) = listed {
-            let _ = knowledge.mark_end(&rt, alloc, &mut lock, &listed);
+        if mark.has_end() {
+            if let Ok(names) = listed_names(&rt, alloc, path.as_str()) {
+                let _ = mark.end(&mut lock, &names);
+            }
         }
     }
 }

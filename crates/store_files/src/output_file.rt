@@ -114,6 +114,14 @@ pub(crate) fn plain_file<R: Files>(
     }
 }
 
+/// Refuses what is there and is no plain file before it is opened, as `plain_file` does. Links are followed.
+pub(crate) fn check_plain<R: Files>(rt: &R, path: &str) -> io::Result<()> {
+    match rt.metadata(path) {
+        Ok(found) if !found.is_file() => Err(io::ErrorKind::InvalidInput.into()),
+        _ => Ok(()),
+    }
+}
+
 // That the file of this name is being written by another.
 fn busy(alloc: Global, path: &str) -> CreateError {
     match String::from_str(alloc, path) {
@@ -202,8 +210,8 @@ fn open_beside<R: Files>(
     }
 }
 
-/// Opens the file beside: locked, and with the access that the replaced file has. It is private until then. One that a crash left is taken over.
-/// Where the system refuses a call nothing is left beside.
+/// Opens the file beside: locked, and with the access that the replaced file has. It is private until then. One that a
+/// crash left is taken over. Where the system refuses a call nothing is left beside.
 pub(crate) fn begin<R: Files>(
     rt: &R,
     alloc: Global,

@@ -8,6 +8,8 @@ mod folder;
 #[cfg(test)]
 mod locked_folder;
 #[cfg(test)]
+mod marks;
+#[cfg(test)]
 mod outputs;
 #[cfg(test)]
 mod reading;

@@ -1,0 +1,3 @@
+pub mod KnowledgeLemmas
+pub mod MarkLemmas
+pub mod ByteLemmas

@@ -1,0 +1,9 @@
+use Rattle.std.proofs.Common.{◌≡◌, take}
+use Rattle.std.specs.Prelude.{All, string_bytes, String}
+use Rattle.std.specs.declared.alloc.Global.{Global}
+use Rattle.store_files.specs.Knowledge.{said}
+use Rattle.store_files.specs.declared.knowledge.Standing.TheVariants.{Synced}
+use Rattle.store_files.proofs.mark.are_synced.Given as goal
+
+abbrev pub invariant-loop-name : goal.invariant-loop-name
+invariant-loop-name l = All (λ (name : String Global). said l.knowledge (string_bytes name) ≡ Synced) (take l.name-index l.names)
