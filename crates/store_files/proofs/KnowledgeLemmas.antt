@@ -86,16 +86,16 @@ pub forgotten : (name : List ℕ) (old new : List TouchedFile) → new ≡ witho
 forgotten name old new is others n =
     ap (λ (fs : List TouchedFile). standing_in others fs n) (is ∙ sym (append-nil (without name old)))
     ∙ by_name name n (standing_in others (without name old ++ []) n) (untouched others n) (standing_in others old n)
-      (λ e. subst (λ (k : List ℕ). standing_in others (without name old ++ []) k ≡ untouched others k) e (gone others name old []))
-      (λ ne. stays others name old [] n ne refl)
+    (λ e. subst (λ (k : List ℕ). standing_in others (without name old ++ []) k ≡ untouched others k) e (gone others name old []))
+    (λ ne. stays others name old [] n ne refl)
 
 pub replaced : (name : List ℕ) (old new : List TouchedFile) (file : TouchedFile) → file.name.items ≡ name → new ≡ without name old ++ file ∷ [] → (others : Standing) (n : List ℕ)
     → standing_in others new n ≡ (if pointwise nat_eq name n then file.standing else standing_in others old n)
 replaced name old new file named is others n =
     ap (λ (fs : List TouchedFile). standing_in others fs n) is
     ∙ by_name name n (standing_in others (without name old ++ file ∷ []) n) file.standing (standing_in others old n)
-      (λ e. subst (λ (k : List ℕ). standing_in others (without name old ++ file ∷ []) k ≡ file.standing) e (gone others name old (file ∷ []) ∙ first_is others file [] name named))
-      (λ ne. stays others name old (file ∷ []) n ne (first_is_not others file [] n (λ q. ne (sym named ∙ q))))
+    (λ e. subst (λ (k : List ℕ). standing_in others (without name old ++ file ∷ []) k ≡ file.standing) e (gone others name old (file ∷ []) ∙ first_is others file [] name named))
+    (λ ne. stays others name old (file ∷ []) n ne (first_is_not others file [] n (λ q. ne (sym named ∙ q))))
 
 -- one file more was passed, which has another name
 pub passed : (others : Standing) (file : TouchedFile) (files : List TouchedFile) (n : List ℕ) → pointwise nat_eq file.name.items n ≡ false

@@ -42,7 +42,7 @@ standing_in others (file ∷ files) n = if pointwise nat_eq file.name.items n th
 abbrev pub said : Knowledge → List ℕ → Standing
 said k n = standing_in k.others k.touched.items n
 
--- A sync that failed counts until the file is made anew.
+-- A sync that failed counts until the file is made again.
 abbrev pub unless_failed : Standing → Standing → Standing
 unless_failed Failed new = Failed
 unless_failed Unsynced new = new

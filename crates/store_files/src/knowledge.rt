@@ -116,7 +116,7 @@ fn put(
     Ok(())
 }
 
-// The standing of a file that is written or synced: a sync that failed counts until the file is made anew.
+// The standing of a file that is written or synced: a sync that failed counts until the file is made again.
 fn unless_failed_before(old: Standing, new: Standing) -> Standing
     ensures { result ≡ unless_failed old new }
 {

@@ -79,8 +79,7 @@ impl Mark {
             Doing::Created(name) => self.kind != MarkKind::Ended && self.is_silent_of(name),
             Doing::Appended(name) | Doing::SyncFailed(name) => self.is_silent_of(name),
             Doing::Moved(from, to) => {
-                self.kind != MarkKind::Ended
-                    && (self.is_silent_of(to) || knowledge.is_synced(from))
+                self.kind != MarkKind::Ended && (self.is_silent_of(to) || knowledge.is_synced(from))
             }
             Doing::Removed(_) => self.kind != MarkKind::Ended,
             Doing::FileSynced(_) | Doing::FolderSynced => true,
@@ -138,7 +137,9 @@ pub fn mark_before(
         Doing::Appended(name) => naming_mark(alloc, knowledge, name),
         Doing::SyncFailed(name) => naming_mark(alloc, knowledge, name),
         Doing::Moved(_, to) => naming_mark(alloc, knowledge, to),
-        Doing::Removed(_) | Doing::FileSynced(_) | Doing::FolderSynced => work_mark(alloc, knowledge),
+        Doing::Removed(_) | Doing::FileSynced(_) | Doing::FolderSynced => work_mark(
+            alloc, knowledge,
+        ),
     }
 }
 
@@ -156,11 +157,7 @@ fn are_synced(knowledge: &Knowledge, names: &[String]) -> bool
 }
 
 /// The mark of a writer that ends in a folder of these files.
-pub fn end_mark(
-    alloc: Global,
-    knowledge: &Knowledge,
-    names: &[String],
-) -> Result<Mark, AllocError>
+pub fn end_mark(alloc: Global, knowledge: &Knowledge, names: &[String]) -> Result<Mark, AllocError>
     ensures claims { IfOk result (λ m. knowledge.now.others ≢ Standing.Failed
         → All (λ name. rank (claimed m (string_bytes name)) ≤ rank (said knowledge.now (string_bytes name))) names.now) }
     ensures entries { IfOk result (λ m. knowledge.now.others ≢ Standing.Failed
@@ -228,12 +225,7 @@ impl MarkKind {
 }
 
 // The bytes of a mark up to its names.
-fn head(
-    alloc: Global,
-    kind: MarkKind,
-    boot: &[u8],
-    inode: &[u8],
-) -> Result<Vec<u8>, AllocError>
+fn head(alloc: Global, kind: MarkKind, boot: &[u8], inode: &[u8]) -> Result<Vec<u8>, AllocError>
     ensures { IfOk result (λ v. v.items ≡ fields (word kind ∷ boot.now ∷ inode.now ∷ []) []) }
 {
     let mut bytes = Vec::new(alloc);
@@ -266,12 +258,7 @@ impl Mark {
     }
 
     /// Its bytes, for this start of the machine and the file of this inode.
-    pub fn to_bytes(
-        &self,
-        alloc: Global,
-        boot: &[u8],
-        inode: &[u8],
-    ) -> Result<Vec<u8>, AllocError>
+    pub fn to_bytes(&self, alloc: Global, boot: &[u8], inode: &[u8]) -> Result<Vec<u8>, AllocError>
         ensures { IfOk result (λ v. v.items
             ≡ mark_bytes (word self.now.kind) boot.now inode.now (texts self.now.names.items) []) }
     {
@@ -303,12 +290,7 @@ fn mark_of_kind(
 
 /// The mark in the bytes of a file `lock`, if it was left at this start of the machine in the file of this inode. One
 /// of another start, of another folder or that is not whole claims nothing.
-pub fn read_mark(
-    alloc: Global,
-    bytes: &[u8],
-    boot: &[u8],
-    inode: &[u8],
-) -> Result<Mark, AllocError>
+pub fn read_mark(alloc: Global, bytes: &[u8], boot: &[u8], inode: &[u8]) -> Result<Mark, AllocError>
     ensures { IfOk result (λ m. IsMarkOf bytes.now boot.now inode.now m ⊎ IsBlank m) }
 {
     for kind in [MarkKind::Ended, MarkKind::Open, MarkKind::Unsure] {

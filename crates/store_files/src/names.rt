@@ -10,7 +10,12 @@ pub(crate) const LOCK: &str = "lock";
 
 /// Refuses what is no name of a file in the folder, and the name of the lock.
 pub(crate) fn check_name(name: &str) -> io::Result<()> {
-    if name.is_empty() || name == "." || name == ".." || name == LOCK || name.contains(['/', '\0']) {
+    if name.is_empty()
+        || name == "."
+        || name == ".."
+        || name == LOCK
+        || name.contains(['/', '\0'])
+    {
         return Err(ErrorKind::InvalidInput.into());
     }
     Ok(())

@@ -192,16 +192,16 @@ fn leaves_one(rt: &HostRuntime, failing_call: u32) -> Result<bool, Fail> {
     fs::write(rt, "test_files_fails/a", b"old".as_slice())?;
     fs::write(rt, "test_files_fails/lock", b"".as_slice())?;
     let is_replaced = replaced(rt, &Cell::new(0), failing_call)?;
-    let left = if failing_call < 9 { b"old" } else { b"new" };
-    Ok(is_replaced == (failing_call >= 10) && holds(rt, "test_files_fails/a", left)?)
+    let left = if failing_call < 10 { b"old" } else { b"new" };
+    Ok(is_replaced == (failing_call >= 11) && holds(rt, "test_files_fails/a", left)?)
 }
 
-// The calls are: open the folder, open and lock its lock, open it to read the mark, open the file beside, write it,
-// sync it, rename it, and sync the folder; then the mark is written, and cut.
+// The calls are: open the folder, open and lock its lock, open the number of the machine's start and the mark, open the
+// file beside, write it, sync it, rename it, and sync the folder; then the mark is written, and cut.
 #[test]
 fn each_failing_call_leaves_the_old_file_or_the_new_one(rt: HostRuntime) -> Result<(), Fail> {
     make(&rt, "test_files_fails")?;
-    for failing_call in 1..13 {
+    for failing_call in 1..14 {
         assert!(rt; leaves_one(&rt, failing_call)?);
     }
     Ok(remove(&rt, "test_files_fails")?)
@@ -213,15 +213,15 @@ fn is_made(rt: &HostRuntime, calls: &Cell<u32>, failing_call: u32) -> Result<boo
     Ok(LockedFolder::create(rt.alloc(), files, "test_files_made/log").is_ok())
 }
 
-// The calls are: open the folder that it is in, and sync it; open the new folder, open and lock its lock, and open it
-// to read the mark.
+// The calls are: open the folder that it is in, and sync it; open the new folder, open and lock its lock, and open the
+// number of the machine's start and the mark.
 #[test]
 fn a_new_folder_is_synced_in_the_one_that_it_is_in(rt: HostRuntime) -> Result<(), Fail> {
     make(&rt, "test_files_made")?;
-    for failing_call in 1..8 {
+    for failing_call in 1..9 {
         let calls = Cell::new(0);
         let is_made = is_made(&rt, &calls, failing_call)?;
-        assert!(rt; is_made == (failing_call == 7) && calls.get() == failing_call.min(6));
+        assert!(rt; is_made == (failing_call == 8) && calls.get() == failing_call.min(7));
     }
     Ok(remove(&rt, "test_files_made")?)
 }

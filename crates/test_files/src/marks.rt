@@ -29,7 +29,7 @@ enum Known {
     Synced,
 }
 
-fn known(folder: &Locked, name: &str) -> Known {
+fn standing(folder: &Locked, name: &str) -> Known {
     if folder.is_synced(name) {
         return Known::Synced;
     }
@@ -42,7 +42,7 @@ fn known(folder: &Locked, name: &str) -> Known {
 // What is known of two files by the mark in the folder's `lock`, and whether its entries are on the disk.
 fn is_known(rt: &HostRuntime, path: &str, a: Known, b: Known, entries: bool) -> Result<bool, Fail> {
     let folder = opened(rt, path)?;
-    Ok(known(&folder, "a") == a && known(&folder, "b") == b && folder.has_kept_entries() == entries)
+    Ok(standing(&folder, "a") == a && standing(&folder, "b") == b && folder.has_kept_entries() == entries)
 }
 
 // The mark in a folder's `lock`.
@@ -105,7 +105,12 @@ fn of_another_start(mark: &mut [u8]) {
 }
 
 // Whether this mark tells nothing once the machine has started again, where it was cut, and in a copy of the folder.
-fn is_of_its_folder_alone(rt: &HostRuntime, path: &str, copy: &str, left: &[u8]) -> Result<bool, Fail> {
+fn is_of_its_folder_alone(
+    rt: &HostRuntime,
+    path: &str,
+    copy: &str,
+    left: &[u8],
+) -> Result<bool, Fail> {
     let mut other = left.to_vec(rt.alloc())?;
     of_another_start(&mut other);
     let cut = &left[..left.len() - left.len().min(1)];
@@ -136,22 +141,33 @@ fn a_lock_that_was_removed_tells_nothing(rt: HostRuntime) -> Result<(), Fail> {
 }
 
 #[test]
-fn a_file_beside_that_was_left_over_is_not_trusted_by_its_new_name(rt: HostRuntime) -> Result<(), Fail> {
+fn a_file_beside_that_was_left_over_is_not_trusted_by_its_new_name(
+    rt: HostRuntime,
+) -> Result<(), Fail> {
     let path = "test_files_left";
     begin(&rt, path)?;
     fs::write(&rt, "test_files_left/b.part", b"left".as_slice())?;
     let mut folder = opened(&rt, path)?;
     folder.rename("b.part", "b")?;
     folder.sync_file("b")?;
-    let is_known_now = known(&folder, "b") == Known::Nothing;
+    let is_known_now = standing(&folder, "b") == Known::Nothing;
     drop(folder);
     assert!(rt; is_known_now && is_known(&rt, path, Known::Synced, Known::Nothing, false)?);
     Ok(remove(&rt, path)?)
 }
 
 // Writes the file `b`, of which the first sync fails and the second doesn't. Returns the mark that is left then.
-fn fail_sync(rt: &HostRuntime, path: &str, calls: &Cell<u32>, failing_call: u32) -> Result<Vec<u8>, Fail> {
-    let mut folder = LockedFolder::open(rt.alloc(), FailingFiles::new(rt, calls, failing_call)?, path)?;
+fn fail_sync(
+    rt: &HostRuntime,
+    path: &str,
+    calls: &Cell<u32>,
+    failing_call: u32,
+) -> Result<Vec<u8>, Fail> {
+    let mut folder = LockedFolder::open(
+        rt.alloc(),
+        FailingFiles::new(rt, calls, failing_call)?,
+        path,
+    )?;
     folder.create("b")?;
     folder.append("b", b"lost")?;
     let has_failed = folder.sync_file("b").is_err() && folder.sync_file("b").is_ok();

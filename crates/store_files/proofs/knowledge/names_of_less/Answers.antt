@@ -10,4 +10,4 @@ loop-file-preserved c = λ n beside named le.
     let added = c.in_ok-add_if_less.ensures n beside named in
     c.loop-file.invariant n beside added.0
     (less_so_far c.args.others c.args.touched.now c.loop-file.file-index c.file-item.result n c.loop-file-test.true
-      (subst (λ (f : TouchedFile). pointwise nat_eq f.name.items n ≡ true → rank c.args.others ≤ rank f.standing) c.file-item.is added.1) le)
+    (subst (λ (f : TouchedFile). pointwise nat_eq f.name.items n ≡ true → rank c.args.others ≤ rank f.standing) c.file-item.is added.1) le)

@@ -11,4 +11,4 @@ returns c =
     let named : file.name.items ≡ c.args.name.now = search rules in
     replaced c.args.name.now c.args.touched.now.items c.push.new.self.items file named
     (c.in_ok-push.ensures.items
-      ∙ ap (λ (fs : List TouchedFile). fs ++ file ∷ []) (filter_same _ (λ file. not (is_at c.args.name.now file)) _ (λ x b f' k. search rules) _ _ c.retain.ensures.filtered))
+    ∙ ap (λ (fs : List TouchedFile). fs ++ file ∷ []) (filter_same _ (λ file. not (is_at c.args.name.now file)) _ (λ x b f' k. search rules) _ _ c.retain.ensures.filtered))

@@ -11,5 +11,5 @@ returns-clause-kept c =
     is_with _ c.args.to.now _ _ (λ n. standing_in others c.forget.new.touched.items n) (λ n. if pointwise nat_eq c.args.from.now n then untouched others n else said c.args.self.now n) _ _
     c.standing-standing.ensures
     (λ n. subst (λ (m : List ℕ). standing_in others c.forget.new.touched.items n ≡ (if pointwise nat_eq m n then untouched others n else said c.args.self.now n))
-      c.as_bytes.ensures.value (c.forget.ensures others n))
+    c.as_bytes.ensures.value (c.forget.ensures others n))
     c.set.ensures.kept
