@@ -342,7 +342,6 @@ class Broken(LogCase):
                 self.assertEqual(done.returncode, 1)
                 self.assertIn("broken", (done.stdout + done.stderr).decode())
 
-
     def test_a_lost_tail_is_named_and_an_empty_one_takes_its_place(self):
         (self.folder / "events" / "tail.log").unlink()
         said = "events: tail.log is missing; get it from a copy, or make an empty one as docs/LOG.md says\n"

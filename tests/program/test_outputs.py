@@ -57,7 +57,9 @@ class Replacing(ProgramCase):
     def olds(self):
         """What an old file may hold."""
         whole = self.read("numbers.store")
-        return {"a store": whole, "a cut store": whole[:1000], "nothing": b"", "a page": b"<!DOCTYPE html>", "text": LINES}
+        return {
+            "a store": whole, "a cut store": whole[:1000], "nothing": b"", "a page": b"<!DOCTYPE html>", "text": LINES,
+        }
 
     def test_a_file_is_refused(self):
         reason = "old: the file exists; choose another name, or give '--replace'"

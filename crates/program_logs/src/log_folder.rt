@@ -73,8 +73,8 @@ impl SystemCause {
 }
 
 /// A log's folder. A reader has no lock, and what it is asked to write is dropped: as a log is opened, that is the tail
-/// without a torn end. It lists the segments and reads the tail at one moment, and an opening, which asks once for each,
-/// gets these.
+/// without a torn end. It lists the segments and reads the tail at one moment, and an opening, which asks once for
+/// each, gets these.
 #[derive(Drop)]
 pub struct LogFolder<'a, R: Files<File = File> + Drop> {
     rt: &'a R,

@@ -88,8 +88,8 @@ field_of_all old new name tail is =
     ap (λ (bytes : List ℕ). bytes ++ tail) is ∙ append_assoc old (name ++ 0 ∷ []) tail ∙ ap (λ (bytes : List ℕ). old ++ bytes) (append_assoc name (0 ∷ []) tail)
 
 -- one name more was read
-pub name_read : (bytes : List ℕ) (names : List (Vec ℕ Global)) (name : Vec ℕ Global) (left rest text : List ℕ) (more : List (Vec ℕ Global)) → bytes ≡ fields (texts names) left → left ≡ text ++ 0 ∷ rest
-    → name.items ≡ text → more ≡ names ++ name ∷ [] → bytes ≡ fields (texts more) rest
+pub name_read : (bytes : List ℕ) (names : List (Vec ℕ Global)) (name : Vec ℕ Global) (left rest text : List ℕ)
+    (more : List (Vec ℕ Global)) → bytes ≡ fields (texts names) left → left ≡ text ++ 0 ∷ rest → name.items ≡ text → more ≡ names ++ name ∷ [] → bytes ≡ fields (texts more) rest
 name_read bytes names name left rest text more is parts same are =
     is ∙ ap (λ (l : List ℕ). fields (texts names) l) (parts ∙ ap (λ (t : List ℕ). t ++ 0 ∷ rest) (sym same)) ∙ sym (fields_more (texts names) name.items rest)
     ∙ ap (λ (ns : List (List ℕ)). fields ns rest) (sym (texts_more names name)) ∙ ap (λ (ns : List (Vec ℕ Global)). fields (texts ns) rest) (sym are)

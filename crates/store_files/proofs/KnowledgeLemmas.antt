@@ -242,7 +242,9 @@ pub less_so_far : (others : Standing) (files : List TouchedFile) (i : ℕ) (d : 
 less_so_far others files i d n lt at rest =
     subst (λ (fs : List TouchedFile). rank others ≤ rank (standing_in others fs n)) (sym (drop_more files i d lt)) (told (pointwise nat_eq (get_or files i d).name.items n) refl)
   where
-    told : (b : Bool) → b ≡ pointwise nat_eq (get_or files i d).name.items n → rank others ≤ rank (if pointwise nat_eq (get_or files i d).name.items n then (get_or files i d).standing else standing_in others (drop (i + 1) files) n)
+    told : (b : Bool) → b ≡ pointwise nat_eq (get_or files i d).name.items n
+        → rank others ≤ rank (if pointwise nat_eq (get_or files i d).name.items n then (get_or files i d).standing
+        else standing_in others (drop (i + 1) files) n)
     told true e = subst (λ (b : Bool). rank others ≤ rank (if b then (get_or files i d).standing else standing_in others (drop (i + 1) files) n)) e (at (sym e))
     told false e = subst (λ (b : Bool). rank others ≤ rank (if b then (get_or files i d).standing else standing_in others (drop (i + 1) files) n)) e rest
 

@@ -112,7 +112,8 @@ claims_less mark more name kind names n = told (is_part n)
     inner true = omega arith
     inner false = subst (λ (k : MarkKind). rank (if named mark.names.items n then Failed else others_of more.kind) ≤ rank (if named mark.names.items n then Failed else others_of k)) kind (omega arith)
 
-    told : (p : Bool) → rank (if p then Failed else (if named more.names.items n then Failed else others_of more.kind)) ≤ rank (if p then Failed else (if named mark.names.items n then Failed else others_of mark.kind))
+    told : (p : Bool) → rank (if p then Failed else (if named more.names.items n then Failed else others_of more.kind))
+        ≤ rank (if p then Failed else (if named mark.names.items n then Failed else others_of mark.kind))
     told true = omega arith
     told false = subst (λ (b : Bool). rank (if b then Failed else others_of more.kind) ≤ rank (if named mark.names.items n then Failed else others_of mark.kind))
         (sym (ap (λ (ns : List (Vec ℕ Global)). named ns n) names ∙ named-more mark.names.items name n)) (inner (pointwise nat_eq name.items n))

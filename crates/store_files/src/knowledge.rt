@@ -1,6 +1,7 @@
 //! What a writer knows of the files of its folder: by the mark that it found, and by what it did since.
 
-ghost use Rattle.std.specs.Prelude.{◌≡◌, ◌≢◌, ◌↔◌, ℕ, List, ◌≤◌, [], true, false, if◌then◌else◌, IsTrue, IfOk, OnOk, nat_eq};
+ghost use Rattle.std.specs.Prelude.{◌≡◌, ◌≢◌, ◌↔◌, ℕ, List, ◌≤◌, [], true, false, if◌then◌else◌, nat_eq};
+ghost use Rattle.std.specs.Prelude.{IsTrue, IfOk, OnOk};
 ghost use lib.Pointwise.{pointwise};
 ghost use Rattle.store_files.specs.Knowledge.{is_part, untouched, standing_in, said, unless_failed};
 ghost use Rattle.store_files.specs.Knowledge.{with_standing, passed_to, moved, after, entries_after, rank, IsOf};

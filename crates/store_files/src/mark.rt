@@ -158,8 +158,8 @@ fn are_synced(knowledge: &Knowledge, names: &[String]) -> bool
 
 /// The mark of a writer that ends in a folder of these files.
 pub fn end_mark(alloc: Global, knowledge: &Knowledge, names: &[String]) -> Result<Mark, AllocError>
-    ensures claims { IfOk result (λ m. knowledge.now.others ≢ Standing.Failed
-        → All (λ name. rank (claimed m (string_bytes name)) ≤ rank (said knowledge.now (string_bytes name))) names.now) }
+    ensures claims { IfOk result (λ m. knowledge.now.others ≢ Standing.Failed → All (λ name.
+        rank (claimed m (string_bytes name)) ≤ rank (said knowledge.now (string_bytes name))) names.now) }
     ensures entries { IfOk result (λ m. knowledge.now.others ≢ Standing.Failed
         → IsTrue (claims_entries m.kind) → IsTrue knowledge.now.has_kept_entries) }
 {

@@ -178,8 +178,8 @@ fn fail_sync(
     Ok(Vec::new(rt.alloc()))
 }
 
-// The calls are: open the folder, open and lock its lock, open the machine's number and the mark; write the mark and cut
-// it; make the file and write it; sync it.
+// The calls are: open the folder, open and lock its lock, open the machine's number and the mark; write the mark and
+// cut it; make the file and write it; sync it.
 #[test]
 fn a_sync_that_failed_is_known_to_each_later_writer(rt: HostRuntime) -> Result<(), Fail> {
     let path = "test_files_unsynced";
