@@ -46,7 +46,7 @@ class Documents(PageCase):
     def open(self, store: str) -> bytes:
         """Shows the page of a store, and returns its text."""
         page = self.folder / "page.html"
-        self.program.gives("inspect", store, "--html", page)
+        self.program.gives("inspect", store, "--html", page, "--replace")
         self.browser.open(page)
         return page.read_bytes()
 

@@ -67,7 +67,7 @@ class Pages(PageCase):
     def assert_page(self, store):
         """The page of a store has no fault on any screen."""
         page = self.folder / "page.html"
-        self.program.gives("inspect", store, "--html", page)
+        self.program.gives("inspect", store, "--html", page, "--replace")
         self.browser.open(page)
         grounds = {}
         for width in (WIDE, NARROW):
