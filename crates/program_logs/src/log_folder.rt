@@ -1,6 +1,6 @@
 //! The folder of a log, for a process that writes the log or for one that only reads it.
 
-ghost use Rattle.std.specs.Prelude.{◌≡◌, ◌≤◌, OnErr};
+ghost use Rattle.std.specs.Prelude.{◌≡◌, ◌≤◌, IfOk, OnErr};
 ghost use Rattle.store_base.specs.Counts.{HasRisen};
 
 use crate::places::file_in;
@@ -165,7 +165,11 @@ impl<'a, R: Files<File = File> + Drop> LogFolder<'a, R> {
     }
 
     // A segment's file, opened by a reader.
-    fn open_file(&self, alloc: Global, name: &str) -> io::Result<DiskFile<OsFile>> {
+    fn open_file(&self, alloc: Global, name: &str) -> io::Result<DiskFile<OsFile>>
+        ensures failures { IfOk result (λ f. f.failures ≡ 0) }
+        ensures reads { IfOk result (λ f. f.reads ≡ 0) }
+        ensures asked { IfOk result (λ f. f.asked ≡ 0) }
+    {
         let folder = self.path;
         let path = format!(in alloc; "{folder}/{name}")?;
         DiskFile::new(OsFile::open(self.rt, path.as_str())?)
@@ -295,9 +299,13 @@ impl<'a, R: Files<File = File> + Drop> ReadableFolder for LogFolder<'a, R> {
     }
 
     fn open(&self, alloc: Global, name: &str) -> io::Result<DiskFile<OsFile>> {
-        self.noted(match &self.writer {
+        let opened = match &self.writer {
             Some(folder) => folder.open(alloc, name),
             None => self.open_file(alloc, name),
-        })
+        };
+        match opened {
+            Ok(file) => Ok(file),
+            Err(error) => Err(self.cause.note(error)),
+        }
     }
 }
