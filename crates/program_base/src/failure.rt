@@ -27,7 +27,10 @@ pub enum FailureCause {
     /// The words of the command line are wrong.
     Words(String),
     /// A line of the standard input, counted from 1, is wrong.
-    Line { number: u64, text: String },
+    Line {
+        number: u64,
+        text: String,
+    },
     /// A number is named that no document has.
     NoSuchNumber(String),
     /// The words are not UTF-8.
@@ -59,7 +62,11 @@ pub enum FailureCause {
     /// A call on a log was refused.
     Log(LogRefusal),
     /// The log has no record of this number: its records have the numbers from `first` to before `end`.
-    NoRecord { number: u64, first: u64, end: u64 },
+    NoRecord {
+        number: u64,
+        first: u64,
+        end: u64,
+    },
     /// The record of this number is damaged.
     DamagedRecord(u64),
     /// It was reported already, and has this status.
@@ -98,7 +105,8 @@ impl FailureCause {
             FailureCause::NotLog => "; 'zevkhadun log append' begins one in a new or empty folder",
             FailureCause::DamagedRecord(_) => "; 'zevkhadun log verify' says where",
             FailureCause::Log(refusal) => refusal.advice,
-            FailureCause::Create(CreateError::Exists) => "; choose another name, or give '--replace'",
+            FailureCause::Create(CreateError::Exists) =>
+                "; choose another name, or give '--replace'",
             FailureCause::InputIsOutput => "; write to another name, and rename that file",
             FailureCause::CutInput => "; does it have another framing?",
             FailureCause::Request(error) => advice_for_request(error),
@@ -222,9 +230,15 @@ impl Display for FailureCause {
             FailureCause::System(error) => error.fmt(f),
             FailureCause::Output(error) => write!(f, "standard output: {error}"),
             FailureCause::Create(error) => error.fmt(f),
-            FailureCause::Line { number, text } => write!(f, "standard input: line {number}: {text}"),
+            FailureCause::Line { number, text } => write!(
+                f,
+                "standard input: line {number}: {text}"
+            ),
             FailureCause::NoSuchNumber(word) => {
-                write!(f, "no document {word}; a store has at most 4294967295 documents")
+                write!(
+                    f,
+                    "no document {word}; a store has at most 4294967295 documents"
+                )
             }
             FailureCause::Store(error) => write_store_error(f, error),
             FailureCause::Request(error) => error.fmt(f),
@@ -233,7 +247,10 @@ impl Display for FailureCause {
                 expected,
                 came,
             } => {
-                write!(f, "{expected} {things} were expected and {came} came; nothing was written")
+                write!(
+                    f,
+                    "{expected} {things} were expected and {came} came; nothing was written"
+                )
             }
             FailureCause::NoRecord { number, first, end } => {
                 write_no_record(f, *number, *first, *end)
@@ -337,7 +354,9 @@ impl From<FailureCause> for Failure {
 impl Failure {
     /// At this file. What is wrong with the words, the standard input or the standard output is at none.
     pub fn at_file(alloc: Global, path: &str, cause: FailureCause) -> Failure {
-        if let FailureCause::Words(_) | FailureCause::Line { .. } | FailureCause::Output(_) = &cause
+        if let FailureCause::Words(_)
+        | FailureCause::Line { .. }
+        | FailureCause::Output(_) = &cause
         {
             return Failure::from(cause);
         }

@@ -87,7 +87,11 @@ impl<'a> OutputPath<'a> {
     pub fn check_inputs(self, rt: &HostRuntime, inputs: &[&str]) -> Result<(), Failure> {
         match self.input_among(rt, inputs) {
             Ok(None) => Ok(()),
-            Ok(Some(input)) => Err(Failure::at_file(rt.alloc(), input, FailureCause::InputIsOutput)),
+            Ok(Some(input)) => Err(Failure::at_file(
+                rt.alloc(),
+                input,
+                FailureCause::InputIsOutput,
+            )),
             Err(cause) => Err(Failure::at_file(rt.alloc(), self.path, cause)),
         }
     }

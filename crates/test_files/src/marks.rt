@@ -42,7 +42,11 @@ fn standing(folder: &Locked, name: &str) -> Known {
 // What is known of two files by the mark in the folder's `lock`, and whether its entries are on the disk.
 fn is_known(rt: &HostRuntime, path: &str, a: Known, b: Known, entries: bool) -> Result<bool, Fail> {
     let folder = opened(rt, path)?;
-    Ok(standing(&folder, "a") == a && standing(&folder, "b") == b && folder.has_kept_entries() == entries)
+    Ok(
+        standing(&folder, "a") == a
+            && standing(&folder, "b") == b
+            && folder.has_kept_entries() == entries,
+    )
 }
 
 // The mark in a folder's `lock`.

@@ -84,7 +84,10 @@ fn a_second_output_of_a_name_is_refused(rt: HostRuntime) -> Result<(), Fail> {
 
 // Begins an output that may replace no file.
 fn begun_new(rt: &HostRuntime, path: &str) -> Result<Sink, Fail> {
-    Ok(Box::new(rt.alloc(), DiskSink::create_new(rt.alloc(), rt.clone()?, path)?)?)
+    Ok(Box::new(
+        rt.alloc(),
+        DiskSink::create_new(rt.alloc(), rt.clone()?, path)?,
+    )?)
 }
 
 // Whether a new output is refused where a file has the name, and leaves the file.
