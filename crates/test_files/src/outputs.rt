@@ -7,7 +7,7 @@ use std::cell::Cell;
 use std::fs;
 use std::fs::Files;
 use std::test::Fail;
-use store_files::{DiskSink, LockFile};
+use store_files::{CreateError, DiskSink, LockFile};
 
 const OLD: &[u8] = b"old";
 
@@ -93,7 +93,10 @@ fn begun_new(rt: &HostRuntime, path: &str) -> Result<Sink, Fail> {
 // Whether a new output is refused where a file has the name, and leaves the file.
 fn new_is_refused(rt: &HostRuntime, path: &str) -> Result<bool, Fail> {
     fs::write(rt, path, OLD)?;
-    let is_refused = begun_new(rt, path).is_err();
+    let is_refused = match DiskSink::create_new(rt.alloc(), rt.clone()?, path) {
+        Err(CreateError::Exists) => true,
+        _ => false,
+    };
     Ok(is_refused && holds(rt, path, OLD)?)
 }
 
