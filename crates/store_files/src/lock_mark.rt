@@ -84,22 +84,34 @@ impl LockMark {
         Ok(())
     }
 
-    /// Replaces the mark, unless this may be done under it. It is called before the system is.
+    /// Replaces the mark, unless this may be done under it, and returns whether it did. It is called before the system
+    /// is.
     pub(crate) fn begin<F: Write + Seek + OpenFile>(
         &mut self,
         lock: &mut F,
         doing: &Doing<'_>,
-    ) -> io::Result<()> {
+    ) -> io::Result<bool> {
         self.has_changed = true;
         if let Some(mark) = &self.mark {
             if mark.is_enough(&self.knowledge, doing) {
-                return Ok(());
+                return Ok(false);
             }
         }
         if self.knowledge.others() == Standing::Failed {
             return Err(ErrorKind::OutOfMemory.into());
         }
         let mark = mark_before(self.alloc, &self.knowledge, doing)?;
+        self.replace(lock, mark)?;
+        Ok(true)
+    }
+
+    /// Replaces the mark by one of what is known now: a file that was synced is not named any more, or the next writer
+    /// would refuse it if this one is killed.
+    pub(crate) fn renew<F: Write + Seek + OpenFile>(&mut self, lock: &mut F) -> io::Result<()> {
+        if self.knowledge.others() == Standing::Failed {
+            return Ok(());
+        }
+        let mark = mark_before(self.alloc, &self.knowledge, &Doing::FolderSynced)?;
         self.replace(lock, mark)
     }
 

@@ -24,7 +24,6 @@ use store_folder::{Folder, ReadableFolder};
 ///
 /// A mark in `lock` tells the next writer of this start of the machine whether this one ended well. If it did, no file
 /// needs a sync. If it did not, the files are known of which a sync may have failed.
-///
 /// It promises nothing of what the system does: see `Folder::honest`.
 pub struct LockedFolder<R: Files + Drop>
 where
@@ -141,8 +140,8 @@ where
         self.open_as(name, OpenOptions::new().append(true))
     }
 
-    // Lets the mark cover what is done next.
-    fn begin(&mut self, doing: &Doing<'_>) -> io::Result<()>
+    // Lets the mark cover what is done next, and returns whether it was replaced.
+    fn begin(&mut self, doing: &Doing<'_>) -> io::Result<bool>
         ensures { self.new.failures ≡ self.old.failures }
     {
         self.mark.begin(&mut self.lock, doing)
@@ -201,13 +200,16 @@ where
         ensures { self.new.failures ≡ self.old.failures }
     {
         check_name(name)?;
-        self.begin(&Doing::SyncFailed(name))?;
-        let outcome = self.sync_open(name);
-        self.mark.note(&match &outcome {
-            Ok(()) => Doing::FileSynced(name),
-            Err(_) => Doing::SyncFailed(name),
-        });
-        outcome
+        let is_replaced = self.begin(&Doing::SyncFailed(name))?;
+        if let Err(error) = self.sync_open(name) {
+            self.mark.note(&Doing::SyncFailed(name));
+            return Err(error);
+        }
+        self.mark.note(&Doing::FileSynced(name));
+        if is_replaced {
+            self.mark.renew(&mut self.lock)?;
+        }
+        Ok(())
     }
 
     fn sync_entries(&mut self) -> io::Result<()>
@@ -238,7 +240,6 @@ where
         }
     }
 
-    // Renames a file. One that is open stays so; one that is replaced does not.
     fn move_file(&mut self, from: &str, to: &str) -> io::Result<()>
         ensures { self.new.failures ≡ self.old.failures }
     {
