@@ -93,6 +93,15 @@ class Killed(ProgramCase):
         self.program.gives("log", "append", "events")
         self.program.gives("log", "verify", "-q", "events")
 
+    def test_a_log_opens_after_each_of_two_kills(self):
+        """The opening after a kill syncs the segments, and the mark in `lock` names each no longer than that."""
+        count = self.append_until(0, MORE // 2)
+        self.assertGreater(self.segment_count(), 2)
+        for _ in range(2):
+            count = self.append_until(self.records().count(b"\n"), 1)
+        self.assertGreaterEqual(self.records().count(b"\n"), count)
+        self.program.gives("log", "append", "events")
+
     def seconds_of(self, command):
         """How long a command takes on the log."""
         start = time.monotonic()
