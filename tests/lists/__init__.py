@@ -1,3 +1,3 @@
-"""What storetool answers: every list of up to four calls out of five, the outside vectors, and index parts."""
+"""What storetool answers: lists of up to four calls out of five, the outside vectors, index parts, tantivy's tests."""
 
 NEEDS = ("storetool",)

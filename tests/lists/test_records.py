@@ -3,9 +3,8 @@
 from __future__ import annotations
 
 import struct
-import subprocess
 
-from harness import SECONDS, STORETOOL, Case
+from lists.case import ToolCase
 
 # The version of a file, the bytes of its one document, and the answer to `rget`. Fields keep their order, and one may
 # come twice.
@@ -29,12 +28,9 @@ def file_of(version: int, document: bytes) -> bytes:
     return block + index + struct.pack("<IQBB14x", version, len(block), 0, 8 if version == 3 else 0)
 
 
-class Records(Case):
+class Records(ToolCase):
     def test_each_record_has_its_fields(self):
         lines = []
         for place, (version, document, _) in enumerate(RECORDS):
             lines += [f"load {file_of(version, bytes.fromhex(document)).hex()}", f"rget {place} 0"]
-        script = "".join(f"{line}\n" for line in lines).encode()
-        done = subprocess.run([STORETOOL.path()], input=script, capture_output=True, timeout=SECONDS)
-        self.assertEqual(done.returncode, 0, done.stderr)
-        self.assertEqual(done.stdout.decode().splitlines()[1::2], [answer for _, _, answer in RECORDS])
+        self.assertEqual(self.answers(lines)[1::2], [answer for _, _, answer in RECORDS])

@@ -7,11 +7,9 @@ is what a plain list of the documents has: by id, in order, and nothing past the
 from __future__ import annotations
 
 import itertools
-import subprocess
-import unittest
 from collections.abc import Iterator
 
-from harness import SECONDS, STORETOOL
+from lists.case import ToolCase
 
 # At 0 each document is a block. A document counts eight bytes more than it has: the other sizes but the last are those
 # of one document or of two empty ones, or one less. With the last, all documents wait for a stacking or for the end.
@@ -68,14 +66,7 @@ def script(block_size: int) -> tuple[list[str], list[str | None]]:
     return lines, answers
 
 
-class ShortLists(unittest.TestCase):
-    def answers(self, lines: list[str]) -> list[str]:
-        """What storetool answers to a script."""
-        text = "\n".join(lines) + "\n"
-        done = subprocess.run([STORETOOL.path()], input=text, capture_output=True, text=True, timeout=SECONDS)
-        self.assertEqual(done.returncode, 0, done.stderr)
-        return done.stdout.splitlines()
-
+class ShortLists(ToolCase):
     def assert_answers(self, answers: list[str], expected: list[str | None]) -> None:
         """Each answer is the expected one; the stores that are closed have numbers from 0 on."""
         self.assertEqual(len(answers), len(expected), "answers")
