@@ -1,12 +1,12 @@
 //! A store in memory, and its answers.
-ghost use Rattle.std.specs.Prelude.{◌≤◌};
+ghost use Rattle.std.specs.Prelude.{◌≡◌, ◌≤◌, IfOk, IfSome, length};
 
 use crate::answer::{
     write_bytes, write_document, write_documents, write_error, write_no_answer, write_record,
 };
 use crate::command::Question;
 use crate::fault::{NoAnswer, ToolFault};
-use docstore::{AliveBitSet, DocId, FileSlice, MemFile, RecordDocument, StoreReader};
+use docstore::{AliveBitSet, DocId, FileSlice, MemFile, NoMemory, RecordDocument, StoreReader};
 use std::alloc::{AllocError, Global};
 use std::io::Write;
 
@@ -32,6 +32,21 @@ pub fn open_bytes(alloc: Global, bytes: Vec<u8>, capacity: usize) -> Result<MemR
         Ok(reader) => Ok(boxed(alloc, reader)?),
         Err(refusal) => Err(NoAnswer::Store(refusal.error)),
     }
+}
+
+// All documents but those that are deleted. Where none is, there is no set, which would take memory for each document
+// that the file claims to have.
+fn set_without(
+    alloc: Global,
+    deleted: &[DocId],
+    num_docs: u32,
+) -> Result<Option<AliveBitSet>, NoMemory>
+    ensures { IfOk result (λ set. IfSome set (λ alive. length alive ≡ num_docs)) }
+{
+    if deleted.is_empty() {
+        return Ok(None);
+    }
+    Ok(Some(AliveBitSet::from_deleted_docs(alloc, deleted, num_docs)?))
 }
 
 impl Store {
@@ -92,13 +107,8 @@ impl Store {
         deleted: &[DocId],
         output: &mut W,
     ) -> Result<(), ToolFault> {
-        let alive = AliveBitSet::from_deleted_docs(alloc, deleted, self.reader.num_docs())?;
-        let set = if deleted.is_empty() {
-            None
-        } else {
-            Some(&alive)
-        };
-        for document in self.reader.iter_raw(alloc, set) {
+        let alive = set_without(alloc, deleted, self.reader.num_docs())?;
+        for document in self.reader.iter_raw(alloc, alive.as_ref()) {
             write_document(alloc, output, document)?;
         }
         writeln!(output, "end")?;
