@@ -1,6 +1,9 @@
-//! Seeks over a list of a user's own, and the places that they look at.
+//! Seeks and walks: the places that they look at in a list of a user's own, and what they count in an index.
 
-use docstore::{Checkpoint, CheckpointBlock, Looks, StoreError, seek_near, seek_over};
+use docstore::{
+    Checkpoint, CheckpointBlock, Looks, OwnedBytes, SkipIndex, Steps, StoreError, VInt, seek_near,
+    seek_over,
+};
 use std::alloc::Global;
 use std::test::Fail;
 
@@ -30,11 +33,14 @@ impl Looks for NotingList {
 }
 
 // Eight checkpoints of one document and one byte.
-fn eight(alloc: Global) -> Result<NotingList, StoreError> {
+const EIGHT: &[u8] =
+    b"\x88\x80\x80\x81\x81\x81\x81\x81\x81\x81\x81\x81\x81\x81\x81\x81\x81\x81\x81";
+
+// The list of a block of checkpoints.
+fn noting(alloc: Global, bytes: &[u8]) -> Result<NotingList, StoreError> {
     let mut block = CheckpointBlock::new(alloc)?;
-    let mut bytes =
-        b"\x88\x80\x80\x81\x81\x81\x81\x81\x81\x81\x81\x81\x81\x81\x81\x81\x81\x81\x81".as_slice();
-    block.deserialize(&mut bytes)?;
+    let mut input = bytes;
+    block.deserialize(&mut input)?;
     Ok(NotingList {
         block,
         count: 0,
@@ -49,7 +55,7 @@ fn looks_at(
     first: Option<u32>,
     places: &[usize],
 ) -> Result<bool, StoreError> {
-    let mut list = eight(alloc)?;
+    let mut list = noting(alloc, EIGHT)?;
     let found = seek_over(&mut list, target).map(|checkpoint| checkpoint.doc_range.start);
     Ok(found == first && list.places.as_slice() == places && list.count == places.len() as u64)
 }
@@ -74,7 +80,7 @@ fn looks_first(
     guess: usize,
     first: Option<u32>,
 ) -> Result<bool, StoreError> {
-    let mut list = eight(alloc)?;
+    let mut list = noting(alloc, EIGHT)?;
     let found = seek_near(&mut list, target, guess).map(|checkpoint| checkpoint.doc_range.start);
     Ok(found == first && list.places.first() == Some(&guess) && list.places.len() <= 6)
 }
@@ -87,6 +93,94 @@ fn a_seek_from_a_guess_looks_there_first(rt: HostRuntime) -> Result<(), Fail> {
             && looks_first(alloc, 5, 5, Some(5))?
             && looks_first(alloc, 7, 0, Some(7))?
             && looks_first(alloc, 8, 7, None)?
+    );
+    Ok(())
+}
+
+// The list of tantivy's test of a long index: 1000 checkpoints of one document, which end at the squares from 1 to
+// 1000000.
+fn squares(alloc: Global) -> Result<NotingList, StoreError> {
+    let mut bytes = Vec::new(alloc);
+    VInt(1000).serialize_into_vec(&mut bytes)?;
+    bytes.extend_from_slice(b"\x80\x80")?;
+    for i in 0..1000u64 {
+        bytes.push(0x81)?;
+        VInt(2 * i + 1).serialize_into_vec(&mut bytes)?;
+    }
+    noting(alloc, &bytes)
+}
+
+// Whether a seek finds the checkpoint of this document in the long list, and looks at ten places at most.
+fn looks_at_few(alloc: Global, target: u32, first: Option<u32>) -> Result<bool, StoreError> {
+    let mut list = squares(alloc)?;
+    let found = seek_over(&mut list, target).map(|checkpoint| checkpoint.doc_range.start);
+    Ok(found == first && list.places.len() <= 10 && list.count == list.places.len() as u64)
+}
+
+#[test]
+fn a_seek_in_a_long_list_looks_at_ten_places_at_most(rt: HostRuntime) -> Result<(), Fail> {
+    let alloc = rt.alloc();
+    assert!(rt;
+        looks_at_few(alloc, 0, Some(0))?
+            && looks_at_few(alloc, 999, Some(999))?
+            && looks_at_few(alloc, 1000, None)?
+    );
+    Ok(())
+}
+
+fn index_of(alloc: Global, part: &[u8]) -> Result<SkipIndex, StoreError> {
+    SkipIndex::open(
+        alloc,
+        OwnedBytes::new(alloc, Vec::from_slice(alloc, part)?)?,
+    )
+}
+
+// How many checkpoints a seek in an index looks at.
+fn looked_at(alloc: Global, part: &[u8], target: u32) -> Result<u64, StoreError> {
+    let mut steps = Steps::new();
+    let _ = index_of(alloc, part)?.seek_counted(target, &mut steps);
+    Ok(steps.count())
+}
+
+// How many checkpoints a walk through an index of five at most counts.
+fn walked(alloc: Global, part: &[u8]) -> Result<u64, StoreError> {
+    let index = index_of(alloc, part)?;
+    let mut cursor = index.checkpoints();
+    let mut steps = Steps::new();
+    for _ in 0..6u8 {
+        let _ = cursor.next_counted(&mut steps);
+    }
+    Ok(steps.count())
+}
+
+const ONE: &[u8] = b"\x81\x85\x81\x80\x80\x82\x83";
+
+const FIVE: &[u8] = b"\x81\x8d\x85\x80\x80\x83\x89\x81\x90\x82\x98\x82\xa0\x82\x93";
+
+#[test]
+fn one_checkpoint_is_looked_at_once_and_a_walk_counts_each(rt: HostRuntime) -> Result<(), Fail> {
+    let alloc = rt.alloc();
+    assert!(rt;
+        looked_at(alloc, ONE, 0)? == 1
+            && looked_at(alloc, ONE, 7)? == 1
+            && looked_at(alloc, b"\x80", 0)? == 0
+            && walked(alloc, FIVE)? == 5
+            && walked(alloc, b"\x80")? == 0
+    );
+    Ok(())
+}
+
+// A block of no documents is refused in a file, and not in an index alone.
+#[test]
+fn an_index_may_have_a_checkpoint_of_no_documents(rt: HostRuntime) -> Result<(), Fail> {
+    let index = index_of(rt.alloc(), b"\x81\x85\x81\x80\x80\x80\x8b")?;
+    let first = index.checkpoints().next();
+    assert!(rt;
+        first
+            == Some(Checkpoint {
+                doc_range: 0..0,
+                byte_range: 0..11
+            })
     );
     Ok(())
 }
