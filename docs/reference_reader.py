@@ -108,7 +108,9 @@ def document(file, checkpoints, number):
     return block[start:end]
 
 
-def main(path, *words):
+def main(path="--help", *words):
+    if path in ("-h", "--help"):
+        return print(__doc__.strip())
     with open(path, "rb") as stream:
         file = stream.read()
     checkpoints = opened(file)
@@ -118,4 +120,7 @@ def main(path, *words):
 
 
 if __name__ == "__main__":
-    main(*sys.argv[1:])
+    try:
+        main(*sys.argv[1:])
+    except (OSError, ValueError, Refused) as error:
+        sys.exit(f"reference_reader.py: {error}")

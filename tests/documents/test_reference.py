@@ -5,10 +5,12 @@ from __future__ import annotations
 import importlib.util
 import re
 import struct
+import subprocess
+import sys
 
 from documents.case import Rules
 from documents.pages import text_of
-from harness import TOP
+from harness import SECONDS, TOP
 from vectors.scripts import SINGLE, Script, bytes_of, scripts
 
 PAGE = TOP / "docs/reference_reader.py"
@@ -100,6 +102,16 @@ BLOCKS = {
 }
 
 
+# Words on the command line, and the error that they end with.
+STORE = TOP / "crates/zevkhadun/data/three.store"
+ERRORS_OF_WORDS = (
+    ([PAGE], "BadVersion"),
+    ([STORE, "3"], "InvalidArgument"),
+    ([STORE, "x"], "invalid literal for int() with base 10: 'x'"),
+    (["none.store"], "[Errno 2] No such file or directory: 'none.store'"),
+)
+
+
 class Reference(Rules):
     def answer(self, reading: Reading, words: list[str]) -> list[str]:
         """The answer of the reference reader to a command."""
@@ -153,3 +165,15 @@ class Reference(Rules):
             index = reference.index_part(reference.opened(file), file[-15] if file[-28] == 3 else 8)
             self.assertEqual(file[-28 - len(index):-28], index)
         self.assert_looked_at(len(files), 80, "stores")
+
+    def run_reader(self, *words) -> tuple[int, str, str]:
+        """The status of the reader, its output and its errors."""
+        done = subprocess.run([sys.executable, PAGE, *words], capture_output=True, text=True, timeout=SECONDS)
+        return done.returncode, done.stdout, done.stderr
+
+    def test_it_prints_documents_or_one_line_that_says_why_not(self):
+        self.assertEqual(self.run_reader(STORE, "1", "0"), (0, "two\none\n", ""))
+        self.assertEqual(self.run_reader(STORE), (0, "one\ntwo\nthree\n", ""))
+        for words, error in ERRORS_OF_WORDS:
+            self.assertEqual(self.run_reader(*words), (1, "", f"reference_reader.py: {error}\n"))
+        self.assertIn("reference_reader.py FILE [NUMBER]..", self.run_reader("--help")[1])

@@ -47,13 +47,13 @@ class DeviceCase(ProgramCase):
         for pages in range(MOST):
             self.fill(pages)
             done = command()
+            said = done.stderr.decode().split("\n")[0]
+            self.assertIn((done.returncode, said), ((0, ""), (3, f"zevkhadun: {name}: {REASON}")))
             on_full(done)
             self.free()
             once_free()
             if done.returncode == 0:
                 return pages
-            said = done.stderr.decode().splitlines()[0]
-            self.assertEqual((done.returncode, said), (3, f"zevkhadun: {name}: {REASON}"))
         return self.fail(f"{MOST} pages are too few")
 
 
