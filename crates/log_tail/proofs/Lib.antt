@@ -1,5 +1,6 @@
 pub mod Bodies
 pub mod Frames
+pub mod HeadLemmas
 pub mod Logs
 pub mod Scans
 pub mod Tails

@@ -1,3 +1,4 @@
 pub mod Tail
 pub mod Place
 pub mod View
+pub mod Heads

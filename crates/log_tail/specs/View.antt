@@ -1,6 +1,7 @@
 -- What callers see of a tail that is viewed.
-use Rattle.std.specs.Prelude.{◌≡◌, ◌-◌, ℕ, nat_le, List, All, Option, None, slice_get, if◌then◌else◌}
+use Rattle.std.specs.Prelude.{◌≡◌, ◌-◌, ℕ, nat_le, List, drop, All, Option, None, slice_get, if◌then◌else◌}
 use Rattle.log_tail.specs.Tail.{records_of, first_of, IsWholeTo}
+use Rattle.log_tail.specs.Heads.{rest_of}
 use Rattle.log_tail.specs.Place.{contents, EndsBy}
 use Rattle.log_tail.specs.declared.batches.Place.{Place}
 
@@ -15,6 +16,7 @@ pub record IsViewed (bytes : List ℕ) (end : ℕ) (places : List Place) (first 
   pub records : contents bytes places ≡ records_of bytes
   pub within : All (EndsBy end) places
   pub first_is : first ≡ first_of bytes
+  pub rest : drop end bytes ≡ rest_of bytes
 
 -- the record of this number
 abbrev pub record_at : ℕ → List (List ℕ) → ℕ → Option (List ℕ)

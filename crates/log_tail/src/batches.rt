@@ -4,6 +4,7 @@ ghost use Rattle.std.specs.Prelude.{◌≡◌, ◌≤◌, ◌<◌, ◌+◌, ◌^
 ghost use Rattle.std.specs.Prelude.{IfOk, OnOk, OnErr, IfSome, IfNone, All, slice_range};
 ghost use Rattle.log_tail.specs.Tail.{four_in, framed, sum_of, summed, has_whole, has_sum, has_batch};
 ghost use Rattle.log_tail.specs.Tail.{records_in, records_of, bodies_after, IsWholeTo};
+ghost use Rattle.log_tail.specs.Heads.{rest_after, rest_of};
 ghost use Rattle.log_tail.specs.Place.{contents, EndsBy, AddsRecords};
 
 use std::alloc::{AllocError, Global};
@@ -37,7 +38,7 @@ fn sum_over(body: &[u8]) -> u64
 
 // The number of the first four bytes.
 #[tactic(auto, unfolding(crate::specs::Tail::four_in))]
-fn number_at(bytes: &[u8]) -> Option<u32>
+pub(crate) fn number_at(bytes: &[u8]) -> Option<u32>
     ensures some { IfSome result (λ n. (4 ≤ length bytes.now) × (n ≡ four_in bytes.now)) }
     ensures none { IfNone result (length bytes.now < 4) }
 {
@@ -85,10 +86,11 @@ fn batch_length(bytes: &[u8]) -> Option<usize>
 }
 
 // The same of a batch after its gate, if the gate is open.
-fn open_length(bytes: &[u8]) -> Option<usize>
+pub(crate) fn open_length(bytes: &[u8]) -> Option<usize>
     ensures some { IfSome result (λ n. (more : List ℕ) × (bytes.now ≡ 1 ∷ more) × (has_batch more ≡ true)
         × (n ≡ four_in more) × (8 ≤ n) × (5 + n ≤ length bytes.now)) }
     ensures none { IfNone result (bodies_after 0 bytes.now ≡ []) }
+    ensures rest { IfNone result (rest_after 0 bytes.now ≡ bytes.now) }
 {
     match bytes {
         [1, rest @ ..] => batch_length(rest),
@@ -133,6 +135,7 @@ pub fn find_records(alloc: Global, bytes: &[u8]) -> Result<Found, AllocError>
     ensures whole { IfOk result (λ found. IsWholeTo found.end bytes.now) }
     ensures records { IfOk result (λ found. contents bytes.now found.places.items ≡ records_of bytes.now) }
     ensures within { IfOk result (λ found. All (EndsBy found.end) found.places.items) }
+    ensures rest { IfOk result (λ found. drop found.end bytes.now ≡ rest_of bytes.now) }
 {
     let mut places = Vec::new(alloc);
     let mut end = HEADER;

@@ -3,6 +3,7 @@
 #![tactic(auto)]
 
 pub mod batches;
+pub mod heads;
 pub mod tail;
 pub mod view;
 

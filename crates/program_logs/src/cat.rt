@@ -66,9 +66,10 @@ fn print_records(
 // Prints the records of the log at a path from a number on.
 fn print(rt: &HostRuntime, path: &str, form: DocumentForm, from: u64) -> Result<(), FailureCause> {
     let cause = SystemCause::new();
-    let mut log = open_to_read(rt, path, &cause)?;
+    let mut read = open_to_read(rt, path, &cause)?;
     let mut output = standard_output(rt)?;
-    print_records(rt.alloc(), &mut log, &mut output, form, from)
+    print_records(rt.alloc(), &mut read.log, &mut output, form, from)?;
+    read.check_end()
 }
 
 /// Prints the records.

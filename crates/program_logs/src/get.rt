@@ -2,8 +2,7 @@
 
 use crate::log_folder::SystemCause;
 use crate::number_range::NumberRange;
-use crate::opened_log::OpenedLog;
-use crate::places::open_to_read;
+use crate::places::{ReadLog, open_to_read};
 use crate::{FOLDER, folder};
 use clap::{ArgMatches, Command};
 use program_base::arguments;
@@ -46,7 +45,7 @@ pub fn command<'a>(alloc: Global) -> Result<Command<'a>, AllocError> {
 #[derive(Drop)]
 struct Printer<'a> {
     alloc: Global,
-    log: OpenedLog<'a>,
+    read: ReadLog<'a>,
     output: DocumentOutput<'a>,
     form: DocumentForm,
 }
@@ -54,8 +53,9 @@ struct Printer<'a> {
 impl<'a> Printer<'a> {
     // Prints the records of a range.
     fn print(&mut self, range: NumberRange) -> Result<(), FailureCause> {
-        for number in range.among(self.log.first(), self.log.end())? {
-            let record = self.log.get(number)?;
+        let log = &mut self.read.log;
+        for number in range.among(log.first(), log.end())? {
+            let record = log.get(number)?;
             self.form
                 .write(self.alloc, &mut self.output, number, &record)?;
         }
@@ -113,11 +113,12 @@ fn print(
     let cause = SystemCause::new();
     let mut printer = Printer {
         alloc,
-        log: open_to_read(rt, path, &cause)?,
+        read: open_to_read(rt, path, &cause)?,
         output: standard_output(rt)?,
         form,
     };
-    printer.print_words(rt, words)
+    printer.print_words(rt, words)?;
+    printer.read.check_end()
 }
 
 /// Prints the records.

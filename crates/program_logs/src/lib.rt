@@ -14,6 +14,7 @@ mod opened_log;
 mod places;
 mod record_span;
 mod records;
+mod repair;
 mod seal;
 mod segments;
 mod stat;
@@ -32,8 +33,8 @@ const FOLDER: &str = "FOLDER";
 
 const AFTER_HELP: &str = "\
 A log is a folder: sealed segments, which are ordinary stores, and a tail. A record is any bytes, and its number stays.
-'append', 'seal', 'compact' and 'drop' lock the log, so it has one writer; the other commands take no lock and change
-nothing.
+'append', 'repair', 'seal', 'compact' and 'drop' lock the log, so it has one writer; the other commands take no lock and
+change nothing.
 
 Example:
   zevkhadun log append events new.txt && zevkhadun log get events 0";
@@ -55,6 +56,7 @@ fn subcommands<'a>(alloc: Global) -> Result<Vec<Command<'a>>, AllocError> {
     add(&mut commands, cat::command(alloc))?;
     add(&mut commands, stat::command(alloc))?;
     add(&mut commands, verify::command(alloc))?;
+    add(&mut commands, repair::command(alloc))?;
     add(&mut commands, seal::command(alloc))?;
     add(&mut commands, compact::command(alloc))?;
     add(&mut commands, drop::command(alloc))?;
@@ -91,6 +93,7 @@ pub fn run(rt: &HostRuntime, matches: &ArgMatches<'_>) -> Result<(), Failure> {
         "cat" => cat::run(rt, matches),
         "stat" => stat::run(rt, matches),
         "verify" => verify::run(rt, matches),
+        "repair" => repair::run(rt, matches),
         "seal" => seal::run(rt, matches),
         "compact" => compact::run(rt, matches),
         "drop" => drop::run(rt, matches),

@@ -5,6 +5,7 @@ ghost use Rattle.store_base.specs.Counts.{HasRisen};
 
 use crate::places::file_in;
 use crate::segments::segment_numbers;
+use log_tail::TailView;
 use program_base::failure::FailureCause;
 use segmented_log::{TAIL, segment_file};
 use std::alloc::{AllocError, Global};
@@ -47,6 +48,19 @@ fn found_at_once(rt: &HostRuntime, path: &str) -> Result<Option<Found>, FailureC
     let is_same = before == after;
     drop(before);
     Ok(is_same.then_some((after, tail)))
+}
+
+// Cuts a tail off where its whole batches end.
+fn cut_off(alloc: Global, tail: &mut Option<Vec<u8>>) -> Result<(), AllocError> {
+    let Some(bytes) = tail else {
+        return Ok(());
+    };
+    let whole = match TailView::new(alloc, bytes)? {
+        Some(view) => view.whole_len(),
+        None => return Ok(()),
+    };
+    bytes.truncate(whole);
+    Ok(())
 }
 
 /// Why the last call on a log's folder that failed did so. A log reports only that one failed.
@@ -117,15 +131,19 @@ impl<'a> LogFolder<'a, HostRuntime> {
     }
 
     /// The folder of this path, without a lock: as it was at one moment, or none where a writer sealed the log
-    /// meanwhile.
+    /// meanwhile. Its tail may be cut off where its whole batches end.
     pub fn of_reader(
         rt: &'a HostRuntime,
         path: &'a str,
         cause: &'a SystemCause,
+        is_cut: bool,
     ) -> Result<Option<LogFolder<'a, HostRuntime>>, FailureCause> {
-        let Some((segments, tail)) = found_at_once(rt, path)? else {
+        let Some((segments, mut tail)) = found_at_once(rt, path)? else {
             return Ok(None);
         };
+        if is_cut {
+            cut_off(rt.alloc(), &mut tail)?;
+        }
         let folder = LogFolder::new(rt, path, None, cause);
         folder.segments.set(Some(segments));
         folder.tail.set(tail);
@@ -265,7 +283,7 @@ impl<'a, R: Files<File = File> + Drop> Folder for LogFolder<'a, R> {
     fn is_synced(&self, name: &str) -> bool {
         match &self.writer {
             Some(folder) => folder.is_synced(name),
-            None => true,
+            None => false,
         }
     }
 

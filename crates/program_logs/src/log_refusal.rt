@@ -7,6 +7,9 @@ use segmented_log::LogError;
 // What to do where files or a record of a log are broken.
 const VERIFY: &str = "; 'zevkhadun log verify' says where";
 
+// What to do where bytes of the tail are damaged.
+const REPAIR: &str = "; get it from a copy, or see 'zevkhadun log repair --help'";
+
 /// That a folder has segments of a log, and no tail.
 pub const NO_TAIL: FailureCause = FailureCause::Log(LogRefusal {
     text: "tail.log is missing",
@@ -29,6 +32,7 @@ pub fn refused(error: LogError) -> FailureCause {
         LogError::Broken => ("the log must be opened again", "", Status::System),
         LogError::NoLog => ("the log's files are broken", VERIFY, Status::Broken),
         LogError::Damaged => ("a record is damaged", VERIFY, Status::Broken),
+        LogError::DamagedTail => ("the tail is damaged", REPAIR, Status::Broken),
     };
     FailureCause::Log(LogRefusal {
         text,

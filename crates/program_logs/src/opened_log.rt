@@ -26,8 +26,8 @@ pub struct OpenedLog<'a> {
     cause: &'a SystemCause,
 }
 
-// Why a call on a log failed: what the system said, if it refused a call on the folder.
-fn explained(cause: &SystemCause, error: LogError) -> FailureCause {
+/// Why a call on a log failed: what the system said, if it refused a call on the folder.
+pub fn explained(cause: &SystemCause, error: LogError) -> FailureCause {
     match (error, cause.take()) {
         (LogError::Failed, Some(error)) => FailureCause::System(error),
         _ => refused(error),
@@ -41,7 +41,7 @@ impl<'a> OpenedLog<'a> {
         folder: LogFolder<'a, HostRuntime>,
         cause: &'a SystemCause,
         tail: TailOptions,
-    ) -> Result<OpenedLog<'a>, FailureCause> {
+    ) -> Result<OpenedLog<'a>, LogError> {
         match SegmentedLog::open(alloc, folder, tail.seal_size, tail.commit) {
             Ok(log) => Ok(OpenedLog {
                 log: Box::new(alloc, log)?,
@@ -49,7 +49,7 @@ impl<'a> OpenedLog<'a> {
             }),
             Err((error, folder)) => {
                 drop(folder);
-                Err(explained(cause, error))
+                Err(error)
             }
         }
     }

@@ -2,10 +2,10 @@
 
 use crate::log_folder::{LogFolder, SystemCause};
 use crate::log_refusal::NO_TAIL;
-use crate::opened_log::{OpenedLog, TailOptions};
+use crate::opened_log::{OpenedLog, TailOptions, explained};
 use crate::segments::segment_numbers;
 use program_base::failure::FailureCause;
-use segmented_log::{Commit, TAIL};
+use segmented_log::{Commit, LogError, TAIL};
 use std::alloc::Global;
 use std::io::ErrorKind;
 use std::{fs, io};
@@ -103,17 +103,19 @@ fn locked(
     }
 }
 
-// Opens a log through its lock. A torn end of its tail, which is cut off, is reported.
+// Opens a log through its lock. A batch at the end of its tail that was not finished, which is cut off, is reported.
 fn open_locked<'a>(
     rt: &'a HostRuntime,
     path: &'a str,
-    writer: Box<LockedFolder<HostRuntime>>,
+    folder: LogFolder<'a, HostRuntime>,
     cause: &'a SystemCause,
     tail: TailOptions,
 ) -> Result<OpenedLog<'a>, FailureCause> {
     let before = tail_bytes(rt, path)?.unwrap_or(0);
-    let folder = LogFolder::of_writer(rt, path, writer, cause);
-    let log = OpenedLog::open(rt.alloc(), folder, cause, tail)?;
+    let log = match OpenedLog::open(rt.alloc(), folder, cause, tail) {
+        Ok(log) => log,
+        Err(error) => return Err(explained(cause, error)),
+    };
     let cut = before.saturating_sub(tail_bytes(rt, path)?.unwrap_or(0));
     if cut > 0 {
         let _ = eprintln!(rt;
@@ -133,7 +135,19 @@ pub fn open_or_begin<'a>(
 ) -> Result<OpenedLog<'a>, FailureCause> {
     check_place(rt, path)?;
     let writer = locked(rt.alloc(), LockedFolder::create(rt.alloc(), *rt, path))?;
-    open_locked(rt, path, writer, cause, tail)
+    let folder = LogFolder::of_writer(rt, path, writer, cause);
+    open_locked(rt, path, folder, cause, tail)
+}
+
+/// The folder of a log that is there, locked to write it.
+pub fn folder_to_write<'a>(
+    rt: &'a HostRuntime,
+    path: &'a str,
+    cause: &'a SystemCause,
+) -> Result<LogFolder<'a, HostRuntime>, FailureCause> {
+    check_log(rt, path)?;
+    let writer = locked(rt.alloc(), LockedFolder::open(rt.alloc(), *rt, path))?;
+    Ok(LogFolder::of_writer(rt, path, writer, cause))
 }
 
 /// Opens a log that is there, to write it.
@@ -142,45 +156,72 @@ pub fn open_to_write<'a>(
     path: &'a str,
     cause: &'a SystemCause,
 ) -> Result<OpenedLog<'a>, FailureCause> {
-    check_log(rt, path)?;
-    let writer = locked(rt.alloc(), LockedFolder::open(rt.alloc(), *rt, path))?;
-    open_locked(rt, path, writer, cause, NOT_APPENDED)
+    let folder = folder_to_write(rt, path, cause)?;
+    open_locked(rt, path, folder, cause, NOT_APPENDED)
 }
 
-// Opens a log to read it. None where a writer changed it meanwhile: a segment may be gone since it was listed.
+/// A log that is open to be read.
+#[derive(Drop)]
+pub struct ReadLog<'a> {
+    pub log: OpenedLog<'a>,
+    is_damaged: bool,
+}
+
+impl<'a> ReadLog<'a> {
+    /// Fails where the tail is damaged, once what is before the damage was given: the next record would be in it.
+    pub fn check_end(&self) -> Result<(), FailureCause> {
+        match self.is_damaged {
+            true => Err(FailureCause::DamagedRecord(self.log.end())),
+            false => Ok(()),
+        }
+    }
+}
+
+// What an opening of a log to read it came to.
+#[derive(Drop)]
+enum Reading<'a> {
+    Opened(OpenedLog<'a>),
+    // A writer changed it meanwhile: a segment may be gone since it was listed.
+    Changed,
+    DamagedTail,
+}
+
+// Opens a log to read it, or only what is before the damage of its tail.
 fn try_to_read<'a>(
     rt: &'a HostRuntime,
     path: &'a str,
     cause: &'a SystemCause,
-) -> Result<Option<OpenedLog<'a>>, FailureCause> {
-    let Some(folder) = LogFolder::of_reader(rt, path, cause)? else {
-        return Ok(None);
+    is_cut: bool,
+) -> Result<Reading<'a>, FailureCause> {
+    let Some(folder) = LogFolder::of_reader(rt, path, cause, is_cut)? else {
+        return Ok(Reading::Changed);
     };
-    match OpenedLog::open(rt.alloc(), folder, cause, NOT_APPENDED) {
-        Ok(log) => Ok(Some(log)),
-        Err(FailureCause::System(error)) if error.kind() == ErrorKind::NotFound => Ok(None),
-        Err(cause) => Err(cause),
+    let error = match OpenedLog::open(rt.alloc(), folder, cause, NOT_APPENDED) {
+        Ok(log) => return Ok(Reading::Opened(log)),
+        Err(LogError::DamagedTail) => return Ok(Reading::DamagedTail),
+        Err(error) => error,
+    };
+    match explained(cause, error) {
+        FailureCause::System(error) if error.kind() == ErrorKind::NotFound => Ok(Reading::Changed),
+        cause => Err(cause),
     }
 }
 
-/// Opens a log that is there, to read it. Nothing is changed, and a writer may go on.
+/// Opens a log that is there, to read it. Nothing is changed, and a writer may go on. Of a log whose tail is damaged it
+/// has the records before the damage.
 pub fn open_to_read<'a>(
     rt: &'a HostRuntime,
     path: &'a str,
     cause: &'a SystemCause,
-) -> Result<OpenedLog<'a>, FailureCause> {
+) -> Result<ReadLog<'a>, FailureCause> {
     check_log(rt, path)?;
+    let mut is_damaged = false;
     for _ in 0..TRIES {
-        if let Some(log) = try_to_read(rt, path, cause)? {
-            return Ok(log);
+        match try_to_read(rt, path, cause, is_damaged)? {
+            Reading::Opened(log) => return Ok(ReadLog { log, is_damaged }),
+            Reading::Changed => (),
+            Reading::DamagedTail => is_damaged = true,
         }
     }
     Err(FailureCause::BusyLog)
-}
-
-/// The number of the first record of the log at a path, and the number after its last record on the disk.
-pub fn record_numbers(rt: &HostRuntime, path: &str) -> Result<(u64, u64), FailureCause> {
-    let cause = SystemCause::new();
-    let log = open_to_read(rt, path, &cause)?;
-    Ok((log.first(), log.end()))
 }

@@ -1,7 +1,9 @@
 //! `log stat`: prints counts and sizes of logs.
 
 use crate::FOLDER;
-use crate::places::{file_in, record_numbers, tail_bytes};
+use crate::log_folder::SystemCause;
+use crate::opened_log::OpenedLog;
+use crate::places::{file_in, open_to_read, tail_bytes};
 use crate::segments::segment_numbers;
 use clap::{ArgMatches, Command};
 use program_base::command_words::{Argument, command_of};
@@ -59,13 +61,12 @@ fn bytes_of_segments(rt: &HostRuntime, path: &str, segments: &[u64]) -> Result<u
 }
 
 impl LogNumbers {
-    // Of the log at a path.
-    fn of(rt: &HostRuntime, path: &str) -> Result<LogNumbers, FailureCause> {
-        let (first, next) = record_numbers(rt, path)?;
+    // Of the log at a path, which is open.
+    fn of(rt: &HostRuntime, path: &str, log: &OpenedLog<'_>) -> Result<LogNumbers, FailureCause> {
         let segments = segment_numbers(rt, path)?;
         Ok(LogNumbers {
-            first,
-            next,
+            first: log.first(),
+            next: log.end(),
             segments: segments.len(),
             segment_bytes: bytes_of_segments(rt, path, &segments)?,
             tail_bytes: tail_bytes(rt, path)?.unwrap_or(0),
@@ -92,12 +93,16 @@ impl LogNumbers {
 
 // Prints the numbers of a log, in lines or as JSON.
 fn print(rt: &HostRuntime, path: &str, is_json: bool) -> Result<(), FailureCause> {
-    let numbers = LogNumbers::of(rt, path)?.named();
+    let cause = SystemCause::new();
+    let read = open_to_read(rt, path, &cause)?;
+    let numbers = LogNumbers::of(rt, path, &read.log)?.named();
     if is_json {
-        return print_object(rt, "folder", path, &numbers);
+        print_object(rt, "folder", path, &numbers)?;
+        return read.check_end();
     }
     to_output(println!(rt; "{path}"))?;
-    print_lines(rt, &numbers)
+    print_lines(rt, &numbers)?;
+    read.check_end()
 }
 
 /// Prints the numbers of each log. It goes on after one that can't be read, and fails at the end.

@@ -1,7 +1,8 @@
 //! `log verify`: reads logs whole, and reports what is broken.
 
 use crate::FOLDER;
-use crate::places::{check_log, file_in, record_numbers};
+use crate::log_folder::SystemCause;
+use crate::places::{check_log, file_in, open_to_read};
 use crate::segments::segment_numbers;
 use clap::{ArgMatches, Command};
 use log_tail::TailView;
@@ -19,8 +20,8 @@ use std::{fmt, fs};
 
 const EXAMPLE: &str = "\
 Checks each segment as a store, the batches of the tail by their sums, and that no number is missing between them. Bytes
-at the end of the tail that are no whole batch are reported: a crash leaves such bytes, or a changed byte of a batch;
-the next 'append' or 'seal' cuts them off. The exit status is then 1, as for a broken log.
+at the end of the tail that are no whole batch are reported: as torn if they may be a batch that was not finished, which
+the next writer cuts off, and as damaged if another batch follows them. The exit status is then 1, as for a broken log.
 
 Example:
   zevkhadun log verify events";
@@ -96,11 +97,13 @@ fn check_segments(
 enum TailFault {
     // It is none.
     NoTail,
-    // How many records are whole, and how many bytes, from which one on, are no whole batch.
+    // How many records are whole, and how many bytes, from which one on, are no whole batch. They were written whole,
+    // or may be a batch that was not finished.
     Torn {
         records: usize,
         end: usize,
         rest: usize,
+        is_damaged: bool,
     },
 }
 
@@ -108,15 +111,21 @@ impl Display for TailFault {
     fn fmt<W: fmt::Write>(&self, f: &mut fmt::Formatter<W>) -> fmt::Result {
         match self {
             TailFault::NoTail => f.write_str("broken: not a tail: its first bytes are others"),
-            TailFault::Torn { records, end, rest } => {
+            TailFault::Torn {
+                records,
+                end,
+                rest,
+                is_damaged,
+            } => {
                 let are_whole = if *records == 1 {
                     "record is whole"
                 } else {
                     "records are whole"
                 };
+                let kind = if *is_damaged { "damaged" } else { "torn" };
                 write!(
                     f,
-                    "torn: {records} {are_whole}; the {rest} bytes from byte {end} on are no whole batch"
+                    "{kind}: {records} {are_whole}; the {rest} bytes from byte {end} on are no whole batch"
                 )
             }
         }
@@ -128,9 +137,16 @@ fn fault_in(alloc: Global, bytes: &[u8]) -> Result<Option<TailFault>, AllocError
     let Some(view) = TailView::new(alloc, bytes)? else {
         return Ok(Some(TailFault::NoTail));
     };
-    let (records, end) = (view.len(), view.whole_len());
+    let (records, end, is_damaged) = (view.len(), view.whole_len(), view.is_damaged());
     let rest = bytes.len().saturating_sub(end);
-    Ok((rest > 0).then_some(TailFault::Torn { records, end, rest }))
+    Ok(
+        (rest > 0).then_some(TailFault::Torn {
+            records,
+            end,
+            rest,
+            is_damaged,
+        }),
+    )
 }
 
 // Whether the tail of a log is whole to its end. What is wrong is reported.
@@ -153,11 +169,12 @@ fn print_whole(
     segments: usize,
     is_quiet: bool,
 ) -> Result<(), FailureCause> {
-    let (first, next) = record_numbers(rt, path)?;
+    let cause = SystemCause::new();
+    let read = open_to_read(rt, path, &cause)?;
     if is_quiet {
         return Ok(());
     }
-    let records = next.saturating_sub(first);
+    let records = read.log.end().saturating_sub(read.log.first());
     let record = if records == 1 { "record" } else { "records" };
     let segment = if segments == 1 { "segment" } else { "segments" };
     to_output(println!(rt;

@@ -10,12 +10,10 @@ use Rattle.segmented_log.specs.Opening.{IsOfLog, IsSyncedButTail, HasSegments}
 use Rattle.segmented_log.specs.Names.{segment_name, tail_name}
 use Rattle.segmented_log.specs.Settled.{TailIsKept}
 use Rattle.segmented_log.proofs.NameLemmas.{segment_no_tail}
+use Rattle.segmented_log.proofs.OpeningLemmas.{some_is}
 
 nothing_in : (n : List ℕ) → Contains [] n → ⊥
 nothing_in n among = absurd (omega (arith, among.1))
-
-some_is : (a b : List ℕ) → Some a ≡ Some b → a ≡ b
-some_is a b e = cc e
 
 -- a look is what it sees under each name
 pub one_look : (old new : Look) → ((n : List ℕ) → new n ≡ old n) → new ≡ old

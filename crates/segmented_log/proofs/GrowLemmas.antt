@@ -7,9 +7,7 @@ use Rattle.store_folder.specs.Folder.{Look, Elsewhere, Extends, Written, Keeps}
 use Rattle.store_folder.proofs.Steps.{started, goes_on, written_elsewhere}
 use Rattle.segmented_log.specs.Names.{tail_name}
 use Rattle.segmented_log.specs.Settled.{TailIsKept, GrowsTail}
-
-some_is : (a b : List ℕ) → Some a ≡ Some b → a ≡ b
-some_is a b e = cc e
+use Rattle.segmented_log.proofs.OpeningLemmas.{some_is}
 
 module _ (may_hold : List ℕ → List ℕ → Type 0) (may_leave : Look → Type 0) (entry_kept trusted : List ℕ → Type 0) (tail : List ℕ) (kept : TailIsKept may_hold may_leave entry_kept trusted tail) where
   -- nothing after it yet

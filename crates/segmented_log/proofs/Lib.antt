@@ -19,6 +19,7 @@ pub mod PartLemmas
 pub mod PlaceLemmas
 pub mod ReadLemmas
 pub mod RefusalLemmas
+pub mod RepairLemmas
 pub mod RestLemmas
 pub mod RunLemmas
 pub mod ScanLemmas

@@ -1,9 +1,9 @@
 -- The names of a log's files differ.
-use Rattle.std.proofs.Common.{◌≡◌, ◌≢◌, ℕ, zero, suc, ◌+◌, ◌*◌, ◌/◌, ◌%◌, ◌^◌, ◌<◌, ◌++◌, length, refl, ap, arith, length-append}
+use Rattle.std.proofs.Common.{◌≡◌, ◌≢◌, ◌⊎◌, ⊎_elim, ℕ, List, zero, suc, ◌+◌, ◌*◌, ◌/◌, ◌%◌, ◌^◌, ◌<◌, ◌++◌, length, refl, ap, arith, length-append}
 use Rattle.std.specs.Prelude.{codes}
 use Rattle.std.proofs.lemmas.List.{append_cancel_right, same_from_push, length_push}
 use Rattle.store_folder.specs.Publishing.{part}
-use Rattle.segmented_log.specs.Names.{digits, segment_name, tail_name}
+use Rattle.segmented_log.specs.Names.{digits, segment_name, cut_name, tail_name}
 
 pub length-digits : (width n : ℕ) → length (digits width n) ≡ width
 length-digits zero n = refl
@@ -30,6 +30,12 @@ unfolding segment_name
 segments_apart m n low_m low_n same =
     digits_apart 20 m n (omega (arith, low_m)) (omega (arith, low_n)) (append_cancel_right (digits 20 m) (digits 20 n) (codes ".store") same)
 
+pub length-cut_name : (n : ℕ) → length (cut_name n) ≡ 29
+unfolding cut_name
+length-cut_name n =
+    let nine : length (codes "tail.cut.") ≡ 9 = refl in
+    omega (arith, length-append (codes "tail.cut.") (digits 20 n), length-digits 20 n, nine)
+
 length-tail_name : length tail_name ≡ 8
 length-tail_name = refl
 
@@ -47,3 +53,21 @@ beside_no_tail m same = absurd (omega (arith, ap length same, length-tail_name, 
 
 pub segment_no_tail_beside : (n : ℕ) → segment_name n ≢ tail_name ++ part
 segment_no_tail_beside n same = absurd (omega (arith, ap length same, length-segment_name n, length-append tail_name part, length-tail_name, length-part))
+
+-- a name of a cut is none of a log's files, nor of one beside them or it
+pub cut_no_tail : (n : ℕ) → cut_name n ≢ tail_name
+cut_no_tail n same = absurd (omega (arith, ap length same, length-cut_name n, length-tail_name))
+
+pub cut_no_tail_beside : (n : ℕ) → cut_name n ≢ tail_name ++ part
+cut_no_tail_beside n same = absurd (omega (arith, ap length same, length-cut_name n, length-append tail_name part, length-tail_name, length-part))
+
+pub cut_no_beside : (n : ℕ) → cut_name n ++ part ≢ cut_name n
+cut_no_beside n same = absurd (omega (arith, ap length same, length-cut_name n, length-append (cut_name n) part, length-part))
+
+pub log_no_cut : (m n : ℕ) (name : List ℕ) → (name ≡ tail_name) ⊎ (name ≡ segment_name m) → (name ≢ cut_name n) × (name ≢ cut_name n ++ part)
+log_no_cut m n name of = (
+  λ same. ⊎_elim (λ is. absurd (omega (arith, ap length same, length-cut_name n, ap length is, length-tail_name)))
+      (λ is. absurd (omega (arith, ap length same, length-cut_name n, ap length is, length-segment_name m))) of,
+  λ same. ⊎_elim (λ is. absurd (omega (arith, ap length same, length-append (cut_name n) part, length-part, length-cut_name n, ap length is, length-tail_name)))
+      (λ is. absurd (omega (arith, ap length same, length-append (cut_name n) part, length-part, length-cut_name n, ap length is, length-segment_name m))) of,
+)

@@ -15,7 +15,7 @@ use Rattle.segmented_log.specs.Opening.{IsOfLog, IsSyncedButTail, IsAsBefore, Is
 use Rattle.segmented_log.proofs.HoldLemmas.{same_segments, all_same_below}
 use Rattle.segmented_log.proofs.PartLemmas.{more_parts, more_slots, begin_before}
 
-some_is : {A : Type 0} (a b : A) → Some a ≡ Some b → a ≡ b
+pub some_is : {A : Type 0} (a b : A) → Some a ≡ Some b → a ≡ b
 some_is a b e = cc e
 
 none_some : {A : Type 0} (a : A) → None ≡ Some a → ⊥

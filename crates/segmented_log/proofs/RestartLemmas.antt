@@ -27,9 +27,9 @@ module _ (bytes old moved cut new : List ℕ) (end len : ℕ) (len_is : length o
   pub restarted_bytes : take (length bytes) new ≡ bytes
   restarted_bytes = ap (λ (l : List ℕ). take (length bytes) l) kept ∙ take_at bytes rest (length bytes) refl
 
-  pub restarted_pending : drop (length bytes + 13) new ≡ drop (end + 13) old
+  pub restarted_pending : drop (length bytes + 50) new ≡ drop (end + 50) old
   restarted_pending =
-      ap (λ (l : List ℕ). drop (length bytes + 13) l) kept
-      ∙ sym (drop-drop 13 (length bytes) (bytes ++ rest))
-      ∙ ap (λ (l : List ℕ). drop 13 l) (drop_at bytes rest (length bytes) refl)
-      ∙ drop-drop 13 end old
+      ap (λ (l : List ℕ). drop (length bytes + 50) l) kept
+      ∙ sym (drop-drop 50 (length bytes) (bytes ++ rest))
+      ∙ ap (λ (l : List ℕ). drop 50 l) (drop_at bytes rest (length bytes) refl)
+      ∙ drop-drop 50 end old

@@ -1,11 +1,11 @@
 -- A log after a batch was put after those of its tail.
-use Rattle.std.proofs.Common.{◌≡◌, ℕ, ◌+◌, ◌<◌, ◌≤◌, ◌^◌, List, [], ◌∷◌, ◌++◌, length, take, drop, map, refl, sym, ◌∙◌, ap, subst, arith, length-append}
+use Rattle.std.proofs.Common.{◌≡◌, ℕ, ◌+◌, ◌<◌, ◌≤◌, ◌^◌, List, [], ◌∷◌, ◌++◌, length, take, drop, map, refl, sym, ◌∙◌, ap, subst, arith, length-append, append_assoc}
 use Rattle.std.specs.Prelude.{All, Bool, true, ◌==◌, Result, Ok, Err, OnOk}
 use Rattle.std.proofs.lemmas.Bool.Decides.{nat_tests}
 use Rattle.std.specs.Bool.{OnFalse}
 use Rattle.std.proofs.lemmas.Bool.{OnFalse_from}
 use Rattle.std.proofs.Math.Seq.{take-append_seam, drop-append_seam}
-use Rattle.std.proofs.lemmas.List.{length-map, nil_from_length}
+use Rattle.std.proofs.lemmas.List.{length-map, nil_from_length, take_at, take_all}
 use Rattle.store_folder.specs.Moments.{ComesFrom, LeavesOnly}
 use Rattle.store_folder.specs.Folder.{Look, ElsewhereOfBoth}
 use Rattle.store_folder.specs.Publishing.{part}
@@ -14,10 +14,12 @@ use Rattle.store_format.specs.Block.{doc}
 use Rattle.log_tail.specs.declared.batches.Place.{Place}
 use Rattle.log_tail.specs.Place.{content, contents, EndsBy, AddsRecords}
 use Rattle.log_tail.specs.Tail.{sum_of, summed, records_in, records_of, first_of, IsTail, IsWholeTo}
+use Rattle.log_tail.specs.Heads.{head_body, headed}
 use Rattle.log_tail.proofs.Bodies.{length-summed}
+use Rattle.log_tail.proofs.HeadLemmas.{length-head, length-headed, head_whole, head_records}
 use Rattle.log_tail.proofs.Scans.{ends_later}
 use Rattle.log_tail.proofs.Tails.{written_bodies, written_whole}
-use Rattle.log_tail.proofs.Logs.{records_more, contents_more, places_more, nothing_whole}
+use Rattle.log_tail.proofs.Logs.{records_more, contents_same, contents_more, places_more, nothing_whole}
 use Rattle.segmented_log.specs.Names.{tail_name}
 use Rattle.segmented_log.specs.Parts.{Part, tail_end, end_from, log_slots, AreParts}
 use Rattle.segmented_log.specs.Log.{IsLog}
@@ -35,26 +37,54 @@ seam_front whole front back n is at = ap (λ (k : ℕ). take k whole) at ∙ ap 
 pub seam_back : (whole front back : List ℕ) (n : ℕ) → whole ≡ front ++ back → n ≡ length front → drop n whole ≡ back
 seam_back whole front back n is at = ap (λ (k : ℕ). drop k whole) at ∙ ap (λ (l : List ℕ). drop (length front) l) is ∙ drop-append_seam front back
 
-pub new_size : (tail body new : List ℕ) → new ≡ tail ++ 1 ∷ summed body → length new ≡ length tail + 13 + length body
-new_size tail body new new_is = omega (arith, ap length new_is, length-append tail (1 ∷ summed body), length-summed body)
+pub new_size : (number place : ℕ) (tail body new : List ℕ) → new ≡ tail ++ headed number place body → length new ≡ length tail + 50 + length body
+new_size number place tail body new new_is = omega (arith, ap length new_is, length-append tail (headed number place body), length-headed number place body)
 
 module _ (sealed tail_first next : ℕ) (tail body new : List ℕ) (places : List Place) (s : IsSettledTail sealed tail_first next tail places body) (fits : sum_of body < 2 ^ 64)
-    (new_is : new ≡ tail ++ 1 ∷ summed body) where
+    (number place : ℕ) (head_fits : sum_of (head_body number place (length body)) < 2 ^ 64) (new_is : new ≡ tail ++ headed number place body) where
+  -- the tail with the head of the batch
+  abbrev headed_tail : List ℕ
+  headed_tail = tail ++ 1 ∷ summed (head_body number place (length body))
+
+  headed_whole : IsWholeTo (length headed_tail) headed_tail
+  headed_whole = head_whole tail number place (length body) s.whole head_fits
+
+  headed_same : records_of headed_tail ≡ records_of tail
+  headed_same = head_records tail number place (length body) s.whole head_fits
+
+  headed_size : length headed_tail ≡ length tail + 37
+  headed_size =
+      let head = head_body number place (length body) in
+      omega (arith, length-append tail (1 ∷ summed head), length-summed head, length-head number place (length body))
+
+  batch_is : new ≡ headed_tail ++ 1 ∷ summed body
+  batch_is = new_is ∙ sym (append_assoc tail (1 ∷ summed (head_body number place (length body))) (1 ∷ summed body))
+
+  headed_contents : contents headed_tail places ≡ records_of headed_tail
+  headed_contents =
+      contents_same (length tail) headed_tail tail places
+      (take_at tail (1 ∷ summed (head_body number place (length body))) (length tail) refl ∙ sym (take_all (length tail) tail (omega arith))) s.within
+      ∙ s.records
+      ∙ sym headed_same
+
   pub batch_records : records_of new ≡ records_of tail ++ records_in body
-  batch_records = records_more tail new body (written_bodies tail body s.whole s.small fits new new_is)
+  batch_records = records_more headed_tail new body (written_bodies headed_tail body headed_whole s.small fits new batch_is) ∙ ap (λ (l : List (List ℕ)). l ++ records_in body) headed_same
 
   pub batch_first : first_of new ≡ first_of tail
-  batch_first = ap first_of new_is ∙ grown_first tail (1 ∷ summed body) s.whole
+  batch_first = ap first_of new_is ∙ grown_first tail (headed number place body) s.whole
 
-  pub settled_batch : (later : List Place) (pending : List ℕ) (end : ℕ) → AddsRecords body (length tail + 13) places later → All (EndsBy end) later → end ≤ length new → pending ≡ []
+  pub settled_batch : (later : List Place) (pending : List ℕ) (end : ℕ) → AddsRecords body (length tail + 50) places later → All (EndsBy end) later → end ≤ length new → pending ≡ []
       → IsSettledTail sealed tail_first next new later pending
   settled_batch later pending end adds within le none =
-      let size = places_more tail body new new_is places later s.records s.within adds in
+      let within_head = ends_later (length tail) (length headed_tail) places (omega (arith, headed_size)) s.within in
+      let adds_there : AddsRecords body (length headed_tail + 13) places later = subst (λ (n : ℕ). AddsRecords body n places later) (omega (arith, headed_size)) adds in
+      let size = places_more headed_tail body new batch_is places later headed_contents within_head adds_there in
       let empty = nothing_whole pending none in
       record {
-        is_tail = subst (λ (l : List ℕ). IsTail l) (sym new_is) (grown_tail tail (1 ∷ summed body) s.whole s.is_tail);
-        whole = written_whole tail body s.whole s.small fits new new_is;
-        records = contents_more tail body new new_is places later s.records s.within adds batch_records;
+        is_tail = subst (λ (l : List ℕ). IsTail l) (sym new_is) (grown_tail tail (headed number place body) s.whole s.is_tail);
+        whole = written_whole headed_tail body headed_whole s.small fits new batch_is;
+        records = contents_more headed_tail body new batch_is places later headed_contents within_head adds_there
+            (batch_records ∙ ap (λ (l : List (List ℕ)). l ++ records_in body) (sym headed_same));
         within = ends_later end (length new) later le within;
         first_is = s.first_is ∙ sym batch_first;
         low = s.low;
@@ -67,14 +97,14 @@ module _ (sealed tail_first next : ℕ) (tail body new : List ℕ) (places : Lis
 
   -- the folder's segments stay
   pub folder_batch : (first : ℕ) (segments : List Part) (old_hold new_hold : List ℕ → List ℕ → Type 0) (before after : Look → Type 0) (old_entry new_entry old_trust new_trust : List ℕ → Type 0)
-      → IsSettledFolder old_hold before old_entry old_trust first sealed segments tail → TailIsKept new_hold after new_entry new_trust (tail ++ 1 ∷ summed body)
+      → IsSettledFolder old_hold before old_entry old_trust first sealed segments tail → TailIsKept new_hold after new_entry new_trust (tail ++ headed number place body)
       → ComesFrom (ElsewhereOfBoth (tail_name ++ part) tail_name) before after
       → IsSettledFolder new_hold after new_entry new_trust first sealed segments new
   folder_batch first segments old_hold new_hold before after old_entry new_entry old_trust new_trust f kept follows =
       let kept_new = subst (λ (l : List ℕ). TailIsKept new_hold after new_entry new_trust l) (sym new_is) kept in
       record {
         parts = more_parts first segments tail f.parts new (records_in body)
-            (subst (λ (l : List ℕ). IsTail l) (sym new_is) (grown_tail tail (1 ∷ summed body) s.whole s.is_tail)) batch_first batch_records;
+            (subst (λ (l : List ℕ). IsTail l) (sym new_is) (grown_tail tail (headed number place body) s.whole s.is_tail)) batch_first batch_records;
         sealed_is = f.sealed_is;
         on_disk = record {
           outcomes = replaced_outcomes segments tail new before after f.on_disk.outcomes follows kept_new.outcomes;

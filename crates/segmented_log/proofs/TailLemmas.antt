@@ -5,11 +5,12 @@ use Rattle.std.proofs.lemmas.List.Concat.{flat_map-append}
 use Rattle.std.specs.List.{flat_map}
 use Rattle.store_folder.specs.Folder.{Look}
 use Rattle.store_format.specs.Block.{Slot, doc}
-use Rattle.log_tail.specs.Tail.{IsWholeRecords, sum_of, summed, records_in, records_of, records_from, first_of, bodies_of, bodies_after, IsTail, IsWholeTo}
+use Rattle.log_tail.specs.Tail.{sum_of, records_in, records_of, records_from, first_of, bodies_of, bodies_after, IsTail, IsWholeTo}
 use Rattle.segmented_log.specs.declared.commit.Commit.{Commit}
 use Rattle.segmented_log.specs.declared.commit.Commit.TheVariants.{OneSync, TwoSyncs}
 use Rattle.store_folder.proofs.NamesLemmas.{decided}
-use Rattle.log_tail.proofs.Bodies.{summed_is, bodies_summed}
+use Rattle.log_tail.specs.Heads.{head_body, headed}
+use Rattle.log_tail.proofs.HeadLemmas.{headed_records}
 use Rattle.log_tail.proofs.Logs.{first_same}
 use Rattle.segmented_log.specs.Names.{segment_name, tail_name}
 use Rattle.segmented_log.specs.Parts.{Part, log_slots, AreParts}
@@ -38,16 +39,27 @@ module _ (tail after : List ℕ) (whole : IsWholeTo (length tail) tail) where
     long = omega (arith, is.long, length-append tail after);
   }
 
--- what stands after a tail where a batch of this body was written
-cases_of : (body : List ℕ) (bodies : List (List ℕ)) → (bodies ≡ []) ⊎ ((bodies ≡ body ∷ []) ⊎ ((bodies ≢ []) × (bodies ≢ body ∷ [])))
-cases_of body [] = inl refl
-cases_of body (other ∷ []) = elim (decided other body) [
-  | inl same ↦ inr (inl (ap (λ (b : List ℕ). b ∷ []) same))
-  | inr differs ↦ inr (inr ((λ e. cc e), (λ e. let one : other ≡ body = cc e in differs one)))
+same_lists : (a b : List (List ℕ)) → (a ≡ b) ⊎ (a ≢ b)
+same_lists [] [] = inl refl
+same_lists [] (b ∷ more) = inr (λ e. cc e)
+same_lists (a ∷ rest) [] = inr (λ e. cc e)
+same_lists (a ∷ rest) (b ∷ more) = elim (decided a b) [
+  | inl same ↦ elim (same_lists rest more) [
+    | inl all ↦ inl (λ i. same i ∷ all i)
+    | inr differ ↦ inr (λ e. let one : rest ≡ more = cc e in differ one)
+  ]
+  | inr differs ↦ inr (λ e. let one : a ≡ b = cc e in differs one)
 ]
-cases_of body (other ∷ next ∷ more) = inr (inr ((λ e. cc e), (λ e. cc e)))
 
-module _ (first : ℕ) (segments : List Part) (tail body : List ℕ) (parts : AreParts first segments tail) (whole : IsWholeTo (length tail) tail) (records : IsWholeRecords body) where
+-- the records that stand after a tail where a batch of these was written
+cases_of : (added records : List (List ℕ)) → (records ≡ []) ⊎ ((records ≡ added) ⊎ ((records ≢ []) × (records ≢ added)))
+cases_of added [] = inl refl
+cases_of added (one ∷ more) = elim (same_lists (one ∷ more) added) [
+  | inl same ↦ inr (inl same)
+  | inr differ ↦ inr (inr ((λ e. cc e), differ))
+]
+
+module _ (first : ℕ) (segments : List Part) (tail body : List ℕ) (parts : AreParts first segments tail) (whole : IsWholeTo (length tail) tail) where
   grown_log : (c old : Look) (after : List ℕ) → Holds segments tail old → ((k : ℕ) → c (segment_name k) ≡ old (segment_name k))
       → c tail_name ≡ Some (tail ++ after)
       → IsLog first (log_slots first segments tail ++ map doc (records_from after)) c
@@ -65,37 +77,35 @@ module _ (first : ℕ) (segments : List Part) (tail body : List ℕ) (parts : Ar
       let log = grown_log c grown.old grown.after (held grown.old grown.was) (λ k. grown.elsewhere (segment_name k) (segment_no_tail k)) grown.tail_is in
       let slots = log_slots first segments tail in
       let after = grown.after in
-      elim (cases_of body (bodies_after 0 after)) [
+      elim (cases_of (records_in body) (records_from after)) [
         | inl none ↦
             let same : slots ++ map doc (records_from after) ≡ slots =
-            ap (λ (l : List (List ℕ)). slots ++ map doc (flat_map records_in l)) none ∙ append-nil slots in
+            ap (λ (l : List (List ℕ)). slots ++ map doc l) none ∙ append-nil slots in
             inl (subst (λ (l : List Slot). IsLog first l c) same log)
         | inr (inl one) ↦
-            let more : slots ++ map doc (records_from after) ≡ slots ++ map doc (records_in body) =
-            ap (λ (l : List (List ℕ)). slots ++ map doc (flat_map records_in l)) one ∙ ap (λ (l : List (List ℕ)). slots ++ map doc l) (append-nil (records_in body)) in
+            let more : slots ++ map doc (records_from after) ≡ slots ++ map doc (records_in body) = ap (λ (l : List (List ℕ)). slots ++ map doc l) one in
             inr (inl (subst (λ (l : List Slot). IsLog first l c) more log))
         | inr (inr others) ↦
             inr (inr (record {
               one_sync = refl;
               bytes = after;
-              forged = subst (λ (b : List ℕ). IsForged b after) records.encoded (record { some = others.0; other = others.1 });
+              forged = record { some = others.0; other = others.1 };
               log = log;
             }))
       ]
 
   -- a crash leaves the log as it was, or with the whole batch; or, with one sync, forged ones
-  pub keeps_or_adds : (commit : Commit) → 8 + length body < 2 ^ 32 → sum_of body < 2 ^ 64 → (before : Look → Type 0) → ((c : Look) → before c → Holds segments tail c) → (c : Look)
-      → PutsBatch commit before tail (1 ∷ summed body) c → KeepsOrAdds commit first (log_slots first segments tail) (records_in body) c
-  keeps_or_adds OneSync small fits before held c grown = keeps_or_grows before held c grown
-  keeps_or_adds TwoSyncs small fits before held c o =
+  pub keeps_or_adds : (commit : Commit) (number place : ℕ) → 8 + length body < 2 ^ 32 → sum_of body < 2 ^ 64
+      → sum_of (head_body number place (length body)) < 2 ^ 64 → (before : Look → Type 0) → ((c : Look) → before c → Holds segments tail c) → (c : Look)
+      → PutsBatch commit before tail (headed number place body) c → KeepsOrAdds commit first (log_slots first segments tail) (records_in body) c
+  keeps_or_adds OneSync number place small fits head_fits before held c grown = keeps_or_grows before held c grown
+  keeps_or_adds TwoSyncs number place small fits head_fits before held c o =
       let was = held o.old o.was in
       let names = λ (k : ℕ). o.elsewhere (segment_name k) (segment_no_tail_beside k) (segment_no_tail k) in
       let slots = log_slots first segments tail in
-      let batch = 1 ∷ summed body in
-      let bodies : bodies_after 0 batch ≡ body ∷ [] =
-      ap (λ (l : List ℕ). bodies_after 0 (1 ∷ l)) (sym (append-nil (summed body))) ∙ bodies_summed (summed body) body (summed_is body small fits) [] in
+      let batch = headed number place body in
       let more : slots ++ map doc (records_from batch) ≡ slots ++ map doc (records_in body) =
-      ap (λ (l : List (List ℕ)). slots ++ map doc (flat_map records_in l)) bodies ∙ ap (λ (l : List (List ℕ)). slots ++ map doc l) (append-nil (records_in body)) in
+      ap (λ (l : List (List ℕ)). slots ++ map doc l) (headed_records number place body small fits head_fits) in
       ⊎_elim
       (λ same. let kept : IsLog first slots c = record {
         segments = segments;

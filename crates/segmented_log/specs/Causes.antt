@@ -12,7 +12,7 @@ use Rattle.store_published.specs.declared.publishing.FillError.{FillError}
 use Rattle.store_published.specs.declared.publishing.FillError.TheVariants.{Filling, Folder, Store}
 use Rattle.store_format.specs.Block.{Slot, doc}
 use Rattle.segmented_log.specs.declared.error.LogError.{LogError}
-use Rattle.segmented_log.specs.declared.error.LogError.TheVariants.{Memory, Failed, Full, BatchFull, TooLong, Broken, NoLog, Damaged}
+use Rattle.segmented_log.specs.declared.error.LogError.TheVariants.{Memory, Failed, Full, BatchFull, TooLong, Broken, NoLog, Damaged, DamagedTail}
 use Rattle.segmented_log.specs.Names.{segment_name}
 
 -- what an error of the system of this kind is
@@ -31,6 +31,7 @@ IsFault _ = ⊥
 abbrev pub IsOfOpenings : LogError → Type 0
 IsOfOpenings Full = Unit {0}
 IsOfOpenings NoLog = Unit {0}
+IsOfOpenings DamagedTail = Unit {0}
 IsOfOpenings e = IsFault e
 
 -- those of an append
@@ -52,6 +53,11 @@ IsOfSyncs e = IsFault e
 abbrev pub IsOfFiles : LogError → Type 0
 IsOfFiles NoLog = Unit {0}
 IsOfFiles e = IsFault e
+
+-- those of a call that reads the tail
+abbrev pub IsOfTails : LogError → Type 0
+IsOfTails DamagedTail = Unit {0}
+IsOfTails e = IsOfFiles e
 
 -- those of a call that publishes a segment
 abbrev pub IsOfSeals : LogError → Type 0

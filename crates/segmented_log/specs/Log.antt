@@ -6,7 +6,7 @@ use Rattle.std.specs.declared.alloc.Global.{Global}
 use Rattle.store_format.specs.Block.{Slot, doc, damaged}
 use Rattle.store_format.specs.Slots.{slots}
 use Rattle.store_format.specs.StoreFile.{StoreBlock, IsStore}
-use Rattle.log_tail.specs.Tail.{bodies_after, records_from, body_of}
+use Rattle.log_tail.specs.Tail.{records_from}
 use Rattle.segmented_log.specs.declared.commit.Commit.{Commit}
 use Rattle.segmented_log.specs.declared.commit.Commit.TheVariants.{OneSync}
 use Rattle.segmented_log.specs.declared.error.LogError.{LogError}
@@ -50,17 +50,17 @@ pub record KeepsLog (old new : Look) : Type 0 where
   pub same : (first : ℕ) (all : List Slot) → IsLog first all old → IsLog first all new
   pub begun : IsBlank old → IsBlank new ⊎ IsLog 0 [] new
 
--- Where a batch of this body was being written, a crash left whole batches whose sums fit, and not this one alone.
-pub record IsForged (body bytes : List ℕ) : Type 0 where
-  pub some : bodies_after 0 bytes ≢ []
-  pub other : bodies_after 0 bytes ≢ body ∷ []
+-- Where a batch of these records was being written, a crash left batches whose sums fit, and which have other records.
+pub record IsForged (added : List (List ℕ)) (bytes : List ℕ) : Type 0 where
+  pub some : records_from bytes ≢ []
+  pub other : records_from bytes ≢ added
 
 -- The folder is the log of these slots, and then of the records of forged batches, where one batch of these records was
 -- being written with one sync.
 pub record AddsForged (commit : Commit) (first : ℕ) (all : List Slot) (added : List (List ℕ)) (c : Look) : Type 0 where
   pub one_sync : commit ≡ OneSync
   pub bytes : List ℕ
-  pub forged : IsForged (body_of added) bytes
+  pub forged : IsForged added bytes
   pub log : IsLog first (all ++ map doc (records_from bytes)) c
 
 -- The folder is the log of these slots, maybe with all of these records after them; or, with one sync a batch, with forged

@@ -35,6 +35,10 @@ pub enum LogError {
     /// The block of a segment does not say where the record lies.
     #[error("the record is damaged")]
     Damaged,
+    /// The tail has bytes that are no whole batch, though they were written whole: another batch follows them, or the
+    /// tail was on the disk. `repair` cuts them off.
+    #[error("the tail is damaged")]
+    DamagedTail,
 }
 
 impl From<AllocError> for LogError {

@@ -1,7 +1,7 @@
 //! A log that is opened.
 
-ghost use Rattle.std.specs.Prelude.{◌≡◌, false, ◌≤◌, ◌<◌, ◌^◌, ◌+◌, ◌++◌, ℕ, List, [], Some, None, length, map, All};
-ghost use Rattle.std.specs.Prelude.{◌⊎◌, string_bytes, IsTrue, IfOk, IfErr, OnOk, IsErrOf};
+ghost use Rattle.std.specs.Prelude.{◌≡◌, ◌≢◌, false, ◌≤◌, ◌<◌, ◌^◌, ◌+◌, ◌++◌, ℕ, List, [], Some, None, length, map};
+ghost use Rattle.std.specs.Prelude.{◌⊎◌, All, string_bytes, IsTrue, IfOk, IfErr, OnOk, IsErrOf};
 ghost use Rattle.store_base.specs.Counts.{HasRisen};
 ghost use Rattle.store_folder.specs.Moments.{ComesFrom, LeavesOnly};
 ghost use Rattle.store_folder.specs.Folder.{ElsewhereOfBoth, AreNames};
@@ -13,9 +13,9 @@ ghost use Rattle.segmented_log.specs.Names.{tail_name};
 ghost use Rattle.segmented_log.specs.Parts.{part_of, tail_end, end_from, AreParts};
 ghost use Rattle.segmented_log.specs.Log.{IsLog, IsBlank, KeepsLog};
 ghost use Rattle.segmented_log.specs.Opening.{IsSyncedButTail, IsOldOrSeen, IsNoLog, HasFullTail};
-ghost use Rattle.segmented_log.specs.Opening.{HasSegments, IsTailOf, IsNoTail};
+ghost use Rattle.segmented_log.specs.Opening.{HasSegments, IsTailOf, IsNoTail, HasDamagedTail, HasNoneFollowed};
 ghost use Rattle.segmented_log.specs.Settled.{TailIsKept, IsSettledTail, IsSettledFolder};
-ghost use Rattle.segmented_log.specs.Causes.{IsOfFiles, IsOfOpenings};
+ghost use Rattle.segmented_log.specs.Causes.{IsOfTails, IsOfOpenings};
 
 use crate::commit::Commit;
 use crate::error::LogError;
@@ -24,11 +24,11 @@ use crate::log::SegmentedLog;
 use crate::names::TAIL;
 use crate::opening::{end_of_segments, numbers_in, open_segments};
 use crate::segment::{Segment, first_number};
-use crate::tail::{Tail, begin_tail, repair_tail};
+use crate::tail::{Cut, Tail, begin_tail, repair_tail};
 use crate::tail_buffer::TailBuffer;
 use docstore::{FileHandle, laws};
 use std::alloc::Global;
-use store_folder::ReadableFolder;
+use store_folder::{Folder, ReadableFolder};
 
 // The parts of a log in memory.
 #[derive(Drop)]
@@ -46,6 +46,7 @@ fn load_tail<F: ReadableFolder>(
     folder: &mut F,
     is_blank: bool,
     is_kept: bool,
+    cut: Cut,
 ) -> Result<Tail, LogError>
     requires synced { IsTrue F.honest → IsSyncedButTail (F.seen folder.old) (F.may_leave folder.old) }
     requires tail { IsTrue F.honest → IsTrue is_kept → (bytes : List ℕ) → F.seen folder.old tail_name ≡ Some bytes
@@ -63,15 +64,28 @@ fn load_tail<F: ReadableFolder>(
         (IsOldOrSeen (F.may_leave folder.old) (F.seen folder.old)) }
     ensures same { IsTrue F.honest → IfOk result (λ t. IsTailOf (F.seen folder.old tail_name) t.bytes.items) }
     ensures no_log { IsTrue F.honest → IsErrOf result LogError.NoLog → IsNoTail is_blank (F.seen folder.old tail_name) }
+    ensures damaged { IsTrue F.honest → IsErrOf result LogError.DamagedTail → HasDamagedTail (F.seen folder.old) }
+    ensures sound { IsTrue F.honest → cut ≢ Cut.Damage → OnOk result (HasNoneFollowed (F.seen folder.old)) }
     ensures failures { F.failures folder.old ≤ F.failures folder.new }
     ensures failed { IsTrue F.is_readable → IsErrOf result LogError.Failed
         → HasRisen (F.failures folder.old) (F.failures folder.new) }
-    ensures kind { IfErr result IsOfFiles }
+    ensures kind { IfErr result IsOfTails }
 {
     match folder.read(alloc, TAIL)? {
-        Some(bytes) => repair_tail(alloc, folder, bytes, is_kept),
+        Some(bytes) => repair_tail(alloc, folder, bytes, is_kept, cut),
         None if is_blank => begin_tail(alloc, folder),
         None => Err(LogError::NoLog),
+    }
+}
+
+// What may be cut off the tail of a folder that is opened.
+fn found_cut<F: Folder>(folder: &F) -> Cut
+    ensures { result ≢ Cut.Damage }
+{
+    if folder.is_synced(TAIL) {
+        Cut::Nothing
+    } else {
+        Cut::Unfinished
     }
 }
 
@@ -93,6 +107,7 @@ fn assemble<H: FileHandle>(segments: Vec<Segment<H>>, tail: Tail) -> Result<Part
         → AreParts first (map (λ s. part_of s.first s.reader) segments.items) tail.bytes.items → ⊥ }
     ensures full { IsErrOf result LogError.Full → 2 ^ 64 ≤ tail_end tail.bytes.items }
     ensures failed { IsErrOf result LogError.Failed → ⊥ }
+    ensures damaged { IsErrOf result LogError.DamagedTail → ⊥ }
     ensures kind { IfErr result IsOfOpenings }
 {
     let first = first_number(&segments, tail.first);
@@ -120,6 +135,7 @@ fn load_synced<F: ReadableFolder>(
     folder: &mut F,
     names: &[String],
     is_kept: bool,
+    cut: Cut,
 ) -> Result<Parts<F::File>, LogError>
     requires synced { IsTrue F.honest → IsSyncedButTail (F.seen folder.old) (F.may_leave folder.old) }
     requires tail { IsTrue F.honest → IsTrue is_kept → (bytes : List ℕ) → F.seen folder.old tail_name ≡ Some bytes
@@ -140,6 +156,8 @@ fn load_synced<F: ReadableFolder>(
         → KeepsLog (F.seen folder.old) c) }
     ensures no_log { IsTrue F.honest → IsErrOf result LogError.NoLog → IsNoLog (F.seen folder.old) }
     ensures full { IsTrue F.honest → IsErrOf result LogError.Full → HasFullTail (F.seen folder.old) }
+    ensures damaged { IsTrue F.honest → IsErrOf result LogError.DamagedTail → HasDamagedTail (F.seen folder.old) }
+    ensures sound { IsTrue F.honest → cut ≢ Cut.Damage → OnOk result (HasNoneFollowed (F.seen folder.old)) }
     ensures failures { F.failures folder.old ≤ F.failures folder.new }
     ensures failed { IsTrue F.honest → IsTrue F.is_readable → IsErrOf result LogError.Failed
         → HasRisen (F.failures folder.old) (F.failures folder.new) ⊎ HasSegments (F.seen folder.old) }
@@ -149,7 +167,7 @@ fn load_synced<F: ReadableFolder>(
     let numbers = numbers_in(alloc, names)?;
     let segments = open_segments(alloc, folder, &numbers)?;
     let is_blank = segments.is_empty();
-    let tail = load_tail(alloc, folder, is_blank, is_kept)?;
+    let tail = load_tail(alloc, folder, is_blank, is_kept, cut)?;
     let parts = assemble(segments, tail)?;
     Ok(parts)
 }
@@ -170,29 +188,33 @@ fn load<F: ReadableFolder>(alloc: Global, folder: &mut F) -> Result<Parts<F::Fil
         → KeepsLog (F.seen folder.old) c) }
     ensures no_log { IsTrue F.honest → IsErrOf result LogError.NoLog → IsNoLog (F.seen folder.old) }
     ensures full { IsTrue F.honest → IsErrOf result LogError.Full → HasFullTail (F.seen folder.old) }
+    ensures damaged { IsTrue F.honest → IsErrOf result LogError.DamagedTail → HasDamagedTail (F.seen folder.old) }
+    ensures sound { IsTrue F.honest → OnOk result (HasNoneFollowed (F.seen folder.old)) }
     ensures failures { F.failures folder.old ≤ F.failures folder.new }
     ensures failed { IsTrue F.honest → IsTrue F.is_readable → IsErrOf result LogError.Failed
         → HasRisen (F.failures folder.old) (F.failures folder.new) ⊎ HasSegments (F.seen folder.old) }
     ensures kind { IfErr result IsOfOpenings }
 {
     let names = folder.names(alloc)?;
+    let cut = found_cut(folder);
     let is_kept = sync_found_files(folder, &names)?;
-    load_synced(alloc, folder, &names, is_kept)
+    load_synced(alloc, folder, &names, is_kept, cut)
 }
 
 impl<F: ReadableFolder> SegmentedLog<F> {
     /// Opens the log of a folder, or makes a new one, whose first record has the number 0, in a folder that has no file
     /// of a log. What it finds and is not known to be on the disk is put there first, as the process that wrote it may
-    /// have ended before its syncs; then a torn end of the tail is cut off. A tail of which a sync may have failed is
-    /// replaced. A crash during it leaves the same log, or what it could leave before. A tail that grows past the seal
-    /// size, in bytes, is sealed by `sync`.
+    /// have ended before its syncs; then a batch that it left unfinished at the end of the tail is cut off. A tail of
+    /// which a sync may have failed is replaced. A crash during it leaves the same log, or what it could leave before.
+    /// A tail that grows past the seal size, in bytes, is sealed by `sync`.
     ///
     /// With `Commit::OneSync` a sync appends to the tail. With `Commit::TwoSyncs` it replaces the tail by one that has
     /// the records too, so a crash leaves all of them or none, whatever their sum is; as it then writes the whole tail,
     /// the seal size should be small. The files are the same.
     ///
-    /// Errors hand the folder back: `NoLog` where its files are no log, `Full` where the numbers of the tail's records
-    /// pass the greatest u64, `Memory` and `Failed`.
+    /// Errors hand the folder back: `NoLog` where its files are no log, `DamagedTail` where bytes of the tail are no
+    /// whole batch that were written whole, `Full` where the numbers of the tail's records pass the greatest u64,
+    /// `Memory` and `Failed`.
     pub fn open(
         alloc: Global,
         folder: F,
@@ -221,6 +243,11 @@ impl<F: ReadableFolder> SegmentedLog<F> {
         // file of a segment.
         ensures no_log { IsTrue F.honest → IfErr result (λ e. e.0 ≡ LogError.NoLog → IsNoLog (F.seen folder)) }
         ensures full { IsTrue F.honest → IfErr result (λ e. e.0 ≡ LogError.Full → HasFullTail (F.seen folder)) }
+        ensures damaged { IsTrue F.honest → IfErr result (λ e. e.0 ≡ LogError.DamagedTail
+            → HasDamagedTail (F.seen folder)) }
+
+        // What is cut off the tail is one batch that was not finished: none follows it.
+        ensures sound { IsTrue F.honest → IfOk result (λ _. HasNoneFollowed (F.seen folder)) }
         ensures failed { IsTrue F.honest → IsTrue F.is_readable → IfErr result (λ e. e.0 ≡ LogError.Failed
             → HasRisen (F.failures folder) (F.failures e.1) ⊎ HasSegments (F.seen folder)) }
         ensures kind { IfErr result (λ e. IsOfOpenings e.0) }

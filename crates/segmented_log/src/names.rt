@@ -2,7 +2,7 @@
 
 ghost use Rattle.std.specs.Prelude.{◌≡◌, ◌≢◌, ◌≤◌, ◌<◌, ◌++◌, ◌^◌, ℕ, OnOk, IfOk, IfSome, IfNone, string_bytes};
 ghost use Rattle.store_folder.specs.Publishing.{part};
-ghost use Rattle.segmented_log.specs.Names.{digits, segment_name};
+ghost use Rattle.segmented_log.specs.Names.{digits, segment_name, cut_name};
 
 use std::alloc::{AllocError, Global};
 
@@ -33,6 +33,16 @@ pub fn segment_file(alloc: Global, first: u64) -> Result<String, AllocError>
     let mut name = String::new(alloc);
     push_digits(&mut name, 20, first)?;
     name.push_str(".store")?;
+    Ok(name)
+}
+
+/// The name of the file of this number that keeps bytes which were cut off a tail.
+#[tactic(auto, unfolding(crate::specs::Names::cut_name))]
+pub fn cut_file(alloc: Global, number: u64) -> Result<String, AllocError>
+    ensures { IfOk result (λ name. string_bytes name ≡ cut_name number) }
+{
+    let mut name = String::from_str(alloc, "tail.cut.")?;
+    push_digits(&mut name, 20, number)?;
     Ok(name)
 }
 

@@ -27,7 +27,7 @@ impl<F: ReadableFolder> SegmentedLog<F> {
         ensures first { self.new.first ≡ self.old.first }
         ensures commit { self.new.commit ≡ self.old.commit }
         ensures seal_size { self.new.seal_size ≡ self.old.seal_size }
-        ensures tail { OnOk result (self.new.tail_bytes ≡ self.old.tail_bytes + 13 + self.old.batch_bytes) }
+        ensures tail { OnOk result (self.new.tail_bytes ≡ self.old.tail_bytes + 50 + self.old.batch_bytes) }
         ensures segments { self.new.segments ≡ self.old.segments }
         ensures acknowledged { IsTrue F.honest
             → OnOk result (self.new.slots ≡ self.old.slots ++ map doc self.old.pending) }
@@ -48,7 +48,7 @@ impl<F: ReadableFolder> SegmentedLog<F> {
         self.is_broken = true;
         let end = self.tail.len();
         self.tail.place_batch(&mut self.places)?;
-        self.tail.take_batch();
+        self.tail.take_batch(self.tail_first);
         write_batch(&mut self.folder, self.commit, self.tail.bytes(), end)?;
         self.is_broken = false;
         Ok(())
@@ -229,7 +229,7 @@ impl<F: ReadableFolder> SegmentedLog<F> {
 
         // The tail is then no longer than the seal size, or has its header alone. Without need it is not sealed.
         ensures tail { OnOk result ((self.new.tail_bytes ≤ self.old.seal_size) ⊎ (self.new.tail_bytes ≡ 16)) }
-        ensures unsealed { self.old.tail_bytes + 13 + self.old.batch_bytes ≤ self.old.seal_size
+        ensures unsealed { self.old.tail_bytes + 50 + self.old.batch_bytes ≤ self.old.seal_size
             → self.new.segments ≡ self.old.segments }
 
         ensures acknowledged { IsTrue F.honest

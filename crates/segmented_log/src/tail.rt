@@ -1,21 +1,23 @@
 //! The tail of a log that is opened: its torn end is cut off, or it is made.
 
-ghost use Rattle.std.specs.Prelude.{◌≡◌, ◌≤◌, ◌++◌, ℕ, List, [], Some, None, length, All, IsTrue, IfOk, IfErr};
-ghost use Rattle.std.specs.Prelude.{IsErrOf};
+ghost use Rattle.std.specs.Prelude.{◌≡◌, ◌≢◌, ◌≤◌, ◌++◌, false, ℕ, List, [], Some, None, length, drop, All, IsTrue};
+ghost use Rattle.std.specs.Prelude.{IfOk, IfErr, OnOk, IsErrOf};
 ghost use Rattle.store_base.specs.Counts.{HasRisen};
 ghost use Rattle.store_folder.specs.Moments.{ComesFrom, LeavesOnly};
 ghost use Rattle.store_folder.specs.Folder.{ElsewhereOfBoth};
 ghost use Rattle.store_folder.specs.Publishing.{part};
 ghost use Rattle.log_tail.specs.Place.{contents, EndsBy};
 ghost use Rattle.log_tail.specs.Tail.{records_of, first_of, IsTail, IsWholeTo};
+ghost use Rattle.log_tail.specs.Heads.{is_followed, rest_of};
 ghost use Rattle.segmented_log.specs.Names.{tail_name};
-ghost use Rattle.segmented_log.specs.Opening.{IsSyncedButTail, IsOldOrSeen, IsTailOf};
+ghost use Rattle.segmented_log.specs.Opening.{IsSyncedButTail, IsOldOrSeen, IsTailOf, HasDamage};
 ghost use Rattle.segmented_log.specs.Settled.{TailIsKept};
-ghost use Rattle.segmented_log.specs.Causes.{IsOfFiles, IsFault};
+ghost use Rattle.segmented_log.specs.Causes.{IsOfTails, IsFault};
 
 use crate::error::LogError;
 use crate::tail_file::replace_tail;
 use log_tail::batches::find_records;
+use log_tail::heads::is_followed;
 use log_tail::tail::first_number;
 use log_tail::{Place, new_tail};
 use std::alloc::Global;
@@ -29,13 +31,41 @@ pub(crate) struct Tail {
     pub(crate) places: Vec<Place>,
 }
 
-/// The tail of these bytes. A torn end is cut off, in memory and on the disk. A tail that is not kept on the disk is
-/// replaced.
+/// What may be cut off a tail: bytes that are no whole batch.
+#[derive(Clone, Copy, PartialEq, Eq)]
+pub(crate) enum Cut {
+    /// Nothing, as the tail was on the disk.
+    Nothing,
+    /// A batch that was not finished.
+    Unfinished,
+    /// Bytes that were whole, too.
+    Damage,
+}
+
+// Whether more would be cut off than may be, where the whole batches end at this place.
+fn is_too_much(cut: Cut, bytes: &[u8], first: u64, end: usize) -> bool
+    requires first { first ≡ first_of bytes.now }
+    requires within { end ≤ length bytes.now }
+    requires rest { drop end bytes.now ≡ rest_of bytes.now }
+    ensures damaged { IsTrue result → HasDamage bytes.now }
+    ensures sound { result ≡ false → cut ≢ Cut.Damage → is_followed bytes.now ≡ false }
+    ensures whole { result ≡ false → cut ≡ Cut.Nothing → rest_of bytes.now ≡ [] }
+{
+    match cut {
+        Cut::Nothing => is_followed(bytes, first, end) || end < bytes.len(),
+        Cut::Unfinished => is_followed(bytes, first, end),
+        Cut::Damage => false,
+    }
+}
+
+/// The tail of these bytes. What may be cut off at its end is, in memory and on the disk. A tail that is not kept on
+/// the disk is replaced.
 pub(crate) fn repair_tail<F: Folder>(
     alloc: Global,
     folder: &mut F,
     bytes: Vec<u8>,
     is_kept: bool,
+    cut: Cut,
 ) -> Result<Tail, LogError>
     requires synced { IsTrue F.honest → IsSyncedButTail (F.seen folder.old) (F.may_leave folder.old) }
     requires file { IsTrue F.honest → F.seen folder.old tail_name ≡ Some bytes.items }
@@ -55,14 +85,22 @@ pub(crate) fn repair_tail<F: Folder>(
         (IsOldOrSeen (F.may_leave folder.old) (F.seen folder.old)) }
     ensures same { IfOk result (λ t. IsTailOf (Some bytes.items) t.bytes.items) }
     ensures no_log { IsErrOf result LogError.NoLog → IsTail bytes.items → ⊥ }
+    ensures damaged { IsErrOf result LogError.DamagedTail → HasDamage bytes.items }
+
+    // No batch was finished of which bytes are cut off.
+    ensures sound { cut ≢ Cut.Damage → OnOk result (is_followed bytes.items ≡ false) }
+    ensures whole { cut ≡ Cut.Nothing → OnOk result (rest_of bytes.items ≡ []) }
     ensures failures { F.failures folder.old ≤ F.failures folder.new }
     ensures failed { IsErrOf result LogError.Failed → HasRisen (F.failures folder.old) (F.failures folder.new) }
-    ensures kind { IfErr result IsOfFiles }
+    ensures kind { IfErr result IsOfTails }
 {
     let Some(first) = first_number(&bytes) else {
         return Err(LogError::NoLog);
     };
     let found = find_records(alloc, &bytes)?;
+    if is_too_much(cut, &bytes, first, found.end) {
+        return Err(LogError::DamagedTail);
+    }
     if is_kept && found.end == bytes.len() {
         return Ok(Tail {
             bytes,

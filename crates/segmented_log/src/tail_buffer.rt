@@ -3,10 +3,12 @@
 ghost use Rattle.std.specs.Prelude.{◌≡◌, ◌⊎◌, ◌≤◌, ◌<◌, ◌+◌, ◌-◌, ◌^◌, ◌++◌, ◌∷◌, [], length, take, drop, map, All};
 ghost use Rattle.std.specs.Prelude.{OnOk, OnErr};
 ghost use Rattle.log_tail.specs.Place.{EndsBy, AddsRecords};
-ghost use Rattle.log_tail.specs.Tail.{framed, sum_of, summed};
+ghost use Rattle.log_tail.specs.Tail.{framed, sum_of};
+ghost use Rattle.log_tail.specs.Heads.{head_body, headed};
 ghost use Rattle.segmented_log.specs.TailBuffer.{moved};
 
-use log_tail::batches::{BATCH_HEADER, Place, add_record, batch_header};
+use log_tail::batches::{Place, add_record};
+use log_tail::heads::{HEADERS, headers};
 use std::alloc::{AllocError, Global};
 use std::marker::Model;
 
@@ -30,11 +32,11 @@ impl Model for TailBuffer {
 
     ghost view = { λ t. record {
       bytes = take t.end t.bytes.items;
-      pending = drop (t.end + 13) t.bytes.items;
+      pending = drop (t.end + 50) t.bytes.items;
     } };
 
-    ghost invariant = { λ t. ((length t.bytes.items ≡ t.end) ⊎ (t.end + 13 ≤ length t.bytes.items))
-        × ArePlacesIn (drop (t.end + 13) t.bytes.items) t.places.items };
+    ghost invariant = { λ t. ((length t.bytes.items ≡ t.end) ⊎ (t.end + 50 ≤ length t.bytes.items))
+        × ArePlacesIn (drop (t.end + 50) t.bytes.items) t.places.items };
 }
 
 // Puts these bytes in place of the first ones.
@@ -47,14 +49,14 @@ fn put_front(bytes: &mut Vec<u8>, front: &[u8])
 
 // Makes room for the header of a batch after a tail of this length, unless there is a batch.
 fn begin_batch(bytes: &mut Vec<u8>, end: usize) -> Result<(), AllocError>
-    requires { (length bytes.old.items ≡ end) ⊎ (end + 13 ≤ length bytes.old.items) }
-    ensures room { OnOk result (end + 13 ≤ length bytes.new.items) }
+    requires { (length bytes.old.items ≡ end) ⊎ (end + 50 ≤ length bytes.old.items) }
+    ensures room { OnOk result (end + 50 ≤ length bytes.new.items) }
     ensures tail { take end bytes.new.items ≡ take end bytes.old.items }
-    ensures body { drop (end + 13) bytes.new.items ≡ drop (end + 13) bytes.old.items }
+    ensures body { drop (end + 50) bytes.new.items ≡ drop (end + 50) bytes.old.items }
     ensures kept { OnErr result (bytes.new.items ≡ bytes.old.items) }
 {
     if bytes.len() == end {
-        bytes.extend_from_slice(&[0; BATCH_HEADER])?;
+        bytes.extend_from_slice(&[0; HEADERS])?;
     }
     Ok(())
 }
@@ -107,7 +109,7 @@ impl TailBuffer {
     pub(crate) fn pending(&self) -> &[u8]
         ensures { result.now ≡ self.now.pending }
     {
-        let body = (self.end + BATCH_HEADER).min(self.bytes.len());
+        let body = (self.end + HEADERS).min(self.bytes.len());
         &self.bytes[body..]
     }
 
@@ -119,7 +121,7 @@ impl TailBuffer {
         ensures kept { OnErr result (self.new ≡ self.old) }
     {
         begin_batch(&mut self.bytes, self.end)?;
-        let start = self.bytes.len() - (self.end + BATCH_HEADER) + 4;
+        let start = self.bytes.len() - (self.end + HEADERS) + 4;
         self.places.reserve(1)?;
         add_record(&mut self.bytes, bytes)?;
         let end = start + bytes.len();
@@ -129,25 +131,26 @@ impl TailBuffer {
 
     /// Adds the places that the records of the batch have once it is the last one of the tail.
     pub(crate) fn place_batch(&self, places: &mut Vec<Place>) -> Result<(), AllocError>
-        ensures records { OnOk result (AddsRecords self.now.pending (length self.now.bytes + 13)
+        ensures records { OnOk result (AddsRecords self.now.pending (length self.now.bytes + 50)
             places.old.items places.new.items) }
-        ensures within { OnOk result (All (EndsBy (length self.now.bytes + 13)) places.old.items
-            → All (EndsBy (length self.now.bytes + 13 + length self.now.pending)) places.new.items) }
+        ensures within { OnOk result (All (EndsBy (length self.now.bytes + 50)) places.old.items
+            → All (EndsBy (length self.now.bytes + 50 + length self.now.pending)) places.new.items) }
     {
-        add_moved(places, &self.places, self.end + BATCH_HEADER)
+        add_moved(places, &self.places, self.end + HEADERS)
     }
 
     /// Makes the batch that waits the last one of the tail.
-    pub(crate) fn take_batch(&mut self)
+    pub(crate) fn take_batch(&mut self, first: u64)
         requires some { 0 < length self.old.pending }
         requires small { 8 + length self.old.pending < 2 ^ 32 }
-        ensures bytes { self.new.bytes ≡ self.old.bytes ++ 1 ∷ summed self.old.pending }
+        ensures bytes { self.new.bytes ≡ self.old.bytes ++ headed first (length self.old.bytes) self.old.pending }
         ensures none_pending { self.new.pending ≡ [] }
         ensures fits { sum_of self.old.pending < 2 ^ 64 }
+        ensures head_fits { sum_of (head_body first (length self.old.bytes) (length self.old.pending)) < 2 ^ 64 }
     {
-        let body = self.end + BATCH_HEADER;
-        let header = batch_header(&self.bytes[body..]);
-        self.bytes[self.end..body].copy_from_slice(&header);
+        let body = self.end + HEADERS;
+        let headers = headers(first, self.end, &self.bytes[body..]);
+        self.bytes[self.end..body].copy_from_slice(&headers);
         self.end = self.bytes.len();
         self.places.clear();
     }

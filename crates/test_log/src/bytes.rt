@@ -6,11 +6,18 @@ use std::alloc::Global;
 use std::test::Fail;
 use store_folder::{Folder, MemFolder, ReadableFolder};
 
-// A header whose first number is 7, a batch of `hello` and an empty record, and a batch of `log`. The sums are those
-// that CPython 3.11 computes with the hash seed 0.
+// A header whose first number is 7, a batch of `hello` and an empty record, and a batch of `log`, each after its head.
+// The sums are those that CPython 3.11 computes with the hash seed 0.
 const EXAMPLE: &[u8] = b"zevklog\x01\x07\0\0\0\0\0\0\0\
+    \x01\x20\0\0\0\x15\xb0\x41\x4f\x5f\x0b\x45\x5e\xff\xff\xff\xff\
+    \x07\0\0\0\0\0\0\0\x10\0\0\0\0\0\0\0\x0d\0\0\0\
     \x01\x15\0\0\0\x34\xd2\x20\xe5\x9a\x85\x8d\x9e\x05\0\0\0hello\0\0\0\0\
+    \x01\x20\0\0\0\x7c\x4f\x1b\x1c\x4d\x34\xc6\xeb\xff\xff\xff\xff\
+    \x07\0\0\0\0\0\0\0\x4f\0\0\0\0\0\0\0\x07\0\0\0\
     \x01\x0f\0\0\0\x5e\xf0\x1b\x3e\x14\x7f\x64\x35\x03\0\0\0log";
+
+// Where the batches and their heads end.
+const ENDS: [usize; 5] = [16, 53, 79, 116, 136];
 
 type Log = SegmentedLog<MemFolder>;
 
@@ -46,25 +53,45 @@ fn a_tail_has_the_bytes_of_the_example(rt: HostRuntime) -> Result<(), Fail> {
     Ok(())
 }
 
-// How many bytes of a tail are whole, or none if it is no tail.
-fn whole_len(alloc: Global, bytes: &[u8]) -> Option<usize> {
+// How many bytes of a tail are whole, and whether the others are damaged, or none if it is no tail.
+fn end_of(alloc: Global, bytes: &[u8]) -> Option<(usize, bool)> {
     match TailView::new(alloc, bytes) {
-        Ok(Some(view)) => Some(view.whole_len()),
+        Ok(Some(view)) => Some((view.whole_len(), view.is_damaged())),
         _ => None,
     }
+}
+
+// The last of the places where a batch or a head ends that is not after this one.
+fn end_before(at: usize) -> usize {
+    let mut found = 16;
+    for end in ENDS {
+        if end <= at {
+            found = end;
+        }
+    }
+    found
 }
 
 #[test]
 fn a_changed_byte_ends_the_tail_before_its_batch(rt: HostRuntime) -> Result<(), Fail> {
     let alloc = rt.alloc();
-    assert!(rt; whole_len(alloc, EXAMPLE) == Some(EXAMPLE.len()));
+    assert!(rt; end_of(alloc, EXAMPLE) == Some((EXAMPLE.len(), false)));
     for at in 16..EXAMPLE.len() {
         let mut bytes = EXAMPLE.to_vec(alloc)?;
         if let Some(byte) = bytes.get_mut(at) {
             *byte ^= 0x10;
         }
-        let kept = if at < 42 { 16 } else { 42 };
-        assert!(rt; whole_len(alloc, &bytes) == Some(kept));
+        assert!(rt; end_of(alloc, &bytes) == Some((end_before(at), at < 79)));
+    }
+    Ok(())
+}
+
+#[test]
+fn a_tail_that_ends_in_its_last_batch_is_not_damaged(rt: HostRuntime) -> Result<(), Fail> {
+    let alloc = rt.alloc();
+    for len in 16..EXAMPLE.len() {
+        let bytes = EXAMPLE.get(..len).unwrap_or(&[]);
+        assert!(rt; end_of(alloc, bytes) == Some((end_before(len), false)));
     }
     Ok(())
 }

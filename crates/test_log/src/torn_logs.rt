@@ -20,6 +20,7 @@ fn restarted(alloc: Global, files: &[LeftFile]) -> io::Result<TornFolder> {
         folder.sync_file(file.name.as_str())?;
     }
     folder.sync()?;
+    folder.restart();
     Ok(folder)
 }
 

@@ -38,6 +38,8 @@ pub enum Event {
 pub struct TornFolder {
     alloc: Global,
     events: Vec<Event>,
+    // How many of the calls were made before the machine started. What they left on the disk is not known to be there.
+    forgotten: usize,
     failures: u64,
 }
 
@@ -59,8 +61,17 @@ impl TornFolder {
         TornFolder {
             alloc,
             events: Vec::new(alloc),
+            forgotten: 0,
             failures: 0,
         }
+    }
+
+    /// Forgets what is known of the files, as a machine does that starts again.
+    pub fn restart(&mut self)
+        ensures events { self.new.events ≡ self.old.events }
+        ensures failures { self.new.failures ≡ self.old.failures }
+    {
+        self.forgotten = self.events.len();
     }
 
     /// The calls that were made, the first of them first.
@@ -189,7 +200,8 @@ impl Folder for TornFolder {
     }
 
     fn is_synced(&self, name: &str) -> bool {
-        is_file_synced(&self.events, name)
+        let later = &self.events[self.forgotten.min(self.events.len())..];
+        is_file_synced(&self.events, name) && is_file_synced(later, name)
     }
 
     fn has_kept_entries(&self) -> bool {

@@ -2,6 +2,7 @@ use Rattle.std.proofs.Common.{◌≡◌, ◌≤◌, ◌+◌, ◌-◌, ◌∷◌,
 use Rattle.std.specs.Prelude.{slice_range}
 use Rattle.std.proofs.lemmas.Slice.{between_to_end}
 use Rattle.log_tail.proofs.Scans.{found_on, records_on, placed_on, ends_later}
+use Rattle.log_tail.proofs.HeadLemmas.{rest_on}
 use Rattle.log_tail.proofs.batches.find_records.Goals as goal
 
 pub loop-len-preserved : goal.loop-len-preserved
@@ -21,4 +22,5 @@ loop-len-preserved c =
           (placed_on bytes some.0 end n before.read is some.2 some.3 some.4 c.loop-len.places.items c.place_records.new.places.items fits c.in_ok-place_records.ensures.records);
       within = ends_later (end + 13 + length body) (end + (5 + n)) c.place_records.new.places.items (omega (arith, body_long))
           (c.in_ok-place_records.ensures.within (ends_later end (end + 13) c.loop-len.places.items (omega arith) before.within));
+      rest = rest_on bytes some.0 end n is some.2 some.3 before.rest;
     }

@@ -5,7 +5,7 @@ use Rattle.store_folder.specs.Folder.{AreNames}
 use Rattle.store_folder.specs.Moments.{LeavesOnly}
 use Rattle.store_folder.proofs.Steps.{started, weaker, joined}
 use Rattle.segmented_log.specs.Log.{KeepsLog}
-use Rattle.segmented_log.specs.Opening.{IsOldOrSeen, IsNoLog, HasFullTail}
+use Rattle.segmented_log.specs.Opening.{IsOldOrSeen, IsNoLog, HasFullTail, HasNoneFollowed}
 use Rattle.segmented_log.proofs.FoundLemmas.{one_look}
 use Rattle.segmented_log.proofs.OpeningLemmas.{as_before}
 use Rattle.segmented_log.proofs.loading.load.Goals.{After-load_synced}
@@ -67,3 +67,8 @@ returns-clause-no_log g c = λ h is.
 pub returns-clause-full : goal.returns-clause-full
 returns-clause-full g c = λ h is.
     subst HasFullTail (same_look g (goal.at.returns-clause-full g c).After-load_synced h) (c.load_synced.ensures.full h is)
+
+pub returns-clause-sound : goal.returns-clause-sound
+returns-clause-sound g c = λ h.
+    on_ok_weaker c.load_synced.result (λ sound. subst HasNoneFollowed (same_look g (goal.at.returns-clause-sound g c).After-load_synced h) sound)
+    (c.load_synced.ensures.sound h c.found_cut-cut.ensures)

@@ -1,4 +1,4 @@
-use Rattle.std.proofs.Common.{◌≡◌, inl, ◌+◌, ◌≤◌, ◌<◌, ◌^◌, ◌++◌, ◌∷◌, length, map, take, drop, sym, ◌∙◌, ap, subst, arith, length-append}
+use Rattle.std.proofs.Common.{◌≡◌, inl, ℕ, List, ◌+◌, ◌≤◌, ◌<◌, ◌^◌, ◌++◌, ◌∷◌, length, map, take, drop, sym, ◌∙◌, ap, subst, arith, length-append}
 use Rattle.std.specs.Prelude.{All, IsTrue}
 use Rattle.std.proofs.lemmas.Bool.{OnFalse_at}
 use Rattle.store_folder.specs.Folder.{ElsewhereOfBoth}
@@ -8,7 +8,8 @@ use Rattle.store_folder.proofs.Steps.{started, weaker}
 use Rattle.store_format.specs.Block.{doc}
 use Rattle.log_tail.proofs.Scans.{ends_later}
 use Rattle.log_tail.specs.Place.{EndsBy, AddsRecords}
-use Rattle.log_tail.specs.Tail.{sum_of, summed}
+use Rattle.log_tail.specs.Tail.{sum_of}
+use Rattle.log_tail.specs.Heads.{head_body, headed}
 use Rattle.segmented_log.specs.Names.{tail_name}
 use Rattle.segmented_log.specs.Parts.{part_of}
 use Rattle.segmented_log.specs.Log.{KeepsOrAdds}
@@ -34,25 +35,35 @@ nothing_written g c h =
 pub returns-in_err-place_batch-clause-any_moment : goal.returns-in_err-place_batch-clause-any_moment
 returns-in_err-place_batch-clause-any_moment g c = λ h. nothing_written g (goal.at.returns-in_err-place_batch-clause-any_moment g c).After-place_batch h
 
+-- the batch with its head
+abbrev batch : (g : _) → After-bytes g → List ℕ
+batch g c = headed c.self.inside.tail_first (length c.self.inside.tail.bytes) c.self.inside.tail.pending
+
 -- the size of the batch fits, and the tail has it after what it had
 fits_is : (g : _) (c : After-bytes g) → sum_of c.self.inside.tail.pending < 2 ^ 64
 fits_is g c = c.take_batch.ensures.fits
 
-new_is : (g : _) (c : After-bytes g) → c.take_batch.new.self.bytes ≡ c.self.inside.tail.bytes ++ 1 ∷ summed c.self.inside.tail.pending
+head_fits_is : (g : _) (c : After-bytes g) → sum_of (head_body c.self.inside.tail_first (length c.self.inside.tail.bytes) (length c.self.inside.tail.pending)) < 2 ^ 64
+head_fits_is g c = c.take_batch.ensures.head_fits
+
+new_is : (g : _) (c : After-bytes g) → c.take_batch.new.self.bytes ≡ c.self.inside.tail.bytes ++ batch g c
 new_is g c = c.take_batch.ensures.bytes
 
-written_is : (g : _) (c : After-bytes g) → c.bytes.result.now ≡ c.self.inside.tail.bytes ++ 1 ∷ summed c.self.inside.tail.pending
+written_is : (g : _) (c : After-bytes g) → c.bytes.result.now ≡ c.self.inside.tail.bytes ++ batch g c
 written_is g c = c.bytes.ensures ∙ new_is g c
 
 front_is : (g : _) (c : After-bytes g) → take c.len-end.result c.bytes.result.now ≡ c.self.inside.tail.bytes
-front_is g c = seam_front c.bytes.result.now c.self.inside.tail.bytes (1 ∷ summed c.self.inside.tail.pending) c.len-end.result (written_is g c) (omega arith)
+front_is g c = seam_front c.bytes.result.now c.self.inside.tail.bytes (batch g c) c.len-end.result (written_is g c) (omega arith)
 
-back_is : (g : _) (c : After-bytes g) → drop c.len-end.result c.bytes.result.now ≡ 1 ∷ summed c.self.inside.tail.pending
-back_is g c = seam_back c.bytes.result.now c.self.inside.tail.bytes (1 ∷ summed c.self.inside.tail.pending) c.len-end.result (written_is g c) (omega arith)
+back_is : (g : _) (c : After-bytes g) → drop c.len-end.result c.bytes.result.now ≡ batch g c
+back_is g c = seam_back c.bytes.result.now c.self.inside.tail.bytes (batch g c) c.len-end.result (written_is g c) (omega arith)
 
 pub write_batch-requires-clause-within : goal.write_batch-requires-clause-within
-write_batch-requires-clause-within g c = omega
-    (arith, ap length (written_is g (goal.at.write_batch-requires-clause-within g c).After-bytes), length-append c.self.inside.tail.bytes (1 ∷ summed c.self.inside.tail.pending))
+write_batch-requires-clause-within g c = omega (
+  arith,
+  ap length (written_is g (goal.at.write_batch-requires-clause-within g c).After-bytes),
+  length-append c.self.inside.tail.bytes (batch g (goal.at.write_batch-requires-clause-within g c).After-bytes),
+)
 
 pub write_batch-requires-clause-kept : goal.write_batch-requires-clause-kept
 write_batch-requires-clause-kept g c = λ h.
@@ -75,8 +86,8 @@ kept_or_added g c new h putting =
     let known = OnFalse_at (ap (λ v. v.is_broken) c.self.view_is ∙ c.requires.works) c.self.invariant in
     subst (λ v. LeavesOnly F.moment F.left_since v.folder new (KeepsOrAdds v.commit v.first v.slots v.pending)) c.self.view_is
     (weaker F.moment F.left_since log.folder new _ _
-    (λ l puts. keeps_or_adds log.first (map (λ s. part_of s.first s.reader) log.segments.items) log.tail.bytes log.tail.pending (known.1 h).0.parts known.0.whole known.0.pending_whole
-    log.commit known.0.small (fits_is g c) (F.may_leave log.folder) (λ d left. (known.1 h).0.on_disk.outcomes d left) l
+    (λ l puts. keeps_or_adds log.first (map (λ s. part_of s.first s.reader) log.segments.items) log.tail.bytes log.tail.pending (known.1 h).0.parts known.0.whole
+    log.commit log.tail_first (length log.tail.bytes) known.0.small (fits_is g c) (head_fits_is g c) (F.may_leave log.folder) (λ d left. (known.1 h).0.on_disk.outcomes d left) l
     (subst (λ b. PutsBatch log.commit (F.may_leave log.folder) log.tail.bytes b l) (back_is g c)
     (subst (λ t. PutsBatch log.commit (F.may_leave log.folder) t (drop c.len-end.result c.bytes.result.now) l) (front_is g c) puts))) putting)
 
@@ -95,15 +106,17 @@ returns-clause-elsewhere g c = λ h.
 
 pub returns-clause-tail : goal.returns-clause-tail
 returns-clause-tail g c =
-    new_size c.self.inside.tail.bytes c.self.inside.tail.pending c.take_batch.new.self.bytes (new_is g (goal.at.returns-clause-tail g c).After-bytes)
-    ∙ ap (λ v. v.tail_bytes + 13 + v.batch_bytes) c.self.view_is
+    new_size c.self.inside.tail_first (length c.self.inside.tail.bytes) c.self.inside.tail.bytes c.self.inside.tail.pending c.take_batch.new.self.bytes
+    (new_is g (goal.at.returns-clause-tail g c).After-bytes)
+    ∙ ap (λ v. v.tail_bytes + 50 + v.batch_bytes) c.self.view_is
 
 pub returns-clause-acknowledged : goal.returns-clause-acknowledged
 returns-clause-acknowledged g c = λ h.
     let log = c.self.inside in
     let known = OnFalse_at (ap (λ v. v.is_broken) c.self.view_is ∙ c.requires.works) c.self.invariant in
     let here = (goal.at.returns-clause-acknowledged g c).After-bytes in
-    slots_batch log.sealed log.tail_first log.next log.tail.bytes log.tail.pending c.take_batch.new.self.bytes log.places.items known.0 (fits_is g here) (new_is g here)
+    slots_batch log.sealed log.tail_first log.next log.tail.bytes log.tail.pending c.take_batch.new.self.bytes log.places.items known.0 (fits_is g here)
+    log.tail_first (length log.tail.bytes) (head_fits_is g here) (new_is g here)
     log.first (map (λ s. part_of s.first s.reader) log.segments.items) (known.1 h).0.parts
     ∙ ap (λ v. v.slots ++ map doc v.pending) c.self.view_is
 
@@ -120,15 +133,17 @@ invariant_of-self-2 g c =
     let later = c.place_batch.new.places.items in
     let here = (goal.at.invariant_of-self-2 g c).After-bytes in
     let is = new_is g here in
-    let end = length tail + 13 + length body in
-    let adds : AddsRecords body (length tail + 13) log.places.items later = c.in_ok-place_batch.ensures.records in
-    let within : All (EndsBy end) later = c.in_ok-place_batch.ensures.within (ends_later (length tail) (length tail + 13) log.places.items (omega arith) s.within) in
-    let size : end ≤ length new = omega (arith, new_size tail body new is) in (
-      settled_batch log.sealed log.tail_first log.next tail body new log.places.items s (fits_is g here) is later c.take_batch.new.self.pending end adds within size c.take_batch.ensures.none_pending,
+    let end = length tail + 50 + length body in
+    let adds : AddsRecords body (length tail + 50) log.places.items later = c.in_ok-place_batch.ensures.records in
+    let within : All (EndsBy end) later = c.in_ok-place_batch.ensures.within (ends_later (length tail) (length tail + 50) log.places.items (omega arith) s.within) in
+    let size : end ≤ length new = omega (arith, new_size log.tail_first (length tail) tail body new is) in (
+      settled_batch log.sealed log.tail_first log.next tail body new log.places.items s (fits_is g here) log.tail_first (length tail) (head_fits_is g here) is later
+          c.take_batch.new.self.pending end adds within size c.take_batch.ensures.none_pending,
       λ h.
           let kept = subst (λ t. TailIsKept (F.may_hold new_folder) (F.may_leave new_folder) (F.entry_kept new_folder) (F.trusted new_folder) t) (written_is g here)
           (c.in_ok-write_batch.ensures.kept h) in (
-            folder_batch log.sealed log.tail_first log.next tail body new log.places.items s (fits_is g here) is log.first (map (λ x. part_of x.first x.reader) log.segments.items)
+            folder_batch log.sealed log.tail_first log.next tail body new log.places.items s (fits_is g here) log.tail_first (length tail) (head_fits_is g here) is
+                log.first (map (λ x. part_of x.first x.reader) log.segments.items)
                 (F.may_hold log.folder) (F.may_hold new_folder) (F.may_leave log.folder) (F.may_leave new_folder) (F.entry_kept log.folder) (F.entry_kept new_folder) (F.trusted log.folder)
                 (F.trusted new_folder) (known.1 h).0 kept
                 (c.write_batch.ensures.crash h),

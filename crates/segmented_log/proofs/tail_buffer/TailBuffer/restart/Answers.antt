@@ -20,7 +20,7 @@ returns-clause-bytes c =
     restarted_bytes c.args.bytes.now c.self.inside.bytes.items c.copy_within.new.self.items c.truncate.new.self.items c.put_front.new.bytes.items c.self.inside.end c.self.inside.bytes.len
     (omega arith) (within here) (short here) c.copy_within.ensures.items (cut_is here) c.put_front.ensures
 
-pending_is : (c : After-put_front) → drop (length c.args.bytes.now + 13) c.put_front.new.bytes.items ≡ drop (c.self.inside.end + 13) c.self.inside.bytes.items
+pending_is : (c : After-put_front) → drop (length c.args.bytes.now + 50) c.put_front.new.bytes.items ≡ drop (c.self.inside.end + 50) c.self.inside.bytes.items
 pending_is c =
     restarted_pending c.args.bytes.now c.self.inside.bytes.items c.copy_within.new.self.items c.truncate.new.self.items c.put_front.new.bytes.items c.self.inside.end c.self.inside.bytes.len
     (omega arith) (within c) (short c) c.copy_within.ensures.items (cut_is c) c.put_front.ensures

@@ -1,0 +1,60 @@
+//! `log repair`: cuts off the end of a damaged tail, and keeps it.
+
+use crate::log_folder::SystemCause;
+use crate::opened_log::explained;
+use crate::places::{file_in, folder_to_write};
+use crate::{FOLDER, folder};
+use clap::{ArgMatches, Command};
+use program_base::arguments;
+use program_base::command_words::command_of;
+use program_base::failure::{Failure, FailureCause, to_output, with_file};
+use std::alloc::{AllocError, Global};
+use std::fs;
+
+const EXAMPLE: &str = "\
+Only this command cuts off bytes that were written whole and have changed: 'append', 'seal', 'compact' and 'drop' refuse
+such a log. Records after the damage are lost with it, and their numbers are given again. So get the file tail.log from
+a copy if there is one.
+
+Example:
+  zevkhadun log repair events     prints how many bytes were cut off, and the file that has them";
+
+/// The words of `log repair`.
+pub fn command<'a>(alloc: Global) -> Result<Command<'a>, AllocError> {
+    command_of(
+        alloc,
+        "repair",
+        "Cut off the damaged end of the tail, and keep it in a file",
+        EXAMPLE,
+        &[folder()],
+    )
+}
+
+// Says which file has what was cut off.
+fn tell(rt: &HostRuntime, path: &str, name: &str) -> Result<(), FailureCause> {
+    let file = file_in(rt.alloc(), path, name)?;
+    let bytes = fs::metadata(rt, file.as_str())?.len();
+    to_output(println!(rt;
+        "{path}: cut off {bytes} bytes at the end of the tail; they are in {file}"
+    ))
+}
+
+// Repairs the log at a path.
+fn repair(rt: &HostRuntime, path: &str) -> Result<(), FailureCause> {
+    let cause = SystemCause::new();
+    let mut folder = folder_to_write(rt, path, &cause)?;
+    let cut = segmented_log::repair(rt.alloc(), &mut folder);
+    drop(folder);
+    match cut {
+        Ok(Some(name)) => tell(rt, path, name.as_str()),
+        Ok(None) => to_output(println!(rt; "{path}: the tail is whole; nothing was cut off")),
+        Err(error) => Err(explained(&cause, error)),
+    }
+}
+
+/// Repairs the log.
+pub fn run(rt: &HostRuntime, matches: &ArgMatches<'_>) -> Result<(), Failure> {
+    let alloc = rt.alloc();
+    let path = arguments::word(alloc, matches, FOLDER)?;
+    with_file(alloc, path, repair(rt, path))
+}
