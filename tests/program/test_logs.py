@@ -289,10 +289,15 @@ class Broken(LogCase):
         self.append(b"five\n")
         self.tail = self.files()["tail.log"]
 
+    def kill_writer(self):
+        """Leaves the folder as a writer that was killed: without the mark of a good end."""
+        (self.folder / "events/lock").unlink()
+
     def test_a_torn_end_is_not_read_and_is_cut_off_by_the_next_append(self):
         for cut in (1, 7, len(self.tail) - 17):
             torn = self.tail[:-cut]
             self.change("tail.log", torn)
+            self.kill_writer()
             whole = LINES + (b"four\n" if cut < 20 else b"")
             self.assertEqual(self.records(), whole)
             self.assertEqual(self.files()["tail.log"], torn)
@@ -311,6 +316,65 @@ class Broken(LogCase):
         for place in range(17, len(self.tail)):
             self.change("tail.log", changed(self.tail, place, bytes([self.tail[place] ^ 1])))
             self.assertEqual(self.program.run("log", "verify", "-q", "events").returncode, 1, f"byte {place}")
+
+    def refuses(self, tail):
+        """Checks that the log is refused as damaged by each command that writes, and that nothing is changed."""
+        self.change("tail.log", tail)
+        said = "events: the tail is damaged; get it from a copy, or see 'zevkhadun log repair --help'"
+        for words in ("append events", "seal events", "compact events", "drop events --before 1"):
+            self.program.fails(1, said, "log", *words.split(), input=b"new\n")
+        self.assertEqual(self.files()["tail.log"], tail)
+
+    def test_the_end_of_a_tail_whose_writer_ended_well_is_damaged_where_it_is_not_whole(self):
+        self.refuses(self.tail[:-1])
+        self.refuses(self.tail + b"\1")
+        self.refuses(changed(self.tail, len(self.tail) - 1, b"!"))
+
+    def test_a_changed_batch_that_another_follows_is_damaged(self):
+        for place in range(16, len(self.tail)):
+            bad = changed(self.tail, place, bytes([self.tail[place] ^ 1]))
+            self.change("tail.log", bad)
+            self.kill_writer()
+            first = place < 16 + (len(self.tail) - 16) // 2
+            done = self.program.run("log", "append", "events")
+            self.assertEqual(done.returncode, 1 if first else 0, f"byte {place}")
+            self.assertEqual(self.files()["tail.log"] == bad, first, f"byte {place}")
+
+    def test_what_is_before_the_damage_is_read_and_the_status_is_1(self):
+        self.change("tail.log", changed(self.tail, 60, b"!"))
+        said = "record 3 is damaged; 'zevkhadun log verify' says where"
+        for words, printed in (("cat events", LINES), ("get events 0..", LINES), ("get events 0", b"one\n")):
+            done = self.program.run("log", *words.split())
+            self.assertEqual((done.returncode, done.stdout), (1, printed), words)
+            self.assertEqual(done.stderr.decode(), f"zevkhadun: events: {said}\n")
+        done = self.program.run("log", "stat", "--json", "events")
+        self.assertEqual((done.returncode, json.loads(done.stdout)["next"]), (1, 3))
+        done = self.program.run("log", "verify", "events")
+        self.assertRegex(done.stdout.decode(), r"^events/tail.log: damaged: 0 records are whole; the \d+ bytes from byte 53 ")
+
+    def test_readers_say_so_where_the_end_of_a_tail_has_changed_whose_writer_ended_well(self):
+        for bad in (self.tail[:-1], self.tail + b"\1"):
+            self.change("tail.log", bad)
+            whole = LINES + b"four\n" + (b"five\n" if len(bad) > len(self.tail) else b"")
+            done = self.program.run("log", "cat", "events")
+            self.assertEqual((done.returncode, done.stdout), (1, whole))
+            self.assertIn("is damaged; 'zevkhadun log verify' says where", done.stderr.decode())
+        self.kill_writer()
+        self.assertEqual(self.records(), LINES + b"four\nfive\n")
+
+    def test_a_repair_keeps_what_it_cuts_off(self):
+        for number in range(2):
+            bad = changed(self.tail, 60, b"!")
+            self.refuses(bad)
+            name = f"tail.cut.{number:020}"
+            said = f"events: cut off {len(bad) - 53} bytes at the end of the tail; they are in events/{name}\n"
+            self.assertEqual(self.program.gives("log", "repair", "events").decode(), said)
+            self.assertEqual((self.files()["tail.log"], self.files()[name]), (bad[:53], bad[53:]))
+            self.assertEqual(self.program.gives("log", "append", "events", "--number", input=b"new\n"), b"3\n")
+            self.assertEqual(self.records(), LINES + b"new\n")
+        said = "events: the tail is whole; nothing was cut off\n"
+        self.assertEqual(self.program.gives("log", "repair", "events").decode(), said)
+        self.program.gives("log", "verify", "-q", "events")
 
     def test_a_damaged_record_is_named(self):
         store = self.files()[FIRST]

@@ -13,7 +13,7 @@ use std::cell::Cell;
 use std::fs::{File, Files};
 use std::io;
 use std::io::ErrorKind;
-use store_files::{DiskFile, LockedFolder, OsFile, read_all};
+use store_files::{DiskFile, LockedFolder, OsFile, is_left_synced, read_all};
 use store_folder::{Folder, ReadableFolder};
 
 // The names of the segments of these numbers.
@@ -50,17 +50,12 @@ fn found_at_once(rt: &HostRuntime, path: &str) -> Result<Option<Found>, FailureC
     Ok(is_same.then_some((after, tail)))
 }
 
-// Cuts a tail off where its whole batches end.
-fn cut_off(alloc: Global, tail: &mut Option<Vec<u8>>) -> Result<(), AllocError> {
-    let Some(bytes) = tail else {
-        return Ok(());
-    };
-    let whole = match TailView::new(alloc, bytes)? {
-        Some(view) => view.whole_len(),
-        None => return Ok(()),
-    };
-    bytes.truncate(whole);
-    Ok(())
+// How many bytes of a tail are whole; all of what is none.
+fn whole_len(alloc: Global, bytes: &[u8]) -> Result<usize, AllocError> {
+    match TailView::new(alloc, bytes)? {
+        Some(view) => Ok(view.whole_len()),
+        None => Ok(bytes.len()),
+    }
 }
 
 /// Why the last call on a log's folder that failed did so. A log reports only that one failed.
@@ -96,9 +91,10 @@ pub struct LogFolder<'a, R: Files<File = File> + Drop> {
     writer: Option<Box<LockedFolder<R>>>,
     cause: &'a SystemCause,
     failures: u64,
-    // What a reader found, until it is asked for.
+    // What a reader found, until it is asked for, and whether the last writer left the tail on the disk.
     segments: Cell<Option<Vec<u64>>>,
     tail: Cell<Option<Vec<u8>>>,
+    is_tail_synced: bool,
 }
 
 impl<'a> LogFolder<'a, HostRuntime> {
@@ -117,6 +113,7 @@ impl<'a> LogFolder<'a, HostRuntime> {
             failures: 0,
             segments: Cell::new(None),
             tail: Cell::new(None),
+            is_tail_synced: false,
         }
     }
 
@@ -131,23 +128,33 @@ impl<'a> LogFolder<'a, HostRuntime> {
     }
 
     /// The folder of this path, without a lock: as it was at one moment, or none where a writer sealed the log
-    /// meanwhile. Its tail may be cut off where its whole batches end.
+    /// meanwhile.
     pub fn of_reader(
         rt: &'a HostRuntime,
         path: &'a str,
         cause: &'a SystemCause,
-        is_cut: bool,
     ) -> Result<Option<LogFolder<'a, HostRuntime>>, FailureCause> {
-        let Some((segments, mut tail)) = found_at_once(rt, path)? else {
+        let Some((segments, tail)) = found_at_once(rt, path)? else {
             return Ok(None);
         };
-        if is_cut {
-            cut_off(rt.alloc(), &mut tail)?;
-        }
-        let folder = LogFolder::new(rt, path, None, cause);
+        let mut folder = LogFolder::new(rt, path, None, cause);
         folder.segments.set(Some(segments));
         folder.tail.set(tail);
+        // The mark is read after the tail: what it says was on the disk is what was read, or is a later tail.
+        folder.is_tail_synced = is_left_synced(rt, rt.alloc(), path, TAIL).unwrap_or(false);
         Ok(Some(folder))
+    }
+
+    /// Cuts the tail that a reader found off where its whole batches end. Returns whether it had more.
+    pub fn cut_tail(&mut self) -> Result<bool, AllocError> {
+        let Some(mut bytes) = self.tail.take() else {
+            return Ok(false);
+        };
+        let whole = whole_len(self.rt.alloc(), &bytes)?;
+        let has_more = whole < bytes.len();
+        bytes.truncate(whole);
+        self.tail.set(Some(bytes));
+        Ok(has_more)
     }
 }
 
@@ -283,7 +290,7 @@ impl<'a, R: Files<File = File> + Drop> Folder for LogFolder<'a, R> {
     fn is_synced(&self, name: &str) -> bool {
         match &self.writer {
             Some(folder) => folder.is_synced(name),
-            None => false,
+            None => name != TAIL || self.is_tail_synced,
         }
     }
 

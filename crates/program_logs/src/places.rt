@@ -180,7 +180,7 @@ impl<'a> ReadLog<'a> {
 // What an opening of a log to read it came to.
 #[derive(Drop)]
 enum Reading<'a> {
-    Opened(OpenedLog<'a>),
+    Opened(ReadLog<'a>),
     // A writer changed it meanwhile: a segment may be gone since it was listed.
     Changed,
     DamagedTail,
@@ -193,11 +193,12 @@ fn try_to_read<'a>(
     cause: &'a SystemCause,
     is_cut: bool,
 ) -> Result<Reading<'a>, FailureCause> {
-    let Some(folder) = LogFolder::of_reader(rt, path, cause, is_cut)? else {
+    let Some(mut folder) = LogFolder::of_reader(rt, path, cause)? else {
         return Ok(Reading::Changed);
     };
+    let is_damaged = is_cut && folder.cut_tail()?;
     let error = match OpenedLog::open(rt.alloc(), folder, cause, NOT_APPENDED) {
-        Ok(log) => return Ok(Reading::Opened(log)),
+        Ok(log) => return Ok(Reading::Opened(ReadLog { log, is_damaged })),
         Err(LogError::DamagedTail) => return Ok(Reading::DamagedTail),
         Err(error) => error,
     };
@@ -215,12 +216,12 @@ pub fn open_to_read<'a>(
     cause: &'a SystemCause,
 ) -> Result<ReadLog<'a>, FailureCause> {
     check_log(rt, path)?;
-    let mut is_damaged = false;
+    let mut is_cut = false;
     for _ in 0..TRIES {
-        match try_to_read(rt, path, cause, is_damaged)? {
-            Reading::Opened(log) => return Ok(ReadLog { log, is_damaged }),
+        match try_to_read(rt, path, cause, is_cut)? {
+            Reading::Opened(log) => return Ok(log),
             Reading::Changed => (),
-            Reading::DamagedTail => is_damaged = true,
+            Reading::DamagedTail => is_cut = true,
         }
     }
     Err(FailureCause::BusyLog)

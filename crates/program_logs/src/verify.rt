@@ -17,11 +17,13 @@ use segmented_log::{TAIL, segment_file};
 use std::alloc::{AllocError, Global};
 use std::fmt::Display;
 use std::{fmt, fs};
+use store_files::is_left_synced;
 
 const EXAMPLE: &str = "\
 Checks each segment as a store, the batches of the tail by their sums, and that no number is missing between them. Bytes
 at the end of the tail that are no whole batch are reported: as torn if they may be a batch that was not finished, which
-the next writer cuts off, and as damaged if another batch follows them. The exit status is then 1, as for a broken log.
+the next writer cuts off, and as damaged if another batch follows or the last writer ended well. The exit status is
+then 1, as for a broken log.
 
 Example:
   zevkhadun log verify events";
@@ -132,12 +134,13 @@ impl Display for TailFault {
     }
 }
 
-// What is wrong with these bytes of a tail, if something is.
-fn fault_in(alloc: Global, bytes: &[u8]) -> Result<Option<TailFault>, AllocError> {
+// What is wrong with these bytes of a tail, if something is. They may be known to have been on the disk.
+fn fault_in(alloc: Global, bytes: &[u8], is_synced: bool) -> Result<Option<TailFault>, AllocError> {
     let Some(view) = TailView::new(alloc, bytes)? else {
         return Ok(Some(TailFault::NoTail));
     };
-    let (records, end, is_damaged) = (view.len(), view.whole_len(), view.is_damaged());
+    let is_damaged = is_synced || view.is_damaged();
+    let (records, end) = (view.len(), view.whole_len());
     let rest = bytes.len().saturating_sub(end);
     Ok(
         (rest > 0).then_some(TailFault::Torn {
@@ -153,7 +156,8 @@ fn fault_in(alloc: Global, bytes: &[u8]) -> Result<Option<TailFault>, AllocError
 fn check_tail(rt: &HostRuntime, folder: &str) -> Result<bool, FailureCause> {
     let path = file_in(rt.alloc(), folder, TAIL)?;
     let bytes = fs::read(rt, path.as_str())?;
-    let fault = fault_in(rt.alloc(), &bytes)?;
+    let is_synced = is_left_synced(rt, rt.alloc(), folder, TAIL).unwrap_or(false);
+    let fault = fault_in(rt.alloc(), &bytes, is_synced)?;
     drop(bytes);
     let Some(fault) = fault else {
         return Ok(true);

@@ -8,6 +8,8 @@ ghost use Rattle.std.specs.Prelude.{◌≡◌};
 use crate::knowledge::{Doing, Knowledge, Standing};
 use crate::loading::read_all;
 use crate::mark::{Mark, end_mark, mark_before, read_mark};
+use crate::names::LOCK;
+use crate::output_file::check_plain;
 use std::alloc::Global;
 use std::fs::{File, Files, OpenFile};
 use std::io;
@@ -139,4 +141,20 @@ impl LockMark {
         let mark = end_mark(self.alloc, &self.knowledge, names)?;
         self.replace(lock, mark)
     }
+}
+
+/// Whether the writer that had the folder of this path last has ended well, and left the file of this name on the disk.
+/// This takes no lock: a writer may begin right after.
+pub fn is_left_synced<R: Files>(
+    rt: &R,
+    alloc: Global,
+    folder: &str,
+    name: &str,
+) -> io::Result<bool> {
+    let path = format!(in alloc; "{folder}/{LOCK}")?;
+    check_plain(rt, path.as_str())?;
+    let lock = File::open(rt, path.as_str())?;
+    let mark = LockMark::read(rt, alloc, &lock, path.as_str())?;
+    let knowledge = mark.knowledge();
+    Ok(knowledge.has_kept_entries() && knowledge.is_synced(name))
 }
