@@ -49,7 +49,7 @@ THEOREMS = (
     Theorem("a crash leaves the old store or the new one", "store_published",
             ("publish_store", "publish_export"), ("memory aside", "usize", "honest folder")),
     Theorem("a record that a sync acknowledged is never lost", "segmented_log",
-            ("open", "sync", "seal", "compact", "call_all", "open_and_call", "ends_lose_nothing"),
+            ("open", "sync", "seal", "compact", "repair", "call_all", "open_and_call", "ends_lose_nothing"),
             ("memory aside", "usize", "honest folder")),
     Theorem("a call from C gives the document of the bytes", "store_c",
             ("zevk_get", "zevk_locate", "zevk_writer_close"), ("memory aside", "usize", "rules of zevkhadun.h")),

@@ -40,7 +40,7 @@ _zevkhadun() {
                 ;;
             *' -'?*) ;;
             ' '*) command=${COMP_WORDS[i]} ;;
-            'log append' | 'log get' | 'log cat' | 'log stat' | 'log verify' | 'log seal' | 'log compact' | 'log drop') command="$command ${COMP_WORDS[i]}" ;;
+            'log append' | 'log get' | 'log cat' | 'log stat' | 'log verify' | 'log repair' | 'log seal' | 'log compact' | 'log drop') command="$command ${COMP_WORDS[i]}" ;;
             *) ((place++)) ;;
         esac
     done
@@ -82,6 +82,8 @@ _zevkhadun() {
                 'log compact 0 '*) files=yes ;;
                 'log seal '*' -'*) words='-q --quiet -h --help' ;;
                 'log seal 0 '*) files=yes ;;
+                'log repair '*' -'*) words='-h --help' ;;
+                'log repair 0 '*) files=yes ;;
                 'log verify '*' -'*) words='-q --quiet -h --help' ;;
                 'log verify '*) files=yes ;;
                 'log stat '*' -'*) words='--json -h --help' ;;
@@ -94,7 +96,7 @@ _zevkhadun() {
                 'log append 0 '*) files=yes ;;
                 'log append '*) files=yes ;;
                 'log '*' -'*) words='-h --help' ;;
-                'log 0 '*) words='append get cat stat verify seal compact drop help' ;;
+                'log 0 '*) words='append get cat stat verify repair seal compact drop help' ;;
                 'inspect '*' -'*) words='--html --replace --tantivy -h --help' ;;
                 'inspect 0 '*) files=yes ;;
                 'inspect 1 '*) files=yes ;;

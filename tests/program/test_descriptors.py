@@ -55,8 +55,8 @@ class Descriptors(ProgramCase):
             ["export", "--tantivy", "out.store", "a.store"], ["inspect", "a.store"],
             ["inspect", "a.store", "out.html"], ["log", "append", "events", "lines.txt", "--number"],
             ["log", "get", "events", "0"], ["log", "cat", "events"], ["log", "stat", "events"],
-            ["log", "verify", "events"], ["log", "seal", "events"], ["log", "compact", "events"],
-            ["log", "drop", "events", "--before", "0"],
+            ["log", "verify", "events"], ["log", "repair", "events"], ["log", "seal", "events"],
+            ["log", "compact", "events"], ["log", "drop", "events", "--before", "0"],
         ):
             for closed in CLOSED:
                 with self.subTest(words, closed=closed):

@@ -6,7 +6,7 @@ from harness import TOP, ProgramCase
 
 HELP = Path(__file__).resolve().parent / "help"
 COMMANDS = ("pack", "append", "get", "cat", "stat", "verify", "merge", "export", "inspect", "log")
-LOG_COMMANDS = ("append", "get", "cat", "stat", "verify", "seal", "compact", "drop")
+LOG_COMMANDS = ("append", "get", "cat", "stat", "verify", "repair", "seal", "compact", "drop")
 # The words of each command, and the name of the file that has its help.
 HELP_TEXTS = [
     ((), "zevkhadun"), *(((command,), command) for command in COMMANDS),

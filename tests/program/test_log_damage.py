@@ -1,0 +1,156 @@
+"""Logs that a crash or a device changed: what is cut off, what is refused, and what a repair keeps."""
+
+import json
+
+from harness import changed
+from program.log_case import FIRST, LogCase
+from program.texts import LINES
+
+
+class Broken(LogCase):
+    """Bytes of a log that a crash or a device changed."""
+
+    def setUp(self):
+        super().setUp()
+        self.append(LINES)
+        self.program.gives("log", "seal", "events")
+        self.append(b"four\n")
+        self.append(b"five\n")
+        self.tail = self.files()["tail.log"]
+
+    def kill_writer(self):
+        """Leaves the folder as a writer that was killed: without the mark of a good end."""
+        (self.folder / "events/lock").unlink()
+
+    def test_a_torn_end_is_not_read_and_is_cut_off_by_the_next_append(self):
+        for cut in (1, 7, len(self.tail) - 17):
+            torn = self.tail[:-cut]
+            self.change("tail.log", torn)
+            self.kill_writer()
+            whole = LINES + (b"four\n" if cut < 20 else b"")
+            self.assertEqual(self.records(), whole)
+            self.assertEqual(self.files()["tail.log"], torn)
+            done = self.program.run("log", "verify", "events")
+            self.assertEqual(done.returncode, 1)
+            said = r"^events/tail.log: torn: (0 records are|1 record is) whole; the \d+ bytes"
+            self.assertRegex(done.stdout.decode(), said)
+            done = self.program.run("log", "append", "events", input=b"new\n")
+            said = r"^zevkhadun: events: \d+ bytes at the end of the tail were no whole batch, as after a crash; they"
+            self.assertEqual(done.returncode, 0)
+            self.assertRegex(done.stderr.decode(), said)
+            self.assertEqual(self.records(), whole + b"new\n")
+            self.program.gives("log", "verify", "-q", "events")
+
+    def test_a_changed_byte_of_the_tail_is_found(self):
+        for place in range(17, len(self.tail)):
+            self.change("tail.log", changed(self.tail, place, bytes([self.tail[place] ^ 1])))
+            self.assertEqual(self.program.run("log", "verify", "-q", "events").returncode, 1, f"byte {place}")
+
+    def refuses(self, tail):
+        """Checks that the log is refused as damaged by each command that writes, and that nothing is changed."""
+        self.change("tail.log", tail)
+        said = "events: the tail is damaged; get it from a copy, or see 'zevkhadun log repair --help'"
+        for words in ("append events", "seal events", "compact events", "drop events --before 1"):
+            self.program.fails(1, said, "log", *words.split(), input=b"new\n")
+        self.assertEqual(self.files()["tail.log"], tail)
+
+    def test_the_end_of_a_tail_whose_writer_ended_well_is_damaged_where_it_is_not_whole(self):
+        self.refuses(self.tail[:-1])
+        self.refuses(self.tail + b"\1")
+        self.refuses(changed(self.tail, len(self.tail) - 1, b"!"))
+
+    def test_a_changed_batch_that_another_follows_is_damaged(self):
+        for place in range(16, len(self.tail)):
+            bad = changed(self.tail, place, bytes([self.tail[place] ^ 1]))
+            self.change("tail.log", bad)
+            self.kill_writer()
+            first = place < 16 + (len(self.tail) - 16) // 2
+            done = self.program.run("log", "append", "events")
+            self.assertEqual(done.returncode, 1 if first else 0, f"byte {place}")
+            self.assertEqual(self.files()["tail.log"] == bad, first, f"byte {place}")
+
+    def test_what_is_before_the_damage_is_read_and_the_status_is_1(self):
+        self.change("tail.log", changed(self.tail, 60, b"!"))
+        said = "record 3 is damaged; 'zevkhadun log verify' says where"
+        for words, printed in (("cat events", LINES), ("get events 0..", LINES), ("get events 0", b"one\n")):
+            done = self.program.run("log", *words.split())
+            self.assertEqual((done.returncode, done.stdout), (1, printed), words)
+            self.assertEqual(done.stderr.decode(), f"zevkhadun: events: {said}\n")
+        done = self.program.run("log", "stat", "--json", "events")
+        self.assertEqual((done.returncode, json.loads(done.stdout)["next"]), (1, 3))
+        done = self.program.run("log", "verify", "events")
+        said = r"^events/tail.log: damaged: 0 records are whole; the \d+ bytes from byte 53 "
+        self.assertRegex(done.stdout.decode(), said)
+
+    def test_readers_say_so_where_the_end_of_a_tail_has_changed_whose_writer_ended_well(self):
+        for bad in (self.tail[:-1], self.tail + b"\1"):
+            self.change("tail.log", bad)
+            whole = LINES + b"four\n" + (b"five\n" if len(bad) > len(self.tail) else b"")
+            done = self.program.run("log", "cat", "events")
+            self.assertEqual((done.returncode, done.stdout), (1, whole))
+            self.assertIn("is damaged; 'zevkhadun log verify' says where", done.stderr.decode())
+        self.kill_writer()
+        self.assertEqual(self.records(), LINES + b"four\nfive\n")
+
+    def test_a_repair_keeps_what_it_cuts_off(self):
+        for number in range(2):
+            bad = changed(self.tail, 60, b"!")
+            self.refuses(bad)
+            name = f"tail.cut.{number:020}"
+            said = f"events: cut off {len(bad) - 53} bytes at the end of the tail; they are in events/{name}\n"
+            self.assertEqual(self.program.gives("log", "repair", "events").decode(), said)
+            self.assertEqual((self.files()["tail.log"], self.files()[name]), (bad[:53], bad[53:]))
+            self.assertEqual(self.program.gives("log", "append", "events", "--number", input=b"new\n"), b"3\n")
+            self.assertEqual(self.records(), LINES + b"new\n")
+        said = "events: the tail is whole; nothing was cut off\n"
+        self.assertEqual(self.program.gives("log", "repair", "events").decode(), said)
+        self.program.gives("log", "verify", "-q", "events")
+
+    def test_a_damaged_record_is_named(self):
+        store = self.files()[FIRST]
+        self.change(FIRST, changed(store, 8, b"\xff"))
+        advice = "record 0 is damaged; 'zevkhadun log verify' says where"
+        self.program.fails(1, f"events: {advice}", "log", "get", "events", "0")
+        self.program.fails(1, f"events: {advice}", "log", "cat", "events")
+        self.assertEqual(self.program.gives("log", "get", "events", "2.."), b"three\nfour\nfive\n")
+        done = self.program.run("log", "verify", "events")
+        self.assertEqual(done.returncode, 1)
+        self.assertIn(f"events/{FIRST}: broken: block 0 at byte 0", done.stdout.decode())
+
+    def test_a_segment_or_a_tail_that_is_none_is_found(self):
+        self.program.gives("log", "seal", "events")
+        sound = self.files()
+        second = sorted(sound)[1]
+        for name, content in ((FIRST, sound[FIRST][:20]), ("tail.log", b"x" + sound["tail.log"][1:]), (second, None)):
+            with self.subTest(name):
+                for each in sound:
+                    self.change(each, sound[each])
+                if content is None:
+                    (self.folder / "events" / name).unlink()
+                else:
+                    self.change(name, content)
+                said = "events: the log's files are broken; 'zevkhadun log verify' says where"
+                self.program.fails(1, said, "log", "cat", "events")
+                self.program.fails(1, said, "log", "append", "events", input=LINES)
+                done = self.program.run("log", "verify", "events")
+                self.assertEqual(done.returncode, 1)
+                self.assertIn("broken", (done.stdout + done.stderr).decode())
+
+    def test_a_lost_tail_is_named_and_an_empty_one_takes_its_place(self):
+        (self.folder / "events" / "tail.log").unlink()
+        said = "events: tail.log is missing; get it from a copy, or make an empty one as docs/LOG.md says\n"
+        for words in ("append events", "cat events", "get events 0", "stat events", "verify -q events", "seal events",
+                      "compact events", "drop events --before 1"):
+            self.program.fails(1, said, "log", *words.split(), input=LINES)
+        self.change("tail.log", b"zevklog\1" + (3).to_bytes(8, "little"))
+        self.assertEqual(self.records(), LINES)
+        self.assertEqual(self.append(b"new\n", "--number"), b"3\n")
+
+    def test_a_folder_that_is_named_as_a_segment_is_named(self):
+        name = "%020d.store" % 5
+        (self.folder / "events" / name).mkdir()
+        said = f"zevkhadun: events/{name}: not a plain file\n"
+        for words in ("cat events", "get events 0", "stat events", "verify -q events", "seal events", "compact events"):
+            self.program.fails(1, said, "log", *words.split())
+        (self.folder / "events" / name).rmdir()
+        self.assertEqual(self.records(), LINES + b"four\nfive\n")
