@@ -115,6 +115,7 @@ class Logs(DeviceCase):
     def run_without_records(self, *words):
         """Runs a command that brings no records at each point. Returns how often it failed."""
         def on_full(done):
+            self.assertEqual(list(self.folder.glob("events/*.part")), [])
             self.assert_records()
             if done.returncode:
                 self.drop_oldest()

@@ -209,7 +209,10 @@ fn append<'a>(
 ) -> Result<(), Failure> {
     let total = paths.and_then(|paths| total_bytes(rt, paths));
     let mut appending = appending_of(rt, path, options, cause, total)?;
-    append_all(&mut appending, paths)
+    let appended = append_all(&mut appending, paths);
+    let Appending { log, .. } = appending;
+    log.close(rt, path);
+    appended
 }
 
 /// Appends the records.

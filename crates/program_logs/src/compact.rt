@@ -55,8 +55,9 @@ fn compact(rt: &HostRuntime, path: &str, size: u64, is_seen: bool) -> Result<(),
     let cause = SystemCause::new();
     let mut log = open_to_write(rt, path, &cause)?;
     let before = segment_numbers(rt, path)?.len();
-    log.compact(size)?;
-    drop(log);
+    let compacted = log.compact(size);
+    log.close(rt, path);
+    compacted?;
     let after = segment_numbers(rt, path)?.len();
     if is_seen {
         let none = if before == after {

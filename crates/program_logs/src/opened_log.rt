@@ -7,6 +7,8 @@ use crate::log_refusal::refused;
 use program_base::failure::FailureCause;
 use segmented_log::{Commit, LogError, Records, SegmentedLog};
 use std::alloc::Global;
+use std::{fs, io};
+use store_folder::Folder;
 
 /// How the tail of a log is written: how a sync puts records on the disk, and the size in bytes past which it is
 /// sealed.
@@ -32,6 +34,26 @@ pub fn explained(cause: &SystemCause, error: LogError) -> FailureCause {
         (LogError::Failed, Some(error)) => FailureCause::System(error),
         _ => refused(error),
     }
+}
+
+// Whether a file of this name is one that was being published.
+fn is_part(name: &str) -> bool {
+    name == "tail.log.part" || name.ends_with(".store.part")
+}
+
+// Removes what a call that failed left unpublished.
+fn remove_parts<'a>(
+    rt: &HostRuntime,
+    path: &str,
+    folder: &mut LogFolder<'a, HostRuntime>,
+) -> io::Result<()> {
+    for entry in fs::read_dir(rt, path)? {
+        let entry = entry?;
+        if is_part(entry.file_name()) {
+            folder.remove(entry.file_name())?;
+        }
+    }
+    Ok(())
 }
 
 impl<'a> OpenedLog<'a> {
@@ -110,6 +132,17 @@ impl<'a> OpenedLog<'a> {
     pub fn drop_before(&mut self, number: u64) -> Result<(), FailureCause> {
         let dropped = self.log.drop_before(number);
         self.result_of(dropped)
+    }
+
+    /// Closes the log at this path. What a call that failed left unpublished is removed, as it may have filled the
+    /// device.
+    pub fn close(self, rt: &HostRuntime, path: &str) {
+        let OpenedLog { log, .. } = self;
+        if !log.is_broken() {
+            return;
+        }
+        let mut folder = Box::into_inner(log).into_folder();
+        let _ = remove_parts(rt, path, &mut folder);
     }
 
     /// The record of a number that the log has.

@@ -51,9 +51,10 @@ fn seal(rt: &HostRuntime, path: &str, is_seen: bool) -> Result<(), FailureCause>
     let cause = SystemCause::new();
     let mut log = open_to_write(rt, path, &cause)?;
     let before = segment_numbers(rt, path)?.len();
-    log.seal()?;
+    let sealed = log.seal();
     let end = log.end();
-    drop(log);
+    log.close(rt, path);
+    sealed?;
     match is_seen {
         true => tell(rt, path, before, end),
         false => Ok(()),
