@@ -6,7 +6,7 @@ use crate::failure::{Failure, FailureCause};
 use clap::ArgMatches;
 use document_framing::Framing;
 use document_framing::framing::{FRAMING_HELP, FRAMINGS};
-use std::alloc::{AllocError, Global};
+use std::alloc::Global;
 use store_commands::StoreShape;
 
 /// The name of the argument for the file that is written.
@@ -79,11 +79,22 @@ pub fn block_size<'a>() -> Argument<'a> {
     }
 }
 
+// What a word names, or that the word is wrong, and why.
+fn or_wrong_words<T: Copy>(
+    alloc: Global,
+    why: &str,
+    word: &str,
+    found: Option<T>,
+) -> Result<T, Failure> {
+    match found {
+        Some(found) => Ok(found),
+        None => Err(wrong_words(alloc, why, word)),
+    }
+}
+
 /// The word of an argument that is required or has a default.
 pub fn word<'a>(alloc: Global, matches: &ArgMatches<'a>, id: &str) -> Result<&'a str, Failure> {
-    matches
-        .get_str(id)
-        .ok_or_else(|| wrong_words(alloc, "missing argument", id))
+    or_wrong_words(alloc, "missing argument", id, matches.get_str(id))
 }
 
 /// The name of the file that is read.
@@ -99,33 +110,32 @@ pub fn output_path<'a>(alloc: Global, matches: &ArgMatches<'a>) -> Result<&'a st
 /// The block size, in bytes.
 pub fn block_size_of(alloc: Global, matches: &ArgMatches<'_>) -> Result<usize, Failure> {
     let size = word(alloc, matches, "block-size")?;
-    parse_size(size).ok_or_else(|| wrong_words(alloc, "invalid block size", size))
+    or_wrong_words(alloc, "invalid block size", size, parse_size(size))
 }
 
 /// How the store is to be written.
 pub fn shape_of(alloc: Global, matches: &ArgMatches<'_>) -> Result<StoreShape, Failure> {
     let block_size = block_size_of(alloc, matches)?;
-    matches
-        .get_one::<u8>("period")
-        .and_then(|period| StoreShape::new(block_size, period))
-        .ok_or_else(|| wrong_words(alloc, "invalid argument", "period"))
+    // There is a period: it has a default. No store has the period 0.
+    let period = matches.get_one::<u8>("period").unwrap_or(0);
+    or_wrong_words(
+        alloc,
+        "invalid argument",
+        "period",
+        StoreShape::new(block_size, period),
+    )
 }
 
 /// How documents are delimited.
 pub fn framing_of(alloc: Global, matches: &ArgMatches<'_>) -> Result<Framing, Failure> {
     let name = word(alloc, matches, "framing")?;
-    Framing::from_name(name).ok_or_else(|| wrong_words(alloc, "unknown framing", name))
-}
-
-// That a word is wrong, and why.
-fn refusal(alloc: Global, why: &str, word: &str) -> Result<FailureCause, AllocError> {
-    Ok(FailureCause::Words(format!(in alloc; "{why}: '{word}'")?))
+    or_wrong_words(alloc, "unknown framing", name, Framing::from_name(name))
 }
 
 /// That a word is wrong, and why.
 pub fn wrong_words(alloc: Global, why: &str, word: &str) -> Failure {
-    Failure::from(match refusal(alloc, why, word) {
-        Ok(cause) => cause,
-        Err(error) => FailureCause::from(error),
-    })
+    match format!(in alloc; "{why}: '{word}'") {
+        Ok(text) => Failure::from(FailureCause::Words(text)),
+        Err(error) => Failure::from(error),
+    }
 }

@@ -113,112 +113,123 @@ pub enum Argument<'a> {
     Period,
 }
 
-// A word at its place.
-fn word<'a>(alloc: Global, id: &'a str, help: &'a str) -> Arg<'a> {
-    Arg::new(alloc, id).action(ArgAction::Set).help(help)
-}
-
-// Words at their place, at least this many.
-fn words<'a>(alloc: Global, id: &'a str, least: usize, help: &'a str) -> Arg<'a> {
-    Arg::new(alloc, id)
-        .num_args(least..)
-        .action(ArgAction::Append)
-        .help(help)
-}
-
-// A flag.
-fn flag<'a>(alloc: Global, id: &'a str, help: &'a str) -> Arg<'a> {
-    Arg::new(alloc, id)
-        .long(id)
-        .action(ArgAction::SetTrue)
-        .help(help)
-}
-
-// An option.
-fn option<'a>(alloc: Global, id: &'a str, value: &'a str, help: &'a str) -> Arg<'a> {
-    Arg::new(alloc, id).long(id).value_name(value).help(help)
-}
-
-// The option for the period.
-fn period<'a>(alloc: Global) -> Arg<'a> {
-    option(
-        alloc,
-        "period",
-        "COUNT",
-        "Entries per index run, 2 to 64; rarely worth changing, gets don't depend on it",
-    )
-    .value_parser(value_parser!(u8).range(2..=64))
-    .default_value("8")
-}
-
-// An argument that excludes others.
-fn against<'a>(mut arg: Arg<'a>, others: &[&'a str]) -> Result<Arg<'a>, AllocError> {
-    for other in others {
-        arg = arg.conflicts_with(*other)?;
-    }
-    Ok(arg)
-}
-
 impl<'a> Argument<'a> {
-    // As clap has it.
+    // Its id, its help, and what the help calls its value.
+    fn names(self) -> (&'a str, &'a str, &'a str) {
+        match self {
+            Argument::Word { id, help }
+            | Argument::OptionalWord { id, help }
+            | Argument::Words { id, help }
+            | Argument::OptionalWords { id, help }
+            | Argument::Flag { id, help }
+            | Argument::ShortFlag { id, help, .. }
+            | Argument::RequiredFlag { id, help }
+            | Argument::FlagAgainst { id, help, .. }
+            | Argument::ExplainedFlag { id, help, .. } => (id, help, id),
+            Argument::Option { id, value, help }
+            | Argument::RequiredOption { id, value, help }
+            | Argument::OptionAgainst {
+                id,
+                value,
+                help,
+                ..
+            }
+            | Argument::Options { id, value, help }
+            | Argument::OptionOr {
+                id,
+                value,
+                help,
+                ..
+            }
+            | Argument::Number { id, value, help }
+            | Argument::NumberOr {
+                id,
+                value,
+                help,
+                ..
+            }
+            | Argument::ChoiceOr {
+                id,
+                value,
+                help,
+                ..
+            } => (id, help, value),
+            Argument::Period => (
+                "period",
+                "Entries per index run, 2 to 64; rarely worth changing, gets don't depend on it",
+                "COUNT",
+            ),
+        }
+    }
+
+    // What is done with its words.
+    fn action(self) -> ArgAction {
+        match self {
+            Argument::Words { .. } | Argument::OptionalWords { .. } | Argument::Options { .. } => {
+                ArgAction::Append
+            }
+            Argument::Flag { .. }
+            | Argument::ShortFlag { .. }
+            | Argument::RequiredFlag { .. }
+            | Argument::FlagAgainst { .. }
+            | Argument::ExplainedFlag { .. } => ArgAction::SetTrue,
+            _ => ArgAction::Set,
+        }
+    }
+
+    // Whether it has to be there.
+    fn is_required(self) -> bool {
+        matches!(
+            self,
+            Argument::Word { .. }
+                | Argument::Words { .. }
+                | Argument::RequiredFlag { .. }
+                | Argument::RequiredOption { .. }
+        )
+    }
+
+    // As clap has it. Each step is for all kinds: a chain of steps for each kind would take far longer to prove.
     fn arg(self, alloc: Global) -> Result<Arg<'a>, AllocError> {
-        Ok(match self {
-            Argument::Word { id, help } => word(alloc, id, help).required(true),
-            Argument::OptionalWord { id, help } => word(alloc, id, help),
-            Argument::Words { id, help } => words(alloc, id, 1, help).required(true),
-            Argument::OptionalWords { id, help } => words(alloc, id, 0, help),
-            Argument::Flag { id, help } => flag(alloc, id, help),
-            Argument::ShortFlag { id, short, help } => flag(alloc, id, help).short(short),
-            Argument::RequiredFlag { id, help } => flag(alloc, id, help).required(true),
-            Argument::FlagAgainst { id, others, help } => against(flag(alloc, id, help), others)?,
-            Argument::ExplainedFlag {
-                id,
-                help,
-                long_help,
-            } => flag(alloc, id, help).long_help(long_help),
-            Argument::Option { id, value, help } => option(alloc, id, value, help),
-            Argument::RequiredOption { id, value, help } => option(alloc, id, value, help).required(
-                true,
-            ),
-            Argument::OptionAgainst {
-                id,
-                value,
-                others,
-                help,
-            } => against(option(alloc, id, value, help), others)?,
-            Argument::Options { id, value, help } => option(alloc, id, value, help).action(
-                ArgAction::Append,
-            ),
-            Argument::OptionOr {
-                id,
-                value,
-                default,
-                help,
-            } => option(alloc, id, value, help).default_value(default),
-            Argument::Number { id, value, help } => option(alloc, id, value, help).value_parser(
-                value_parser!(u64),
-            ),
-            Argument::NumberOr {
-                id,
-                value,
-                default,
-                help,
-            } => option(alloc, id, value, help)
-                .value_parser(value_parser!(u64))
-                .default_value(default),
-            Argument::ChoiceOr {
-                id,
-                value,
-                choices,
-                default,
-                help,
-                long_help,
-            } => option(alloc, id, value, help)
-                .value_parser(choices)
-                .default_value(default)
-                .long_help(long_help),
-            Argument::Period => period(alloc),
-        })
+        let (id, help, value) = self.names();
+        let arg = Arg::new(alloc, id)
+            .help(help)
+            .value_name(value)
+            .action(self.action())
+            .required(self.is_required());
+        let arg = match self {
+            Argument::Word { .. } | Argument::OptionalWord { .. } => arg,
+            Argument::Words { .. } => arg.num_args(1..),
+            Argument::OptionalWords { .. } => arg.num_args(0..),
+            _ => arg.long(id),
+        };
+        let arg = match self {
+            Argument::ShortFlag { short, .. } => arg.short(short),
+            Argument::ExplainedFlag { long_help, .. } | Argument::ChoiceOr { long_help, .. } => {
+                arg.long_help(long_help)
+            }
+            _ => arg,
+        };
+        let arg = match self {
+            Argument::Number { .. } | Argument::NumberOr { .. } => {
+                arg.value_parser(value_parser!(u64))
+            }
+            Argument::ChoiceOr { choices, .. } => arg.value_parser(choices),
+            Argument::Period => arg.value_parser(value_parser!(u8).range(2..=64)),
+            _ => arg,
+        };
+        let arg = match self {
+            Argument::OptionOr { default, .. }
+            | Argument::NumberOr { default, .. }
+            | Argument::ChoiceOr { default, .. } => arg.default_value(default),
+            Argument::Period => arg.default_value("8"),
+            _ => arg,
+        };
+        match self {
+            Argument::FlagAgainst { others, .. } | Argument::OptionAgainst { others, .. } => {
+                arg.conflicts_with_all(others)
+            }
+            _ => Ok(arg),
+        }
     }
 }
 

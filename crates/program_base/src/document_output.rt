@@ -6,7 +6,7 @@ use crate::failure::{Failure, FailureCause, to_output};
 use base64::engine::general_purpose::STANDARD;
 use clap::ArgMatches;
 use document_framing::Framing;
-use serde_json::{Map, Value, put};
+use serde_json::Value;
 use std::alloc::{AllocError, Global};
 use std::io;
 use std::io::{BufWriter, Printer, Write};
@@ -68,10 +68,8 @@ pub fn form_of(alloc: Global, matches: &ArgMatches<'_>) -> Result<DocumentForm, 
 
 // An object of JSON that has a number and, under this key, a text.
 fn object_with(alloc: Global, number: u64, key: &str, text: &str) -> Result<String, AllocError> {
-    let mut members = Map::new(alloc);
-    put(&mut members, alloc, "id", Value::from(number))?;
-    put(&mut members, alloc, key, Value::try_from_str(alloc, text)?)?;
-    Value::Object(members).to_string(alloc)
+    let text = Value::try_from_str(alloc, text)?;
+    format!(in alloc; "{{\"id\":{number},\"{key}\":{text}}}")
 }
 
 // A document as an object of JSON.

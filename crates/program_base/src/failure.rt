@@ -3,14 +3,11 @@
 ghost use Rattle.std.specs.Prelude.{◌≡◌, Ok, IfOk};
 
 use crate::status::Status;
-use docstore::{FileHandle, NoMemory, StoreError};
-use document_framing::FramingFault;
+use docstore::StoreError;
 use std::alloc::{AllocError, AllocFailed, Global};
 use std::fmt::Display;
 use std::{fmt, io};
 use store_commands::RequestError;
-use store_commands::block_walk::GivingError;
-use store_commands::merging::MergeFailure;
 use store_files::CreateError;
 
 /// Why a log refuses a call: what is wrong, what to do, where there is something to do, and the status.
@@ -197,8 +194,12 @@ fn write_kind<W: fmt::Write>(f: &mut fmt::Formatter<W>, kind: u8) -> fmt::Result
     }
 }
 
-// What is said where a store's error is the cause. Its kind of blocks and its index are named in the program's words.
-fn write_store_error<W: fmt::Write>(f: &mut fmt::Formatter<W>, error: &StoreError) -> fmt::Result {
+/// Writes what is said where a store's error is the cause. Its kind of blocks and its index are named in the program's
+/// words.
+pub fn write_store_error<W: fmt::Write>(
+    f: &mut fmt::Formatter<W>,
+    error: &StoreError,
+) -> fmt::Result {
     match error {
         StoreError::BadBlockKind(kind) => write_kind(f, *kind),
         StoreError::BadIndex => f.write_str("the index is damaged"),
@@ -261,82 +262,6 @@ impl Display for FailureCause {
     }
 }
 
-impl From<io::Error> for FailureCause {
-    fn from(error: io::Error) -> FailureCause {
-        FailureCause::System(error)
-    }
-}
-
-impl From<FramingFault> for FailureCause {
-    fn from(fault: FramingFault) -> FailureCause {
-        match fault {
-            FramingFault::Io(error) => FailureCause::System(error),
-            FramingFault::Cut => FailureCause::CutInput,
-        }
-    }
-}
-
-impl From<CreateError> for FailureCause {
-    fn from(error: CreateError) -> FailureCause {
-        FailureCause::Create(error)
-    }
-}
-
-impl From<StoreError> for FailureCause {
-    fn from(error: StoreError) -> FailureCause {
-        FailureCause::Store(error)
-    }
-}
-
-impl From<RequestError> for FailureCause {
-    fn from(error: RequestError) -> FailureCause {
-        match error {
-            RequestError::NoRange(text) => FailureCause::Words(text),
-            RequestError::Store(error) => FailureCause::Store(error),
-            error => FailureCause::Request(error),
-        }
-    }
-}
-
-impl From<GivingError<FailureCause>> for FailureCause {
-    fn from(error: GivingError<FailureCause>) -> FailureCause {
-        match error {
-            GivingError::Store(error) => FailureCause::Store(error),
-            GivingError::Target(cause) => cause,
-        }
-    }
-}
-
-impl<H: FileHandle> From<MergeFailure<H>> for FailureCause {
-    fn from(failure: MergeFailure<H>) -> FailureCause {
-        match failure {
-            MergeFailure::Request(error) => FailureCause::from(error),
-            MergeFailure::Refused { error, reader } => {
-                drop(reader);
-                FailureCause::Store(error)
-            }
-        }
-    }
-}
-
-impl From<NoMemory> for FailureCause {
-    fn from(_: NoMemory) -> FailureCause {
-        FailureCause::Store(StoreError::Memory)
-    }
-}
-
-impl From<AllocError> for FailureCause {
-    fn from(_: AllocError) -> FailureCause {
-        FailureCause::Store(StoreError::Memory)
-    }
-}
-
-impl<T: Drop> From<AllocFailed<T>> for FailureCause {
-    fn from(_: AllocFailed<T>) -> FailureCause {
-        FailureCause::Store(StoreError::Memory)
-    }
-}
-
 /// What went wrong, and at which file, if at one.
 #[derive(Drop)]
 pub struct Failure {
@@ -348,6 +273,20 @@ pub struct Failure {
 impl From<FailureCause> for Failure {
     fn from(cause: FailureCause) -> Failure {
         Failure { file: None, cause }
+    }
+}
+
+/// At no file.
+impl From<AllocError> for Failure {
+    fn from(error: AllocError) -> Failure {
+        Failure::from(FailureCause::from(error))
+    }
+}
+
+/// At no file.
+impl<T: Drop> From<AllocFailed<T>> for Failure {
+    fn from(error: AllocFailed<T>) -> Failure {
+        Failure::from(FailureCause::from(error))
     }
 }
 
@@ -371,14 +310,6 @@ impl Failure {
         matches!(self.cause, FailureCause::Output(_))
     }
 
-    // Whether the other end of the standard output was closed.
-    fn is_closed_pipe(&self) -> bool {
-        match &self.cause {
-            FailureCause::Output(error) => error.kind() == io::ErrorKind::BrokenPipe,
-            _ => false,
-        }
-    }
-
     // Prints the line.
     fn print<R: Eprint>(&self, rt: &R) {
         let cause = &self.cause;
@@ -393,11 +324,11 @@ impl Failure {
     /// Prints one line on the standard error, unless it was printed already, and returns the status. A closed pipe ends
     /// the program quietly, without one.
     pub fn report<R: Eprint>(&self, rt: &R) -> Option<Status> {
-        if self.is_closed_pipe() {
-            return None;
-        }
         match &self.cause {
-            FailureCause::Reported(_) => (),
+            FailureCause::Output(error) if error.kind() == io::ErrorKind::BrokenPipe => {
+                return None;
+            }
+            FailureCause::Reported(_) => {}
             _ => self.print(rt),
         }
         Some(self.cause.status())

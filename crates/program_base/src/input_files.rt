@@ -1,8 +1,8 @@
 //! The files whose documents are packed.
 
 use crate::command_words::Argument;
-use crate::failure::{Failure, FailureCause};
-use crate::word_files::text_in;
+use crate::failure::Failure;
+use crate::word_files::{add_lines, text_in};
 use clap::ArgMatches;
 use document_framing::Framing;
 use std::alloc::{AllocError, Global};
@@ -30,56 +30,28 @@ pub fn files_from<'a>() -> Argument<'a> {
     }
 }
 
-// Adds a name, and a byte 0, which no name has, after it.
-fn add_name(names: &mut String, name: &str) -> Result<(), AllocError> {
-    names.push_str(name)?;
-    names.push('\0')?;
-    Ok(())
+/// The text of the list of files, if the words name one.
+pub fn list_of(rt: &HostRuntime, matches: &ArgMatches<'_>) -> Result<Option<String>, Failure> {
+    match matches.get_str("files-from") {
+        Some(path) => Ok(Some(text_in(rt, path)?)),
+        None => Ok(None),
+    }
 }
 
-// The names of words, and then those on the lines of a list.
-fn joined_names(alloc: Global, words: &[&str], list: &str) -> Result<String, AllocError> {
-    let mut names = String::new(alloc);
-    for word in words {
-        add_name(&mut names, word)?;
-    }
-    for line in list.lines() {
-        if !line.is_empty() {
-            add_name(&mut names, line)?;
-        }
-    }
+/// The words that name files, if there are any. Where neither words nor a list name some, the standard input is meant.
+pub fn words_of<'m, 'a>(matches: &'m ArgMatches<'a>) -> Option<&'m [&'a str]> {
+    matches.get_strs("INPUT")
+}
+
+/// The names of the files: those of the words, and then those on the lines of a list, if there is one.
+pub fn names_of<'t>(
+    alloc: Global,
+    words: &[&'t str],
+    list: Option<&'t str>,
+) -> Result<Vec<&'t str>, AllocError> {
+    let mut names = Vec::from_slice(alloc, words)?;
+    add_lines(&mut names, list.unwrap_or(""))?;
     Ok(names)
-}
-
-/// The names of the files, with a byte 0 after each; `None` where neither words nor a list name some, which means the
-/// standard input.
-pub fn names_of(rt: &HostRuntime, matches: &ArgMatches<'_>) -> Result<Option<String>, Failure> {
-    let (words, list) = (matches.get_strs("INPUT"), matches.get_str("files-from"));
-    if words.is_none() && list.is_none() {
-        return Ok(None);
-    }
-    let lines = match list {
-        Some(path) => text_in(rt, path)?,
-        None => String::new(rt.alloc()),
-    };
-    match joined_names(rt.alloc(), words.unwrap_or(&[]), lines.as_str()) {
-        Ok(names) => Ok(Some(names)),
-        Err(error) => Err(Failure::from(FailureCause::from(error))),
-    }
-}
-
-/// The names in a text that has a byte 0 after each; `None` where there is no text.
-pub fn split_names(alloc: Global, text: Option<&str>) -> Result<Option<Vec<&str>>, AllocError> {
-    let Some(text) = text else {
-        return Ok(None);
-    };
-    let mut names = Vec::new(alloc);
-    if let Some(all) = text.strip_suffix('\0') {
-        for name in all.split('\0') {
-            names.push(name)?;
-        }
-    }
-    Ok(Some(names))
 }
 
 /// An input through a buffer, in a box.

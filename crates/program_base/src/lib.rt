@@ -4,6 +4,7 @@
 
 pub mod arguments;
 pub mod byte_size;
+mod causes;
 pub mod command_words;
 pub mod document_output;
 pub mod expected_count;

@@ -7,7 +7,12 @@ use store_commands::IdRange;
 
 // Whether a word is a number, of any size.
 fn is_number(word: &str) -> bool {
-    !word.is_empty() && word.bytes().all(|byte| byte.is_ascii_digit())
+    for byte in word.as_bytes() {
+        if !byte.is_ascii_digit() {
+            return false;
+        }
+    }
+    !word.is_empty()
 }
 
 // Refuses a number or a range that is none of any store.

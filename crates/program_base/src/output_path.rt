@@ -1,11 +1,10 @@
 //! The file that a command writes: what it may replace, and that it is no input.
 
 use crate::arguments::{output_path, wrong_words};
-use crate::failure::{Failure, FailureCause};
+use crate::failure::{Failure, FailureCause, with_file};
 use clap::ArgMatches;
 use std::alloc::Global;
 use std::fs;
-use std::fs::Metadata;
 use std::os::unix::fs::MetadataExt;
 use store_files::{CreateError, DiskSink, OsFolder};
 
@@ -28,23 +27,10 @@ pub fn output_of<'a>(alloc: Global, matches: &ArgMatches<'a>) -> Result<OutputPa
     })
 }
 
-// What the plain file of this name is, if there is one.
-fn plain_file_at(rt: &HostRuntime, path: &str) -> Option<Metadata> {
+// What the plain file of this name is, if there is one: the numbers of its device and of the file on it.
+fn plain_file_at(rt: &HostRuntime, path: &str) -> Option<(u64, u64)> {
     let found = fs::metadata(rt, path).ok()?;
-    found.is_file().then_some(found)
-}
-
-// What the plain file is that an input is read from.
-fn input_at(rt: &HostRuntime, path: &str) -> Option<Metadata> {
-    plain_file_at(rt, if path == "-" { STANDARD_INPUT } else { path })
-}
-
-// Whether both are one file.
-fn is_same(one: &Option<Metadata>, other: &Option<Metadata>) -> bool {
-    match (one, other) {
-        (Some(one), Some(other)) => one.dev() == other.dev() && one.ino() == other.ino(),
-        _ => false,
-    }
+    found.is_file().then_some((found.dev(), found.ino()))
 }
 
 impl<'a> OutputPath<'a> {
@@ -57,7 +43,7 @@ impl<'a> OutputPath<'a> {
     }
 
     // What the file beside is, to which the output goes until it is whole, if there is one.
-    fn beside(self, rt: &HostRuntime) -> Result<Option<Metadata>, FailureCause> {
+    fn beside(self, rt: &HostRuntime) -> Result<Option<(u64, u64)>, FailureCause> {
         let target = fs::canonicalize(rt, self.path);
         let path = match &target {
             Ok(target) => target.as_str(),
@@ -67,33 +53,23 @@ impl<'a> OutputPath<'a> {
         Ok(plain_file_at(rt, beside.as_str()))
     }
 
-    // The input that is the same file as the output or the one beside, also through links.
-    fn input_among<'i>(
-        self,
-        rt: &HostRuntime,
-        inputs: &[&'i str],
-    ) -> Result<Option<&'i str>, FailureCause> {
-        let (output, beside) = (plain_file_at(rt, self.path), self.beside(rt)?);
+    /// Fails if one of the inputs, of which `-` is the standard input, is the file that is written or the one beside,
+    /// also through links.
+    pub fn check_inputs(self, rt: &HostRuntime, inputs: &[&str]) -> Result<(), Failure> {
+        let output = plain_file_at(rt, self.path);
+        let beside = with_file(rt.alloc(), self.path, self.beside(rt))?;
         for input in inputs {
-            let found = input_at(rt, input);
-            if is_same(&found, &output) || is_same(&found, &beside) {
-                return Ok(Some(*input));
+            let path = if *input == "-" {
+                STANDARD_INPUT
+            } else {
+                *input
+            };
+            let found = plain_file_at(rt, path);
+            if found.is_some() && (found == output || found == beside) {
+                return Err(Failure::at_file(rt.alloc(), input, FailureCause::InputIsOutput));
             }
         }
-        Ok(None)
-    }
-
-    /// Fails if one of the inputs, of which `-` is the standard input, is the file that is written.
-    pub fn check_inputs(self, rt: &HostRuntime, inputs: &[&str]) -> Result<(), Failure> {
-        match self.input_among(rt, inputs) {
-            Ok(None) => Ok(()),
-            Ok(Some(input)) => Err(Failure::at_file(
-                rt.alloc(),
-                input,
-                FailureCause::InputIsOutput,
-            )),
-            Err(cause) => Err(Failure::at_file(rt.alloc(), self.path, cause)),
-        }
+        Ok(())
     }
 
     /// The folder in which it is written, and the name that links lead to.

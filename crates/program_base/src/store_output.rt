@@ -24,16 +24,15 @@ pub type Outcome<E> = Result<Written, FillError<E>>;
 impl OutputPlace {
     /// Fills a store and publishes it here.
     pub fn publish<S: Filling>(
-        self,
+        &mut self,
         alloc: Global,
         shape: StoreShape,
         filling: &mut S,
     ) -> Outcome<S::Error> {
-        let OutputPlace { mut folder, name } = self;
         publish_store(
             alloc,
-            &mut folder,
-            name.as_str(),
+            &mut self.folder,
+            self.name.as_str(),
             shape.block_size,
             shape.period,
             filling,
@@ -41,16 +40,17 @@ impl OutputPlace {
     }
 }
 
-/// The place of a store that is made of these inputs, of which none may be the output.
+/// The place of a store that is made of these inputs, of which none may be the output. It is in a box: a function that
+/// owns it moves and drops one value, and not all of its parts.
 pub fn output_place(
     rt: &HostRuntime,
     output: OutputPath<'_>,
     inputs: &[&str],
-) -> Result<OutputPlace, Failure> {
+) -> Result<Box<OutputPlace>, Failure> {
     output.check_name(rt.alloc(), "a store can't be written to standard output")?;
     output.check_inputs(rt, inputs)?;
     let (folder, name) = with_file(rt.alloc(), output.path, output.folder(rt))?;
-    Ok(OutputPlace { folder, name })
+    Ok(Box::new(rt.alloc(), OutputPlace { folder, name })?)
 }
 
 // The failure of a store of this name that was not published.

@@ -1,10 +1,11 @@
 //! What a check of a store found, and how it is printed.
 
-use crate::failure::{FailureCause, to_output};
+use crate::failure::{FailureCause, to_output, write_store_error};
 use crate::named_numbers::{NamedNumber, add_numbers};
 use docstore::StoreError;
 use serde_json::{Map, Value, put};
 use std::alloc::{AllocError, Global};
+use std::fmt;
 use store_commands::broken_part::BrokenPart;
 use store_commands::checking::Verdict;
 use store_commands::left_out::IdSpan;
@@ -50,8 +51,7 @@ pub enum Found {
 fn texts_of(alloc: Global, spans: &[IdSpan]) -> Result<Vec<Value>, AllocError> {
     let mut texts = Vec::new(alloc);
     for span in spans {
-        let text = format!(in alloc; "{span}")?;
-        texts.push(Value::try_from_str(alloc, text.as_str())?)?;
+        texts.push(Value::String(format!(in alloc; "{span}")?))?;
     }
     Ok(texts)
 }
@@ -78,6 +78,23 @@ fn counts_of(verdict: &Verdict) -> [NamedNumber; 4] {
     ]
 }
 
+/// What is broken first; nothing in a sound store.
+impl fmt::Display for Found {
+    fn fmt<W: fmt::Write>(&self, f: &mut fmt::Formatter<W>) -> fmt::Result {
+        match self {
+            Found::Footer(error) => {
+                f.write_str("footer: ")?;
+                write_store_error(f, error)
+            }
+            Found::Part(part) => part.fmt(f),
+            Found::Blocks { verdict, .. } => match &verdict.first {
+                Some(place) => place.fmt(f),
+                None => Ok(()),
+            },
+        }
+    }
+}
+
 impl Found {
     /// Whether the store is sound.
     pub fn is_sound(&self) -> bool {
@@ -87,26 +104,10 @@ impl Found {
         }
     }
 
-    // What is broken first; empty in a sound store.
-    fn fault(&self, alloc: Global) -> Result<String, AllocError> {
-        match self {
-            Found::Footer(error) => {
-                let cause = FailureCause::Store(*error);
-                format!(in alloc; "footer: {cause}")
-            }
-            Found::Part(part) => format!(in alloc; "{part}"),
-            Found::Blocks { verdict, .. } => match verdict.first {
-                Some(place) => format!(in alloc; "{place}"),
-                None => Ok(String::new(alloc)),
-            },
-        }
-    }
-
     // The line of a broken store.
     fn broken_line(&self, alloc: Global, path: &str) -> Result<String, AllocError> {
-        let fault = self.fault(alloc)?;
         let Found::Blocks { verdict, .. } = self else {
-            return format!(in alloc; "{path}: broken: {fault}");
+            return format!(in alloc; "{path}: broken: {self}");
         };
         let Verdict {
             documents,
@@ -116,7 +117,7 @@ impl Found {
             ..
         } = *verdict;
         format!(in alloc;
-            "{path}: broken: {fault}; damaged: {damaged} of {documents} documents, \
+            "{path}: broken: {self}; damaged: {damaged} of {documents} documents, \
              {broken_blocks} of {blocks} blocks"
         )
     }
@@ -136,8 +137,7 @@ impl Found {
         if self.is_sound() {
             return Ok(Value::Null);
         }
-        let fault = self.fault(alloc)?;
-        Value::try_from_str(alloc, fault.as_str())
+        Ok(Value::String(format!(in alloc; "{self}")?))
     }
 
     // Adds what the object of JSON for the store has.
@@ -159,10 +159,10 @@ impl Found {
     }
 
     // The object of JSON for the store.
-    fn object(&self, alloc: Global, path: &str) -> Result<Value, AllocError> {
+    fn object(&self, alloc: Global, path: &str) -> Result<String, AllocError> {
         let mut members = Map::new(alloc);
         self.add_members(alloc, &mut members, path)?;
-        Ok(Value::Object(members))
+        Value::Object(members).to_string(alloc)
     }
 
     // Prints the damaged documents, and the line of a broken store on the standard error.
@@ -186,16 +186,11 @@ impl Found {
         path: &str,
         form: ReportForm,
     ) -> Result<(), FailureCause> {
-        match form {
-            ReportForm::Lines => {
-                let line = self.line(rt.alloc(), path)?;
-                to_output(println!(rt; "{line}"))
-            }
-            ReportForm::List => self.print_list(rt, path),
-            ReportForm::Json => {
-                let object = self.object(rt.alloc(), path)?;
-                to_output(println!(rt; "{object}"))
-            }
-        }
+        let text = match form {
+            ReportForm::Lines => self.line(rt.alloc(), path)?,
+            ReportForm::List => return self.print_list(rt, path),
+            ReportForm::Json => self.object(rt.alloc(), path)?,
+        };
+        to_output(println!(rt; "{text}"))
     }
 }

@@ -1,6 +1,6 @@
 //! Words that are in files, one on each line.
 
-use crate::failure::{Failure, FailureCause, with_file};
+use crate::failure::{Failure, with_file};
 use crate::number_words::check_id_word;
 use std::alloc::{AllocError, Global};
 use std::{fs, io};
@@ -29,37 +29,14 @@ impl IdWord {
     ///
     /// Those of `check_id_word`, and that the file can't be read.
     pub fn read(rt: &HostRuntime, word: &str) -> Result<IdWord, Failure> {
-        let read = IdWord::text_of(rt, word)?;
-        match read.check(rt.alloc()) {
-            Ok(()) => Ok(read),
-            Err(cause) => Err(Failure::from(cause)),
+        let (text, is_list) = match word.strip_prefix('@') {
+            Some(path) => (text_in(rt, path)?, true),
+            None => (String::from_str(rt.alloc(), word)?, false),
+        };
+        for line in text.as_str().lines() {
+            check_id_word(rt.alloc(), line)?;
         }
-    }
-
-    // The word, or the text of its file, unchecked.
-    fn text_of(rt: &HostRuntime, word: &str) -> Result<IdWord, Failure> {
-        if let Some(path) = word.strip_prefix('@') {
-            let text = text_in(rt, path)?;
-            return Ok(IdWord {
-                text,
-                is_list: true,
-            });
-        }
-        match String::from_str(rt.alloc(), word) {
-            Ok(text) => Ok(IdWord {
-                text,
-                is_list: false,
-            }),
-            Err(error) => Err(Failure::from(FailureCause::from(error))),
-        }
-    }
-
-    // Refuses what no store has.
-    fn check(&self, alloc: Global) -> Result<(), FailureCause> {
-        for line in self.text.as_str().lines() {
-            check_id_word(alloc, line)?;
-        }
-        Ok(())
+        Ok(IdWord { text, is_list })
     }
 
     /// Adds the words that it has: itself, or the lines of the file that are not empty.
@@ -76,10 +53,7 @@ impl IdWord {
 pub fn id_words(rt: &HostRuntime, words: &[&str]) -> Result<Vec<IdWord>, Failure> {
     let mut read = Vec::new(rt.alloc());
     for word in words {
-        let word = IdWord::read(rt, word)?;
-        if let Err(error) = read.push(word) {
-            return Err(Failure::from(FailureCause::from(error)));
-        }
+        read.push(IdWord::read(rt, word)?)?;
     }
     Ok(read)
 }

@@ -15,7 +15,7 @@ use program_base::command_words::{Argument, command_of};
 use program_base::document_output::standard_output;
 use program_base::expected_count::{ExpectedCount, expect};
 use program_base::failure::{Failure, FailureCause, with_file};
-use program_base::input_files::{files_from, inputs, names_of, split_names, total_bytes};
+use program_base::input_files::{files_from, inputs, list_of, names_of, total_bytes, words_of};
 use program_base::progress::Progress;
 use segmented_log::Commit;
 use std::alloc::{AllocError, Global};
@@ -221,7 +221,16 @@ pub fn run(rt: &HostRuntime, matches: &ArgMatches<'_>) -> Result<(), Failure> {
     let path = word(alloc, matches, FOLDER)?;
     let options = options_of(alloc, matches)?;
     let cause = SystemCause::new();
-    let text = names_of(rt, matches)?;
-    let names = with_file(alloc, path, split_names(alloc, text.as_deref()))?;
-    append(rt, path, options, &cause, names.as_deref())
+    let list = list_of(rt, matches)?;
+    let words = words_of(matches);
+    let names = names_of(alloc, words.unwrap_or(&[]), list.as_deref());
+    let names = with_file(alloc, path, names)?;
+    let are_named = words.is_some() || list.is_some();
+    append(
+        rt,
+        path,
+        options,
+        &cause,
+        are_named.then_some(names.as_slice()),
+    )
 }

@@ -5,14 +5,14 @@ ghost use Rattle.store_published.specs.Filling.{IsSameFile};
 ghost use Rattle.store_commands.specs.Appending.{CopiesStore};
 
 use crate::merge::PART_BYTES;
-use crate::pack::{EXPECT_HELP, Packing, PackingOptions, names_in};
+use crate::pack::{EXPECT_HELP, NO_WORDS, Packing, PackingOptions, STANDARD_INPUT_WORDS};
 use clap::{ArgMatches, Command};
 use docstore::{DocStoreVersion, StoreError, StoreWriter, TerminatingWrite};
 use program_base::arguments::{self, block_size_of, word};
 use program_base::command_words::{Argument, command_of};
 use program_base::expected_count::expect;
 use program_base::failure::{Failure, FailureCause, with_file};
-use program_base::input_files::{files_from, inputs, names_of};
+use program_base::input_files::{files_from, inputs, list_of, names_of, words_of};
 use program_base::output_path::OutputPath;
 use program_base::store_file::{DiskReader, OpenReader, reader_of, whole_file};
 use program_base::store_output::{end_output, output_place};
@@ -136,14 +136,15 @@ fn append<'a, 'o>(
         path,
         replaces: true,
     };
-    let place = output_place(rt, output, documents.inputs())?;
+    let mut place = output_place(rt, output, documents.inputs())?;
     let shape = with_file(rt.alloc(), path, store.shape(block_size))?;
-    let mut appending = Appending {
+    let appending = Appending {
         store,
         documents,
         copied: None,
     };
-    let outcome = place.publish(rt.alloc(), shape, &mut appending);
+    let mut appending = Box::new(rt.alloc(), appending)?;
+    let outcome = place.publish(rt.alloc(), shape, &mut *appending);
     end_output(rt, path, outcome, &appending.documents.progress)
 }
 
@@ -153,8 +154,14 @@ pub fn run(rt: &HostRuntime, matches: &ArgMatches<'_>) -> Result<(), Failure> {
     let path = word(alloc, matches, "STORE")?;
     let block_size = block_size_of(alloc, matches)?;
     let options = PackingOptions::of(alloc, matches)?;
-    let text = names_of(rt, matches)?;
-    let names = with_file(alloc, path, names_in(alloc, text.as_deref()))?;
+    let list = list_of(rt, matches)?;
+    let unnamed = if list.is_some() {
+        NO_WORDS
+    } else {
+        STANDARD_INPUT_WORDS
+    };
+    let words = words_of(matches).unwrap_or(unnamed);
+    let names = with_file(alloc, path, names_of(alloc, words, list.as_deref()))?;
     let documents = Packing::of_files(rt, path, &names, options);
     append(OldStore { rt, path }, block_size, documents)
 }

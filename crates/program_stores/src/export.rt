@@ -64,8 +64,9 @@ fn export(
 ) -> Result<(), Failure> {
     let alloc = rt.alloc();
     let mut reader = with_file(alloc, store.path, store.reader(rt))?;
-    let OutputPlace { mut folder, name } = output_place(rt, output, &[store.path])?;
-    match publish_export(alloc, &mut folder, name.as_str(), &mut *reader, PART_BYTES) {
+    let mut place = output_place(rt, output, &[store.path])?;
+    let OutputPlace { folder, name } = &mut *place;
+    match publish_export(alloc, folder, name.as_str(), &mut *reader, PART_BYTES) {
         Ok(written) => summarize(rt, output.path, written, progress),
         Err(error) => Err(failure_of(alloc, store.path, output.path, error)),
     }

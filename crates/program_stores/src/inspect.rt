@@ -194,20 +194,15 @@ fn page_of(rt: &HostRuntime, store: StorePath<'_>) -> Result<String, FailureCaus
     page_on(rt.alloc(), store.path, file_bytes, &mut reader)
 }
 
-// Why an output refused a call.
-fn refusal_of(sink: &DiskSink<HostRuntime>) -> FailureCause {
-    match sink.last_error() {
-        Some(error) => FailureCause::of_output(error),
-        None => FailureCause::Store(StoreError::Memory),
-    }
-}
-
 // Writes the page.
 fn write_page(sink: &mut DiskSink<HostRuntime>, page: &str) -> Result<(), FailureCause> {
-    if sink.write_all(page.as_bytes()).is_err() || sink.terminate().is_err() {
-        return Err(refusal_of(sink));
+    if sink.write_all(page.as_bytes()).is_ok() && sink.terminate().is_ok() {
+        return Ok(());
     }
-    Ok(())
+    match sink.last_error() {
+        Some(error) => Err(FailureCause::of_output(error)),
+        None => Err(FailureCause::Store(StoreError::Memory)),
+    }
 }
 
 // Draws a store on the page of this name, which is begun before the store is read.

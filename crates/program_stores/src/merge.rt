@@ -170,22 +170,18 @@ impl<'m, 'w> Merging<'m, 'w> {
     }
 }
 
-// What is wrong with a word of `--without` that names none of the inputs.
-fn stray_text(alloc: Global, word: &str) -> Result<String, AllocError> {
-    match input_word(word) {
+// The usage error of a word of `--without` that names none of the inputs.
+fn stray_failure(alloc: Global, word: &str) -> Failure {
+    let text = match input_word(word) {
         Some(InputWord { input, .. }) => {
             format!(in alloc; "--without '{word}': none of the inputs is named '{input}'")
         }
         None => format!(in alloc; "--without '{word}': it must have the form INPUT=IDS"),
+    };
+    match text {
+        Ok(text) => Failure::from(FailureCause::Words(text)),
+        Err(error) => Failure::from(error),
     }
-}
-
-// The usage error of a word of `--without` that names none of the inputs.
-fn stray_failure(alloc: Global, word: &str) -> Failure {
-    Failure::from(match stray_text(alloc, word) {
-        Ok(text) => FailureCause::Words(text),
-        Err(error) => FailureCause::from(error),
-    })
 }
 
 // The documents that a word leaves out of one of these inputs.
@@ -211,10 +207,7 @@ fn left_out_of<'w>(
 ) -> Result<Vec<LeftOut<'w>>, Failure> {
     let mut left_out = Vec::new(rt.alloc());
     for word in words {
-        let more = left_out_by(rt, paths, word)?;
-        if let Err(error) = left_out.push(more) {
-            return Err(Failure::from(FailureCause::from(error)));
-        }
+        left_out.push(left_out_by(rt, paths, word)?)?;
     }
     Ok(left_out)
 }
@@ -254,7 +247,7 @@ fn merge_stores<'a, 'm, 'w>(
         merging,
         progress,
     };
-    let place = output_place(rt, output, merging.paths)?;
+    let mut place = output_place(rt, output, merging.paths)?;
     let outcome = place.publish(rt.alloc(), shape, &mut stores);
     end_output(rt, output.path, outcome, &stores.progress)
 }

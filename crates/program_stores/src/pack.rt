@@ -11,7 +11,8 @@ use program_base::command_words::{Argument, command_of};
 use program_base::expected_count::{ExpectedCount, expect};
 use program_base::failure::{Failure, with_file};
 use program_base::input_files::{
-    buffered, files_from, framing_bytes, inputs, names_of, open_input, split_names, total_bytes,
+    buffered, files_from, framing_bytes, inputs, list_of, names_of, open_input, total_bytes,
+    words_of,
 };
 use program_base::output_path::{OutputPath, output_of};
 use program_base::progress::Progress;
@@ -20,9 +21,6 @@ use std::alloc::{AllocError, Global};
 use std::io::{BufRead, IsTerminal};
 use store_commands::StoreShape;
 use store_published::{Filling, store_document};
-
-// The names of the inputs where none are named: the standard input, and a byte 0 after it.
-const NO_NAMES: &str = "-\0";
 
 // The name of the standard input in messages.
 const STANDARD_INPUT: &str = "standard input";
@@ -280,13 +278,11 @@ impl<'a, 'o, 'p, 'w> Filling for Packing<'a, 'o, 'p, 'w> {
     }
 }
 
-/// The names in a text as `names_of` gives it, or `-` where none are named.
-pub fn names_in<'t>(alloc: Global, text: Option<&'t str>) -> Result<Vec<&'t str>, AllocError> {
-    match split_names(alloc, text.or(Some(NO_NAMES)))? {
-        Some(names) => Ok(names),
-        None => Ok(Vec::new(alloc)),
-    }
-}
+/// The word that names the standard input, where no files are named.
+pub const STANDARD_INPUT_WORDS: &[&str] = &["-"];
+
+/// No words, where a list alone names files.
+pub const NO_WORDS: &[&str] = &[];
 
 // Writes a store of this name.
 fn pack(
@@ -295,7 +291,7 @@ fn pack(
     shape: StoreShape,
     packing: &mut Packing<'_, '_, '_, '_>,
 ) -> Result<(), Failure> {
-    let place = output_place(rt, output, packing.inputs())?;
+    let mut place = output_place(rt, output, packing.inputs())?;
     let outcome = place.publish(rt.alloc(), shape, packing);
     end_output(rt, output.path, outcome, &packing.progress)
 }
@@ -306,8 +302,14 @@ pub fn run(rt: &HostRuntime, matches: &ArgMatches<'_>) -> Result<(), Failure> {
     let output = output_of(alloc, matches)?;
     let options = PackingOptions::of(alloc, matches)?;
     let shape = shape_of(alloc, matches)?;
-    let text = names_of(rt, matches)?;
-    let names = with_file(alloc, output.path, names_in(alloc, text.as_deref()))?;
+    let list = list_of(rt, matches)?;
+    let unnamed = if list.is_some() {
+        NO_WORDS
+    } else {
+        STANDARD_INPUT_WORDS
+    };
+    let words = words_of(matches).unwrap_or(unnamed);
+    let names = with_file(alloc, output.path, names_of(alloc, words, list.as_deref()))?;
     let mut packing = Packing::of_files(rt, output.path, &names, options);
     pack(rt, output, shape, &mut packing)
 }

@@ -2,7 +2,6 @@
 
 use program_base::failure::{FailureCause, to_output};
 use program_base::named_numbers::{self, NamedNumber};
-use std::fmt;
 use store_commands::store_numbers::StoreNumbers;
 
 /// In which form numbers are printed.
@@ -16,34 +15,11 @@ pub enum StatForm {
     Json,
 }
 
-// How many bytes a document has on average, to a tenth.
-#[derive(Clone, Copy)]
-struct Mean {
-    bytes: u64,
-    documents: u64,
-}
-
-impl Mean {
-    // Of the documents of a store.
-    fn of(numbers: &StoreNumbers) -> Mean {
-        Mean {
-            bytes: numbers.document_bytes,
-            documents: u64::from(numbers.documents),
-        }
-    }
-
-    // In tenths; 0 without documents.
-    fn tenths(self) -> u128 {
-        u128::from(self.bytes) * 10 / u128::from(self.documents.max(1))
-    }
-}
-
-impl fmt::Display for Mean {
-    fn fmt<W: fmt::Write>(&self, f: &mut fmt::Formatter<W>) -> fmt::Result {
-        let tenths = self.tenths();
-        let (whole, tenth) = (tenths / 10, tenths % 10);
-        write!(f, "{whole}.{tenth}")
-    }
+// How many bytes a document has on average, whole ones and tenths; 0 without documents.
+fn mean_of(numbers: &StoreNumbers) -> (u128, u128) {
+    let documents = u128::from(numbers.documents.max(1));
+    let tenths = u128::from(numbers.document_bytes) * 10 / documents;
+    (tenths / 10, tenths % 10)
 }
 
 // How many of the numbers of a store come before the mean document in lines.
@@ -92,10 +68,10 @@ pub fn print_lines(
     path: &str,
     numbers: &StoreNumbers,
 ) -> Result<(), FailureCause> {
-    let (named, mean) = (named(numbers), Mean::of(numbers));
+    let (named, (whole, tenth)) = (named(numbers), mean_of(numbers));
     to_output(println!(rt; "{path}"))?;
     named_numbers::print_lines(rt, &named[..BEFORE_MEAN])?;
-    to_output(println!(rt; "  mean document   {mean}"))?;
+    to_output(println!(rt; "  mean document   {whole}.{tenth}"))?;
     named_numbers::print_lines(rt, &named[BEFORE_MEAN..])
 }
 
@@ -112,8 +88,7 @@ pub fn print_row(rt: &HostRuntime, path: &str, numbers: &StoreNumbers) -> Result
         file_bytes,
         ..
     } = *numbers;
-    let tenths = Mean::of(numbers).tenths();
-    let (whole, tenth) = (tenths / 10, tenths % 10);
+    let (whole, tenth) = mean_of(numbers);
     to_output(println!(rt;
         "{documents:>10} {blocks:>9} {file_bytes:>15} {whole:>12}.{tenth}  {path}"
     ))

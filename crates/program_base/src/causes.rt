@@ -1,0 +1,87 @@
+//! What went wrong where a library returns an error.
+
+use crate::failure::FailureCause;
+use docstore::{FileHandle, NoMemory, StoreError};
+use document_framing::FramingFault;
+use std::alloc::{AllocError, AllocFailed};
+use std::io;
+use store_commands::RequestError;
+use store_commands::block_walk::GivingError;
+use store_commands::merging::MergeFailure;
+use store_files::CreateError;
+
+impl From<io::Error> for FailureCause {
+    fn from(error: io::Error) -> FailureCause {
+        FailureCause::System(error)
+    }
+}
+
+impl From<FramingFault> for FailureCause {
+    fn from(fault: FramingFault) -> FailureCause {
+        match fault {
+            FramingFault::Io(error) => FailureCause::System(error),
+            FramingFault::Cut => FailureCause::CutInput,
+        }
+    }
+}
+
+impl From<CreateError> for FailureCause {
+    fn from(error: CreateError) -> FailureCause {
+        FailureCause::Create(error)
+    }
+}
+
+impl From<StoreError> for FailureCause {
+    fn from(error: StoreError) -> FailureCause {
+        FailureCause::Store(error)
+    }
+}
+
+impl From<RequestError> for FailureCause {
+    fn from(error: RequestError) -> FailureCause {
+        match error {
+            RequestError::NoRange(text) => FailureCause::Words(text),
+            RequestError::Store(error) => FailureCause::Store(error),
+            error => FailureCause::Request(error),
+        }
+    }
+}
+
+impl From<GivingError<FailureCause>> for FailureCause {
+    fn from(error: GivingError<FailureCause>) -> FailureCause {
+        match error {
+            GivingError::Store(error) => FailureCause::Store(error),
+            GivingError::Target(cause) => cause,
+        }
+    }
+}
+
+impl<H: FileHandle> From<MergeFailure<H>> for FailureCause {
+    fn from(failure: MergeFailure<H>) -> FailureCause {
+        match failure {
+            MergeFailure::Request(error) => FailureCause::from(error),
+            MergeFailure::Refused { error, reader } => {
+                drop(reader);
+                FailureCause::Store(error)
+            }
+        }
+    }
+}
+
+impl From<NoMemory> for FailureCause {
+    fn from(_: NoMemory) -> FailureCause {
+        FailureCause::Store(StoreError::Memory)
+    }
+}
+
+impl From<AllocError> for FailureCause {
+    fn from(_: AllocError) -> FailureCause {
+        FailureCause::Store(StoreError::Memory)
+    }
+}
+
+impl<T: Drop> From<AllocFailed<T>> for FailureCause {
+    fn from(_: AllocFailed<T>) -> FailureCause {
+        FailureCause::Store(StoreError::Memory)
+    }
+}
