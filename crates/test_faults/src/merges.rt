@@ -27,12 +27,14 @@ fn taken(
 
 // What is taken where a merge ends at an input, or at none, for a read that failed.
 fn unread(input: Option<usize>, documents: u32) -> Taken {
-    let error = StoreError::Read;
-    (
-        input.map(|input| MergeError { error, input }),
-        documents,
-        false,
-    )
+    let error = match input {
+        Some(input) => Some(MergeError {
+            error: StoreError::Read,
+            input,
+        }),
+        None => None,
+    };
+    (error, documents, false)
 }
 
 // The stores are six blocks, maybe without the first one's document, and one block. An opening makes two reads, a

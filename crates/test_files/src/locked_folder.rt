@@ -7,7 +7,7 @@ use std::cell::Cell;
 use std::io::ErrorKind;
 use std::test::Fail;
 use std::{fs, io};
-use store_files::LockedFolder;
+use store_files::{CreateError, LockedFolder};
 use store_folder::{Folder, ReadableFolder, replace};
 
 type Locked = LockedFolder<HostRuntime>;
@@ -22,56 +22,96 @@ fn created(rt: &HostRuntime, path: &str) -> Result<Box<Locked>, Fail> {
 fn is_free(rt: &HostRuntime, path: &str) -> Result<bool, Fail> {
     match LockedFolder::open(rt.alloc(), rt.clone()?, path) {
         Ok(_) => Ok(true),
-        Err(error) => {
-            let reason = format!(in rt.alloc(); "{error}")?;
-            Ok(reason.as_str() != "test_files_locked/log/lock is being written by another")
-        }
+        Err(CreateError::Busy(file)) => Ok(file.as_str() != "test_files_locked/log/lock"),
+        Err(error) => Err(Fail::from(error)),
     }
+}
+
+// Whether a folder is free while it has a writer.
+fn is_free_beside_one(rt: &HostRuntime, path: &str) -> Result<bool, Fail> {
+    let _first = created(rt, path)?;
+    is_free(rt, path)
 }
 
 #[test]
 fn a_second_writer_is_refused_at_once(rt: HostRuntime) -> Result<(), Fail> {
+    let path = "test_files_locked/log";
     make(&rt, "test_files_locked")?;
-    let first = created(&rt, "test_files_locked/log")?;
-    let was_free = is_free(&rt, "test_files_locked/log");
-    drop(first);
     // Once the first has ended, another can write.
-    assert!(rt; !was_free? && is_free(&rt, "test_files_locked/log")?);
+    assert!(rt; !is_free_beside_one(&rt, path)? && is_free(&rt, path)?);
     Ok(remove(&rt, "test_files_locked")?)
 }
 
+// A call on a folder that is to be Ok. A list of them is proved in less time than a call after the other.
+#[derive(Clone, Copy)]
+enum Step {
+    Create(&'static str),
+    Append(&'static str, &'static [u8]),
+    SyncFile(&'static str),
+    Rename(&'static str, &'static str),
+    Remove(&'static str),
+    Replace(&'static str, &'static [u8]),
+}
+
+// Makes these calls, up to the first that is refused.
+fn play(folder: &mut Locked, steps: &[Step]) -> io::Result<()> {
+    for step in steps {
+        match *step {
+            Step::Create(name) => folder.create(name),
+            Step::Append(name, bytes) => folder.append(name, bytes),
+            Step::SyncFile(name) => folder.sync_file(name),
+            Step::Remove(name) => folder.remove(name),
+            Step::Rename(from, to) if from != to => folder.rename(from, to),
+            Step::Replace(name, bytes) if name != "part" => replace(folder, "part", name, bytes),
+            _ => Err(ErrorKind::InvalidInput.into()),
+        }?;
+    }
+    Ok(())
+}
+
 // Writes a file in pieces, between which another is published and a third is removed.
+const FILLED: &[Step] = &[
+    Step::Create("a.part"),
+    Step::Append("a.part", b"x"),
+    Step::SyncFile("a.part"),
+    Step::Rename("a.part", "a"),
+    Step::Append("a", b"yz"),
+    Step::Replace("b", b"whole"),
+    Step::Append("a", b"!"),
+    Step::SyncFile("a"),
+    Step::Create("c"),
+    Step::Remove("c"),
+    Step::Create("d.part"),
+];
+
+// Fills a folder, and syncs it.
 fn fill(folder: &mut Locked) -> io::Result<()> {
-    folder.create("a.part")?;
-    folder.append("a.part", b"x")?;
-    folder.sync_file("a.part")?;
-    folder.rename("a.part", "a")?;
-    folder.append("a", b"yz")?;
-    replace(folder, "b.part", "b", b"whole")?;
-    folder.append("a", b"!")?;
-    folder.sync_file("a")?;
-    folder.create("c")?;
-    folder.remove("c")?;
-    folder.create("d.part")?;
+    play(folder, FILLED)?;
     folder.sync()
 }
 
 // Whether the file of this name has these bytes.
 fn has(alloc: Global, folder: &Locked, name: &str, bytes: &[u8]) -> io::Result<bool> {
-    Ok(
-        folder
-            .read(alloc, name)?
-            .is_some_and(|found| found.as_slice() == bytes),
-    )
+    match folder.read(alloc, name)? {
+        Some(found) => Ok(found.as_slice() == bytes),
+        None => Ok(false),
+    }
+}
+
+// Whether these are the names `a` and `b`, of two files.
+fn are_published(names: &[String]) -> bool {
+    for name in names {
+        if name.as_str() != "a" && name.as_str() != "b" {
+            return false;
+        }
+    }
+    names.len() == 2
 }
 
 // Whether a folder lists and has what it was filled with, and no other.
 fn is_as_filled(alloc: Global, folder: &Locked) -> io::Result<bool> {
-    let names = folder.names(alloc)?;
-    let is_listed = |name: &str| names.iter().any(|known| known.as_str() == name);
-    let are_listed = names.len() == 2 && is_listed("a") && is_listed("b");
     Ok(
-        are_listed
+        are_published(&folder.names(alloc)?)
             && has(alloc, folder, "a", b"xyz!")?
             && has(alloc, folder, "b", b"whole")?
             && folder.read(alloc, "c")?.is_none(),
@@ -88,39 +128,51 @@ fn what_is_written_is_read_by_another_opening(rt: HostRuntime) -> Result<(), Fai
     Ok(remove(&rt, "test_files_log")?)
 }
 
-// Replaces the file that was written last, and renames it. Returns whether it can be written by its new name alone.
+// Replaces the file that was written last, and renames it.
+const RENAMED: &[Step] = &[
+    Step::Create("new"),
+    Step::Append("new", b"new"),
+    Step::Create("a"),
+    Step::Append("a", b"old"),
+    Step::Rename("new", "a"),
+    Step::Append("a", b"!"),
+    Step::Rename("a", "b"),
+];
+
+// Whether that file can be written by its new name alone.
 fn follows_renames(alloc: Global, folder: &mut Locked) -> io::Result<bool> {
-    folder.create("new")?;
-    folder.append("new", b"new")?;
-    folder.create("a")?;
-    folder.append("a", b"old")?;
-    folder.rename("new", "a")?;
-    folder.append("a", b"!")?;
-    folder.rename("a", "b")?;
+    play(folder, RENAMED)?;
     let is_gone = folder.append("a", b"x").is_err();
     folder.append("b", b"?")?;
     Ok(is_gone && has(alloc, folder, "b", b"new!?")?)
 }
 
-// Makes a file twice, and removes it. Returns whether it was empty the second time, and can't be written then.
+// Makes a file twice.
+const BEGUN_TWICE: &[Step] = &[
+    Step::Create("c"),
+    Step::Append("c", b"longer"),
+    Step::Create("c"),
+    Step::Append("c", b"x"),
+];
+
+// Whether it was empty the second time, and can't be written once it was removed.
 fn begins_and_ends(alloc: Global, folder: &mut Locked) -> io::Result<bool> {
-    folder.create("c")?;
-    folder.append("c", b"longer")?;
-    folder.create("c")?;
-    folder.append("c", b"x")?;
+    play(folder, BEGUN_TWICE)?;
     let is_cut = has(alloc, folder, "c", b"x")?;
     folder.remove("c")?;
     Ok(is_cut && folder.append("c", b"x").is_err() && folder.read(alloc, "c")?.is_none())
 }
 
+// Whether both hold in a new folder.
+fn writes_by_names(rt: &HostRuntime, path: &str) -> Result<bool, Fail> {
+    let mut folder = created(rt, path)?;
+    Ok(follows_renames(rt.alloc(), &mut folder)? && begins_and_ends(rt.alloc(), &mut folder)?)
+}
+
 #[test]
 fn a_write_goes_to_the_file_that_has_the_name(rt: HostRuntime) -> Result<(), Fail> {
-    let alloc = rt.alloc();
     make(&rt, "test_files_renamed")?;
-    let mut folder = created(&rt, "test_files_renamed")?;
-    let is_right = follows_renames(alloc, &mut folder)? && begins_and_ends(alloc, &mut folder)?;
-    drop(folder);
-    assert!(rt; is_right);
+    assert!(rt; writes_by_names(&rt, "test_files_renamed")?);
     Ok(remove(&rt, "test_files_renamed")?)
 }
 
@@ -142,12 +194,16 @@ fn what_cant_be_read_is_not_taken_for_a_file_or_for_none(rt: HostRuntime) -> Res
     Ok(remove(&rt, "test_files_plain")?)
 }
 
-// Whether each call refuses this name. It is not `a`, since a rename requires two names.
-fn refuses(alloc: Global, folder: &mut Locked, name: &str) -> bool {
-    let is_refused = |outcome: io::Result<()>| match outcome {
+// Whether a call refused a name.
+fn is_refused(outcome: io::Result<()>) -> bool {
+    match outcome {
         Ok(()) => false,
         Err(error) => error.kind() == ErrorKind::InvalidInput,
-    };
+    }
+}
+
+// Whether each call refuses this name. It is not `a`, since a rename requires two names.
+fn refuses(alloc: Global, folder: &mut Locked, name: &str) -> bool {
     name != "a"
         && is_refused(folder.create(name))
         && is_refused(folder.append(name, b"x"))

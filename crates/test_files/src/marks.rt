@@ -101,9 +101,10 @@ fn is_ignored(rt: &HostRuntime, path: &str, mark: &[u8]) -> Result<bool, Fail> {
 
 // The same mark, of another start of the machine: its number is the second field.
 fn of_another_start(mark: &mut [u8]) {
-    if let Some(at) = mark.iter().position(|byte| *byte == 0) {
-        if let Some(byte) = mark.get_mut(at + 1) {
-            *byte = b'x';
+    for at in 1..mark.len() {
+        if mark[at - 1] == 0 {
+            mark[at] = b'x';
+            return;
         }
     }
 }
@@ -167,11 +168,9 @@ fn fail_sync(
     calls: &Cell<u32>,
     failing_call: u32,
 ) -> Result<Vec<u8>, Fail> {
-    let mut folder = LockedFolder::open(
-        rt.alloc(),
-        FailingFiles::new(rt, calls, failing_call)?,
-        path,
-    )?;
+    let files = FailingFiles::new(rt, calls, failing_call)?;
+    let folder = LockedFolder::open(rt.alloc(), files, path)?;
+    let mut folder = Box::new(rt.alloc(), folder)?;
     folder.create("b")?;
     folder.append("b", b"lost")?;
     let has_failed = folder.sync_file("b").is_err() && folder.sync_file("b").is_ok();

@@ -117,10 +117,10 @@ fn squares(rt: &impl Abort, alloc: Global) -> Result<Vec<u8>, StoreError> {
 
 // Whether each seek found the checkpoint of this document, by at most ten looks.
 fn found(answer: &IndexAnswer<CountedBlock>, first: Option<u32>) -> bool {
-    let found = answer
-        .found
-        .as_ref()
-        .map(|checkpoint| checkpoint.doc_range.start);
+    let found = match &answer.found {
+        Some(checkpoint) => Some(checkpoint.doc_range.start),
+        None => None,
+    };
     let steps = answer.steps.count();
     found == first
         && answer.counted == answer.found

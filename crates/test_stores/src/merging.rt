@@ -11,8 +11,10 @@ use test_support::merge_inputs::{Source, inputs, six_blocks};
 fn merged(alloc: Global, sources: &[Source<'_>]) -> Result<Vec<u8>, StoreError> {
     let mut inputs = inputs(alloc, sources)?;
     let mut writer = StoreWriter::new(alloc, MemSink::new(alloc), Compressor::None, 16384);
-    merge(alloc, &mut writer, &mut inputs).map_err(|refusal| refusal.error)?;
-    Ok(writer.close()?.into_bytes())
+    match merge(alloc, &mut writer, &mut inputs) {
+        Ok(_) => Ok(writer.close()?.into_bytes()),
+        Err(refusal) => Err(refusal.error),
+    }
 }
 
 #[test]
