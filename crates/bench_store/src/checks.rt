@@ -23,11 +23,13 @@ pub fn with_number(check: u64, number: u64) -> u64 {
 
 /// A check with one more slot: its length, its first byte and its last.
 pub fn with_slot(check: u64, slot: &[u8]) -> u64 {
-    let first = slot.first().copied().map_or(0, u64::from);
-    let last = slot.last().copied().map_or(0, u64::from);
+    let (first, last) = match slot {
+        [] => (0, 0),
+        [.., last] => (slot[0], *last),
+    };
     with_number(check, slot.len() as u64)
-        .wrapping_add(256 * first)
-        .wrapping_add(65536 * last)
+        .wrapping_add(256 * u64::from(first))
+        .wrapping_add(65536 * u64::from(last))
 }
 
 fn hash_from(start: u64, bytes: &[u8]) -> u64 {

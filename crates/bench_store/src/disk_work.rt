@@ -1,10 +1,10 @@
 //! Workloads over a store in a file of the current folder.
 use crate::checks::hash_as_version_2;
 use crate::measure::{Run, Workload};
-use crate::store_work::{get_all, iterate_all};
-use crate::stores::StorePlan;
+use crate::store_work::read_all;
+use crate::stores::{StorePlan, open_store};
 use anyhow::Result;
-use docstore::{DocId, FileSlice, StoreReader};
+use docstore::{DocId, StoreReader};
 use std::rt::Clock;
 use std::time::Instant;
 use store_files::{DiskFile, DiskSink, OsFile, load};
@@ -14,37 +14,22 @@ pub const PATH: &str = "bench.store";
 
 // Opens the file, with a cache of this many blocks.
 fn open(rt: &HostRuntime, capacity: usize) -> Result<Box<StoreReader<DiskFile<OsFile>>>> {
-    let file = FileSlice::new(DiskFile::new(OsFile::open(rt, PATH)?)?);
-    let reader = StoreReader::open(rt.alloc(), file, capacity).map_err(|refusal| refusal.error)?;
-    Ok(Box::new(rt.alloc(), reader)?)
+    let file = DiskFile::new(OsFile::open(rt, PATH)?)?;
+    Ok(Box::new(rt.alloc(), open_store(rt.alloc(), file, capacity)?)?)
 }
 
-/// Gets documents of the file by their ids.
+/// Gets documents of the file by their ids, or goes over all where there are none.
 #[derive(Drop)]
-pub struct GetDisk<'a> {
+pub struct ReadDisk<'a> {
     pub rt: &'a HostRuntime,
     pub capacity: usize,
-    pub ids: Vec<DocId>,
+    pub ids: Option<Vec<DocId>>,
 }
 
-impl<'a> Workload for GetDisk<'a> {
+impl<'a> Workload for ReadDisk<'a> {
     fn run<C: Clock>(&mut self, clock: &C) -> Result<Run> {
         let mut reader = open(self.rt, self.capacity)?;
-        get_all(clock, self.rt.alloc(), &mut reader, &self.ids)
-    }
-}
-
-/// Goes over the documents of the file.
-#[derive(Drop)]
-pub struct IterateDisk<'a> {
-    pub rt: &'a HostRuntime,
-    pub capacity: usize,
-}
-
-impl<'a> Workload for IterateDisk<'a> {
-    fn run<C: Clock>(&mut self, clock: &C) -> Result<Run> {
-        let mut reader = open(self.rt, self.capacity)?;
-        iterate_all(clock, self.rt.alloc(), &mut reader, &[])
+        read_all(clock, self.rt.alloc(), &mut reader, self.ids.as_deref())
     }
 }
 
@@ -67,9 +52,7 @@ impl<'a> Workload for WriteDisk<'a> {
         let start = Instant::now(clock)?;
         write_disk(self.rt, &self.plan)?;
         let time = start.elapsed(clock)?;
-        Ok(
-            self.plan
-                .run(time, hash_as_version_2(&load(self.rt, PATH)?)),
-        )
+        let check = hash_as_version_2(&load(self.rt, PATH)?);
+        Ok(self.plan.run(time, check))
     }
 }

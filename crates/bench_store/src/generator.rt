@@ -5,12 +5,6 @@ pub const POOL_SEED: u64 = 88172645463325252;
 
 pub const IDS_SEED: u64 = 1234567890123456789;
 
-pub const DELETED_SEED: u64 = 1111111111111111111;
-
-pub const CHECKPOINTS_SEED: u64 = 2222222222222222222;
-
-pub const TARGETS_SEED: u64 = 3333333333333333333;
-
 /// A xorshift generator of 64 bits. Its seed is not 0.
 #[derive(Drop)]
 pub struct Generator {

@@ -1,14 +1,12 @@
-//! The documents that are asked for, and those that are deleted.
+//! The documents that are asked for.
 ghost use Rattle.std.specs.Prelude.{◌<◌};
 
-use crate::generator::{DELETED_SEED, Generator, IDS_SEED};
+use crate::generator::{Generator, IDS_SEED};
 use docstore::DocId;
 use std::alloc::{AllocError, Global};
 
-// One of how many ids is asked for from the whole store, and one of how many is deleted.
+// One of how many ids is asked for from the whole store.
 const WHOLE_EVERY: u64 = 16;
-
-const DELETED_EVERY: u64 = 10;
 
 /// How the documents that are asked for are chosen.
 #[derive(Clone, Copy)]
@@ -61,16 +59,4 @@ pub fn ids(alloc: Global, order: Order, count: u64, num_docs: u32) -> Result<Vec
         ids.push((id % u64::from(num_docs)) as u32)?;
     }
     Ok(ids)
-}
-
-/// The ids below the number of documents that are deleted.
-pub fn deleted(alloc: Global, num_docs: u64) -> Result<Vec<DocId>, AllocError> {
-    let mut generator = Generator::new(DELETED_SEED);
-    let mut deleted = Vec::new(alloc);
-    for id in 0..u32::try_from(num_docs).unwrap_or(u32::MAX) {
-        if generator.next() % DELETED_EVERY == 0 {
-            deleted.push(id)?;
-        }
-    }
-    Ok(deleted)
 }

@@ -5,13 +5,11 @@
 #![tactic(auto)]
 
 mod arguments;
-mod checkpoint_list;
 mod checks;
 mod disk_work;
 mod documents;
 mod generator;
 mod ids;
-mod index_work;
 mod log_work;
 mod measure;
 mod plans;
@@ -49,7 +47,11 @@ fn run_plan(rt: &HostRuntime, plan: &str, report: Report, numbers: Numbers) -> R
 fn main(rt: HostRuntime) -> Result<()> {
     let mut words = env::args(&rt)?.skip(1);
     let Some(name) = words.next() else {
-        return run_plan(&rt, SMALL, Report::Checks, Numbers::once());
+        let once = Numbers {
+            repetitions: 1,
+            ..Numbers::new()
+        };
+        return run_plan(&rt, SMALL, Report::Checks, once);
     };
     let mut numbers = Numbers::new();
     for word in words {

@@ -13,7 +13,6 @@ get_hot n=5000 q=2000 hot=500
 get_zipf n=5000 q=2000
 get_seq n=5000
 iter_raw n=5000
-iter_raw_deleted n=5000
 view_open n=20000 q=3
 view_uniform n=5000 q=2000
 view_hot n=5000 q=2000 hot=500
@@ -27,15 +26,7 @@ disk_zipf n=5000 q=2000
 disk_seq n=5000
 disk_iter n=5000
 stack k=10 n=500
-stack k=100 n=3
-seek n=10 q=1000
-seek n=1000 q=1000
-seek n=5000 q=1000
-index_build n=5000
-index_open n=10 q=3
-index_open n=1000 q=3
-index_open n=5000 q=3
-index_walk n=5000";
+stack k=100 n=3";
 
 /// The sizes that are compared.
 pub const LARGE: &str = "\
@@ -50,7 +41,6 @@ get_hot
 get_zipf
 get_seq
 iter_raw
-iter_raw_deleted
 view_open n=1000
 view_open n=1000000
 view_uniform
@@ -65,15 +55,7 @@ disk_zipf
 disk_seq
 disk_iter
 stack
-stack k=1000 n=10
-seek n=1000
-seek n=100000
-seek n=1000000
-index_build
-index_open n=1000
-index_open n=100000
-index_open n=1000000
-index_walk";
+stack k=1000 n=10";
 
 /// Stores of 10^2 to 10^7 blocks, of one document each.
 pub const GROWTH: &str = "\

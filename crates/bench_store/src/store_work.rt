@@ -4,8 +4,8 @@ use crate::measure::{Run, Workload};
 use crate::stores::{StorePlan, open_store};
 use anyhow::Result;
 use docstore::{
-    AliveBitSet, Compressor, DocId, FileHandle, MemFile, MemSink, OwnedBytes, StoreError,
-    StoreReader, StoreWriter,
+    Compressor, DocId, FileHandle, MemFile, MemSink, OwnedBytes, StoreError, StoreReader,
+    StoreWriter,
 };
 use std::alloc::Global;
 use std::rt::Clock;
@@ -36,9 +36,10 @@ pub struct Source {
 }
 
 impl Source {
-    /// A fresh reader.
+    /// A fresh reader. It shares the file's bytes.
     pub fn open(&self) -> Result<StoreReader<MemFile>, StoreError> {
-        open_store(self.alloc, &self.file, self.capacity)
+        let file = MemFile::of_shared(self.file.clone()?);
+        open_store(self.alloc, file, self.capacity)
     }
 
     /// The same in a box, for what is not timed: what owns it is proved in less time.
@@ -73,67 +74,57 @@ impl Workload for Open {
     }
 }
 
-/// Gets documents by their ids.
-#[derive(Drop)]
-pub struct Get {
-    pub source: Source,
-    pub ids: Vec<DocId>,
-}
-
-/// Gets the documents of these ids, and times it.
-pub fn get_all<H: FileHandle, C: Clock>(
-    clock: &C,
+// Gets the documents of these ids.
+fn get_all<H: FileHandle>(
     alloc: Global,
     reader: &mut StoreReader<H>,
     ids: &[DocId],
-) -> Result<Run> {
+) -> Result<Slots, StoreError> {
     let mut slots = Slots::new();
-    let start = Instant::now(clock)?;
     for id in ids {
         slots.add(reader.get_document_bytes(alloc, *id)?.as_slice());
     }
-    Ok(slots.run(start.elapsed(clock)?))
+    Ok(slots)
 }
 
-impl Workload for Get {
-    fn run<C: Clock>(&mut self, clock: &C) -> Result<Run> {
-        let mut reader = self.source.boxed()?;
-        get_all(clock, self.source.alloc, &mut reader, &self.ids)
+// Goes over all documents.
+fn iterate_all<H: FileHandle>(
+    alloc: Global,
+    reader: &mut StoreReader<H>,
+) -> Result<Slots, StoreError> {
+    let mut slots = Slots::new();
+    for document in reader.iter_raw(alloc, None) {
+        slots.add(document?.as_slice());
     }
+    Ok(slots)
 }
 
-/// Goes over the documents that aren't deleted.
-#[derive(Drop)]
-pub struct Iterate {
-    pub source: Source,
-    pub deleted: Vec<DocId>,
-}
-
-/// Goes over the documents but for the deleted ones, and times it.
-pub fn iterate_all<H: FileHandle, C: Clock>(
+/// Gets the documents of these ids, or goes over all where there are none, and times it.
+pub fn read_all<H: FileHandle, C: Clock>(
     clock: &C,
     alloc: Global,
     reader: &mut StoreReader<H>,
-    deleted: &[DocId],
+    ids: Option<&[DocId]>,
 ) -> Result<Run> {
-    let alive = AliveBitSet::from_deleted_docs(alloc, deleted, reader.num_docs())?;
-    let set = if deleted.is_empty() {
-        None
-    } else {
-        Some(&alive)
-    };
-    let mut slots = Slots::new();
     let start = Instant::now(clock)?;
-    for document in reader.iter_raw(alloc, set) {
-        slots.add(document?.as_slice());
-    }
+    let slots = match ids {
+        Some(ids) => get_all(alloc, reader, ids)?,
+        None => iterate_all(alloc, reader)?,
+    };
     Ok(slots.run(start.elapsed(clock)?))
 }
 
-impl Workload for Iterate {
+/// Gets documents by their ids, or goes over all where there are none.
+#[derive(Drop)]
+pub struct ReadStore {
+    pub source: Source,
+    pub ids: Option<Vec<DocId>>,
+}
+
+impl Workload for ReadStore {
     fn run<C: Clock>(&mut self, clock: &C) -> Result<Run> {
         let mut reader = self.source.boxed()?;
-        iterate_all(clock, self.source.alloc, &mut reader, &self.deleted)
+        read_all(clock, self.source.alloc, &mut reader, self.ids.as_deref())
     }
 }
 

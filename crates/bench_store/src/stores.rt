@@ -2,8 +2,7 @@
 use crate::documents::Documents;
 use crate::measure::Run;
 use docstore::{
-    Compressor, FileSlice, MemFile, OwnedBytes, StoreError, StoreReader, StoreWriter,
-    TerminatingWrite,
+    Compressor, FileHandle, FileSlice, StoreError, StoreReader, StoreWriter, TerminatingWrite,
 };
 use std::alloc::Global;
 use std::time::Duration;
@@ -32,14 +31,13 @@ impl StorePlan {
     }
 }
 
-/// Opens a file, with a cache of this many blocks. The reader shares its bytes.
-pub fn open_store(
+/// Opens a file, with a cache of this many blocks.
+pub fn open_store<H: FileHandle>(
     alloc: Global,
-    file: &OwnedBytes,
+    file: H,
     capacity: usize,
-) -> Result<StoreReader<MemFile>, StoreError> {
-    let file = FileSlice::new(MemFile::of_shared(file.clone()?));
-    match StoreReader::open(alloc, file, capacity) {
+) -> Result<StoreReader<H>, StoreError> {
+    match StoreReader::open(alloc, FileSlice::new(file), capacity) {
         Ok(reader) => Ok(reader),
         Err(refusal) => Err(refusal.error),
     }

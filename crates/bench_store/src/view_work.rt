@@ -34,12 +34,12 @@ impl Workload for OpenView {
     }
 }
 
-/// Gets documents by their ids.
+/// Gets documents by their ids, or goes over all where there are none.
 #[derive(Drop)]
-pub struct GetView {
+pub struct ReadView {
     pub alloc: Global,
     pub file: OwnedBytes,
-    pub ids: Vec<DocId>,
+    pub ids: Option<Vec<DocId>>,
 }
 
 fn get_all(view: &StoreView<'_>, ids: &[DocId]) -> Result<Slots, StoreError> {
@@ -50,23 +50,6 @@ fn get_all(view: &StoreView<'_>, ids: &[DocId]) -> Result<Slots, StoreError> {
     Ok(slots)
 }
 
-impl Workload for GetView {
-    fn run<C: Clock>(&mut self, clock: &C) -> Result<Run> {
-        let view = StoreView::open(self.alloc, self.file.as_slice())?;
-        let start = Instant::now(clock)?;
-        let slots = get_all(&view, &self.ids)?;
-        let time = start.elapsed(clock)?;
-        Ok(slots.run(time))
-    }
-}
-
-/// Goes over all documents.
-#[derive(Drop)]
-pub struct IterateView {
-    pub alloc: Global,
-    pub file: OwnedBytes,
-}
-
 fn iterate_all(view: &StoreView<'_>) -> Result<Slots, StoreError> {
     let mut slots = Slots::new();
     for document in view.iter() {
@@ -75,12 +58,19 @@ fn iterate_all(view: &StoreView<'_>) -> Result<Slots, StoreError> {
     Ok(slots)
 }
 
-impl Workload for IterateView {
+// Does it, and times it.
+fn read_all<C: Clock>(clock: &C, view: &StoreView<'_>, ids: Option<&[DocId]>) -> Result<Run> {
+    let start = Instant::now(clock)?;
+    let slots = match ids {
+        Some(ids) => get_all(view, ids)?,
+        None => iterate_all(view)?,
+    };
+    Ok(slots.run(start.elapsed(clock)?))
+}
+
+impl Workload for ReadView {
     fn run<C: Clock>(&mut self, clock: &C) -> Result<Run> {
         let view = StoreView::open(self.alloc, self.file.as_slice())?;
-        let start = Instant::now(clock)?;
-        let slots = iterate_all(&view)?;
-        let time = start.elapsed(clock)?;
-        Ok(slots.run(time))
+        read_all(clock, &view, self.ids.as_deref())
     }
 }
