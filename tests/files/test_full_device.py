@@ -36,9 +36,8 @@ class DeviceCase(ProgramCase):
         self.assertEqual(os.statvfs(self.folder).f_bavail, pages)
 
     def free(self):
-        """Removes what fills the device, and what a command that failed has left unfinished."""
-        for path in (self.folder / "full", *self.folder.glob("**/*.part")):
-            path.unlink()
+        """Removes what fills the device."""
+        (self.folder / "full").unlink()
 
     def run_at_each_point(self, name, command, on_full, once_free):
         """Runs a command where no page is free, where one is, and so on until it has the room that it needs; before
