@@ -5,7 +5,7 @@ import subprocess
 from pathlib import Path
 
 from files.old_store import lines
-from harness import UNSHARED, ProgramCase, numbers
+from harness import UNSHARED, ProgramCase, changed, numbers
 
 # Makes a device of 600 KB in the folder `$1`, which is there until the input ends.
 MOUNT = 'mount -t tmpfs -o size=600k none "$1" && echo mounted && cat'
@@ -72,6 +72,36 @@ class Stores(DeviceCase):
             self.program.gives("verify", "-q", "a.store")
 
         self.assertGreater(self.run_at_each_point("a.store", pack, on_full, once_free), 15)
+
+
+class Repairs(DeviceCase):
+    """A log whose second batch is damaged, and is followed by another one."""
+
+    def append(self, last, first):
+        """Appends numbers as one batch, and returns the tail."""
+        self.program.gives("log", "append", "events", input=numbers(last, first))
+        return self.read("events/tail.log")
+
+    def test_a_repair_keeps_what_it_cuts_off(self):
+        sound = self.append(2999, 0)
+        self.append(5999, 3000)
+        damaged = changed(self.append(8999, 6000), len(sound) + 1000, b"?")
+        self.write("events/tail.log", damaged)
+
+        def repair():
+            return self.program.run("log", "repair", "events")
+
+        def on_full(done):
+            paths = [path for path in (self.folder / "events").glob("tail.cut.*") if path.suffix != ".part"]
+            tail, cuts = self.read("events/tail.log"), [path.read_bytes() for path in paths]
+            if done.returncode:
+                self.assert_same(tail, damaged, "the tail after a repair that failed")
+            else:
+                self.assertTrue(any(tail + cut == damaged for cut in cuts), "bytes are lost")
+
+        self.assertGreater(self.run_at_each_point("events", repair, on_full, lambda: None), 5)
+        self.append(3000, 3000)
+        self.assertEqual(self.program.gives("log", "cat", "events"), numbers(3000, 0))
 
 
 class Logs(DeviceCase):
