@@ -161,6 +161,7 @@ class Logs(DeviceCase):
             return self.program.run("log", "append", "events", "--number", *words, input=new)
 
         def on_full(done):
+            self.assertEqual(list(self.folder.glob("events/*.part")), [])
             acknowledged = done.stdout.count(b"\n")
             self.assertEqual(done.stdout, numbers(self.next + acknowledged - 1, self.next))
             found = self.program.gives("log", "cat", "events").count(b"\n") - (self.next - self.first)
