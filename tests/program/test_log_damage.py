@@ -154,3 +154,34 @@ class Broken(LogCase):
             self.program.fails(1, said, "log", *words.split())
         (self.folder / "events" / name).rmdir()
         self.assertEqual(self.records(), LINES + b"four\nfive\n")
+
+
+class TenBatches(LogCase):
+    """Each byte of a tail of ten batches, changed in turn: no sound batch is dropped, and no number given twice."""
+
+    def setUp(self):
+        super().setUp()
+        for number in range(10):
+            self.append(b"%d\n" % number)
+        self.tail = self.files()["tail.log"]
+        self.size = (len(self.tail) - 16) // 10
+
+    def append_after_a_change(self, place):
+        """Appends a record to the log whose tail has another byte at a place. Returns the status, and the tail then."""
+        bad = changed(self.tail, place, bytes([self.tail[place] ^ 64]))
+        self.change("tail.log", bad)
+        status = self.program.run("log", "append", "events", input=b"new\n").returncode
+        return status, self.files()["tail.log"] == bad
+
+    def test_after_a_good_end_each_change_is_refused(self):
+        for place in range(16, len(self.tail)):
+            self.assertEqual(self.append_after_a_change(place), (1, True), f"byte {place}")
+
+    def test_after_a_kill_each_change_is_refused_but_in_the_last_batch(self):
+        last = len(self.tail) - self.size
+        for place in range(16, len(self.tail)):
+            (self.folder / "events/lock").unlink(missing_ok=True)
+            refused = place < last
+            self.assertEqual(self.append_after_a_change(place), (int(refused), refused), f"byte {place}")
+            if not refused:
+                self.assertEqual(self.records(), b"".join(b"%d\n" % number for number in range(9)) + b"new\n")
