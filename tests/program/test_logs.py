@@ -202,7 +202,7 @@ class Reading(LogCase):
         self.assertEqual(self.get("--number", "11"), b"11\t11\n")
         self.assertEqual(self.get("--json", "11"), b'{"id":11,"text":"11"}\n')
         self.append(b"\xff\n")
-        self.assertEqual(self.records("--json", "--from", "20"), b'{"base64":"/w==","id":20}\n')
+        self.assertEqual(self.records("--json", "--from", "20"), b'{"id":20,"base64":"/w=="}\n')
         self.assertEqual(self.records("--number", "--from", "19"), b"19\t19\n20\t\xff\n")
 
     def test_cat_begins_where_it_is_asked_to(self):

@@ -165,7 +165,7 @@ class Logs(ProgramCase):
     def test_records_are_appended_and_sealed(self):
         self.program.gives("log", "append", self.log, input=numbers(2))
         new = self.write("new.txt", numbers(8, 3))
-        words = ("--sync", "every", "--number", "--seal-size", "60")
+        words = ("--sync", "every", "--number", "--seal-size", "130")
         replay, calls = self.check(2, numbers(8), "log", "append", self.log, new, *words)
         self.assertGreater(len([path for path in self.log.iterdir() if path.suffix == ".store"]), 1)
         self.check_syncs(replay, calls, 0)
