@@ -155,6 +155,24 @@ class Broken(LogCase):
         (self.folder / "events" / name).rmdir()
         self.assertEqual(self.records(), LINES + b"four\nfive\n")
 
+    def test_a_changed_first_number_is_told_by_every_command(self):
+        said = "events: the tail is damaged; get it from a copy, or see 'zevkhadun log repair --help'"
+        commands = (
+            "append events", "seal events", "compact events", "drop events --before 1", "repair events", "cat events",
+            "get events 3", "stat events",
+        )
+        for place in range(8, 16):
+            self.change("tail.log", changed(self.tail, place, bytes([self.tail[place] ^ 1])))
+            for words in commands:
+                self.program.fails(1, said, "log", *words.split(), input=b"new\n")
+            done = self.program.run("log", "verify", "-q", "events")
+            told = "damaged: the number of its first record is not the one that its first batch names"
+            self.assertEqual((done.returncode, done.stdout.decode()), (1, f"events/tail.log: {told}\n"))
+            if place % 2:
+                (self.folder / "events/lock").unlink(missing_ok=True)
+        self.change("tail.log", self.tail)
+        self.assertEqual(self.records(), LINES + b"four\nfive\n")
+
 
 class TenBatches(LogCase):
     """Each byte of a tail of ten batches, changed in turn: no sound batch is dropped, and no number given twice."""

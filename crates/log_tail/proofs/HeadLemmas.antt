@@ -1,14 +1,13 @@
 -- Heads: their size, what they hold, and the bytes after the whole batches of a tail.
 use Rattle.std.proofs.Common.{◌≡◌, ◌≢◌, ◌<◌, ◌≤◌, ◌^◌, ℕ, zero, suc, ◌+◌, ◌-◌, List, [], ◌∷◌, ◌++◌, length, take, drop}
 use Rattle.std.proofs.Common.{Bool, true, false, refl, sym, ◌∙◌, ap, arith, length-append, append_assoc}
-use Rattle.std.specs.Prelude.{nat_eq, Option, Some, None}
+use Rattle.std.specs.Prelude.{nat_eq, Some, None}
 use Rattle.std.specs.List.{flat_map}
 use Rattle.std.specs.Cmp.Lexicographic.{told_text}
-use Rattle.std.specs.Prelude.{MatchBool}
 use Rattle.std.proofs.lemmas.List.{drop-drop, append-nil, take_at, drop_all, length-drop}
 use Rattle.std.proofs.lemmas.Bool.{cond-true, cond-false}
 use lib.Pointwise.{pointwise}
-use Rattle.log_tail.specs.Tail.{four, four_in, eight, sum_of, summed, has_batch, has_whole, records_in, records_of, records_from, bodies_of, bodies_after, IsWholeTo}
+use Rattle.log_tail.specs.Tail.{four, four_in, eight, sum_of, summed, has_batch, records_in, records_of, records_from, bodies_after, IsWholeTo}
 use Rattle.log_tail.specs.Heads.{head_body, headed, told_by, rest_after, rest_of}
 use Rattle.log_tail.proofs.Frames.{length-four, records_short, short_le}
 use Rattle.log_tail.proofs.Bodies.{length-eight, length-summed, summed_is, bodies_summed}

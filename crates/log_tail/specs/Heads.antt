@@ -1,6 +1,6 @@
 -- Heads: a batch of no records stands before each batch, and tells its length. So a batch that has changed on the disk, and
 -- that another one follows, is not taken for one that was not finished.
-use Rattle.std.specs.Prelude.{◌≡◌, ℕ, zero, suc, ◌+◌, ◌-◌, ◌==◌, ◌&&◌, Bool, true, false, nat_le, nat_eq, List, [], ◌∷◌, ◌++◌, length, drop, Option, Some, None, if◌then◌else◌}
+use Rattle.std.specs.Prelude.{ℕ, zero, suc, ◌+◌, ◌-◌, ◌==◌, ◌&&◌, ◌||◌, not, Bool, true, false, nat_le, nat_eq, List, [], ◌∷◌, ◌++◌, length, drop, Option, Some, None, if◌then◌else◌}
 use lib.Pointwise.{pointwise}
 use Rattle.log_tail.specs.Tail.{four, four_in, eight, summed, has_batch, front_body, first_of}
 
@@ -62,3 +62,20 @@ is_followed_at end file =
 -- on the disk, so that one was, and has changed.
 abbrev pub is_followed : List ℕ → Bool
 is_followed file = is_followed_at (length file - length (rest_of file)) file
+
+-- Whether there is a length, and it is this one.
+abbrev pub is_length : ℕ → Option ℕ → Bool
+is_length n None = false
+is_length n (Some len) = len == n
+
+-- Whether a batch of the form of a head stands at the front of these bytes, of whatever number and place.
+abbrev pub has_head_form : List ℕ → Bool
+has_head_form bytes = is_length 24 (body_length bytes) && (four_in (drop 13 bytes) == 4294967295)
+
+-- Whether the first batch of a tail has the form of a head, and is none of this tail: the tail's first number has changed.
+abbrev pub is_misnumbered : List ℕ → Bool
+is_misnumbered file = has_head_form (drop 16 file) && not (has_head file 16)
+
+-- Whether bytes of a tail have changed that were written whole.
+abbrev pub is_damaged : List ℕ → Bool
+is_damaged file = is_followed file || is_misnumbered file

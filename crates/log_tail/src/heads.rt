@@ -4,6 +4,7 @@ ghost use Rattle.std.specs.Prelude.{◌≡◌, ◌<◌, ◌≤◌, ◌+◌, ◌+
 ghost use Rattle.log_tail.specs.Tail.{sum_of, first_of};
 ghost use Rattle.log_tail.specs.Heads.{head_body, headed, told_by, told_at, has_head_after};
 ghost use Rattle.log_tail.specs.Heads.{body_length, is_followed_at, is_followed, rest_of};
+ghost use Rattle.log_tail.specs.Heads.{has_head_form, is_misnumbered, is_damaged};
 
 use crate::batches::{BATCH_HEADER, HEADER, batch_header, number_at, open_length};
 
@@ -79,8 +80,8 @@ fn told_at(first: u64, place: usize, bytes: &[u8]) -> Option<usize>
     told_by(first, place, &bytes[BATCH_HEADER..5 + len])
 }
 
-// The bytes from this place on. None where they end before it.
-fn from(bytes: &[u8], place: usize) -> &[u8]
+// The bytes from this place on; no bytes where they end before it.
+fn bytes_from(bytes: &[u8], place: usize) -> &[u8]
     ensures { result.now ≡ drop place bytes.now }
 {
     &bytes[place.min(bytes.len())..]
@@ -97,7 +98,7 @@ fn has_head_after(bytes: &[u8], first: u64, place: usize, len: Option<usize>) ->
         return false;
     };
     let next = place + BATCH_HEADER + len;
-    told_at(first, next, from(bytes, next)).is_some()
+    told_at(first, next, bytes_from(bytes, next)).is_some()
 }
 
 // The length of the body of the batch at the front, if one is there.
@@ -117,22 +118,52 @@ fn is_followed_at(bytes: &[u8], first: u64, end: usize) -> bool
 {
     if end >= HEADER + HEAD {
         let place = end - HEAD;
-        let told = told_at(first, place, from(bytes, place));
+        let told = told_at(first, place, bytes_from(bytes, place));
         if has_head_after(bytes, first, end, told) {
             return true;
         }
     }
     let next = end + HEAD;
-    has_head_after(bytes, first, next, body_length(from(bytes, next)))
+    has_head_after(bytes, first, next, body_length(bytes_from(bytes, next)))
 }
 
-/// Whether another batch follows the one at this place, where the whole batches of a tail end. Each batch is written
-/// once the one before it is on the disk. So the one at the place was, and its bytes have changed.
-pub fn is_followed(bytes: &[u8], first: u64, end: usize) -> bool
+// Whether another batch follows the one at this place, where the whole batches of a tail end. Each batch is written once
+// the one before it is on the disk. So the one at the place was, and its bytes have changed.
+fn is_followed(bytes: &[u8], first: u64, end: usize) -> bool
     requires first { first ≡ first_of bytes.now }
     requires within { end ≤ length bytes.now }
     requires rest { drop end bytes.now ≡ rest_of bytes.now }
     ensures { result ≡ is_followed bytes.now }
 {
     is_followed_at(bytes, first, end)
+}
+
+// Whether a batch of the form of a head stands at the front, of whatever number and place.
+fn has_head_form(bytes: &[u8]) -> bool
+    ensures { result ≡ has_head_form bytes.now }
+{
+    match body_length(bytes) {
+        Some(HEAD_BODY) => number_at(&bytes[BATCH_HEADER..]) == Some(u32::MAX),
+        _ => false,
+    }
+}
+
+// Whether the first head does not name the number of a tail's first record.
+fn is_misnumbered(bytes: &[u8], first: u64) -> bool
+    requires first { first ≡ first_of bytes.now }
+    ensures { result ≡ is_misnumbered bytes.now }
+{
+    let batches = bytes_from(bytes, HEADER);
+    has_head_form(batches) && told_at(first, HEADER, batches).is_none()
+}
+
+/// Whether bytes of a tail have changed that were written whole: another batch follows the one at this place, where the
+/// whole batches end, or the first head does not name the number of the first record.
+pub fn is_damaged(bytes: &[u8], first: u64, end: usize) -> bool
+    requires first { first ≡ first_of bytes.now }
+    requires within { end ≤ length bytes.now }
+    requires rest { drop end bytes.now ≡ rest_of bytes.now }
+    ensures { result ≡ is_damaged bytes.now }
+{
+    is_followed(bytes, first, end) || is_misnumbered(bytes, first)
 }

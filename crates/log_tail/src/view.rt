@@ -2,11 +2,11 @@
 
 ghost use Rattle.std.specs.Prelude.{◌≡◌, length, IfOk, IfSome, IfNone, option_map};
 ghost use Rattle.log_tail.specs.Tail.{records_of, first_of, IsTail, IsWholeTo};
-ghost use Rattle.log_tail.specs.Heads.{is_followed};
+ghost use Rattle.log_tail.specs.Heads.{is_damaged};
 ghost use Rattle.log_tail.specs.View.{record_at};
 
 use crate::batches::{Place, find_records};
-use crate::heads::is_followed;
+use crate::heads::is_damaged;
 use crate::tail::first_number;
 use std::alloc::{AllocError, Global};
 use std::marker::Model;
@@ -86,11 +86,12 @@ impl<'a> TailView<'a> {
     {
         self.end
     }
-    /// Whether bytes that were written whole have changed: another batch follows those that are not whole. The records
-    /// from there on are not given.
+
+    /// Whether bytes that were written whole have changed. Where another batch follows those that are not whole, the
+    /// records from there on are not given; else the first head does not name the number of the first record.
     pub fn is_damaged(&self) -> bool
-        ensures { result ≡ is_followed self.now.bytes }
+        ensures { result ≡ is_damaged self.now.bytes }
     {
-        is_followed(self.bytes, self.first, self.end)
+        is_damaged(self.bytes, self.first, self.end)
     }
 }

@@ -1,7 +1,7 @@
 //! `log append`: puts records after those of a log.
 
 use crate::FOLDER;
-use crate::log_folder::SystemCause;
+use crate::log_files::LogFiles;
 use crate::opened_log::TailOptions;
 use crate::places::open_or_begin;
 use crate::record_span::RecordSpan;
@@ -131,7 +131,7 @@ fn appending_of<'a>(
     rt: &'a HostRuntime,
     path: &'a str,
     options: AppendOptions,
-    cause: &'a SystemCause,
+    files: &'a LogFiles,
     total: Option<u64>,
 ) -> Result<Appending<'a>, Failure> {
     let alloc = rt.alloc();
@@ -139,7 +139,7 @@ fn appending_of<'a>(
         true => Some(with_file(alloc, path, standard_output(rt))?),
         false => None,
     };
-    let opened = open_or_begin(rt, path, cause, options.tail);
+    let opened = open_or_begin(rt, path, files, options.tail);
     let log = with_file(alloc, path, opened)?;
     let end = log.end();
     Ok(Appending {
@@ -204,11 +204,11 @@ fn append<'a>(
     rt: &'a HostRuntime,
     path: &'a str,
     options: AppendOptions,
-    cause: &'a SystemCause,
+    files: &'a LogFiles,
     paths: Option<&[&str]>,
 ) -> Result<(), Failure> {
     let total = paths.and_then(|paths| total_bytes(rt, paths));
-    let mut appending = appending_of(rt, path, options, cause, total)?;
+    let mut appending = appending_of(rt, path, options, files, total)?;
     let appended = append_all(&mut appending, paths);
     let Appending { log, .. } = appending;
     log.close(rt, path);
@@ -220,7 +220,7 @@ pub fn run(rt: &HostRuntime, matches: &ArgMatches<'_>) -> Result<(), Failure> {
     let alloc = rt.alloc();
     let path = word(alloc, matches, FOLDER)?;
     let options = options_of(alloc, matches)?;
-    let cause = SystemCause::new();
+    let files = LogFiles::new();
     let list = list_of(rt, matches)?;
     let words = words_of(matches);
     let names = names_of(alloc, words.unwrap_or(&[]), list.as_deref());
@@ -230,7 +230,7 @@ pub fn run(rt: &HostRuntime, matches: &ArgMatches<'_>) -> Result<(), Failure> {
         rt,
         path,
         options,
-        &cause,
+        &files,
         are_named.then_some(names.as_slice()),
     )
 }

@@ -1,16 +1,13 @@
 //! `log cat`: prints all records in order.
 
-use crate::log_folder::SystemCause;
-use crate::log_refusal::refused;
-use crate::opened_log::OpenedLog;
+use crate::log_files::LogFiles;
 use crate::places::open_to_read;
 use crate::{FOLDER, folder};
 use clap::{ArgMatches, Command};
 use program_base::arguments;
 use program_base::command_words::{Argument, command_of};
-use program_base::document_output::{self, DocumentForm, DocumentOutput, form_of, standard_output};
+use program_base::document_output::{self, DocumentForm, form_of, standard_output};
 use program_base::failure::{Failure, FailureCause, to_output, with_file};
-use segmented_log::LogError;
 use std::alloc::{AllocError, Global};
 use std::io::Write;
 
@@ -42,33 +39,16 @@ pub fn command<'a>(alloc: Global) -> Result<Command<'a>, AllocError> {
     )
 }
 
-// Prints the records of an opened log from a number on.
-fn print_records(
-    alloc: Global,
-    log: &mut OpenedLog<'_>,
-    output: &mut DocumentOutput<'_>,
-    form: DocumentForm,
-    from: u64,
-) -> Result<(), FailureCause> {
-    let mut number = from.max(log.first());
-    for record in log.iter_from(from)? {
-        let record = match record {
-            Ok(record) => record,
-            Err(LogError::Damaged) => return Err(FailureCause::DamagedRecord(number)),
-            Err(error) => return Err(refused(error)),
-        };
-        form.write(alloc, output, number, &record)?;
-        number = number.saturating_add(1);
-    }
-    to_output(output.flush())
-}
-
 // Prints the records of the log at a path from a number on.
 fn print(rt: &HostRuntime, path: &str, form: DocumentForm, from: u64) -> Result<(), FailureCause> {
-    let cause = SystemCause::new();
-    let mut read = open_to_read(rt, path, &cause)?;
+    let files = LogFiles::new();
+    let mut read = open_to_read(rt, path, &files)?;
     let mut output = standard_output(rt)?;
-    print_records(rt.alloc(), &mut read.log, &mut output, form, from)?;
+    for number in from.max(read.first())..read.end() {
+        let record = read.get(number)?;
+        form.write(rt.alloc(), &mut output, number, &record)?;
+    }
+    to_output(output.flush())?;
     read.check_end()
 }
 

@@ -1,6 +1,6 @@
 //! `log drop`: removes the oldest records.
 
-use crate::log_folder::SystemCause;
+use crate::log_files::LogFiles;
 use crate::places::open_to_write;
 use crate::record_span::RecordSpan;
 use crate::{FOLDER, folder, is_seen};
@@ -74,8 +74,8 @@ fn drop_before(
     number: u64,
     is_seen: bool,
 ) -> Result<(), FailureCause> {
-    let cause = SystemCause::new();
-    let mut log = open_to_write(rt, path, &cause)?;
+    let files = LogFiles::new();
+    let mut log = open_to_write(rt, path, &files)?;
     let from = log.first();
     log.drop_before(number)?;
     let (first, end) = (log.first(), log.end());

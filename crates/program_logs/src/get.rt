@@ -1,6 +1,6 @@
 //! `log get`: prints records by their numbers.
 
-use crate::log_folder::SystemCause;
+use crate::log_files::LogFiles;
 use crate::number_range::NumberRange;
 use crate::places::{ReadLog, open_to_read};
 use crate::{FOLDER, folder};
@@ -53,9 +53,8 @@ struct Printer<'a> {
 impl<'a> Printer<'a> {
     // Prints the records of a range.
     fn print(&mut self, range: NumberRange) -> Result<(), FailureCause> {
-        let log = &mut self.read.log;
-        for number in range.among(log.first(), log.end())? {
-            let record = log.get(number)?;
+        for number in range.among(self.read.first(), self.read.end())? {
+            let record = self.read.get(number)?;
             self.form
                 .write(self.alloc, &mut self.output, number, &record)?;
         }
@@ -110,10 +109,10 @@ fn print(
 ) -> Result<(), FailureCause> {
     let alloc = rt.alloc();
     check_words(alloc, words)?;
-    let cause = SystemCause::new();
+    let files = LogFiles::new();
     let mut printer = Printer {
         alloc,
-        read: open_to_read(rt, path, &cause)?,
+        read: open_to_read(rt, path, &files)?,
         output: standard_output(rt)?,
         form,
     };

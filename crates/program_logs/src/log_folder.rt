@@ -3,6 +3,7 @@
 ghost use Rattle.std.specs.Prelude.{◌≡◌, ◌≤◌, IfOk, OnErr};
 ghost use Rattle.store_base.specs.Counts.{HasRisen};
 
+use crate::log_files::{LogFiles, SegmentFile};
 use crate::places::file_in;
 use crate::segments::segment_numbers;
 use log_tail::TailView;
@@ -13,7 +14,7 @@ use std::cell::Cell;
 use std::fs::{File, Files};
 use std::io;
 use std::io::ErrorKind;
-use store_files::{DiskFile, LockedFolder, OsFile, is_left_synced, read_all};
+use store_files::{DiskFile, LockedFolder, is_left_synced, read_all};
 use store_folder::{Folder, ReadableFolder};
 
 // The names of the segments of these numbers.
@@ -58,29 +59,6 @@ fn whole_len(alloc: Global, bytes: &[u8]) -> Result<usize, AllocError> {
     }
 }
 
-/// Why the last call on a log's folder that failed did so. A log reports only that one failed.
-#[derive(Drop)]
-pub struct SystemCause(Cell<Option<io::Error>>);
-
-impl SystemCause {
-    /// None has failed.
-    pub fn new() -> SystemCause {
-        SystemCause(Cell::new(None))
-    }
-
-    // Keeps an error, and returns one of its kind.
-    fn note(&self, error: io::Error) -> io::Error {
-        let kind = error.kind();
-        self.0.set(Some(error));
-        kind.into()
-    }
-
-    /// The error, once.
-    pub fn take(&self) -> Option<io::Error> {
-        self.0.take()
-    }
-}
-
 /// A log's folder. A reader has no lock, and what it is asked to write is dropped: as a log is opened, that is the tail
 /// without a torn end. It lists the segments and reads the tail at one moment, and an opening, which asks once for
 /// each, gets these.
@@ -89,7 +67,7 @@ pub struct LogFolder<'a, R: Files<File = File> + Drop> {
     rt: &'a R,
     path: &'a str,
     writer: Option<Box<LockedFolder<R>>>,
-    cause: &'a SystemCause,
+    files: &'a LogFiles,
     failures: u64,
     // What a reader found, until it is asked for, and whether the last writer left the tail on the disk.
     segments: Cell<Option<Vec<u64>>>,
@@ -103,13 +81,13 @@ impl<'a> LogFolder<'a, HostRuntime> {
         rt: &'a HostRuntime,
         path: &'a str,
         writer: Option<Box<LockedFolder<HostRuntime>>>,
-        cause: &'a SystemCause,
+        files: &'a LogFiles,
     ) -> LogFolder<'a, HostRuntime> {
         LogFolder {
             rt,
             path,
             writer,
-            cause,
+            files,
             failures: 0,
             segments: Cell::new(None),
             tail: Cell::new(None),
@@ -122,9 +100,9 @@ impl<'a> LogFolder<'a, HostRuntime> {
         rt: &'a HostRuntime,
         path: &'a str,
         writer: Box<LockedFolder<HostRuntime>>,
-        cause: &'a SystemCause,
+        files: &'a LogFiles,
     ) -> LogFolder<'a, HostRuntime> {
-        LogFolder::new(rt, path, Some(writer), cause)
+        LogFolder::new(rt, path, Some(writer), files)
     }
 
     /// The folder of this path, without a lock: as it was at one moment, or none where a writer sealed the log
@@ -132,12 +110,12 @@ impl<'a> LogFolder<'a, HostRuntime> {
     pub fn of_reader(
         rt: &'a HostRuntime,
         path: &'a str,
-        cause: &'a SystemCause,
+        files: &'a LogFiles,
     ) -> Result<Option<LogFolder<'a, HostRuntime>>, FailureCause> {
         let Some((segments, tail)) = found_at_once(rt, path)? else {
             return Ok(None);
         };
-        let mut folder = LogFolder::new(rt, path, None, cause);
+        let mut folder = LogFolder::new(rt, path, None, files);
         folder.segments.set(Some(segments));
         folder.tail.set(tail);
         // The mark is read after the tail: what it says was on the disk is what was read, or is a later tail.
@@ -168,7 +146,7 @@ impl<'a, R: Files<File = File> + Drop> LogFolder<'a, R> {
             Ok(()) => Ok(()),
             Err(error) => {
                 self.failures = self.failures.saturating_add(1);
-                Err(self.cause.note(error))
+                Err(self.files.note(error))
             }
         }
     }
@@ -177,7 +155,7 @@ impl<'a, R: Files<File = File> + Drop> LogFolder<'a, R> {
     fn noted<T: Drop>(&self, outcome: io::Result<T>) -> io::Result<T> {
         match outcome {
             Ok(value) => Ok(value),
-            Err(error) => Err(self.cause.note(error)),
+            Err(error) => Err(self.files.note(error)),
         }
     }
 
@@ -189,15 +167,15 @@ impl<'a, R: Files<File = File> + Drop> LogFolder<'a, R> {
         }
     }
 
-    // A segment's file, opened by a reader.
-    fn open_file(&self, alloc: Global, name: &str) -> io::Result<DiskFile<OsFile>>
+    // A segment's file.
+    fn open_file(&self, alloc: Global, name: &str) -> io::Result<DiskFile<SegmentFile<'a, R>>>
         ensures failures { IfOk result (λ f. f.failures ≡ 0) }
         ensures reads { IfOk result (λ f. f.reads ≡ 0) }
         ensures asked { IfOk result (λ f. f.asked ≡ 0) }
     {
         let folder = self.path;
         let path = format!(in alloc; "{folder}/{name}")?;
-        DiskFile::new(OsFile::open(self.rt, path.as_str())?)
+        DiskFile::new(SegmentFile::open(self.rt, alloc, path, self.files)?)
     }
 }
 
@@ -305,7 +283,7 @@ impl<'a, R: Files<File = File> + Drop> Folder for LogFolder<'a, R> {
 impl<'a, R: Files<File = File> + Drop> ReadableFolder for LogFolder<'a, R> {
     ghost use Rattle.std.specs.Prelude.{false};
 
-    type File = DiskFile<OsFile>;
+    type File = DiskFile<SegmentFile<'a, R>>;
 
     ghost is_readable = { false };
 
@@ -323,14 +301,10 @@ impl<'a, R: Files<File = File> + Drop> ReadableFolder for LogFolder<'a, R> {
         }
     }
 
-    fn open(&self, alloc: Global, name: &str) -> io::Result<DiskFile<OsFile>> {
-        let opened = match &self.writer {
-            Some(folder) => folder.open(alloc, name),
-            None => self.open_file(alloc, name),
-        };
-        match opened {
+    fn open(&self, alloc: Global, name: &str) -> io::Result<DiskFile<SegmentFile<'a, R>>> {
+        match self.open_file(alloc, name) {
             Ok(file) => Ok(file),
-            Err(error) => Err(self.cause.note(error)),
+            Err(error) => Err(self.files.note(error)),
         }
     }
 }

@@ -1,11 +1,10 @@
 //! A log that is open, with errors that say why.
 
-ghost use Rattle.std.specs.Prelude.{◌≡◌, ◌≤◌, false, IfOk};
-
-use crate::log_folder::{LogFolder, SystemCause};
+use crate::log_files::LogFiles;
+use crate::log_folder::LogFolder;
 use crate::log_refusal::refused;
 use program_base::failure::FailureCause;
-use segmented_log::{Commit, LogError, Records, SegmentedLog};
+use segmented_log::{Commit, LogError, SegmentedLog};
 use std::alloc::Global;
 use std::{fs, io};
 use store_folder::Folder;
@@ -25,12 +24,12 @@ type DiskLog<'a> = Box<SegmentedLog<LogFolder<'a, HostRuntime>>>;
 #[derive(Drop)]
 pub struct OpenedLog<'a> {
     log: DiskLog<'a>,
-    cause: &'a SystemCause,
+    files: &'a LogFiles,
 }
 
 /// Why a call on a log failed: what the system said, if it refused a call on the folder.
-pub fn explained(cause: &SystemCause, error: LogError) -> FailureCause {
-    match (error, cause.take()) {
+pub fn explained(files: &LogFiles, error: LogError) -> FailureCause {
+    match (error, files.take_cause()) {
         (LogError::Failed, Some(error)) => FailureCause::System(error),
         _ => refused(error),
     }
@@ -61,13 +60,13 @@ impl<'a> OpenedLog<'a> {
     pub fn open(
         alloc: Global,
         folder: LogFolder<'a, HostRuntime>,
-        cause: &'a SystemCause,
+        files: &'a LogFiles,
         tail: TailOptions,
     ) -> Result<OpenedLog<'a>, LogError> {
         match SegmentedLog::open(alloc, folder, tail.seal_size, tail.commit) {
             Ok(log) => Ok(OpenedLog {
                 log: Box::new(alloc, log)?,
-                cause,
+                files,
             }),
             Err((error, folder)) => {
                 drop(folder);
@@ -80,7 +79,7 @@ impl<'a> OpenedLog<'a> {
     fn result_of<T: Drop>(&self, given: Result<T, LogError>) -> Result<T, FailureCause> {
         match given {
             Ok(value) => Ok(value),
-            Err(error) => Err(explained(self.cause, error)),
+            Err(error) => Err(explained(self.files, error)),
         }
     }
 
@@ -152,21 +151,7 @@ impl<'a> OpenedLog<'a> {
             Ok(Some(record)) => Ok(record),
             Ok(None) => Err(FailureCause::NoRecord { number, first, end }),
             Err(LogError::Damaged) => Err(FailureCause::DamagedRecord(number)),
-            Err(error) => Err(explained(self.cause, error)),
-        }
-    }
-
-    /// The records from a number on, or from the first one where that is later.
-    pub fn iter_from<'s>(
-        &'s mut self,
-        number: u64,
-    ) -> Result<Records<'s, LogFolder<'a, HostRuntime>>, FailureCause>
-        ensures works { IfOk result (λ records. records.log.now.is_broken ≡ false) }
-        ensures next { IfOk result (λ records. records.log.now.first ≤ records.next) }
-    {
-        match self.log.iter_from(number) {
-            Ok(records) => Ok(records),
-            Err(error) => Err(refused(error)),
+            Err(error) => Err(explained(self.files, error)),
         }
     }
 }

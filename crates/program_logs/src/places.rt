@@ -1,7 +1,8 @@
 //! What is at the path of a log, and how it is opened.
 
-use crate::log_folder::{LogFolder, SystemCause};
-use crate::log_refusal::NO_TAIL;
+use crate::log_files::LogFiles;
+use crate::log_folder::LogFolder;
+use crate::log_refusal::{NO_TAIL, refused};
 use crate::opened_log::{OpenedLog, TailOptions, explained};
 use crate::segments::segment_numbers;
 use program_base::failure::FailureCause;
@@ -108,13 +109,13 @@ fn open_locked<'a>(
     rt: &'a HostRuntime,
     path: &'a str,
     folder: LogFolder<'a, HostRuntime>,
-    cause: &'a SystemCause,
+    files: &'a LogFiles,
     tail: TailOptions,
 ) -> Result<OpenedLog<'a>, FailureCause> {
     let before = tail_bytes(rt, path)?.unwrap_or(0);
-    let log = match OpenedLog::open(rt.alloc(), folder, cause, tail) {
+    let log = match OpenedLog::open(rt.alloc(), folder, files, tail) {
         Ok(log) => log,
-        Err(error) => return Err(explained(cause, error)),
+        Err(error) => return Err(explained(files, error)),
     };
     let cut = before.saturating_sub(tail_bytes(rt, path)?.unwrap_or(0));
     if cut > 0 {
@@ -130,48 +131,91 @@ fn open_locked<'a>(
 pub fn open_or_begin<'a>(
     rt: &'a HostRuntime,
     path: &'a str,
-    cause: &'a SystemCause,
+    files: &'a LogFiles,
     tail: TailOptions,
 ) -> Result<OpenedLog<'a>, FailureCause> {
     check_place(rt, path)?;
     let writer = locked(rt.alloc(), LockedFolder::create(rt.alloc(), *rt, path))?;
-    let folder = LogFolder::of_writer(rt, path, writer, cause);
-    open_locked(rt, path, folder, cause, tail)
+    let folder = LogFolder::of_writer(rt, path, writer, files);
+    open_locked(rt, path, folder, files, tail)
 }
 
 /// The folder of a log that is there, locked to write it.
 pub fn folder_to_write<'a>(
     rt: &'a HostRuntime,
     path: &'a str,
-    cause: &'a SystemCause,
+    files: &'a LogFiles,
 ) -> Result<LogFolder<'a, HostRuntime>, FailureCause> {
     check_log(rt, path)?;
     let writer = locked(rt.alloc(), LockedFolder::open(rt.alloc(), *rt, path))?;
-    Ok(LogFolder::of_writer(rt, path, writer, cause))
+    Ok(LogFolder::of_writer(rt, path, writer, files))
 }
 
 /// Opens a log that is there, to write it.
 pub fn open_to_write<'a>(
     rt: &'a HostRuntime,
     path: &'a str,
-    cause: &'a SystemCause,
+    files: &'a LogFiles,
 ) -> Result<OpenedLog<'a>, FailureCause> {
-    let folder = folder_to_write(rt, path, cause)?;
-    open_locked(rt, path, folder, cause, NOT_APPENDED)
+    let folder = folder_to_write(rt, path, files)?;
+    open_locked(rt, path, folder, files, NOT_APPENDED)
 }
 
-/// A log that is open to be read.
+/// A log that is open to be read, as it was when it was opened first.
 #[derive(Drop)]
 pub struct ReadLog<'a> {
-    pub log: OpenedLog<'a>,
+    rt: &'a HostRuntime,
+    path: &'a str,
+    files: &'a LogFiles,
+    log: OpenedLog<'a>,
+    end: u64,
     is_damaged: bool,
 }
 
+// Whether a call failed since the file of a segment is gone: a writer joined it with others, or removed it.
+fn has_gone<T>(given: &Result<T, FailureCause>) -> bool {
+    match given {
+        Err(FailureCause::System(error)) => error.kind() == ErrorKind::NotFound,
+        _ => false,
+    }
+}
+
 impl<'a> ReadLog<'a> {
+    /// The number of the first record.
+    pub fn first(&self) -> u64 {
+        self.log.first()
+    }
+
+    /// The number after the last record.
+    pub fn end(&self) -> u64 {
+        self.end
+    }
+
+    // Opens the log once more.
+    fn open_again(&mut self) -> Result<(), FailureCause> {
+        let ReadLog { log, .. } = open_to_read(self.rt, self.path, self.files)?;
+        self.log = log;
+        Ok(())
+    }
+
+    /// The record of a number. Where a writer has joined its segment with others meanwhile, it is read from the joined
+    /// one; where it was removed, the error says from which number on records are left.
+    pub fn get(&mut self, number: u64) -> Result<Vec<u8>, FailureCause> {
+        for _ in 0..TRIES {
+            let record = self.log.get(number);
+            if !has_gone(&record) {
+                return record;
+            }
+            drop(record);
+            self.open_again()?;
+        }
+        Err(FailureCause::BusyLog)
+    }
+
     /// Fails where the tail is damaged, once what is before the damage was given: the next record would be in it.
     pub fn check_end(&self) -> Result<(), FailureCause> {
         match self.is_damaged {
-            true => Err(FailureCause::DamagedRecord(self.log.end())),
+            true => Err(FailureCause::DamagedRecord(self.end)),
             false => Ok(()),
         }
     }
@@ -186,26 +230,39 @@ enum Reading<'a> {
     DamagedTail,
 }
 
+// What an opening came to that failed for this cause.
+fn changed_or<'a>(cause: FailureCause) -> Result<Reading<'a>, FailureCause> {
+    match cause {
+        FailureCause::System(error) if error.kind() == ErrorKind::NotFound => Ok(Reading::Changed),
+        cause => Err(cause),
+    }
+}
+
 // Opens a log to read it, or only what is before the damage of its tail.
 fn try_to_read<'a>(
     rt: &'a HostRuntime,
     path: &'a str,
-    cause: &'a SystemCause,
+    files: &'a LogFiles,
     is_cut: bool,
 ) -> Result<Reading<'a>, FailureCause> {
-    let Some(mut folder) = LogFolder::of_reader(rt, path, cause)? else {
+    let Some(mut folder) = LogFolder::of_reader(rt, path, files)? else {
         return Ok(Reading::Changed);
     };
     let is_damaged = is_cut && folder.cut_tail()?;
-    let error = match OpenedLog::open(rt.alloc(), folder, cause, NOT_APPENDED) {
-        Ok(log) => return Ok(Reading::Opened(ReadLog { log, is_damaged })),
+    let log = match OpenedLog::open(rt.alloc(), folder, files, NOT_APPENDED) {
+        Ok(log) => log,
         Err(LogError::DamagedTail) => return Ok(Reading::DamagedTail),
-        Err(error) => error,
+        Err(error) => return changed_or(explained(files, error)),
     };
-    match explained(cause, error) {
-        FailureCause::System(error) if error.kind() == ErrorKind::NotFound => Ok(Reading::Changed),
-        cause => Err(cause),
-    }
+    let end = log.end();
+    Ok(Reading::Opened(ReadLog {
+        rt,
+        path,
+        files,
+        log,
+        end,
+        is_damaged,
+    }))
 }
 
 /// Opens a log that is there, to read it. Nothing is changed, and a writer may go on. Of a log whose tail is damaged it
@@ -213,14 +270,15 @@ fn try_to_read<'a>(
 pub fn open_to_read<'a>(
     rt: &'a HostRuntime,
     path: &'a str,
-    cause: &'a SystemCause,
+    files: &'a LogFiles,
 ) -> Result<ReadLog<'a>, FailureCause> {
     check_log(rt, path)?;
     let mut is_cut = false;
     for _ in 0..TRIES {
-        match try_to_read(rt, path, cause, is_cut)? {
+        match try_to_read(rt, path, files, is_cut)? {
             Reading::Opened(log) => return Ok(log),
             Reading::Changed => (),
+            Reading::DamagedTail if is_cut => return Err(refused(LogError::DamagedTail)),
             Reading::DamagedTail => is_cut = true,
         }
     }

@@ -1,6 +1,6 @@
 //! `log repair`: cuts off the end of a damaged tail, and keeps it.
 
-use crate::log_folder::SystemCause;
+use crate::log_files::LogFiles;
 use crate::opened_log::explained;
 use crate::places::{file_in, folder_to_write};
 use crate::{FOLDER, folder};
@@ -14,7 +14,7 @@ use std::fs;
 const EXAMPLE: &str = "\
 Only this command cuts off bytes that were written whole and have changed: 'append', 'seal', 'compact' and 'drop' refuse
 such a log. Records after the damage are lost with it, and their numbers are given again. So get the file tail.log from
-a copy if there is one.
+a copy if there is one. A tail of which only the number of its first record has changed is not cut: it needs the copy.
 
 Example:
   zevkhadun log repair events     prints how many bytes were cut off, and the file that has them";
@@ -41,14 +41,14 @@ fn tell(rt: &HostRuntime, path: &str, name: &str) -> Result<(), FailureCause> {
 
 // Repairs the log at a path.
 fn repair(rt: &HostRuntime, path: &str) -> Result<(), FailureCause> {
-    let cause = SystemCause::new();
-    let mut folder = folder_to_write(rt, path, &cause)?;
+    let files = LogFiles::new();
+    let mut folder = folder_to_write(rt, path, &files)?;
     let cut = segmented_log::repair(rt.alloc(), &mut folder);
     drop(folder);
     match cut {
         Ok(Some(name)) => tell(rt, path, name.as_str()),
         Ok(None) => to_output(println!(rt; "{path}: the tail is whole; nothing was cut off")),
-        Err(error) => Err(explained(&cause, error)),
+        Err(error) => Err(explained(&files, error)),
     }
 }
 

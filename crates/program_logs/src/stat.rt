@@ -1,9 +1,8 @@
 //! `log stat`: prints counts and sizes of logs.
 
 use crate::FOLDER;
-use crate::log_folder::SystemCause;
-use crate::opened_log::OpenedLog;
-use crate::places::{file_in, open_to_read, tail_bytes};
+use crate::log_files::LogFiles;
+use crate::places::{ReadLog, file_in, open_to_read, tail_bytes};
 use crate::segments::segment_numbers;
 use clap::{ArgMatches, Command};
 use program_base::command_words::{Argument, command_of};
@@ -62,7 +61,7 @@ fn bytes_of_segments(rt: &HostRuntime, path: &str, segments: &[u64]) -> Result<u
 
 impl LogNumbers {
     // Of the log at a path, which is open.
-    fn of(rt: &HostRuntime, path: &str, log: &OpenedLog<'_>) -> Result<LogNumbers, FailureCause> {
+    fn of(rt: &HostRuntime, path: &str, log: &ReadLog<'_>) -> Result<LogNumbers, FailureCause> {
         let segments = segment_numbers(rt, path)?;
         Ok(LogNumbers {
             first: log.first(),
@@ -93,9 +92,9 @@ impl LogNumbers {
 
 // Prints the numbers of a log, in lines or as JSON.
 fn print(rt: &HostRuntime, path: &str, is_json: bool) -> Result<(), FailureCause> {
-    let cause = SystemCause::new();
-    let read = open_to_read(rt, path, &cause)?;
-    let numbers = LogNumbers::of(rt, path, &read.log)?.named();
+    let files = LogFiles::new();
+    let read = open_to_read(rt, path, &files)?;
+    let numbers = LogNumbers::of(rt, path, &read)?.named();
     if is_json {
         print_object(rt, "folder", path, &numbers)?;
         return read.check_end();

@@ -1,7 +1,7 @@
 //! `log verify`: reads logs whole, and reports what is broken.
 
 use crate::FOLDER;
-use crate::log_folder::SystemCause;
+use crate::log_files::LogFiles;
 use crate::places::{check_log, file_in, open_to_read};
 use crate::segments::segment_numbers;
 use clap::{ArgMatches, Command};
@@ -99,6 +99,8 @@ fn check_segments(
 enum TailFault {
     // It is none.
     NoTail,
+    // Its first head names another number than its header.
+    Misnumbered,
     // How many records are whole, and how many bytes, from which one on, are no whole batch. They were written whole,
     // or may be a batch that was not finished.
     Torn {
@@ -113,6 +115,11 @@ impl Display for TailFault {
     fn fmt<W: fmt::Write>(&self, f: &mut fmt::Formatter<W>) -> fmt::Result {
         match self {
             TailFault::NoTail => f.write_str("broken: not a tail: its first bytes are others"),
+            TailFault::Misnumbered => {
+                f.write_str(
+                    "damaged: the number of its first record is not the one that its first batch names",
+                )
+            }
             TailFault::Torn {
                 records,
                 end,
@@ -139,17 +146,18 @@ fn fault_in(alloc: Global, bytes: &[u8], is_synced: bool) -> Result<Option<TailF
     let Some(view) = TailView::new(alloc, bytes)? else {
         return Ok(Some(TailFault::NoTail));
     };
-    let is_damaged = is_synced || view.is_damaged();
     let (records, end) = (view.len(), view.whole_len());
     let rest = bytes.len().saturating_sub(end);
-    Ok(
-        (rest > 0).then_some(TailFault::Torn {
+    if rest > 0 {
+        let is_damaged = is_synced || view.is_damaged();
+        return Ok(Some(TailFault::Torn {
             records,
             end,
             rest,
             is_damaged,
-        }),
-    )
+        }));
+    }
+    Ok(view.is_damaged().then_some(TailFault::Misnumbered))
 }
 
 // Whether the tail of a log is whole to its end. What is wrong is reported.
@@ -173,12 +181,12 @@ fn print_whole(
     segments: usize,
     is_quiet: bool,
 ) -> Result<(), FailureCause> {
-    let cause = SystemCause::new();
-    let read = open_to_read(rt, path, &cause)?;
+    let files = LogFiles::new();
+    let read = open_to_read(rt, path, &files)?;
     if is_quiet {
         return Ok(());
     }
-    let records = read.log.end().saturating_sub(read.log.first());
+    let records = read.end().saturating_sub(read.first());
     let record = if records == 1 { "record" } else { "records" };
     let segment = if segments == 1 { "segment" } else { "segments" };
     to_output(println!(rt;

@@ -1,17 +1,14 @@
 -- What one call makes of a log in a folder, and what a crash leaves meanwhile.
-use Rattle.std.proofs.Common.{◌≡◌, inl, inr, ⊎_elim, ◌⊎◌, ℕ, ◌+◌, List, [], ◌∷◌, ◌++◌, length, map, refl, sym, ◌∙◌, ap, subst, arith}
+use Rattle.std.proofs.Common.{◌≡◌, inl, inr, ⊎_elim, ℕ, ◌+◌, List, [], ◌∷◌, ◌++◌, length, map, refl, sym, ◌∙◌, ap, subst, arith}
 use Rattle.std.proofs.lemmas.List.{append-nil}
 use Rattle.store_folder.specs.Folder.{Look}
 use Rattle.store_format.specs.Block.{Slot, doc}
 use Rattle.segmented_log.specs.declared.commit.Commit.{Commit}
-use Rattle.segmented_log.specs.declared.error.LogError.{LogError}
-use Rattle.segmented_log.specs.declared.error.LogError.TheVariants.{Memory, Failed, Full, BatchFull, TooLong, Broken, NoLog, Damaged}
 use Rattle.segmented_log.specs.declared.runs.Call.{Call}
-use Rattle.segmented_log.specs.declared.runs.Call.TheVariants.{Sync, Compact, DropBefore}
-use Rattle.segmented_log.specs.Causes.{IsFault, IsOfSyncs, IsOfJoins}
+use Rattle.segmented_log.specs.declared.runs.Call.TheVariants.{Sync, DropBefore}
 use Rattle.segmented_log.specs.Dropping.{IsRest, DropsTo}
 use Rattle.segmented_log.specs.Log.{KeepsOrAdds}
-use Rattle.segmented_log.specs.Runs.{batches_by, slots_of, dropped_by, Makes, HasBeginning, IsOfCalls}
+use Rattle.segmented_log.specs.Runs.{batches_by, slots_of, dropped_by, Makes, HasBeginning}
 use Rattle.segmented_log.proofs.DropLemmas.{rest_itself}
 use Rattle.segmented_log.proofs.RunLemmas.{Records, makes_none, has_itself}
 

@@ -1,9 +1,9 @@
 -- What a crash leaves once the calls of a list were made.
-use Rattle.std.proofs.Common.{◌≡◌, ◌⊎◌, inl, inr, ℕ, List, ◌++◌, Bool, true, false, None, refl}
+use Rattle.std.proofs.Common.{◌≡◌, inl, inr, ℕ, List, ◌++◌, Bool, false, None, refl}
 use Rattle.std.specs.Prelude.{IsTrue}
 use Rattle.store_folder.specs.Moments.{LeavesOnly}
 use Rattle.store_folder.specs.Folder.{Look, Keeps}
-use Rattle.store_folder.specs.Calls.{Kind, Does, Carried, appends, syncs, removes, syncs_folder}
+use Rattle.store_folder.specs.Calls.{Kind, Carried, appends, syncs, removes, syncs_folder}
 use Rattle.store_folder.proofs.CallsLemmas.{two}
 use Rattle.segmented_log.specs.Names.{segment_name, tail_name}
 use Rattle.segmented_log.specs.CallLists.{appending, removing}

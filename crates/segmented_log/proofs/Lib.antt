@@ -6,6 +6,7 @@ pub mod DropLemmas
 pub mod CallListLemmas
 pub mod FilledLemmas
 pub mod FoundLemmas
+pub mod FrameLemmas
 pub mod GrowLemmas
 pub mod HoldLemmas
 pub mod JoinLemmas

@@ -1,13 +1,13 @@
 -- Where the records of a batch lie, in its body and in the tail that has it.
 use Rattle.std.proofs.Common.{◌≡◌, ◌<◌, ◌^◌, ℕ, ◌+◌, ◌-◌, List, [], ◌∷◌, ◌++◌, length, take, drop, map, refl, sym, ◌∙◌, ap, subst, arith, append_assoc, length-append}
 use Rattle.std.proofs.lemmas.List.{take-take, take_at, take_all, drop_at, drop-drop, drop-take, map-append}
-use Rattle.std.proofs.lemmas.List.Elements.{All-nil, All-head, All-tail, All-push, All-append, All-map, All-weaker}
+use Rattle.std.proofs.lemmas.List.Elements.{All-head, All-tail, All-push, All-append, All-map, All-weaker}
 use Rattle.std.specs.Prelude.{slice_range, All}
 use Rattle.log_tail.specs.declared.batches.Place.{Place}
 use Rattle.log_tail.specs.Place.{content, contents, EndsBy, AddsRecords}
 use Rattle.log_tail.specs.Tail.{framed, four, records_in}
 use Rattle.log_tail.proofs.Frames.{length-four}
-use Rattle.log_tail.proofs.Logs.{contents_same, nothing_whole, one_more}
+use Rattle.log_tail.proofs.Logs.{contents_same, one_more}
 use Rattle.log_tail.proofs.Scans.{ends_later}
 use Rattle.segmented_log.specs.TailBuffer.{ArePlacesIn, moved}
 

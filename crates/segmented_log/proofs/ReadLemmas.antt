@@ -8,9 +8,9 @@ use Rattle.std.proofs.lemmas.List.Elements.{All-head, All-tail, All-same, All-ma
 use Rattle.std.proofs.lemmas.List.Sums.{sum_by-set, get_or-le-sum_by}
 use Rattle.std.specs.List.{sum_by}
 use Rattle.std.proofs.lemmas.Option.{slice_get-map, slice_get_past, slice_get-get_or}
-use Rattle.std.proofs.lemmas.Bool.{cond-true, cond-false}
+use Rattle.std.proofs.lemmas.Bool.{cond-true}
 use Rattle.store_base.specs.Counts.{HasRisen}
-use Rattle.log_tail.proofs.Frames.{fits_le, short_le}
+use Rattle.log_tail.proofs.Frames.{fits_le}
 use Rattle.log_tail.specs.declared.batches.Place.{Place}
 use Rattle.log_tail.specs.Place.{content, contents}
 use Rattle.log_tail.specs.Tail.{records_of, first_of}

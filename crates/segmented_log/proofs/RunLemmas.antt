@@ -9,12 +9,11 @@ use Rattle.std.proofs.lemmas.List.Elements.{Contains-append_right}
 use Rattle.store_folder.specs.Folder.{Look}
 use Rattle.store_format.specs.Block.{Slot, doc}
 use Rattle.segmented_log.specs.declared.commit.Commit.{Commit}
-use Rattle.segmented_log.specs.declared.error.LogError.{LogError}
 use Rattle.segmented_log.specs.declared.runs.Call.{Call}
 use Rattle.segmented_log.specs.declared.runs.Call.TheVariants.{Append, Sync, Seal, Compact, DropBefore}
 use Rattle.segmented_log.specs.Dropping.{IsRest}
 use Rattle.segmented_log.specs.Log.{IsLog, KeepsLog}
-use Rattle.segmented_log.specs.Runs.{joined, batches_by, pending_by, slots_of, dropped_by, Drops, Makes, HasBeginning, EndsInForged, KeepsAndAdds, IsOfCalls}
+use Rattle.segmented_log.specs.Runs.{joined, batches_by, pending_by, slots_of, dropped_by, Drops, Makes, HasBeginning, EndsInForged, KeepsAndAdds}
 use Rattle.segmented_log.specs.Laws.{OnlyDropsRemove}
 use Rattle.segmented_log.proofs.DropLemmas.{rest_itself}
 use Rattle.segmented_log.proofs.RestLemmas.{rest_after, rest_ends, rest_whole}

@@ -1,12 +1,11 @@
 -- Neighbours that can become one, as they are looked for.
-use Rattle.std.proofs.Common.{◌≡◌, ◌⊎◌, ⊎_elim, ℕ, zero, suc, ◌+◌, ◌-◌, ◌<◌, ◌≤◌, ◌^◌, List, [], ◌∷◌, ◌++◌, length, take, drop, map, get_or, Some, None}
+use Rattle.std.proofs.Common.{◌≡◌, ℕ, zero, suc, ◌+◌, ◌-◌, ◌<◌, ◌≤◌, ◌^◌, List, [], ◌∷◌, ◌++◌, length, take, drop, map, get_or, Some, None}
 use Rattle.std.proofs.Common.{refl, sym, ◌∙◌, ap, subst, arith, length-append}
 use Rattle.std.specs.Prelude.{slice_get}
 use Rattle.std.proofs.lemmas.List.{length-map, length-take-le, take-append-drop, map-append, drop_at, take_at}
 use Rattle.std.proofs.lemmas.Grind.{flat_map-append}
-use Rattle.store_format.specs.declared.version.DocStoreVersion.TheVariants.{V1}
 use Rattle.segmented_log.specs.Parts.{Part, Sealed, end_of, end_from}
-use Rattle.segmented_log.specs.Compacting.{slots_in, AreNext, IsRun, with_joined, CoversFirst, IsPassedByFirst, CoversNext, CanBecomeOne, IsCovered, CanFollow, CanJoin, CanJoinFirst, AreApart}
+use Rattle.segmented_log.specs.Compacting.{slots_in, AreNext, IsRun, with_joined, CoversFirst, IsPassedByFirst, CoversNext, CanBecomeOne, IsCovered, CanJoin, CanJoinFirst, AreApart}
 use Rattle.segmented_log.proofs.PartLemmas.{end_from-push}
 use Rattle.segmented_log.proofs.RunOfParts.{one_of}
 

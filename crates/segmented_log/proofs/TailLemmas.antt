@@ -14,7 +14,7 @@ use Rattle.log_tail.proofs.HeadLemmas.{headed_records}
 use Rattle.log_tail.proofs.Logs.{first_same}
 use Rattle.segmented_log.specs.Names.{segment_name, tail_name}
 use Rattle.segmented_log.specs.Parts.{Part, log_slots, AreParts}
-use Rattle.segmented_log.specs.Log.{Holds, IsLog, IsForged, KeepsOrAdds}
+use Rattle.segmented_log.specs.Log.{Holds, IsLog, KeepsOrAdds}
 use Rattle.segmented_log.specs.Settled.{GrowsTail, PutsBatch}
 use Rattle.segmented_log.proofs.PartLemmas.{more_parts, more_slots}
 use Rattle.segmented_log.proofs.NameLemmas.{segment_no_tail, segment_no_tail_beside}

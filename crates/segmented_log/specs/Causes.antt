@@ -9,11 +9,12 @@ use Rattle.std.specs.declared.io.ErrorKind.TheVariants.{OutOfMemory}
 use Rattle.std.specs.IoError.{error_kind}
 use Rattle.store_folder.specs.Folder.{Look}
 use Rattle.store_published.specs.declared.publishing.FillError.{FillError}
-use Rattle.store_published.specs.declared.publishing.FillError.TheVariants.{Filling, Folder, Store}
+use Rattle.store_published.specs.declared.publishing.FillError.TheVariants.{Filling, Folder}
 use Rattle.store_format.specs.Block.{Slot, doc}
 use Rattle.segmented_log.specs.declared.error.LogError.{LogError}
 use Rattle.segmented_log.specs.declared.error.LogError.TheVariants.{Memory, Failed, Full, BatchFull, TooLong, Broken, NoLog, Damaged, DamagedTail}
-use Rattle.segmented_log.specs.Names.{segment_name}
+use Rattle.store_folder.specs.Publishing.{part}
+use Rattle.segmented_log.specs.Names.{segment_name, tail_name}
 
 -- what an error of the system of this kind is
 abbrev pub IsOfKind : ErrorKind → LogError → Type 0
@@ -94,6 +95,11 @@ HasNoRoomForLast all = (before : List Slot) × (records : List (List ℕ)) × (a
 -- A segment was published.
 abbrev pub HasNewSegment : Look → Look → Type 0
 HasNewSegment old new = (first : ℕ) × (old (segment_name first) ≡ None) × IsSome (new (segment_name first))
+
+-- Each file stays, but the tail, a segment that was not there, and the files beside them.
+abbrev pub KeepsOthers : Look → Look → Type 0
+KeepsOthers old new = (n : List ℕ) → n ≢ tail_name ++ part → n ≢ tail_name
+    → ((first : ℕ) → old (segment_name first) ≡ None → (n ≢ segment_name first ++ part) × (n ≢ segment_name first)) → new n ≡ old n
 
 -- Why a store takes no more of these records: they are too many, or the block of one is too large.
 pub record RefusesRecords (block_size : ℕ) (records : List (List ℕ)) (e : StoreError) : Type 0 where

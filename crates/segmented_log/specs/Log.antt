@@ -1,5 +1,5 @@
 -- What a folder is as a log, and what a crash may leave of one.
-use Rattle.std.specs.Prelude.{◌≡◌, ◌≢◌, ◌⊎◌, ℕ, ◌<◌, ◌≤◌, ◌^◌, ◌+◌, ◌-◌, length, Bool, nat_le, if◌then◌else◌, List, [], ◌∷◌, ◌++◌, Option, Some, None, Result, Ok, Err, Vec, slice_get, map}
+use Rattle.std.specs.Prelude.{◌≡◌, ◌≢◌, ◌⊎◌, ℕ, ◌<◌, ◌≤◌, ◌^◌, ◌+◌, ◌-◌, length, Bool, nat_le, if◌then◌else◌, List, [], ◌++◌, Option, Some, None, Result, Ok, Err, Vec, slice_get, map}
 use Rattle.std.specs.List.{AllByRecursion, Contains}
 use Rattle.store_folder.specs.Folder.{Look}
 use Rattle.std.specs.declared.alloc.Global.{Global}

@@ -4,7 +4,7 @@ use Rattle.std.specs.List.{Contains}
 use Rattle.store_folder.specs.Folder.{Look, Keeps}
 use Rattle.store_format.specs.Block.{Slot}
 use Rattle.log_tail.specs.Tail.{records_of, first_of, IsTail}
-use Rattle.log_tail.specs.Heads.{is_followed, rest_of}
+use Rattle.log_tail.specs.Heads.{is_damaged, rest_of}
 use Rattle.segmented_log.specs.Names.{segment_name, tail_name}
 use Rattle.segmented_log.specs.Parts.{tail_end}
 use Rattle.segmented_log.specs.Log.{HasSegment, IsLog, IsBlank, KeepsLog}
@@ -50,17 +50,18 @@ pub record IsNoSegment (c : Look) (first : ℕ) : Type 0 where
   pub fits : first < 2 ^ 64
   pub no_store : (all : List Slot) → HasSegment c (record { first = first; slots = all }) → ⊥
 
--- These bytes of a tail are damaged: another batch follows one that is not whole, or some are no whole batch.
+-- These bytes of a tail are damaged: some have changed that were written whole, or some are no whole batch.
 abbrev pub HasDamage : List ℕ → Type 0
-HasDamage tail = (is_followed tail ≡ true) ⊎ (rest_of tail ≢ [])
+HasDamage tail = (is_damaged tail ≡ true) ⊎ (rest_of tail ≢ [])
 
 -- The folder's tail is damaged.
 abbrev pub HasDamagedTail : Look → Type 0
 HasDamagedTail c = (tail : List ℕ) × (c tail_name ≡ Some tail) × HasDamage tail
 
--- No batch follows the first one of the folder's tail that is not whole. So only one that was never acknowledged is cut off.
-abbrev pub HasNoneFollowed : Look → Type 0
-HasNoneFollowed c = (tail : List ℕ) → c tail_name ≡ Some tail → is_followed tail ≡ false
+-- No bytes of the folder's tail have changed that were written whole: no batch follows the first one that is not whole, so
+-- only one that was never acknowledged is cut off, and the tail has the first number that its first head names.
+abbrev pub HasSoundTail : Look → Type 0
+HasSoundTail c = (tail : List ℕ) → c tail_name ≡ Some tail → is_damaged tail ≡ false
 
 -- This file is no tail; or there is none, where the folder is not blank.
 abbrev pub IsNoTail : Bool → Option (List ℕ) → Type 0

@@ -13,7 +13,7 @@ ghost use Rattle.segmented_log.specs.Names.{tail_name};
 ghost use Rattle.segmented_log.specs.Parts.{part_of, tail_end, end_from, AreParts};
 ghost use Rattle.segmented_log.specs.Log.{IsLog, IsBlank, KeepsLog};
 ghost use Rattle.segmented_log.specs.Opening.{IsSyncedButTail, IsOldOrSeen, IsNoLog, HasFullTail};
-ghost use Rattle.segmented_log.specs.Opening.{HasSegments, IsTailOf, IsNoTail, HasDamagedTail, HasNoneFollowed};
+ghost use Rattle.segmented_log.specs.Opening.{HasSegments, IsTailOf, IsNoTail, HasDamagedTail, HasSoundTail};
 ghost use Rattle.segmented_log.specs.Settled.{TailIsKept, IsSettledTail, IsSettledFolder};
 ghost use Rattle.segmented_log.specs.Causes.{IsOfTails, IsOfOpenings};
 
@@ -62,10 +62,12 @@ fn load_tail<F: ReadableFolder>(
         (F.may_leave folder.old) (F.may_leave folder.new) }
     ensures any_moment { IsTrue F.honest → LeavesOnly F.moment F.left_since folder.old folder.new
         (IsOldOrSeen (F.may_leave folder.old) (F.seen folder.old)) }
+    ensures elsewhere { IsTrue F.honest → ElsewhereOfBoth (tail_name ++ part) tail_name
+        (F.seen folder.old) (F.seen folder.new) }
     ensures same { IsTrue F.honest → IfOk result (λ t. IsTailOf (F.seen folder.old tail_name) t.bytes.items) }
     ensures no_log { IsTrue F.honest → IsErrOf result LogError.NoLog → IsNoTail is_blank (F.seen folder.old tail_name) }
     ensures damaged { IsTrue F.honest → IsErrOf result LogError.DamagedTail → HasDamagedTail (F.seen folder.old) }
-    ensures sound { IsTrue F.honest → cut ≢ Cut.Damage → OnOk result (HasNoneFollowed (F.seen folder.old)) }
+    ensures sound { IsTrue F.honest → cut ≢ Cut.Damage → OnOk result (HasSoundTail (F.seen folder.old)) }
     ensures failures { F.failures folder.old ≤ F.failures folder.new }
     ensures failed { IsTrue F.is_readable → IsErrOf result LogError.Failed
         → HasRisen (F.failures folder.old) (F.failures folder.new) }
@@ -157,7 +159,9 @@ fn load_synced<F: ReadableFolder>(
     ensures no_log { IsTrue F.honest → IsErrOf result LogError.NoLog → IsNoLog (F.seen folder.old) }
     ensures full { IsTrue F.honest → IsErrOf result LogError.Full → HasFullTail (F.seen folder.old) }
     ensures damaged { IsTrue F.honest → IsErrOf result LogError.DamagedTail → HasDamagedTail (F.seen folder.old) }
-    ensures sound { IsTrue F.honest → cut ≢ Cut.Damage → OnOk result (HasNoneFollowed (F.seen folder.old)) }
+    ensures sound { IsTrue F.honest → cut ≢ Cut.Damage → OnOk result (HasSoundTail (F.seen folder.old)) }
+    ensures elsewhere { IsTrue F.honest → ElsewhereOfBoth (tail_name ++ part) tail_name
+        (F.seen folder.old) (F.seen folder.new) }
     ensures failures { F.failures folder.old ≤ F.failures folder.new }
     ensures failed { IsTrue F.honest → IsTrue F.is_readable → IsErrOf result LogError.Failed
         → HasRisen (F.failures folder.old) (F.failures folder.new) ⊎ HasSegments (F.seen folder.old) }
@@ -189,7 +193,9 @@ fn load<F: ReadableFolder>(alloc: Global, folder: &mut F) -> Result<Parts<F::Fil
     ensures no_log { IsTrue F.honest → IsErrOf result LogError.NoLog → IsNoLog (F.seen folder.old) }
     ensures full { IsTrue F.honest → IsErrOf result LogError.Full → HasFullTail (F.seen folder.old) }
     ensures damaged { IsTrue F.honest → IsErrOf result LogError.DamagedTail → HasDamagedTail (F.seen folder.old) }
-    ensures sound { IsTrue F.honest → OnOk result (HasNoneFollowed (F.seen folder.old)) }
+    ensures sound { IsTrue F.honest → OnOk result (HasSoundTail (F.seen folder.old)) }
+    ensures elsewhere { IsTrue F.honest → OnOk result (ElsewhereOfBoth (tail_name ++ part) tail_name
+        (F.seen folder.old) (F.seen folder.new)) }
     ensures failures { F.failures folder.old ≤ F.failures folder.new }
     ensures failed { IsTrue F.honest → IsTrue F.is_readable → IsErrOf result LogError.Failed
         → HasRisen (F.failures folder.old) (F.failures folder.new) ⊎ HasSegments (F.seen folder.old) }
@@ -239,6 +245,10 @@ impl<F: ReadableFolder> SegmentedLog<F> {
         ensures any_moment_err { IsTrue F.honest → IfErr result (λ e. LeavesOnly F.moment F.left_since folder e.1
             (IsOldOrSeen (F.may_leave folder) (F.seen folder))) }
 
+        // Of the folder's files only the tail and the file beside it may be others.
+        ensures files { IsTrue F.honest → IfOk result (λ log. ElsewhereOfBoth (tail_name ++ part) tail_name
+            (F.seen folder) (F.seen log.folder)) }
+
         // A log is not refused, nor a folder where one can begin. Where the folder is read, a call of it failed, or the
         // file of a segment.
         ensures no_log { IsTrue F.honest → IfErr result (λ e. e.0 ≡ LogError.NoLog → IsNoLog (F.seen folder)) }
@@ -246,8 +256,8 @@ impl<F: ReadableFolder> SegmentedLog<F> {
         ensures damaged { IsTrue F.honest → IfErr result (λ e. e.0 ≡ LogError.DamagedTail
             → HasDamagedTail (F.seen folder)) }
 
-        // What is cut off the tail is one batch that was not finished: none follows it.
-        ensures sound { IsTrue F.honest → IfOk result (λ _. HasNoneFollowed (F.seen folder)) }
+        // What is cut off the tail is one batch that was not finished, and the first number is that of the first head.
+        ensures sound { IsTrue F.honest → IfOk result (λ _. HasSoundTail (F.seen folder)) }
         ensures failed { IsTrue F.honest → IsTrue F.is_readable → IfErr result (λ e. e.0 ≡ LogError.Failed
             → HasRisen (F.failures folder) (F.failures e.1) ⊎ HasSegments (F.seen folder)) }
         ensures kind { IfErr result (λ e. IsOfOpenings e.0) }

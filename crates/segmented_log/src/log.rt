@@ -180,6 +180,7 @@ impl<F: ReadableFolder> SegmentedLog<F> {
             → HasRisen self.old.read_failures self.new.read_failures }
         ensures sealed { IsTrue F.honest → IsErrOf result LogError.Failed
             → number < end_from self.old.first (parts_of self.old.segments) }
+        ensures steady { IsErrOf result LogError.Failed ⊎ (self.new.read_failures ≡ self.old.read_failures) }
         ensures kind { IfErr result (λ e. (e ≡ LogError.Broken) ⊎ IsOfReads e) }
     {
         if self.is_broken {

@@ -38,7 +38,7 @@ pub fn segment_file(alloc: Global, first: u64) -> Result<String, AllocError>
 
 /// The name of the file of this number that keeps bytes which were cut off a tail.
 #[tactic(auto, unfolding(crate::specs::Names::cut_name))]
-pub fn cut_file(alloc: Global, number: u64) -> Result<String, AllocError>
+pub(crate) fn cut_file(alloc: Global, number: u64) -> Result<String, AllocError>
     ensures { IfOk result (λ name. string_bytes name ≡ cut_name number) }
 {
     let mut name = String::from_str(alloc, "tail.cut.")?;
@@ -47,7 +47,7 @@ pub fn cut_file(alloc: Global, number: u64) -> Result<String, AllocError>
 }
 
 /// The name of the file beside one of this name.
-pub fn name_beside(alloc: Global, name: &String) -> Result<String, AllocError>
+pub(crate) fn name_beside(alloc: Global, name: &String) -> Result<String, AllocError>
     ensures { IfOk result (λ beside. string_bytes beside ≡ string_bytes name.now ++ part) }
 {
     let mut beside = String::from_str(alloc, name.as_str())?;

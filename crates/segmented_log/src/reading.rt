@@ -1,6 +1,6 @@
 //! Records that are read from segments.
 
-ghost use Rattle.std.specs.Prelude.{◌≡◌, ◌≢◌, ◌≤◌, ◌<◌, ◌-◌, ◌↔◌, ℕ, length, map, take, All, IsTrue, IfErr, IfOk};
+ghost use Rattle.std.specs.Prelude.{◌≡◌, ◌≢◌, ◌⊎◌, ◌≤◌, ◌<◌, ◌-◌, ◌↔◌, ℕ, length, map, take, All, IsTrue, IfErr, IfOk};
 ghost use Rattle.std.specs.Prelude.{HoldsAt, IsErrOf, slice_get};
 ghost use Rattle.std.specs.List.{sum_by};
 ghost use Rattle.store_base.specs.Counts.{HasRisen};
@@ -41,6 +41,7 @@ fn find_segment<H: FileHandle>(segments: &[Segment<H>], number: u64) -> usize
 fn get_error(error: StoreError) -> LogError
     ensures damaged { result ≡ LogError.Damaged → IsDamaged error }
     ensures failed { result ≡ LogError.Failed → (error ≢ StoreError.Memory) × (IsDamaged error → ⊥) }
+    ensures read { error ≡ StoreError.Read → result ≡ LogError.Failed }
     ensures kind { IsOfReads result }
 {
     match error {
@@ -66,6 +67,8 @@ fn get_in<H: FileHandle>(
     ensures failed { IsTrue segment.old.reader.file.honest → segment.old.first ≤ number
         → number < end_of (part_of segment.old.first segment.old.reader) → IsErrOf result LogError.Failed
         → HasRisen segment.old.reader.file.failures segment.new.reader.file.failures }
+    ensures steady { IsErrOf result LogError.Failed
+        ⊎ (segment.new.reader.file.failures ≡ segment.old.reader.file.failures) }
     ensures kind { IfErr result IsOfReads }
 {
     if number < segment.first || number - segment.first >= u64::from(segment.reader.num_docs()) {
@@ -101,6 +104,8 @@ pub(crate) fn get_from<H: FileHandle>(
         → number < end_from n (map (λ s. part_of s.first s.reader) segments.old.items)
         → IsErrOf result LogError.Failed → HasRisen (sum_by (λ s. s.reader.file.failures) segments.old.items)
         (sum_by (λ s. s.reader.file.failures) segments.new.items) }
+    ensures steady { IsErrOf result LogError.Failed ⊎ (sum_by (λ s. s.reader.file.failures) segments.new.items
+        ≡ sum_by (λ s. s.reader.file.failures) segments.old.items) }
     ensures kind { IfErr result IsOfReads }
 {
     let i = find_segment(segments, number);

@@ -1,14 +1,15 @@
 //! A damaged tail is cut off, and what is cut off is kept.
 
-ghost use Rattle.std.specs.Prelude.{◌≡◌, ◌≤◌, ℕ, List, Some, None, length, drop, map, string_bytes, IsTrue};
+ghost use Rattle.std.specs.Prelude.{◌≡◌, ◌≤◌, false, ℕ, List, Some, None, length, drop, map, string_bytes, IsTrue};
 ghost use Rattle.std.specs.Prelude.{IfOk, IfErr, IfSome, IfNone, OnOk};
 ghost use Rattle.std.specs.List.{Contains};
 ghost use Rattle.store_folder.specs.Moments.{LeavesOnly};
 ghost use Rattle.store_folder.specs.Folder.{Keeps, AreNames};
-ghost use Rattle.log_tail.specs.Heads.{rest_of};
+ghost use Rattle.log_tail.specs.Tail.{first_of};
+ghost use Rattle.log_tail.specs.Heads.{is_damaged, rest_of};
 ghost use Rattle.segmented_log.specs.Names.{tail_name, cut_name, is_among};
 ghost use Rattle.segmented_log.specs.Log.{KeepsLog};
-ghost use Rattle.segmented_log.specs.Opening.{IsOfLog, IsSyncedButTail, IsAsBefore, IsOldOrSeen};
+ghost use Rattle.segmented_log.specs.Opening.{IsOfLog, IsSyncedButTail, IsAsBefore, IsOldOrSeen, HasSoundTail};
 ghost use Rattle.segmented_log.specs.Causes.{IsFault, IsOfTails};
 
 use crate::error::LogError;
@@ -16,6 +17,7 @@ use crate::found_files::sync_found_files;
 use crate::names::{TAIL, cut_file, name_beside};
 use crate::tail::{Cut, repair_tail};
 use log_tail::batches::find_records;
+use log_tail::heads::is_damaged;
 use log_tail::tail::first_number;
 use std::alloc::Global;
 use store_folder::{Folder, ReadableFolder, replace};
@@ -99,12 +101,27 @@ fn cut_off<F: Folder>(
     Ok(name)
 }
 
+// Fails if a tail that ends at this place, where its whole batches end, has not the number that its first head names.
+fn check_number(bytes: &[u8], first: u64, end: usize) -> Result<(), LogError>
+    requires first { first ≡ first_of bytes.now }
+    requires within { end ≤ length bytes.now }
+    requires rest { drop end bytes.now ≡ rest_of bytes.now }
+    ensures sound { OnOk result (is_damaged bytes.now ≡ false) }
+    ensures kind { IfErr result (λ e. e ≡ LogError.DamagedTail) }
+{
+    if is_damaged(bytes, first, end) {
+        return Err(LogError::DamagedTail);
+    }
+    Ok(())
+}
+
 /// Cuts off the end of the tail of a log's folder that is no whole batch, and keeps it in a file whose name it returns.
 /// `None` where the tail is whole. The records before it stay. Those of the bytes that are cut off are gone: the next
 /// record of the log gets the number of the first of them.
 ///
-/// Errors: `NoLog` where the folder has no tail; `Memory` and `Failed`, after which the folder is as it was, or has the
-/// bytes in a file of their own, and maybe no more in the tail.
+/// Errors: `NoLog` where the folder has no tail; `DamagedTail` where all of it is whole batches, of which the first head
+/// names another first number, so nothing can be cut off; `Memory` and `Failed`, after which the folder is as it was, or
+/// has the bytes in a file of their own, and maybe no more in the tail.
 pub fn repair<F: ReadableFolder>(alloc: Global, folder: &mut F) -> Result<Option<String>, LogError>
     // After an Ok each crash leaves the bytes in a file that is new, and the log that was there.
     ensures kept { IsTrue F.honest → IfOk result (λ cut. IfSome cut (λ name. (bytes : List ℕ)
@@ -115,9 +132,10 @@ pub fn repair<F: ReadableFolder>(alloc: Global, folder: &mut F) -> Result<Option
     ensures log { IsTrue F.honest → IfOk result (λ cut. IfSome cut (λ _. (c : List ℕ → _)
         → F.may_leave folder.new c → KeepsLog (F.seen folder.old) c)) }
 
-    // Nothing is cut off a tail that is whole.
+    // Nothing is cut off a tail that is whole, and sound.
     ensures whole { IsTrue F.honest → IfOk result (λ cut. IfNone cut ((bytes : List ℕ)
         → F.seen folder.old tail_name ≡ Some bytes → length (rest_of bytes) ≡ 0)) }
+    ensures sound { IsTrue F.honest → IfOk result (λ cut. IfNone cut (HasSoundTail (F.seen folder.old))) }
 
     // A crash at any moment leaves what it could leave before, or the same log.
     ensures any_moment { IsTrue F.honest → LeavesOnly F.moment F.left_since folder.old folder.new
@@ -129,11 +147,12 @@ pub fn repair<F: ReadableFolder>(alloc: Global, folder: &mut F) -> Result<Option
     let Some(bytes) = folder.read(alloc, TAIL)? else {
         return Err(LogError::NoLog);
     };
-    if first_number(&bytes).is_none() {
+    let Some(first) = first_number(&bytes) else {
         return Err(LogError::NoLog);
-    }
+    };
     let end = find_records(alloc, &bytes)?.end;
     if end == bytes.len() {
+        check_number(&bytes, first, end)?;
         return Ok(None);
     }
     let name = cut_off(alloc, folder, &names, bytes, end)?;

@@ -6,6 +6,7 @@ ghost use Rattle.store_folder.specs.Moments.{LeavesOnly};
 ghost use Rattle.store_format.specs.Block.{Slot};
 ghost use Rattle.segmented_log.specs.Log.{IsLog, IsBlank};
 ghost use Rattle.segmented_log.specs.Runs.{IsOldOrCalled};
+ghost use Rattle.segmented_log.specs.Opening.{IsNoLog, HasDamagedTail};
 ghost use Rattle.segmented_log.specs.Causes.{IsOfOpenings};
 ghost use Rattle.segmented_log.specs.Runs.{pending_by, dropped_by, Drops, Makes, HasBeginning, KeepsAndAdds};
 ghost use Rattle.segmented_log.specs.Runs.{HasMadeFirst, IsOfCalls};
@@ -128,6 +129,12 @@ pub fn open_and_call<F: ReadableFolder>(
         (IsOldOrCalled commit calls.now (F.may_leave folder) (F.seen folder))) }
     ensures any_moment_err { IsTrue F.honest → IfErr result (λ e. LeavesOnly F.moment F.left_since folder e.1
         (IsOldOrCalled commit calls.now (F.may_leave folder) (F.seen folder))) }
+
+    // What `open` refuses for the folder's files, it refuses.
+    ensures no_log { IsTrue F.honest → IfErr result (λ e. e.0 ≡ LogError.NoLog → IsNoLog (F.seen folder)) }
+    ensures damaged { IsTrue F.honest → IfErr result (λ e. e.0 ≡ LogError.DamagedTail
+        → HasDamagedTail (F.seen folder)) }
+    ensures broken { IfErr result (λ e. e.0 ≡ LogError.Broken → ⊥) }
     ensures kind { IfErr result (λ e. IsOfOpenings e.0 ⊎ IsOfCalls calls.now e.0) }
 {
     let mut log = match SegmentedLog::open(alloc, folder, seal_size, commit) {

@@ -91,6 +91,8 @@ pub(crate) fn publish_segment<F: Folder>(
     ensures kept { IsTrue F.honest → OnOk result ((n : List ℕ) → F.entry_kept folder.new n) }
     ensures trust { IsTrue F.honest → EntriesStayElsewhereOfBoth (segment_name first ++ part) (segment_name first)
         (F.trusted folder.old) (F.trusted folder.new) }
+    ensures elsewhere { IsTrue F.honest → ElsewhereOfBoth (segment_name first ++ part) (segment_name first)
+        (F.seen folder.old) (F.seen folder.new) }
     ensures files { IsTrue F.honest → FilesElsewhereOfBoth (segment_name first ++ part) (segment_name first)
         (F.may_hold folder.old) (F.may_hold folder.new) }
     ensures crash { IsTrue F.honest → ComesFrom (ElsewhereOfBoth (segment_name first ++ part) (segment_name first))
@@ -147,6 +149,8 @@ pub(crate) fn add_segment<F: ReadableFolder>(
     ensures kept { IsTrue F.honest → OnOk result ((n : List ℕ) → F.entry_kept folder.new n) }
     ensures trust { IsTrue F.honest → EntriesStayElsewhereOfBoth (segment_name first ++ part) (segment_name first)
         (F.trusted folder.old) (F.trusted folder.new) }
+    ensures elsewhere { IsTrue F.honest → ElsewhereOfBoth (segment_name first ++ part) (segment_name first)
+        (F.seen folder.old) (F.seen folder.new) }
     ensures files { IsTrue F.honest → FilesElsewhereOfBoth (segment_name first ++ part) (segment_name first)
         (F.may_hold folder.old) (F.may_hold folder.new) }
     ensures crash { IsTrue F.honest → ComesFrom (ElsewhereOfBoth (segment_name first ++ part) (segment_name first))

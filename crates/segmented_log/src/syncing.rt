@@ -9,7 +9,7 @@ ghost use Rattle.segmented_log.specs.Log.{IsLog, KeepsOrAdds};
 ghost use Rattle.store_folder.specs.Folder.{ElsewhereOfBoth};
 ghost use Rattle.store_folder.specs.Publishing.{part};
 ghost use Rattle.segmented_log.specs.Names.{tail_name};
-ghost use Rattle.segmented_log.specs.Causes.{IsOfSeals, HasNewSegment, HasNoRoomForLast, IsFault, IsOfSyncs};
+ghost use Rattle.segmented_log.specs.Causes.{IsOfSeals, HasNewSegment, HasNoRoomForLast, IsFault, IsOfSyncs, KeepsOthers};
 
 use crate::error::LogError;
 use crate::log::SegmentedLog;
@@ -68,6 +68,7 @@ impl<F: ReadableFolder> SegmentedLog<F> {
         ensures broken { OnErr result (IsTrue self.new.is_broken) }
         ensures any_moment { IsTrue F.honest → LeavesOnly F.moment F.left_since self.old.folder self.new.folder
             (IsLog self.old.first self.old.slots) }
+        ensures files { IsTrue F.honest → KeepsOthers (F.seen self.old.folder) (F.seen self.new.folder) }
         ensures failures { F.failures self.old.folder ≤ F.failures self.new.folder }
         ensures failed { IsTrue F.honest → IsErrOf result LogError.Failed
             → HasRisen (F.failures self.old.folder) (F.failures self.new.folder)
@@ -108,6 +109,8 @@ impl<F: ReadableFolder> SegmentedLog<F> {
         ensures broken { OnErr result (IsTrue self.new.is_broken) }
         ensures any_moment { IsTrue F.honest → LeavesOnly F.moment F.left_since self.old.folder self.new.folder
             (IsLog self.old.first self.old.slots) }
+        ensures elsewhere { IsTrue F.honest
+            → ElsewhereOfBoth (tail_name ++ part) tail_name (F.seen self.old.folder) (F.seen self.new.folder) }
         ensures failures { F.failures self.old.folder ≤ F.failures self.new.folder }
         ensures failed { IsErrOf result LogError.Failed
             → HasRisen (F.failures self.old.folder) (F.failures self.new.folder) }
@@ -148,6 +151,8 @@ impl<F: ReadableFolder> SegmentedLog<F> {
         // A crash at any moment leaves the same log.
         ensures any_moment { IsTrue F.honest → self.old.is_broken ≡ false
             → LeavesOnly F.moment F.left_since self.old.folder self.new.folder (IsLog self.old.first self.old.slots) }
+        // Of the folder's other files each stays.
+        ensures files { IsTrue F.honest → KeepsOthers (F.seen self.old.folder) (F.seen self.new.folder) }
         ensures broken { IsErrOf result LogError.Broken ↔ IsTrue self.old.is_broken }
         ensures err { OnErr result (IsTrue self.new.is_broken) }
         ensures same { IsTrue self.old.is_broken → self.new ≡ self.old }
@@ -180,6 +185,7 @@ impl<F: ReadableFolder> SegmentedLog<F> {
         ensures broken { OnErr result (IsTrue self.new.is_broken) }
         ensures any_moment { IsTrue F.honest → LeavesOnly F.moment F.left_since self.old.folder self.new.folder
             (IsLog self.old.first self.old.slots) }
+        ensures files { IsTrue F.honest → KeepsOthers (F.seen self.old.folder) (F.seen self.new.folder) }
         ensures failures { F.failures self.old.folder ≤ F.failures self.new.folder }
         ensures failed { IsTrue F.honest → IsErrOf result LogError.Failed
             → HasRisen (F.failures self.old.folder) (F.failures self.new.folder)
@@ -206,6 +212,7 @@ impl<F: ReadableFolder> SegmentedLog<F> {
         ensures broken { OnErr result (IsTrue self.new.is_broken) }
         ensures any_moment { IsTrue F.honest → LeavesOnly F.moment F.left_since self.old.folder self.new.folder
             (IsLog self.old.first self.old.slots) }
+        ensures files { IsTrue F.honest → KeepsOthers (F.seen self.old.folder) (F.seen self.new.folder) }
         ensures failures { F.failures self.old.folder ≤ F.failures self.new.folder }
         ensures failed { IsTrue F.honest → IsErrOf result LogError.Failed
             → HasRisen (F.failures self.old.folder) (F.failures self.new.folder)
@@ -242,6 +249,9 @@ impl<F: ReadableFolder> SegmentedLog<F> {
         ensures any_moment { IsTrue F.honest → self.old.is_broken ≡ false
             → LeavesOnly F.moment F.left_since self.old.folder self.new.folder
             (KeepsOrAdds self.old.commit self.old.first self.old.slots self.old.pending) }
+        // Of the folder's other files each stays.
+        ensures files { IsTrue F.honest
+            → OnOk result (KeepsOthers (F.seen self.old.folder) (F.seen self.new.folder)) }
         ensures broken { IsErrOf result LogError.Broken ↔ IsTrue self.old.is_broken }
         ensures err { OnErr result (IsTrue self.new.is_broken) }
         ensures same { IsTrue self.old.is_broken → self.new ≡ self.old }

@@ -8,7 +8,7 @@ ghost use Rattle.store_folder.specs.Folder.{ElsewhereOfBoth};
 ghost use Rattle.store_folder.specs.Publishing.{part};
 ghost use Rattle.log_tail.specs.Place.{contents, EndsBy};
 ghost use Rattle.log_tail.specs.Tail.{records_of, first_of, IsTail, IsWholeTo};
-ghost use Rattle.log_tail.specs.Heads.{is_followed, rest_of};
+ghost use Rattle.log_tail.specs.Heads.{is_damaged, rest_of};
 ghost use Rattle.segmented_log.specs.Names.{tail_name};
 ghost use Rattle.segmented_log.specs.Opening.{IsSyncedButTail, IsOldOrSeen, IsTailOf, HasDamage};
 ghost use Rattle.segmented_log.specs.Settled.{TailIsKept};
@@ -17,7 +17,7 @@ ghost use Rattle.segmented_log.specs.Causes.{IsOfTails, IsFault};
 use crate::error::LogError;
 use crate::tail_file::replace_tail;
 use log_tail::batches::find_records;
-use log_tail::heads::is_followed;
+use log_tail::heads::is_damaged;
 use log_tail::tail::first_number;
 use log_tail::{Place, new_tail};
 use std::alloc::Global;
@@ -48,12 +48,12 @@ fn is_too_much(cut: Cut, bytes: &[u8], first: u64, end: usize) -> bool
     requires within { end ≤ length bytes.now }
     requires rest { drop end bytes.now ≡ rest_of bytes.now }
     ensures damaged { IsTrue result → HasDamage bytes.now }
-    ensures sound { result ≡ false → cut ≢ Cut.Damage → is_followed bytes.now ≡ false }
+    ensures sound { result ≡ false → cut ≢ Cut.Damage → is_damaged bytes.now ≡ false }
     ensures whole { result ≡ false → cut ≡ Cut.Nothing → rest_of bytes.now ≡ [] }
 {
     match cut {
-        Cut::Nothing => is_followed(bytes, first, end) || end < bytes.len(),
-        Cut::Unfinished => is_followed(bytes, first, end),
+        Cut::Nothing => is_damaged(bytes, first, end) || end < bytes.len(),
+        Cut::Unfinished => is_damaged(bytes, first, end),
         Cut::Damage => false,
     }
 }
@@ -83,12 +83,14 @@ pub(crate) fn repair_tail<F: Folder>(
     // A crash at any moment leaves what it could leave before, or the same log.
     ensures any_moment { IsTrue F.honest → LeavesOnly F.moment F.left_since folder.old folder.new
         (IsOldOrSeen (F.may_leave folder.old) (F.seen folder.old)) }
+    ensures elsewhere { IsTrue F.honest → ElsewhereOfBoth (tail_name ++ part) tail_name
+        (F.seen folder.old) (F.seen folder.new) }
     ensures same { IfOk result (λ t. IsTailOf (Some bytes.items) t.bytes.items) }
     ensures no_log { IsErrOf result LogError.NoLog → IsTail bytes.items → ⊥ }
     ensures damaged { IsErrOf result LogError.DamagedTail → HasDamage bytes.items }
 
-    // No batch was finished of which bytes are cut off.
-    ensures sound { cut ≢ Cut.Damage → OnOk result (is_followed bytes.items ≡ false) }
+    // No bytes are cut off that were written whole.
+    ensures sound { cut ≢ Cut.Damage → OnOk result (is_damaged bytes.items ≡ false) }
     ensures whole { cut ≡ Cut.Nothing → OnOk result (rest_of bytes.items ≡ []) }
     ensures failures { F.failures folder.old ≤ F.failures folder.new }
     ensures failed { IsErrOf result LogError.Failed → HasRisen (F.failures folder.old) (F.failures folder.new) }
@@ -133,6 +135,8 @@ pub(crate) fn begin_tail<F: Folder>(alloc: Global, folder: &mut F) -> Result<Tai
     // A crash at any moment leaves no log, or the new one.
     ensures any_moment { IsTrue F.honest → LeavesOnly F.moment F.left_since folder.old folder.new
         (IsOldOrSeen (F.may_leave folder.old) (F.seen folder.old)) }
+    ensures elsewhere { IsTrue F.honest → ElsewhereOfBoth (tail_name ++ part) tail_name
+        (F.seen folder.old) (F.seen folder.new) }
     ensures empty { IfOk result (λ t. IsTailOf None t.bytes.items) }
     ensures failures { F.failures folder.old ≤ F.failures folder.new }
     ensures failed { IsErrOf result LogError.Failed → HasRisen (F.failures folder.old) (F.failures folder.new) }

@@ -1,4 +1,4 @@
-use Rattle.std.proofs.Common.{◌≡◌, ◌++◌, ◌∷◌, [], ◌∙◌, ap, slice_index_or}
+use Rattle.std.proofs.Common.{◌++◌, ◌∷◌, [], ◌∙◌, ap, slice_index_or}
 use Rattle.log_tail.specs.Tail.{four, eight}
 use Rattle.log_tail.proofs.heads.head_body.Goals as goal
 

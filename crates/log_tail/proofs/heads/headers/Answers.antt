@@ -1,4 +1,4 @@
-use Rattle.std.proofs.Common.{◌≡◌, ◌++◌, ◌∷◌, length, refl, sym, ◌∙◌, ap, arith, append_assoc}
+use Rattle.std.proofs.Common.{◌≡◌, ◌++◌, ◌∷◌, length, refl, ◌∙◌, ap, arith, append_assoc}
 use Rattle.log_tail.specs.Tail.{summed}
 use Rattle.log_tail.specs.Heads.{head_body}
 use Rattle.log_tail.proofs.HeadLemmas.{length-head, three_parts}

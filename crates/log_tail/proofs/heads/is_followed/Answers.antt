@@ -1,4 +1,4 @@
-use Rattle.std.proofs.Common.{◌≡◌, ℕ, Bool, ◌∙◌, ap}
+use Rattle.std.proofs.Common.{ℕ, ◌∙◌, ap}
 use Rattle.log_tail.specs.Heads.{is_followed_at}
 use Rattle.log_tail.proofs.HeadLemmas.{end_is}
 use Rattle.log_tail.proofs.heads.is_followed.Goals as goal

@@ -1,13 +1,16 @@
-use Rattle.std.proofs.Common.{◌≡◌, inl, inr, ⊎_elim, map, string_bytes, sym, subst}
+use Rattle.std.proofs.Common.{◌≡◌, inl, inr, ⊎_elim, ◌++◌, map, string_bytes, sym, subst}
 use Rattle.std.specs.Prelude.{IsTrue}
 use Rattle.std.proofs.lemmas.Result.{on_ok_weaker}
-use Rattle.store_folder.specs.Folder.{AreNames}
+use Rattle.store_folder.specs.Folder.{AreNames, ElsewhereOfBoth}
+use Rattle.store_folder.specs.Publishing.{part}
 use Rattle.store_folder.specs.Moments.{LeavesOnly}
 use Rattle.store_folder.proofs.Steps.{started, weaker, joined}
 use Rattle.segmented_log.specs.Log.{KeepsLog}
-use Rattle.segmented_log.specs.Opening.{IsOldOrSeen, IsNoLog, HasFullTail, HasNoneFollowed}
+use Rattle.segmented_log.specs.Opening.{IsOldOrSeen, IsNoLog, HasFullTail, HasSoundTail}
 use Rattle.segmented_log.proofs.FoundLemmas.{one_look}
+use Rattle.segmented_log.specs.Names.{tail_name}
 use Rattle.segmented_log.proofs.OpeningLemmas.{as_before}
+use Rattle.segmented_log.proofs.SyncLemmas.{always_ok}
 use Rattle.segmented_log.proofs.loading.load.Goals.{After-load_synced}
 use Rattle.segmented_log.proofs.loading.load.Goals as goal
 
@@ -70,5 +73,11 @@ returns-clause-full g c = λ h is.
 
 pub returns-clause-sound : goal.returns-clause-sound
 returns-clause-sound g c = λ h.
-    on_ok_weaker c.load_synced.result (λ sound. subst HasNoneFollowed (same_look g (goal.at.returns-clause-sound g c).After-load_synced h) sound)
+    on_ok_weaker c.load_synced.result (λ sound. subst HasSoundTail (same_look g (goal.at.returns-clause-sound g c).After-load_synced h) sound)
     (c.load_synced.ensures.sound h c.found_cut-cut.ensures)
+
+pub returns-clause-elsewhere : goal.returns-clause-elsewhere
+returns-clause-elsewhere g c = λ h.
+    always_ok c.load_synced.result
+    (subst (λ s. ElsewhereOfBoth (tail_name ++ part) tail_name s (g.F.Folder.seen c.load_synced.new.folder)) (same_look g (goal.at.returns-clause-elsewhere g c).After-load_synced h)
+    (c.load_synced.ensures.elsewhere h))

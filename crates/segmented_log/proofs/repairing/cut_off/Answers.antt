@@ -1,5 +1,5 @@
-use Rattle.std.proofs.Common.{◌≡◌, inl, ℕ, List, Some, length, drop, string_bytes, refl, sym, ◌∙◌, ap, subst, arith}
-use Rattle.std.specs.Prelude.{IsTrue, slice_range}
+use Rattle.std.proofs.Common.{◌≡◌, inl, Some, length, drop, string_bytes, refl, sym, ◌∙◌, ap, subst, arith}
+use Rattle.std.specs.Prelude.{IsTrue}
 use Rattle.std.proofs.lemmas.Slice.{between_to_end}
 use Rattle.store_folder.specs.Moments.{LeavesOnly}
 use Rattle.store_folder.proofs.Steps.{weaker, joined}

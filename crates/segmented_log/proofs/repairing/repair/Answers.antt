@@ -1,8 +1,9 @@
-use Rattle.std.proofs.Common.{rules, ◌≡◌, inl, ℕ, List, Some, sym, ◌∙◌, ap}
+use Rattle.std.proofs.Common.{rules, ◌≡◌, inl, Some, false, length, drop, sym, ◌∙◌, ap, subst, arith}
 use Rattle.std.specs.Prelude.{IsTrue}
 use Rattle.store_folder.specs.Moments.{LeavesOnly}
+use Rattle.std.proofs.lemmas.List.{length-drop}
 use Rattle.store_folder.proofs.Steps.{weaker, joined}
-use Rattle.log_tail.specs.Heads.{rest_of}
+use Rattle.log_tail.specs.Heads.{is_damaged, rest_of}
 use Rattle.segmented_log.specs.Names.{tail_name}
 use Rattle.segmented_log.specs.Opening.{IsOldOrSeen}
 use Rattle.segmented_log.proofs.OpeningLemmas.{as_before, some_is}
@@ -40,3 +41,32 @@ returns-clause-kept g c = λ h bytes is l left.
     let there : F.seen c.sync_found_files.new.folder tail_name ≡ Some c.in-Some.bytes.items = search rules in
     c.in_ok-name.ensures.kept h l left
     ∙ ap (λ b. Some (rest_of b)) (some_is c.in-Some.bytes.items bytes (sym there ∙ c.in_ok-sync_found_files.ensures.seen h tail_name ∙ is))
+
+pub returns-in_err-check_number-clause-any_moment : goal.returns-in_err-check_number-clause-any_moment
+returns-in_err-check_number-clause-any_moment g c = λ h.
+    let F = g.F.Folder in
+    weaker F.moment F.left_since c.args.folder.now c.sync_found_files.new.folder _ _ (λ l left. inl (as_before (F.may_leave c.args.folder.now) l left)) (c.sync_found_files.ensures.any_moment h)
+
+pub returns-then-end-len-clause-any_moment : goal.returns-then-end-len-clause-any_moment
+returns-then-end-len-clause-any_moment g c = λ h.
+    let F = g.F.Folder in
+    weaker F.moment F.left_since c.args.folder.now c.sync_found_files.new.folder _ _ (λ l left. inl (as_before (F.may_leave c.args.folder.now) l left)) (c.sync_found_files.ensures.any_moment h)
+
+pub returns-then-end-len-clause-whole : goal.returns-then-end-len-clause-whole
+returns-then-end-len-clause-whole g c = λ h bytes is.
+    let F = g.F.Folder in
+    let read = c.in-Some.bytes.items in
+    let end = c.in_ok-end.field-0.end in
+    let there : F.seen c.sync_found_files.new.folder tail_name ≡ Some read = search rules in
+    let same = some_is read bytes (sym there ∙ c.in_ok-sync_found_files.ensures.seen h tail_name ∙ is) in
+    let rest : drop end read ≡ rest_of read = subst (λ b. drop end b ≡ rest_of b) c.deref-3.ensures.value c.in_ok-end.ensures.rest in
+    let none : length (rest_of read) ≡ 0 = omega (arith, ap length rest, length-drop end read) in
+    subst (λ b. length (rest_of b) ≡ 0) same none
+
+pub returns-then-end-len-clause-sound : goal.returns-then-end-len-clause-sound
+returns-then-end-len-clause-sound g c = λ h bytes is.
+    let F = g.F.Folder in
+    let read = c.in-Some.bytes.items in
+    let there : F.seen c.sync_found_files.new.folder tail_name ≡ Some read = search rules in
+    let same = some_is read bytes (sym there ∙ c.in_ok-sync_found_files.ensures.seen h tail_name ∙ is) in
+    subst (λ b. is_damaged b ≡ false) (c.deref-then-end-len.ensures.value ∙ same) c.in_ok-check_number.ensures.sound

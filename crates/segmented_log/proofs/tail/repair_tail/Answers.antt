@@ -6,7 +6,7 @@ use Rattle.store_folder.proofs.Steps.{started, weaker}
 use Rattle.log_tail.specs.Place.{contents}
 use Rattle.log_tail.specs.Tail.{records_of, first_of, IsTail, IsWholeTo}
 use Rattle.segmented_log.specs.Names.{tail_name}
-use Rattle.segmented_log.specs.Opening.{IsOldOrSeen}
+use Rattle.segmented_log.specs.Opening.{IsOldOrSeen, HasDamage}
 use Rattle.segmented_log.proofs.OpeningLemmas.{as_before, keeps_replaced}
 use Rattle.segmented_log.proofs.TailRepairLemmas.{front_whole, front_first, front_records, front_tail, front_contents}
 use Rattle.segmented_log.proofs.tail.repair_tail.Goals.{In-Some, After-deref-5}
@@ -92,3 +92,6 @@ returns-clause-records g c =
     let found = c.in_ok-found.found in
     let known = ap (λ b. contents b found.places.items) (sym c.deref-2.ensures.value) ∙ c.in_ok-found.ensures.records ∙ ap records_of c.deref-2.ensures.value in
     front_contents c.args.bytes.items c.in_ok-whole.whole.items found.end (whole_is g here) (file_is g here) found.places.items known c.in_ok-found.ensures.within
+
+pub returns-then-is_too_much-clause-damaged : goal.returns-then-is_too_much-clause-damaged
+returns-then-is_too_much-clause-damaged g c = λ is. subst HasDamage c.deref-3.ensures.value (c.is_too_much.ensures.damaged c.if-is_too_much.true)

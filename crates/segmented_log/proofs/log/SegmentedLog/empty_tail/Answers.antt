@@ -1,9 +1,10 @@
-use Rattle.std.proofs.Common.{◌≡◌, [], ◌+◌, ◌++◌, length, map, Some, sym, ◌∙◌, ap, subst, arith}
+use Rattle.std.proofs.Common.{◌≡◌, [], ◌+◌, ◌++◌, length, map, Some, refl, sym, ◌∙◌, ap, subst, arith}
 use Rattle.std.specs.Prelude.{All, IsTrue}
 use Rattle.std.proofs.lemmas.Bool.{OnFalse_at}
 use Rattle.std.specs.List.{flat_map}
 use Rattle.store_folder.specs.Moments.{LeavesOnly}
 use Rattle.store_folder.proofs.Steps.{weaker}
+use Rattle.store_folder.specs.Folder.{ElsewhereOfBoth}
 use Rattle.store_folder.specs.Publishing.{part, IsOldOrWhole}
 use Rattle.log_tail.specs.Tail.{records_in, records_of}
 use Rattle.segmented_log.specs.Names.{tail_name}
@@ -73,6 +74,22 @@ returns-in_err-replace_tail-clause-any_moment g c = λ h.
 
 pub returns-clause-any_moment : goal.returns-clause-any_moment
 returns-clause-any_moment g c = λ h. same_log g (goal.at.returns-clause-any_moment g c).After-deref c.replace_tail.new.folder h (c.replace_tail.ensures.any_moment h)
+
+pub returns-then-len-eq-HEADER-clause-elsewhere : goal.returns-then-len-eq-HEADER-clause-elsewhere
+returns-then-len-eq-HEADER-clause-elsewhere g c = λ h n no_part no_tail. refl
+
+pub returns-in_err-tail-clause-elsewhere : goal.returns-in_err-tail-clause-elsewhere
+returns-in_err-tail-clause-elsewhere g c = λ h.
+    let look = g.F.Folder.seen c.self.inside.folder in
+    subst (λ v. ElsewhereOfBoth (tail_name ++ part) tail_name (g.F.Folder.seen v.folder) look) c.self.view_is (λ n no_part no_tail. refl)
+
+pub returns-in_err-replace_tail-clause-elsewhere : goal.returns-in_err-replace_tail-clause-elsewhere
+returns-in_err-replace_tail-clause-elsewhere g c = λ h.
+    subst (λ v. ElsewhereOfBoth (tail_name ++ part) tail_name (g.F.Folder.seen v.folder) (g.F.Folder.seen c.replace_tail.new.folder)) c.self.view_is (c.replace_tail.ensures.elsewhere h)
+
+pub returns-clause-elsewhere : goal.returns-clause-elsewhere
+returns-clause-elsewhere g c = λ h.
+    subst (λ v. ElsewhereOfBoth (tail_name ++ part) tail_name (g.F.Folder.seen v.folder) (g.F.Folder.seen c.replace_tail.new.folder)) c.self.view_is (c.replace_tail.ensures.elsewhere h)
 
 -- the new tail is the file's, in memory
 new_is : (g : _) (c : After-restart g) → c.restart.new.self.bytes ≡ c.in_ok-tail.tail.items

@@ -1,4 +1,4 @@
-use Rattle.std.proofs.Common.{rules, ◌⊎◌, inl, inr, ⊎_elim, ◌≡◌, ◌+◌, ◌-◌, ◌<◌, ◌++◌, ◌∷◌, List, [], length, take, drop, map, refl, ◌∙◌, ap, subst, sym, arith}
+use Rattle.std.proofs.Common.{rules, ◌⊎◌, inl, inr, ⊎_elim, ◌≡◌, ◌+◌, ◌-◌, ◌<◌, ◌++◌, ◌∷◌, List, [], length, take, drop, map, None, refl, ◌∙◌, ap, subst, sym, arith}
 use Rattle.std.specs.Prelude.{All, IsTrue, IsErrOf}
 use Rattle.store_base.specs.Counts.{HasRisen}
 use Rattle.std.proofs.lemmas.Bool.{OnFalse_at}
@@ -6,18 +6,20 @@ use Rattle.std.proofs.lemmas.List.{take_rest, map_push}
 use Rattle.std.proofs.lemmas.List.Elements.{All-drop, All-push, All-same}
 use Rattle.store_folder.specs.Moments.{LeavesOnly}
 use Rattle.store_folder.proofs.Steps.{weaker}
-use Rattle.store_folder.specs.Folder.{Look}
+use Rattle.store_folder.specs.Folder.{Look, ElsewhereOfBoth}
+use Rattle.store_folder.specs.Publishing.{part}
 use Rattle.log_tail.specs.declared.batches.Place.{Place}
 use Rattle.log_tail.specs.Place.{contents, EndsBy}
 use Rattle.segmented_log.specs.Parts.{Part, part_of, joined, log_slots}
 use Rattle.segmented_log.specs.Log.{HasSegment, IsLog}
 use Rattle.segmented_log.specs.Settled.{part_at, AddsSegment, IsSettledTail, IsSettledFolder}
 use Rattle.segmented_log.specs.declared.error.LogError.TheVariants.{Failed, Full}
-use Rattle.segmented_log.specs.Causes.{HasNoRoom, HasNoRoomForLast, HasNewSegment}
+use Rattle.segmented_log.specs.Causes.{HasNoRoom, HasNoRoomForLast, HasNewSegment, KeepsOthers}
 use Rattle.segmented_log.proofs.CauseLemmas.{none_sealed}
+use Rattle.segmented_log.proofs.FrameLemmas.{keeps_all, keeps_new}
 use Rattle.segmented_log.proofs.SyncLemmas.{log_stays}
 use Rattle.segmented_log.proofs.SegmentLemmas.{part_is, settled_segment, segment_log, slots_segment, folder_segment}
-use Rattle.segmented_log.specs.Names.{tail_name}
+use Rattle.segmented_log.specs.Names.{segment_name, tail_name}
 use Rattle.segmented_log.proofs.NameLemmas.{beside_no_tail, segment_no_tail}
 use Rattle.segmented_log.proofs.log.SegmentedLog.publish_unsealed.Goals.{After-deref}
 use Rattle.segmented_log.proofs.log.SegmentedLog.publish_unsealed.Goals as goal
@@ -69,6 +71,36 @@ same_log g c new h adding =
     (rest g c) (rest_is g c)
     (F.may_leave log.folder) (λ d left. settled.on_disk.outcomes d left) l
     (subst (λ t. AddsSegment (F.may_leave log.folder) (part_at log.sealed t (rest g c)) l) c.bytes.ensures adds)) adding)
+
+-- the segment that is added was not there
+none_is : (g : _) (c : After-deref g) → IsTrue g.F.Folder.honest → g.F.Folder.seen c.self.inside.folder (segment_name c.self.inside.sealed) ≡ None
+none_is g c h =
+    let log = c.self.inside in
+    let settled = ((known_is g c).1 h).0 in
+    none_sealed log.first log.sealed (map (λ x. part_of x.first x.reader) log.segments.items) log.tail.bytes (g.F.Folder.seen log.folder) settled.parts settled.sealed_is
+    (settled.on_disk.outcomes (g.F.Folder.seen log.folder) (g.met.F.Folder.seen_may_be_left log.folder h))
+
+-- and no other file changes
+others_stay : (g : _) (c : After-deref g) (new : _) → IsTrue g.F.Folder.honest
+    → ElsewhereOfBoth (segment_name c.self.inside.sealed ++ part) (segment_name c.self.inside.sealed) (g.F.Folder.seen c.self.inside.folder) (g.F.Folder.seen new)
+    → KeepsOthers (g.F.Folder.seen c.args.self.now.folder) (g.F.Folder.seen new)
+others_stay g c new h elsewhere =
+    let F = g.F.Folder in
+    subst (λ v. KeepsOthers (F.seen v.folder) (F.seen new)) c.self.view_is (keeps_new c.self.inside.sealed (F.seen c.self.inside.folder) (F.seen new) (none_is g c h) elsewhere)
+
+pub returns-then-self-end-clause-files : goal.returns-then-self-end-clause-files
+returns-then-self-end-clause-files g c = λ h. keeps_all _
+
+pub returns-in_err-segment-clause-files : goal.returns-in_err-segment-clause-files
+returns-in_err-segment-clause-files g c = λ h.
+    others_stay g (goal.at.returns-in_err-segment-clause-files g c).After-deref c.add_segment.new.folder h (c.add_segment.ensures.elsewhere h)
+
+pub returns-in_err-push-clause-files : goal.returns-in_err-push-clause-files
+returns-in_err-push-clause-files g c = λ h.
+    others_stay g (goal.at.returns-in_err-push-clause-files g c).After-deref c.add_segment.new.folder h (c.add_segment.ensures.elsewhere h)
+
+pub returns-clause-files : goal.returns-clause-files
+returns-clause-files g c = λ h. others_stay g (goal.at.returns-clause-files g c).After-deref c.add_segment.new.folder h (c.add_segment.ensures.elsewhere h)
 
 pub add_segment-requires : goal.add_segment-requires
 add_segment-requires g c =
@@ -138,12 +170,9 @@ returns-in_err-segment-clause-failed g c = λ h is.
     let F = g.F.Folder in
     let log = c.self.inside in
     let new = c.add_segment.new.folder in
-    let settled = ((known_is g here).1 h).0 in
     let failed : IsErrOf c.add_segment.result Failed = search rules in
-    let none = none_sealed log.first log.sealed (map (λ x. part_of x.first x.reader) log.segments.items) log.tail.bytes (F.seen log.folder) settled.parts settled.sealed_is
-    (settled.on_disk.outcomes (F.seen log.folder) (g.met.F.Folder.seen_may_be_left log.folder h)) in
     subst (λ v. HasRisen (F.failures v.folder) (F.failures new) ⊎ HasNewSegment (F.seen v.folder) (F.seen new)) c.self.view_is
-    (⊎_elim (λ risen. inl risen) (λ some. inr (log.sealed, none, some)) (c.add_segment.ensures.failed h failed))
+    (⊎_elim (λ risen. inl risen) (λ some. inr (log.sealed, none_is g here h, some)) (c.add_segment.ensures.failed h failed))
 
 pub returns-in_err-segment-clause-full : goal.returns-in_err-segment-clause-full
 returns-in_err-segment-clause-full g c = λ h is.

@@ -7,6 +7,7 @@ use Rattle.segmented_log.specs.declared.error.LogError.TheVariants.{Full}
 use Rattle.segmented_log.specs.Causes.{IsFault}
 use Rattle.segmented_log.specs.Log.{IsLog}
 use Rattle.segmented_log.proofs.CauseLemmas.{if_seals, never}
+use Rattle.segmented_log.proofs.FrameLemmas.{keeps_before_tail}
 use Rattle.segmented_log.proofs.log.SegmentedLog.seal_tail.Goals as goal
 
 pub returns-clause-any_moment : goal.returns-clause-any_moment
@@ -18,6 +19,9 @@ returns-clause-any_moment g c = λ h.
     joined F.moment F.left_since old.folder mid.folder new.folder (IsLog old.first old.slots) (c.publish_unsealed.ensures.any_moment h)
     (subst (λ n. LeavesOnly F.moment F.left_since mid.folder new.folder (IsLog n old.slots)) c.publish_unsealed.ensures.first
     (subst (λ a. LeavesOnly F.moment F.left_since mid.folder new.folder (IsLog mid.first a)) (c.in_ok-publish_unsealed.ensures.slots h) (c.empty_tail.ensures.any_moment h)))
+
+pub returns-clause-files : goal.returns-clause-files
+returns-clause-files g c = λ h. keeps_before_tail _ _ _ (c.publish_unsealed.ensures.files h) (c.empty_tail.ensures.elsewhere h)
 
 pub returns-clause-slots : goal.returns-clause-slots
 returns-clause-slots g c = λ h.

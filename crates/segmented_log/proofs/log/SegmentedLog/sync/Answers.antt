@@ -11,6 +11,7 @@ use Rattle.segmented_log.specs.Names.{segment_name}
 use Rattle.segmented_log.specs.Log.{IsLog, KeepsOrAdds}
 use Rattle.segmented_log.proofs.NameLemmas.{segment_no_tail, segment_no_tail_beside}
 use Rattle.segmented_log.proofs.CauseLemmas.{never, err_alone, broken_failed, broken_full}
+use Rattle.segmented_log.proofs.FrameLemmas.{keeps_after_tail}
 use Rattle.segmented_log.proofs.SyncLemmas.{nothing_pending, always_ok}
 use Rattle.segmented_log.proofs.log.SegmentedLog.sync.Goals as goal
 
@@ -71,3 +72,9 @@ returns-then-self-clause-failed g c = λ h is. absurd (err_alone Broken Failed b
 
 pub returns-then-self-clause-full : goal.returns-then-self-clause-full
 returns-then-self-clause-full g c = λ h is. absurd (err_alone Broken Full broken_full is)
+
+pub returns-then-is_empty-clause-files : goal.returns-then-is_empty-clause-files
+returns-then-is_empty-clause-files g c = λ h. always_ok c.seal_large.result (c.seal_large.ensures.files h)
+
+pub returns-clause-files : goal.returns-clause-files
+returns-clause-files g c = λ h. always_ok c.seal_large-2.result (keeps_after_tail _ _ _ (c.in_ok-write_pending.ensures.elsewhere h) (c.seal_large-2.ensures.files h))
