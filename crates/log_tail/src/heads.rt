@@ -127,8 +127,8 @@ fn is_followed_at(bytes: &[u8], first: u64, end: usize) -> bool
     has_head_after(bytes, first, next, body_length(bytes_from(bytes, next)))
 }
 
-// Whether another batch follows the one at this place, where the whole batches of a tail end. Each batch is written once
-// the one before it is on the disk. So the one at the place was, and its bytes have changed.
+// Whether another batch follows the one at this place, where the whole batches of a tail end. Each batch is written
+// once the one before it is on the disk. So the one at the place was, and its bytes have changed.
 fn is_followed(bytes: &[u8], first: u64, end: usize) -> bool
     requires first { first ≡ first_of bytes.now }
     requires within { end ≤ length bytes.now }

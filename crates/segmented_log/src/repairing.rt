@@ -119,9 +119,9 @@ fn check_number(bytes: &[u8], first: u64, end: usize) -> Result<(), LogError>
 /// `None` where the tail is whole. The records before it stay. Those of the bytes that are cut off are gone: the next
 /// record of the log gets the number of the first of them.
 ///
-/// Errors: `NoLog` where the folder has no tail; `DamagedTail` where all of it is whole batches, of which the first head
-/// names another first number, so nothing can be cut off; `Memory` and `Failed`, after which the folder is as it was, or
-/// has the bytes in a file of their own, and maybe no more in the tail.
+/// Errors: `NoLog` where the folder has no tail; `DamagedTail` where it has whole batches alone, and the first head
+/// names another first number, so nothing can be cut off; `Memory` and `Failed`, after which the folder is as it was,
+/// or has the bytes in a file of their own, and maybe no more in the tail.
 pub fn repair<F: ReadableFolder>(alloc: Global, folder: &mut F) -> Result<Option<String>, LogError>
     // After an Ok each crash leaves the bytes in a file that is new, and the log that was there.
     ensures kept { IsTrue F.honest → IfOk result (λ cut. IfSome cut (λ name. (bytes : List ℕ)

@@ -9,7 +9,8 @@ ghost use Rattle.segmented_log.specs.Log.{IsLog, KeepsOrAdds};
 ghost use Rattle.store_folder.specs.Folder.{ElsewhereOfBoth};
 ghost use Rattle.store_folder.specs.Publishing.{part};
 ghost use Rattle.segmented_log.specs.Names.{tail_name};
-ghost use Rattle.segmented_log.specs.Causes.{IsOfSeals, HasNewSegment, HasNoRoomForLast, IsFault, IsOfSyncs, KeepsOthers};
+ghost use Rattle.segmented_log.specs.Causes.{IsOfSeals, HasNewSegment, HasNoRoomForLast};
+ghost use Rattle.segmented_log.specs.Causes.{IsFault, IsOfSyncs, KeepsOthers};
 
 use crate::error::LogError;
 use crate::log::SegmentedLog;
