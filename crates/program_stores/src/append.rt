@@ -5,7 +5,7 @@ ghost use Rattle.store_published.specs.Filling.{IsSameFile};
 ghost use Rattle.store_commands.specs.Appending.{CopiesStore};
 
 use crate::merge::PART_BYTES;
-use crate::pack::{EXPECT_HELP, NO_WORDS, Packing, PackingOptions, STANDARD_INPUT_WORDS};
+use crate::pack::{EXPECT_HELP, Packing, PackingOptions, unnamed_words};
 use clap::{ArgMatches, Command};
 use docstore::{DocStoreVersion, StoreError, StoreWriter, TerminatingWrite};
 use program_base::arguments::{self, block_size_of, word};
@@ -155,12 +155,7 @@ pub fn run(rt: &HostRuntime, matches: &ArgMatches<'_>) -> Result<(), Failure> {
     let block_size = block_size_of(alloc, matches)?;
     let options = PackingOptions::of(alloc, matches)?;
     let list = list_of(rt, matches)?;
-    let unnamed = if list.is_some() {
-        NO_WORDS
-    } else {
-        STANDARD_INPUT_WORDS
-    };
-    let words = words_of(matches).unwrap_or(unnamed);
+    let words = words_of(matches).unwrap_or(unnamed_words(list.is_some()));
     let names = with_file(alloc, path, names_of(alloc, words, list.as_deref()))?;
     let documents = Packing::of_files(rt, path, &names, options);
     append(OldStore { rt, path }, block_size, documents)

@@ -278,11 +278,20 @@ impl<'a, 'o, 'p, 'w> Filling for Packing<'a, 'o, 'p, 'w> {
     }
 }
 
-/// The word that names the standard input, where no files are named.
-pub const STANDARD_INPUT_WORDS: &[&str] = &["-"];
+// The words that stand for the standard input.
+const STANDARD_INPUT_WORDS: &[&str] = &["-"];
 
-/// No words, where a list alone names files.
-pub const NO_WORDS: &[&str] = &[];
+// No words.
+const NO_WORDS: &[&str] = &[];
+
+/// The words that count where none name inputs: that for the standard input, unless a list of files names some.
+pub fn unnamed_words(has_list: bool) -> &'static [&'static str] {
+    if has_list {
+        NO_WORDS
+    } else {
+        STANDARD_INPUT_WORDS
+    }
+}
 
 // Writes a store of this name.
 fn pack(
@@ -303,12 +312,7 @@ pub fn run(rt: &HostRuntime, matches: &ArgMatches<'_>) -> Result<(), Failure> {
     let options = PackingOptions::of(alloc, matches)?;
     let shape = shape_of(alloc, matches)?;
     let list = list_of(rt, matches)?;
-    let unnamed = if list.is_some() {
-        NO_WORDS
-    } else {
-        STANDARD_INPUT_WORDS
-    };
-    let words = words_of(matches).unwrap_or(unnamed);
+    let words = words_of(matches).unwrap_or(unnamed_words(list.is_some()));
     let names = with_file(alloc, output.path, names_of(alloc, words, list.as_deref()))?;
     let mut packing = Packing::of_files(rt, output.path, &names, options);
     pack(rt, output, shape, &mut packing)
