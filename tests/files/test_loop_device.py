@@ -5,8 +5,9 @@ import subprocess
 
 from harness import PROGRAM, UNSHARED, ProgramCase
 
-# Runs a command, `$3`, of the program `$2` while writes fail, with records in `more`. Then the next process appends, and
-# the file system is read anew. Prints the status of the command, the numbers that were acknowledged, and the log.
+# Runs a command, `$3`, of the program `$2` while writes fail, with records in `more`. Then the next process appends,
+# and the file system is mounted again. Prints the status of the command, the numbers that were acknowledged, and the
+# log.
 SCRIPT = """\
 mount -t tmpfs -o size=8m none "$1" && cd "$1" && truncate -s 64m image && mkfs.ext2 -q -F -b 4096 image || exit 77
 mkdir disk && mount -o loop image disk || exit 77

@@ -43,8 +43,8 @@ struct Opened {
     file: File,
 }
 
-/// Those that are open, the one that was read last at the end, and why the last call on a log's folder that failed did
-/// so. A log reports only that one failed.
+/// The segments' files that are open, the one that was read last at the end, and why the last call on a log's folder
+/// that failed did so. A log reports only that one failed.
 #[derive(Drop)]
 pub struct LogFiles {
     opened: Cell<Option<Vec<Opened>>>,

@@ -2,7 +2,7 @@
 
 use docstore::{
     Answer, BlockCompressor, Compressor, Field, MemFile, MemSink, ReadCall, RecordDocument, Schema,
-    StoreCommand, StoreError, write_store,
+    StoreCommand, StoreError, answer_all, write_store,
 };
 use main_theorem::{
     CountedBlock, IndexAnswer, index_read_and_written, stacked_in_two_orders, written_and_asked,
@@ -10,7 +10,7 @@ use main_theorem::{
 use std::alloc::Global;
 use std::process::Abort;
 use std::test::Fail;
-use test_support::making::{opened_bytes, written};
+use test_support::making::{opened_bytes, opened_with_cache, written};
 
 type Commands = Vec<StoreCommand<RecordDocument, MemFile>>;
 
@@ -90,6 +90,41 @@ fn is_answered(alloc: Global) -> Result<bool, StoreError> {
 #[test]
 fn what_was_written_is_answered_with_every_capacity(rt: HostRuntime) -> Result<(), Fail> {
     assert!(rt; is_answered(rt.alloc())?);
+    Ok(())
+}
+
+// Whether calls are answered through a cache of one block, which has the block of the last call then.
+fn is_answered_through_one_block(alloc: Global) -> Result<bool, StoreError> {
+    let file = MemFile::new(alloc, written(alloc, 0, &[b"a", b"b"])?)?;
+    let mut reader = opened_with_cache(alloc, file, 1)?;
+    let first = ReadCall::Iter {
+        alive: None,
+        take: 1,
+    };
+    let calls = [
+        ReadCall::Bytes(1),
+        first,
+        ReadCall::Bytes(5),
+        ReadCall::Bytes(0),
+    ];
+    let answers = answer_all(alloc, &mut reader, &calls)?;
+    let are_right = match answers.as_slice() {
+        [second, Answer::Listed(items), missing, first] => {
+            got(second) == Some(Ok(b"b".as_slice()))
+                && items.len() == 1
+                && got(missing) == Some(Err(StoreError::InvalidArgument(5)))
+                && got(first) == Some(Ok(b"a".as_slice()))
+        }
+        _ => false,
+    };
+    let stats = reader.cache_stats();
+    let has_counted = stats.num_entries == 1 && stats.cache_hits == 1 && stats.cache_misses == 2;
+    Ok(are_right && has_counted && reader.peek_lru() == Some(0))
+}
+
+#[test]
+fn a_list_is_answered_through_a_cache_of_one_block(rt: HostRuntime) -> Result<(), Fail> {
+    assert!(rt; is_answered_through_one_block(rt.alloc())?);
     Ok(())
 }
 
