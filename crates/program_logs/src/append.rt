@@ -2,8 +2,8 @@
 
 use crate::FOLDER;
 use crate::log_files::LogFiles;
-use crate::opened_log::TailOptions;
-use crate::places::open_or_begin;
+use crate::opened_log::{OpenedLog, TailOptions};
+use crate::places::{open_or_begin, tail_bytes};
 use crate::record_span::RecordSpan;
 use crate::records::Appending;
 use crate::sync_policy::{SyncPolicy, policy_of, sync};
@@ -41,6 +41,9 @@ const UNKNOWN_MORE: &str = "; 'zevkhadun log stat' says whether more are in";
 const SEAL_SIZE: usize = 1 << 26;
 
 const SMALL_SEAL_SIZE: usize = 1 << 20;
+
+// The size from which on a tail is sealed at the end, so that the next opening is short.
+const LARGE_TAIL: u64 = 1 << 20;
 
 const TWO_SYNCS_HELP: &str = "\
 Put each batch on the disk with two syncs: a tail that has it too is written beside the old one, and renamed
@@ -199,6 +202,16 @@ fn append_all(appending: &mut Appending<'_>, paths: Option<&[&str]>) -> Result<(
     }
 }
 
+// Seals a large tail. Its records are on the disk already, so where that fails they are there all the same, and a later
+// writer seals them.
+fn seal_large(rt: &HostRuntime, path: &str, log: &mut OpenedLog<'_>) {
+    if let Ok(Some(bytes)) = tail_bytes(rt, path) {
+        if bytes >= LARGE_TAIL {
+            let _ = log.seal();
+        }
+    }
+}
+
 // Appends them to the log at a path.
 fn append<'a>(
     rt: &'a HostRuntime,
@@ -210,7 +223,10 @@ fn append<'a>(
     let total = paths.and_then(|paths| total_bytes(rt, paths));
     let mut appending = appending_of(rt, path, options, files, total)?;
     let appended = append_all(&mut appending, paths);
-    let Appending { log, .. } = appending;
+    let Appending { mut log, .. } = appending;
+    if appended.is_ok() {
+        seal_large(rt, path, &mut log);
+    }
     log.close(rt, path);
     appended
 }

@@ -1,12 +1,12 @@
 //! `log cat`: prints all records in order.
 
 use crate::log_files::LogFiles;
-use crate::places::open_to_read;
+use crate::places::{ReadLog, open_to_read};
 use crate::{FOLDER, folder};
 use clap::{ArgMatches, Command};
 use program_base::arguments;
 use program_base::command_words::{Argument, command_of};
-use program_base::document_output::{self, DocumentForm, form_of, standard_output};
+use program_base::document_output::{self, DocumentForm, DocumentOutput, form_of, standard_output};
 use program_base::failure::{Failure, FailureCause, to_output, with_file};
 use std::alloc::{AllocError, Global};
 use std::io::Write;
@@ -39,16 +39,27 @@ pub fn command<'a>(alloc: Global) -> Result<Command<'a>, AllocError> {
     )
 }
 
+// Prints the records of an opened log from a number on.
+fn print_records(
+    alloc: Global,
+    read: &mut ReadLog<'_>,
+    output: &mut DocumentOutput<'_>,
+    form: DocumentForm,
+    from: u64,
+) -> Result<(), FailureCause> {
+    for number in from.max(read.first())..read.end() {
+        let record = read.get(number)?;
+        form.write(alloc, output, number, &record)?;
+    }
+    to_output(output.flush())
+}
+
 // Prints the records of the log at a path from a number on.
 fn print(rt: &HostRuntime, path: &str, form: DocumentForm, from: u64) -> Result<(), FailureCause> {
     let files = LogFiles::new();
     let mut read = open_to_read(rt, path, &files)?;
     let mut output = standard_output(rt)?;
-    for number in from.max(read.first())..read.end() {
-        let record = read.get(number)?;
-        form.write(rt.alloc(), &mut output, number, &record)?;
-    }
-    to_output(output.flush())?;
+    print_records(rt.alloc(), &mut read, &mut output, form, from)?;
     read.check_end()
 }
 
