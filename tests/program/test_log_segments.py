@@ -36,6 +36,21 @@ class SegmentCase(LogCase):
         return json.loads(self.program.gives("log", "stat", "--json", "events"))
 
 
+class Seal(SegmentCase):
+    def test_an_append_that_ends_well_seals_a_tail_of_a_megabyte(self):
+        text = numbers(100_000)
+        self.append(text)
+        self.assertEqual(self.segments(), [])
+        self.append(text)
+        self.assertEqual((self.segments(), self.counts()["tail_bytes"]), ([FIRST], 16))
+        self.assert_same(self.records(), text + text, "other records")
+
+    def test_an_append_that_fails_seals_nothing(self):
+        self.write("numbers.txt", numbers(200_000))
+        self.append_fails(3, "No such file", "200000 records, numbers 0 to 199999", "numbers.txt", "missing.txt")
+        self.assertEqual((self.segments(), self.counts()["records"]), ([], 200_000))
+
+
 class Compact(SegmentCase):
     def test_a_million_records_become_the_store_that_merge_writes(self):
         text = numbers(1_000_000)
