@@ -146,10 +146,13 @@ class Segments(LogCase):
         self.assertEqual(self.files(), files)
 
     def test_a_tail_that_is_replaced_is_sealed_past_a_mebibyte(self):
+        self.write("numbers.txt", numbers(200_000))
         for words, sealed in ((), False), (("--two-syncs",), True):
             with self.subTest(words):
                 shutil.rmtree(self.folder / "events", ignore_errors=True)
-                self.append(numbers(200_000), *words)
+                # A tail of that size is sealed at the end of an append that ends well.
+                names = ("numbers.txt", "missing.txt")
+                self.append_fails(3, "No such file", "200000 records, numbers 0 to 199999", *words, *names)
                 self.assertEqual(FIRST in self.files(), sealed)
                 self.assertEqual(self.records(), numbers(200_000))
 
