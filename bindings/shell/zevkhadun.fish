@@ -88,7 +88,7 @@ complete -c zevkhadun -n '__fish_seen_subcommand_from log; and __fish_seen_subco
 complete -c zevkhadun -n '__fish_seen_subcommand_from log; and __fish_seen_subcommand_from append' -l expect -x -d 'Append no record unless exactly COUNT of them come; all are put on the disk at the end, as by \'--sync end\''
 complete -c zevkhadun -n '__fish_seen_subcommand_from log; and __fish_seen_subcommand_from append' -l number -d 'Print the number of each record, one per line, once it is on the disk'
 complete -c zevkhadun -n '__fish_seen_subcommand_from log; and __fish_seen_subcommand_from append' -l framing -x -a 'lines text nul lengths files' -d 'How documents are delimited'
-complete -c zevkhadun -n '__fish_seen_subcommand_from log; and __fish_seen_subcommand_from append' -l seal-size -x -d 'Put the tail\'s records into a segment once it exceeds BYTES (64M, or 1M with \'--two-syncs\'); suffixes K, M, G'
+complete -c zevkhadun -n '__fish_seen_subcommand_from log; and __fish_seen_subcommand_from append' -l seal-size -x -d 'Put the tail\'s records into a segment once it exceeds BYTES (8M, or 1M with \'--two-syncs\'); suffixes K, M, G'
 complete -c zevkhadun -n '__fish_seen_subcommand_from log; and __fish_seen_subcommand_from append' -l two-syncs -d 'Put each batch on the disk with two syncs: a tail that has it too is written beside the old one, and renamed'
 complete -c zevkhadun -n '__fish_seen_subcommand_from log; and __fish_seen_subcommand_from append' -s q -l quiet -d 'Show no progress and no summary on standard error'
 complete -c zevkhadun -n '__fish_seen_subcommand_from log; and __fish_seen_subcommand_from append' -s h -l help -d 'Print help (see a summary with \'-h\')'

@@ -190,6 +190,30 @@ class Logs(DeviceCase):
     def test_a_compaction_keeps_all_records(self):
         self.assertGreater(self.run_without_records("compact"), 5)
 
+    def test_segments_before_a_torn_tail_can_be_dropped(self):
+        torn = self.read("events/tail.log")[:-1]
+        self.write("events/tail.log", torn)
+        # As after a writer that was killed: no mark says that it ended well.
+        self.write("events/lock", b"none")
+        for left in range(self.SEGMENTS - 1, 0, -1):
+            self.fill(0)
+            self.first += self.SEALED
+            self.program.gives("log", "drop", "events", "--before", str(self.first))
+            self.free()
+            self.assertEqual(len(list(self.folder.glob("events/*.store"))), left)
+            self.assert_same(self.read("events/tail.log"), torn, "the tail")
+        done = self.program.run("log", "append", "events")
+        self.assertEqual(done.returncode, 0, done.stderr)
+        self.assertIn(b"were no whole batch, as after a crash", done.stderr)
+        self.drop_all_segments()
+
+    def drop_all_segments(self):
+        """Drops the records of all segments on the full device."""
+        self.fill(0)
+        self.program.gives("log", "drop", "events", "--before", str(self.next))
+        self.free()
+        self.assertEqual(list(self.folder.glob("events/*.store")), [])
+
     def test_each_segment_can_be_dropped(self):
         for _ in range(self.SEGMENTS):
             self.fill(0)

@@ -47,12 +47,15 @@ class Broken(LogCase):
             self.assertEqual(self.program.run("log", "verify", "-q", "events").returncode, 1, f"byte {place}")
 
     def refuses(self, tail):
-        """Checks that the log is refused as damaged by each command that writes, and that nothing is changed."""
+        """Checks that the log is refused as damaged by each command that writes the tail, and that nothing is changed,
+        nor by one that drops the records of the only segment."""
         self.change("tail.log", tail)
+        before = self.files()
         said = "events: the tail is damaged; get it from a copy, or see 'zevkhadun log repair --help'"
-        for words in ("append events", "seal events", "compact events", "drop events --before 1"):
+        for words in ("append events", "seal events", "compact events"):
             self.program.fails(1, said, "log", *words.split(), input=b"new\n")
-        self.assertEqual(self.files()["tail.log"], tail)
+        self.assertEqual(self.program.gives("log", "drop", "events", "--before", "3"), b"")
+        self.assertEqual(self.files(), before)
 
     def test_the_end_of_a_tail_whose_writer_ended_well_is_damaged_where_it_is_not_whole(self):
         self.refuses(self.tail[:-1])
@@ -158,13 +161,16 @@ class Broken(LogCase):
     def test_a_changed_first_number_is_told_by_every_command(self):
         said = "events: the tail is damaged; get it from a copy, or see 'zevkhadun log repair --help'"
         commands = (
-            "append events", "seal events", "compact events", "drop events --before 1", "repair events", "cat events",
-            "get events 3", "stat events",
+            "append events", "seal events", "compact events", "repair events", "cat events", "get events 3",
+            "stat events",
         )
         for place in range(8, 16):
             self.change("tail.log", changed(self.tail, place, bytes([self.tail[place] ^ 1])))
             for words in commands:
                 self.program.fails(1, said, "log", *words.split(), input=b"new\n")
+            before = self.files()
+            self.assertEqual(self.program.gives("log", "drop", "events", "--before", "3"), b"")
+            self.assertEqual(self.files(), before)
             done = self.program.run("log", "verify", "-q", "events")
             told = "damaged: the number of its first record is not the one that its first batch names"
             self.assertEqual((done.returncode, done.stdout.decode()), (1, f"events/tail.log: {told}\n"))
@@ -172,6 +178,77 @@ class Broken(LogCase):
                 (self.folder / "events/lock").unlink(missing_ok=True)
         self.change("tail.log", self.tail)
         self.assertEqual(self.records(), LINES + b"four\nfive\n")
+
+
+class Drops(LogCase):
+    """Old segments are removed whatever the tail is, which stays as it is. Before one that is torn or damaged, or that
+    a writer was killed in, the last segment stays."""
+
+    def setUp(self):
+        super().setUp()
+        for number in range(3):
+            self.append(b"%d\n" % number)
+            self.program.gives("log", "seal", "events")
+        self.append(b"3\n")
+        self.append(b"4\n")
+        self.sound = self.files()
+
+    def drop_all(self):
+        """Drops the records of all segments."""
+        self.assertEqual(self.program.gives("log", "drop", "events", "--before", "9"), b"")
+
+    def drop_with(self, tail):
+        """Drops the records of all segments from the log with this tail."""
+        for name, content in self.sound.items():
+            self.change(name, content)
+        self.change("tail.log", tail)
+        self.drop_all()
+        last = "%020d.store" % 2
+        self.assertEqual(self.files(), {last: self.sound[last], "tail.log": tail})
+
+    def test_before_a_torn_tail_the_last_segment_stays_until_the_tail_is_repaired(self):
+        for cut in (1, 7, 30):
+            # As after a writer that was killed: no mark says that it ended well.
+            (self.folder / "events/lock").unlink()
+            self.drop_with(self.sound["tail.log"][:-cut])
+            # The end is torn still, and does not count as damaged.
+            done = self.program.run("log", "append", "events", "--number", input=b"new\n")
+            self.assertEqual((done.returncode, done.stdout), (0, b"4\n"), done.stderr)
+            self.assertIn(b"were no whole batch, as after a crash", done.stderr)
+            self.assertEqual(self.records(), b"2\n3\nnew\n")
+            self.drop_all()
+            self.assertEqual(list(self.files()), ["tail.log"])
+            self.assertEqual(self.records(), b"3\nnew\n")
+
+    def test_before_a_damaged_tail_the_last_segment_stays(self):
+        tail = self.sound["tail.log"]
+        for damaged in (tail[:-1], changed(tail, 20, b"!"), changed(tail, 8, b"\4"), b"x" + tail[1:], b""):
+            self.drop_with(damaged)
+            self.assertEqual(self.program.run("log", "verify", "-q", "events").returncode, 1, damaged[:24])
+
+    def test_after_a_kill_the_last_segment_stays_until_a_writer_ends_well(self):
+        writing = self.begin("--sync", "every", "--number")
+        self.assertEqual(self.say(writing, b"5\n"), b"5\n")
+        writing.kill()
+        writing.wait()
+        self.drop_with(self.files()["tail.log"])
+        self.assertEqual(self.append(b"6\n", "--number"), b"6\n")
+        self.drop_all()
+        self.assertEqual(list(self.files()), ["tail.log"])
+        self.assertEqual(self.records(), b"3\n4\n5\n6\n")
+
+    def test_before_a_whole_tail_the_last_segment_goes_without_a_mark(self):
+        (self.folder / "events/lock").unlink()
+        self.drop_all()
+        self.assertEqual(self.files(), {"tail.log": self.sound["tail.log"]})
+
+    def test_on_a_terminal_the_records_are_counted_that_can_be_read(self):
+        (self.folder / "events/lock").unlink()
+        self.change("tail.log", self.sound["tail.log"][:-1])
+        words = ("log", "drop", "events", "--before", "9")
+        self.assertIn("dropped 2 records, numbers 0 to 1; of those before 9 stay 2: ", self.program.shows(*words))
+        self.change("tail.log", b"x")
+        self.assertEqual(self.program.shows(*words).strip(), "dropped 0 records")
 
 
 class TenBatches(LogCase):

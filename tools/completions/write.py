@@ -1,15 +1,13 @@
 #!/usr/bin/env python3
 """Writes the completions for bash, zsh and fish and the man page, from the help texts of the program.
 
-usage: write.py [FOLDER]
-
 The help texts are those of tests/program/help, which the tests of the program compare with what it prints. After a
-change of them run this script again: the gate compares its files with the committed ones. FOLDER is bindings/shell
-unless it is named.
+change of them run this script again: the gate compares its files with the committed ones.
 """
 
 from __future__ import annotations
 
+import argparse
 import sys
 from pathlib import Path
 
@@ -34,7 +32,9 @@ def generated(folder: Path = HELP) -> dict[str, str]:
 
 
 def main() -> int:
-    folder = Path(sys.argv[1]) if len(sys.argv) > 1 else FOLDER
+    parser = argparse.ArgumentParser(description=__doc__)
+    parser.add_argument("folder", nargs="?", type=Path, default=FOLDER, help="where they go: bindings/shell")
+    folder: Path = parser.parse_args().folder
     folder.mkdir(parents=True, exist_ok=True)
     for name, text in generated().items():
         (folder / name).write_text(text)

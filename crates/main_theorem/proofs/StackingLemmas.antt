@@ -1,5 +1,5 @@
 -- Stackings of stores in memory.
-use Rattle.std.proofs.Common.{◌≡◌, ◌≢◌, ◌⊎◌, inl, inr, ℕ, ◌+◌, ◌<◌, ◌^◌, List, [], ◌++◌, length, Result, Ok, Err, refl, sym, ap, ◌∙◌, subst, arith}
+use Rattle.std.proofs.Common.{◌≡◌, ◌≢◌, inl, inr, ℕ, ◌+◌, ◌<◌, ◌^◌, List, [], ◌++◌, length, Result, Ok, Err, refl, sym, ap, ◌∙◌, subst, arith}
 use Rattle.std.proofs.lemmas.List.{append-nil}
 use Rattle.std.specs.Prelude.{◌↔◌, IsTrue, IsErrOf, OnOk, IfErr, MatchResult}
 use Rattle.store_base.specs.Counts.{HasRisen}
@@ -11,7 +11,6 @@ use Rattle.layered_index.specs.Checkpoint.{docs_end}
 use Rattle.store_format.specs.declared.version.DocStoreVersion.TheVariants.{V1}
 use Rattle.store_format.specs.Footer.{version_number}
 use Rattle.store_format.specs.Laws.{StoresAreApart}
-use Rattle.store_reader.specs.Opening.{IsSomeStore}
 use Rattle.store_reader.specs.Reading.{Reading, IsSeen, num_docs as docs_of, store_of}
 use Rattle.store_format.specs.StoreFile.{StoreBlock, docs_in, file, IsStore}
 use Rattle.docstore.specs.Writer.{Writing, num_docs, blocks_of, flushed, new_writing, with_failures}

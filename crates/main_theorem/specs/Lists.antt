@@ -1,5 +1,5 @@
 -- A list of writing calls, its file opened twice, and a list of reading calls for both readers.
-use Rattle.std.specs.Prelude.{◌≡◌, ℕ, ◌+◌, List, [], ◌∷◌, map, Option}
+use Rattle.std.specs.Prelude.{◌≡◌, ℕ, List, [], map, Option}
 use Rattle.store_format.specs.Block.{Slot}
 use Rattle.store_format.specs.Footer.{version_number}
 use Rattle.store_format.specs.StoreFile.{IsStore}
@@ -7,20 +7,12 @@ use Rattle.store_reader.specs.declared.call_list.ReadCall.{ReadCall}
 use Rattle.store_reader.specs.CallAnswers.{exact_results, keys_of_calls, results_of}
 use Rattle.store_reader.specs.CachedBlocks.{no_blocks}
 use Rattle.store_reader.specs.LookLaws.{AreLookUps}
-use Rattle.store_reader.specs.Reading.{Reading, IsSameStore, num_docs, store_of}
+use Rattle.store_reader.specs.Reading.{Reading, IsSameStore, store_of}
 use Rattle.docstore.specs.declared.run.StoreCommand.{StoreCommand}
-use Rattle.docstore.specs.declared.run.StoreCommand.TheVariants.{Doc, Bytes, Stack}
 use Rattle.docstore.specs.Run.{IsWritten}
 use Rattle.docstore.specs.Trace.{meaning}
 use Rattle.main_theorem.specs.declared.lists.Answered.{Answered}
 use Rattle.main_theorem.specs.declared.lists.Asked.{Asked}
-
--- how many documents the commands bring, if each is accepted
-abbrev pub most_docs : {D H : Type 0} → List (StoreCommand D H) → ℕ
-most_docs [] = 0
-most_docs (Doc d ∷ commands) = 1 + most_docs commands
-most_docs (Bytes v ∷ commands) = 1 + most_docs commands
-most_docs (Stack reader ∷ commands) = num_docs reader + most_docs commands
 
 -- A reader was opened over this file, with a cache of this capacity that had kept and counted nothing. It was asked these
 -- calls, and the answers are exactly those of these slots; the reader that is left has looked up the blocks of the calls.
@@ -37,7 +29,7 @@ pub record Answers (file : List ℕ) (capacity : ℕ) (all : List Slot) (calls :
 -- readers were opened over it, each with its capacity, and answer each call exactly by the slots that the accepted
 -- commands brought.
 pub record IsAsked {D H : Type 0} (period size first_capacity second_capacity : ℕ) (doc_bytes : D
-    → Option (List ℕ)) (commands left : List (StoreCommand D H)) (calls : List ReadCall) (asked : Asked) : Type 0 where
+    → Option (List ℕ)) (commands left : List (StoreCommand D H)) (asked : Asked) : Type 0 where
   pub written : IsWritten period size doc_bytes commands left asked.results.items [] asked.file.items
-  pub first_are : Answers asked.file.items first_capacity (meaning written.trace) calls asked.first
-  pub second_are : Answers asked.file.items second_capacity (meaning written.trace) calls asked.second
+  pub first_are : Answers asked.file.items first_capacity (meaning written.trace) asked.calls.items asked.first
+  pub second_are : Answers asked.file.items second_capacity (meaning written.trace) asked.calls.items asked.second

@@ -38,7 +38,7 @@ const UNKNOWN_MORE: &str = "; 'zevkhadun log stat' says whether more are in";
 
 // The sizes past which a tail is sealed if the words name none: one to which batches are appended, and one that is
 // replaced at each sync.
-const SEAL_SIZE: usize = 1 << 26;
+const SEAL_SIZE: usize = 1 << 23;
 
 const SMALL_SEAL_SIZE: usize = 1 << 20;
 
@@ -77,7 +77,7 @@ pub fn command<'a>(alloc: Global) -> Result<Command<'a>, AllocError> {
             Argument::Option {
                 id: "seal-size",
                 value: "BYTES",
-                help: "Put the tail's records into a segment once it exceeds BYTES (64M, or 1M with '--two-syncs'); \
+                help: "Put the tail's records into a segment once it exceeds BYTES (8M, or 1M with '--two-syncs'); \
                        suffixes K, M, G",
             },
             Argument::ExplainedFlag {

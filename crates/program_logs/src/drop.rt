@@ -1,7 +1,8 @@
 //! `log drop`: removes the oldest records.
 
 use crate::log_files::LogFiles;
-use crate::places::open_to_write;
+use crate::opened_log::explained;
+use crate::places::{folder_to_write, open_to_read};
 use crate::record_span::RecordSpan;
 use crate::{FOLDER, folder, is_seen};
 use clap::{ArgMatches, Command};
@@ -15,7 +16,8 @@ const BEFORE: &str = "before";
 
 const EXAMPLE: &str = "\
 A segment is removed where all its records have smaller numbers, the oldest first. So records before NUMBER may stay:
-those of the segment that has it, and those of the tail, which 'seal' puts into a segment. Numbers stay.
+those of the segment that has it, and those of the tail, which 'seal' puts into a segment. Numbers stay. The tail is
+neither repaired nor written, so no room is needed; the segment before a torn or damaged one stays.
 
 Example:
   zevkhadun log drop events --before 1000000";
@@ -51,23 +53,33 @@ fn number_of(alloc: Global, matches: &ArgMatches<'_>) -> Result<u64, Failure> {
 // What is said where records that might go stay.
 const STAYING: &str = "a segment goes whole, and records of the tail go once they are sealed";
 
+// How many records before a number a log has; none where it can't be read.
+fn count_before(rt: &HostRuntime, path: &str, number: u64) -> u64 {
+    let files = LogFiles::new();
+    match open_to_read(rt, path, &files) {
+        Ok(log) => number.min(log.end()).saturating_sub(log.first()),
+        Err(_) => 0,
+    }
+}
+
 // Says which records went, and how many of those before a number stay.
 fn tell(
     rt: &HostRuntime,
+    path: &str,
     dropped: RecordSpan,
     number: u64,
-    staying: u64,
 ) -> Result<(), FailureCause> {
-    match staying {
+    match count_before(rt, path, number) {
         0 => eprintln!(rt; "dropped {dropped}")?,
-        _ => eprintln!(rt;
+        staying => eprintln!(rt;
             "dropped {dropped}; of those before {number} stay {staying}: {STAYING}"
         )?,
     }
     Ok(())
 }
 
-// Removes segments of the log at a path, and says what it did if that is seen.
+// Removes segments of the log at a path, and says what it did if that is seen. The log is not opened: its tail may be
+// torn or damaged, and the device full.
 fn drop_before(
     rt: &HostRuntime,
     path: &str,
@@ -75,17 +87,19 @@ fn drop_before(
     is_seen: bool,
 ) -> Result<(), FailureCause> {
     let files = LogFiles::new();
-    let mut log = open_to_write(rt, path, &files)?;
-    let from = log.first();
-    log.drop_before(number)?;
-    let (first, end) = (log.first(), log.end());
-    drop(log);
-    match is_seen {
-        true => {
-            let staying = number.min(end).saturating_sub(first);
-            tell(rt, RecordSpan { from, to: first }, number, staying)
+    let mut folder = folder_to_write(rt, path, &files)?;
+    let dropped = segmented_log::drop_segments(rt.alloc(), &mut folder, number);
+    drop(folder);
+    match dropped {
+        Ok(gone) if is_seen => {
+            let dropped = RecordSpan {
+                from: gone.start,
+                to: gone.end,
+            };
+            tell(rt, path, dropped, number)
         }
-        false => Ok(()),
+        Ok(_) => Ok(()),
+        Err(error) => Err(explained(&files, error)),
     }
 }
 

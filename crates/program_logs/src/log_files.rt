@@ -43,6 +43,15 @@ struct Opened {
     file: File,
 }
 
+impl Opened {
+    // Opens the file of a path.
+    fn open<R: Files<File = File> + Drop>(rt: &R, path: &str) -> io::Result<Opened> {
+        let file = File::open(rt, path)?;
+        let id = FileId::of(&file.metadata()?);
+        Ok(Opened { id, file })
+    }
+}
+
 /// The segments' files that are open, the one that was read last at the end, and why the last call on a log's folder
 /// that failed did so. A log reports only that one failed.
 #[derive(Drop)]
@@ -112,9 +121,9 @@ impl<'a, R: Files<File = File> + Drop> SegmentFile<'a, R> {
         path: String,
         files: &'a LogFiles,
     ) -> io::Result<SegmentFile<'a, R>> {
-        let file = File::open(rt, path.as_str())?;
-        let id = FileId::of(&file.metadata()?);
-        files.keep(alloc, Opened { id, file })?;
+        let opened = Opened::open(rt, path.as_str())?;
+        let id = opened.id;
+        files.keep(alloc, opened)?;
         Ok(SegmentFile {
             rt,
             alloc,
@@ -129,8 +138,8 @@ impl<'a, R: Files<File = File> + Drop> SegmentFile<'a, R> {
         if let Some(file) = self.files.take(self.id) {
             return Ok(file);
         }
-        let file = File::open(self.rt, self.path.as_str())?;
-        match FileId::of(&file.metadata()?) == self.id {
+        let Opened { id, file } = Opened::open(self.rt, self.path.as_str())?;
+        match id == self.id {
             true => Ok(file),
             false => Err(ErrorKind::NotFound.into()),
         }

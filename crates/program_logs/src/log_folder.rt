@@ -173,8 +173,7 @@ impl<'a, R: Files<File = File> + Drop> LogFolder<'a, R> {
         ensures reads { IfOk result (λ f. f.reads ≡ 0) }
         ensures asked { IfOk result (λ f. f.asked ≡ 0) }
     {
-        let folder = self.path;
-        let path = format!(in alloc; "{folder}/{name}")?;
+        let path = file_in(alloc, self.path, name)?;
         DiskFile::new(SegmentFile::open(self.rt, alloc, path, self.files)?)
     }
 }

@@ -127,12 +127,6 @@ impl<'a> OpenedLog<'a> {
         self.result_of(compacted)
     }
 
-    /// Removes the segments whose records all have smaller numbers.
-    pub fn drop_before(&mut self, number: u64) -> Result<(), FailureCause> {
-        let dropped = self.log.drop_before(number);
-        self.result_of(dropped)
-    }
-
     /// Closes the log at this path. What a call that failed left unpublished is removed, as it may have filled the
     /// device.
     pub fn close(self, rt: &HostRuntime, path: &str) {

@@ -7,7 +7,7 @@ use crate::opened_log::{OpenedLog, TailOptions, explained};
 use crate::segments::segment_numbers;
 use program_base::failure::FailureCause;
 use segmented_log::{Commit, LogError, TAIL};
-use std::alloc::Global;
+use std::alloc::{AllocError, Global};
 use std::io::ErrorKind;
 use std::{fs, io};
 use store_files::{CreateError, LockedFolder};
@@ -22,9 +22,9 @@ const NOT_APPENDED: TailOptions = TailOptions {
 const TRIES: usize = 1000;
 
 /// The path of a file of a log.
-pub fn file_in(alloc: Global, folder: &str, name: &str) -> Result<String, FailureCause> {
+pub fn file_in(alloc: Global, folder: &str, name: &str) -> Result<String, AllocError> {
     let folder = folder.trim_end_matches('/');
-    Ok(format!(in alloc; "{folder}/{name}")?)
+    format!(in alloc; "{folder}/{name}")
 }
 
 /// How many bytes the tail of a log has; none where there is no tail.
@@ -173,9 +173,9 @@ pub struct ReadLog<'a> {
 }
 
 // Whether a call failed since the file of a segment is gone: a writer joined it with others, or removed it.
-fn has_gone<T>(given: &Result<T, FailureCause>) -> bool {
-    match given {
-        Err(FailureCause::System(error)) => error.kind() == ErrorKind::NotFound,
+fn is_gone(cause: &FailureCause) -> bool {
+    match cause {
+        FailureCause::System(error) => error.kind() == ErrorKind::NotFound,
         _ => false,
     }
 }
@@ -202,11 +202,14 @@ impl<'a> ReadLog<'a> {
     /// one; where it was removed, the error says from which number on records are left.
     pub fn get(&mut self, number: u64) -> Result<Vec<u8>, FailureCause> {
         for _ in 0..TRIES {
-            let record = self.log.get(number);
-            if !has_gone(&record) {
-                return record;
+            let cause = match self.log.get(number) {
+                Ok(record) => return Ok(record),
+                Err(cause) => cause,
+            };
+            if !is_gone(&cause) {
+                return Err(cause);
             }
-            drop(record);
+            drop(cause);
             self.open_again()?;
         }
         Err(FailureCause::BusyLog)
@@ -232,9 +235,9 @@ enum Reading<'a> {
 
 // What an opening came to that failed for this cause.
 fn changed_or<'a>(cause: FailureCause) -> Result<Reading<'a>, FailureCause> {
-    match cause {
-        FailureCause::System(error) if error.kind() == ErrorKind::NotFound => Ok(Reading::Changed),
-        cause => Err(cause),
+    match is_gone(&cause) {
+        true => Ok(Reading::Changed),
+        false => Err(cause),
     }
 }
 

@@ -12,9 +12,10 @@ use std::alloc::{AllocError, Global};
 use std::fs;
 
 const EXAMPLE: &str = "\
-Only this command cuts off bytes that were written whole and have changed: 'append', 'seal', 'compact' and 'drop' refuse
-such a log. Records after the damage are lost with it, and their numbers are given again. So get the file tail.log from
-a copy if there is one. A tail of which only the number of its first record has changed is not cut: it needs the copy.
+Only this command cuts off bytes that were written whole and have changed: 'append', 'seal' and 'compact' refuse such a
+log, and 'drop' leaves its tail. Records after the damage are lost with it, and their numbers are given again. So get
+the file tail.log from a copy if there is one. A tail of which only the number of its first record has changed is not
+cut: it needs the copy.
 
 Example:
   zevkhadun log repair events     prints how many bytes were cut off, and the file that has them";

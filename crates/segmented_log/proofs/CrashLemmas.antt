@@ -9,7 +9,7 @@ use Rattle.log_tail.specs.Tail.{records_from}
 use Rattle.segmented_log.specs.declared.runs.Call.{Call}
 use Rattle.segmented_log.specs.Log.{IsLog, IsBlank}
 use Rattle.segmented_log.specs.Dropping.{IsRest, DropsTo}
-use Rattle.segmented_log.specs.Laws.{Process, IsLeftOf, IsLeftBy, MayBeLeft, IsLeftByAll, MayFollow, HaveAllOf, slots_by, dropped_in}
+use Rattle.segmented_log.specs.Laws.{Process, IsLeftOf, IsLeftBy, MayBeLeft, IsLeftByAll, AreForged, MayFollow, HaveAllOf, slots_by, dropped_in}
 use Rattle.segmented_log.specs.Laws.{OpeningsAreOfProcesses, CallsAreOfProcesses, RestartsAreEnds, EndsLoseNothing, EndsLoseNothingOfNewLogs}
 use Rattle.segmented_log.specs.Opening.{IsOfLog}
 use Rattle.segmented_log.proofs.DropLemmas.{drops_none}
@@ -52,6 +52,10 @@ nothing_made process d c same none = record {
   begun = λ blank. inl (blank_same d c same blank, none);
 }
 
+none_forged : (batches : List Records) → AreForged batches []
+none_forged [] = refl
+none_forged (batch ∷ later) = inl refl
+
 -- what a process leaves: its slots after those that it found, but some of the first
 module _ (process : Process) (first : ℕ) (kept : List Slot) (c : Look) (left : IsLeftOf process first kept c) where
   -- the calls that were made
@@ -81,21 +85,28 @@ module _ (process : Process) (first : ℕ) (kept : List Slot) (c : Look) (left :
       (makes_more [] (pending_by [] process.made) process.made has.made first left.number has.new_first kept left.slots has.rest left.makes refl has.makes))
       begun_less
 
+  abbrev later : List Records
+  later = batches_by (pending_by (pending_by [] process.made) left.beginning.made) left.beginning.others
+
   -- the batches of its next calls, the first of which were made
-  next_batches : batches_by (pending_by [] process.made) process.others ≡ after ++ batches_by (pending_by (pending_by [] process.made) left.beginning.made) left.beginning.others
+  next_batches : batches_by (pending_by [] process.made) process.others ≡ after ++ later
   next_batches =
       ap (λ (l : List Call). batches_by (pending_by [] process.made) l) left.beginning.all
       ∙ batches_by-append (pending_by [] process.made) left.beginning.made left.beginning.others
 
-  may_follow : (forged more : Records) → more ≡ joined after ++ forged → (process.commit ≡ TwoSyncs → forged ≡ []) → MayFollow process more
-  may_follow forged more is none = record { written = after; others = _; all = next_batches; forged = forged; more_is = is; none = none }
+  may_follow : (forged more : Records) → more ≡ joined after ++ forged → AreForged later forged → (process.commit ≡ TwoSyncs → forged ≡ []) → MayFollow process more
+  may_follow forged more is are none = record { written = after; others = later; all = next_batches; forged = forged; more_is = is; are_forged = are; none = none }
 
   more_after : (more : Records) × MayFollow process more × DropsTo first (kept ++ slots_by process more) (dropped_in (first + length kept) process) c
   more_after =
       let has = left.beginning in
       let dropped = dropped_in (first + length kept) process in
       ⊎_elim {A = IsLog has.new_first has.rest c}
-      (λ log. (joined after, may_follow [] (joined after) (sym (append-nil (joined after))) (λ two. refl), record { new_first = has.new_first; rest = has.rest; is_rest = rest_left; log = log }))
+      (λ log. (
+        joined after,
+        may_follow [] (joined after) (sym (append-nil (joined after))) (none_forged later) (λ two. refl),
+        record { new_first = has.new_first; rest = has.rest; is_rest = rest_left; log = log },
+      ))
       (λ ends.
       let forged = records_from ends.forged.bytes in
       let acknowledged = slots_of (batches_by [] process.made) in
@@ -104,7 +115,9 @@ module _ (process : Process) (first : ℕ) (kept : List Slot) (c : Look) (left :
       ∙ ap (λ (l : List Slot). kept ++ l) (append_assoc acknowledged (map doc (joined after)) (map doc forged)
       ∙ ap (λ (l : List Slot). acknowledged ++ l) (sym (map-append doc (joined after) forged))) in (
         joined after ++ forged,
-        may_follow forged (joined after ++ forged) refl (λ two. absurd (let both = sym ends.forged.one_sync ∙ two in cc)),
+        may_follow forged (joined after ++ forged) refl
+            (subst (λ (l : List Records). AreForged l forged) (sym ends.next) (inr (ends.forged.bytes, ends.forged.forged, refl)))
+            (λ two. absurd (let both = sym ends.forged.one_sync ∙ two in cc)),
         record {
           new_first = has.new_first;
           rest = has.rest ++ map doc forged;
@@ -147,7 +160,7 @@ new_log (process ∷ later) old new blank by =
       (
         [],
         rest.0,
-        record { written = []; others = _; all = refl; forged = []; more_is = refl; none = λ two. refl },
+        record { written = []; others = _; all = refl; forged = []; more_is = refl; are_forged = none_forged (batches_by (pending_by [] process.made) process.others); none = λ two. refl },
         refl,
         subst
             (λ (calls : List Call). HaveAllOf 0 later (slots_of (batches_by [] calls) ++ []) rest.0 rest.1) (sym none.1) rest.2,

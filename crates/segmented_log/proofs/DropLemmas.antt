@@ -13,9 +13,9 @@ use Rattle.segmented_log.specs.Names.{segment_name, tail_name}
 use Rattle.segmented_log.specs.Parts.{Part, end_of, tail_slots, first_in, end_from, joined, AreInLine, Ascend, log_slots, AreParts}
 use Rattle.segmented_log.specs.Log.{HasSegment, Holds, IsLog}
 use Rattle.segmented_log.specs.Settled.{IsSettledFolder}
-use Rattle.segmented_log.specs.Dropping.{CanGo, IsRest, DropsTo, LosesSegment, RemovesOnly}
+use Rattle.segmented_log.specs.Dropping.{CanGo, IsRest, DropsTo, LosesSegment, RemovesOnly, HasOnly}
 use Rattle.segmented_log.proofs.NameLemmas.{segment_no_tail, segments_apart}
-use Rattle.segmented_log.proofs.HoldLemmas.{firsts, same_segments}
+use Rattle.segmented_log.proofs.HoldLemmas.{firsts, same_segments, only_of}
 use Rattle.segmented_log.proofs.PartLemmas.{begin_before}
 use Rattle.segmented_log.proofs.ReadLemmas.{slots_end}
 
@@ -75,6 +75,53 @@ removes_more number old mid new one two n = elim (two n) [
     there : (content : List ℕ) → None ≡ Some content → ⊥
     there content e = cc e
 
+-- the numbers of the parts after one are greater, and fit a name
+above : (p : Part) (n : ℕ) (others : List Part) → p.first < n → Ascend n others → AllByRecursion (λ q. q.first < 2 ^ 64) others
+    → AllByRecursion (λ q. (q.first ≢ p.first) × (q.first < 2 ^ 64)) others
+above p n [] more up low = tt
+above p n (q ∷ others) more up low = (
+  ((λ e. absurd (omega (arith, e, more, up.0))), low.0),
+  above p (q.first + 1) others (omega (arith, more, up.0)) up.1 low.1,
+)
+
+low_parts : (n : ℕ) (others : List Part) → n < 2 ^ 64 → AllByRecursion (λ q. q.first < n) others → AllByRecursion (λ q. q.first < 2 ^ 64) others
+low_parts n [] low below = tt
+low_parts n (q ∷ others) low below = (omega (arith, low, below.0), low_parts n others low below.1)
+
+pub others_apart : (first : ℕ) (p : Part) (parts : List Part) → AreInLine first (p ∷ parts) → Ascend (p.first + 1) parts → end_from first (p ∷ parts) < 2 ^ 64
+    → AllByRecursion (λ q. (q.first ≢ p.first) × (q.first < 2 ^ 64)) parts
+others_apart first p parts line up fits =
+    above p (p.first + 1) parts (omega arith) up (low_parts (end_from first (p ∷ parts)) parts fits (begin_before first (p ∷ parts) line).1)
+
+pub begins_low : (first : ℕ) (p : Part) (parts : List Part) → AreInLine first (p ∷ parts) → first ≡ p.first → end_from first (p ∷ parts) < 2 ^ 64 → first < 2 ^ 64
+begins_low first p parts line is fits = omega (arith, fits, (begin_before first (p ∷ parts) line).0, is)
+
+-- the file of a segment is removed, beside others
+module _ (first : ℕ) (p : Part) (parts : List Part) (is : first ≡ p.first) (small : first < 2 ^ 64) (apart : AllByRecursion (λ q. (q.first ≢ p.first) × (q.first < 2 ^ 64)) parts) (old c : Look)
+    (lost : LosesFile (segment_name first) old c) where
+  pub others_stay : (k : ℕ) → k ≢ first → k < 2 ^ 64 → c (segment_name k) ≡ old (segment_name k)
+  others_stay k differs low = lost.elsewhere (segment_name k) (λ same. differs (segments_apart k first low small same))
+
+  each_left : (others : List Part) → AllByRecursion (λ q. (q.first ≢ p.first) × (q.first < 2 ^ 64)) others → AllByRecursion (HasSegment old) others → AllByRecursion (HasSegment c) others
+  each_left [] differ all = tt
+  each_left (q ∷ others) differ all = (
+    (all.0.0, all.0.1, others_stay q.first (λ e. differ.0.0 (e ∙ is)) differ.0.1 ∙ all.0.2),
+    each_left others differ.1 all.1,
+  )
+
+  known : (k : ℕ) → k ≢ first → Contains (firsts (p ∷ parts)) k → Contains (firsts parts) k
+  known k differs (zero, within, at) = absurd (differs (sym at ∙ sym is))
+  known k differs (suc i, within, at) = (i, omega (arith, within), at)
+
+  pub only_left : HasOnly (p ∷ parts) old → c (segment_name first) ≡ None → HasOnly parts c
+  only_left only none = record {
+    each = each_left parts apart only.each.1;
+    no_others = λ k low. elim (cases_eq k first) [
+      | inl same ↦ inl (ap (λ (n : ℕ). c (segment_name n)) same ∙ none)
+      | inr differs ↦ ⊎_elim (λ absent. inl (others_stay k differs low ∙ absent)) (λ among. inr (known k differs among)) (only.no_others k low)
+    ];
+  }
+
 -- the parts after the first, which begin where it ends
 module _ (first number next : ℕ) (p : Part) (parts : List Part) (tail : List ℕ) (a : AreParts first (p ∷ parts) tail) (go : CanGo first number (p ∷ parts) (first_of tail) next) where
   ends : max first (end_of p) ≡ next
@@ -119,52 +166,24 @@ module _ (first number next : ℕ) (p : Part) (parts : List Part) (tail : List �
     slots_are = rest_slots;
   }
 
-  -- the numbers of the parts after it are greater, and fit a name
-  above : (n : ℕ) (others : List Part) → p.first < n → Ascend n others → AllByRecursion (λ q. q.first < 2 ^ 64) others → AllByRecursion (λ q. (q.first ≢ p.first) × (q.first < 2 ^ 64)) others
-  above n [] more up low = tt
-  above n (q ∷ others) more up low = (
-    ((λ e. absurd (omega (arith, e, more, up.0))), low.0),
-    above (q.first + 1) others (omega (arith, more, up.0)) up.1 low.1,
-  )
-
-  low_parts : (n : ℕ) (others : List Part) → n < 2 ^ 64 → AllByRecursion (λ q. q.first < n) others → AllByRecursion (λ q. q.first < 2 ^ 64) others
-  low_parts n [] low below = tt
-  low_parts n (q ∷ others) low below = (omega (arith, low, below.0), low_parts n others low below.1)
-
   apart : AllByRecursion (λ q. (q.first ≢ p.first) × (q.first < 2 ^ 64)) parts
-  apart = above (p.first + 1) parts (omega arith) a.ascend.1 (low_parts (end_from first (p ∷ parts)) parts a.fits (begin_before first (p ∷ parts) a.in_line).1)
+  apart = others_apart first p parts a.in_line a.ascend.1 a.fits
 
   small : first < 2 ^ 64
-  small = omega (arith, a.fits, (begin_before first (p ∷ parts) a.in_line).0, a.first_is)
+  small = begins_low first p parts a.in_line a.first_is a.fits
 
   module _ (old c : Look) (held : Holds (p ∷ parts) tail old) (lost : LosesFile (segment_name first) old c) where
     other_names : (k : ℕ) → k ≢ first → k < 2 ^ 64 → c (segment_name k) ≡ old (segment_name k)
-    other_names k differs low = lost.elsewhere (segment_name k) (λ same. differs (segments_apart k first low small same))
+    other_names = others_stay first p parts a.first_is small apart old c lost
 
     tail_same : c tail_name ≡ Some tail
     tail_same = lost.elsewhere tail_name (λ same. segment_no_tail first (sym same)) ∙ held.tail_is
 
-    each_left : (others : List Part) → AllByRecursion (λ q. (q.first ≢ p.first) × (q.first < 2 ^ 64)) others → AllByRecursion (HasSegment old) others → AllByRecursion (HasSegment c) others
-    each_left [] differ all = tt
-    each_left (q ∷ others) differ all = (
-      (all.0.0, all.0.1, other_names q.first (λ e. differ.0.0 (e ∙ a.first_is)) differ.0.1 ∙ all.0.2),
-      each_left others differ.1 all.1,
-    )
-
-    known : (k : ℕ) → k ≢ first → Contains (firsts (p ∷ parts)) k → Contains (firsts parts) k
-    known k differs (zero, within, is) = absurd (differs (sym is ∙ sym a.first_is))
-    known k differs (suc i, within, is) = (i, omega (arith, within), is)
-
     -- the segment is gone
     pub gone_holds : c (segment_name first) ≡ None → Holds parts tail c
-    gone_holds none = record {
-      each = each_left parts apart held.each.1;
-      no_others = λ k low. elim (cases_eq k first) [
-        | inl same ↦ inl (ap (λ (n : ℕ). c (segment_name n)) same ∙ none)
-        | inr differs ↦ ⊎_elim (λ absent. inl (other_names k differs low ∙ absent)) (λ among. inr (known k differs among)) (held.no_others k low)
-      ];
-      tail_is = tail_same;
-    }
+    gone_holds none =
+        let only = only_left first p parts a.first_is small apart old c lost (only_of (p ∷ parts) tail old held) none in
+        record { each = only.each; no_others = only.no_others; tail_is = tail_same }
 
     -- it is there still
     pub kept_holds : c (segment_name first) ≡ old (segment_name first) → Holds (p ∷ parts) tail c

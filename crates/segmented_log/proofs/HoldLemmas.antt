@@ -5,6 +5,7 @@ use Rattle.store_folder.specs.Folder.{Look}
 use Rattle.segmented_log.specs.Names.{segment_name, tail_name}
 use Rattle.segmented_log.specs.Parts.{Part}
 use Rattle.segmented_log.specs.Log.{HasSegment, Holds}
+use Rattle.segmented_log.specs.Dropping.{HasOnly}
 
 abbrev pub firsts : List Part → List ℕ
 firsts parts = map (λ part. part.first) parts
@@ -38,3 +39,6 @@ module _ (old c : Look) where
 pub other_tail : (segments : List Part) (tail file : List ℕ) (old c : Look) → Holds segments tail old → ((k : ℕ) → c (segment_name k) ≡ old (segment_name k)) → c tail_name ≡ Some file
     → Holds segments file c
 other_tail segments tail file old c held same is = same_segments old c segments tail file held (all_same old c segments same) (λ k low. same k) is
+
+pub only_of : (segments : List Part) (tail : List ℕ) (c : Look) → Holds segments tail c → HasOnly segments c
+only_of segments tail c held = record { each = held.each; no_others = held.no_others }

@@ -7,6 +7,7 @@ pub mod CallListLemmas
 pub mod FilledLemmas
 pub mod FoundLemmas
 pub mod FrameLemmas
+pub mod PackLemmas
 pub mod GrowLemmas
 pub mod HoldLemmas
 pub mod JoinLemmas
@@ -20,6 +21,7 @@ pub mod PartLemmas
 pub mod PlaceLemmas
 pub mod ReadLemmas
 pub mod RefusalLemmas
+pub mod RemoveLemmas
 pub mod RepairLemmas
 pub mod RestLemmas
 pub mod RunLemmas

@@ -13,7 +13,7 @@ use Rattle.segmented_log.proofs.NameLemmas.{segment_no_tail, segment_no_tail_bes
 use Rattle.segmented_log.proofs.HoldLemmas.{firsts, each_stays, all_same_below}
 
 module _ (seen : Look) (names : List (List ℕ)) (numbers : List ℕ) (all : AreNames seen names) (of : AreNumbersIn names numbers) (segments : List Part) (firsts_are : firsts segments ≡ numbers) where
-  no_others : (k : ℕ) → k < 2 ^ 64 → (seen (segment_name k) ≡ None) ⊎ Contains (firsts segments) k
+  pub no_others : (k : ℕ) → k < 2 ^ 64 → (seen (segment_name k) ≡ None) ⊎ Contains (firsts segments) k
   no_others k low = by (seen (segment_name k)) refl
     where
       by : (o : Option (List ℕ)) → seen (segment_name k) ≡ o → (seen (segment_name k) ≡ None) ⊎ Contains (firsts segments) k

@@ -14,8 +14,9 @@ use Rattle.segmented_log.specs.Names.{segment_name, tail_name}
 use Rattle.segmented_log.specs.Parts.{Part, tail_end, end_from, Ascend, AreParts}
 use Rattle.segmented_log.specs.Log.{HasSegment, IsLog, IsBlank}
 use Rattle.segmented_log.specs.Opening.{AreNumbersIn, IsNoLog, HasFullTail, HasSegments, IsNoSegment, IsNoTail, IsTailOf}
+use Rattle.segmented_log.specs.Dropping.{AreOfOneLog}
 use Rattle.segmented_log.proofs.HoldLemmas.{firsts}
-use Rattle.segmented_log.proofs.PartLemmas.{begin_before, more_parts}
+use Rattle.segmented_log.proofs.PartLemmas.{begin_before, more_parts, one_log}
 use Rattle.segmented_log.proofs.UniqueLemmas.{AreAmong, among_cons, same_parts, from_zero}
 
 some_none : (o : Option (List ℕ)) → IsSome o → o ≡ None → ⊥
@@ -99,6 +100,13 @@ module _ (seen : Look) (names : List (List ℕ)) (numbers : List ℕ) (all : Are
               (of.each p.first (omega (arith, below.0, log.parts.fits)) (all.each (segment_name p.first) (is_some (seen (segment_name p.first)) each.0.0 each.0.2))),
           of_folder ps each.1 below.1,
         )
+
+    -- they are not those of one log
+    pub not_one_log : StoresAreApart → IsStrictlyIncreasing numbers → (AreOfOneLog parts → ⊥) → IsNoLog seen
+    not_one_log apart up bad = record {
+      not_log = λ first slots log. bad (subst AreOfOneLog (sym (parts_same apart up first slots log)) (one_log first log.segments log.tail log.parts));
+      not_blank = λ blank. bad (subst AreOfOneLog (sym (no_parts blank)) (record { in_line = tt; ascend = tt; fits = omega arith }));
+    }
 
     -- there is no tail, or it is none
     pub no_tail : (is_blank : Bool) → (parts ≡ [] → is_blank ≡ true) → IsNoTail is_blank (seen tail_name) → IsNoLog seen

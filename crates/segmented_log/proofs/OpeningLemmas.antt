@@ -18,7 +18,7 @@ use Rattle.segmented_log.proofs.PartLemmas.{more_parts, more_slots, begin_before
 pub some_is : {A : Type 0} (a b : A) → Some a ≡ Some b → a ≡ b
 some_is a b e = cc e
 
-none_some : {A : Type 0} (a : A) → None ≡ Some a → ⊥
+pub none_some : {A : Type 0} (a : A) → None ≡ Some a → ⊥
 none_some a e = cc e
 
 -- the same log in another look, with this tail

@@ -1,10 +1,11 @@
 -- How the slots of a log change with its parts.
-use Rattle.std.proofs.Common.{◌≡◌, ℕ, ◌+◌, ◌-◌, ◌^◌, ◌<◌, ◌≤◌, max, List, [], ◌∷◌, ◌++◌, length, drop, map, refl, sym, ◌∙◌, ap, arith, length-append, length-drop, append_assoc}
+use Rattle.std.proofs.Common.{◌≡◌, ℕ, ◌+◌, ◌-◌, ◌^◌, ◌<◌, ◌≤◌, max, List, [], ◌∷◌, ◌++◌, length, drop, map, refl, sym, ◌∙◌, ap, subst, arith, length-append, length-drop, append_assoc}
 use Rattle.std.proofs.lemmas.List.{append-nil, drop-append-le, drop_all, length-map, map-append}
 use Rattle.std.specs.List.{AllByRecursion}
 use Rattle.store_format.specs.Block.{Slot, doc}
 use Rattle.log_tail.specs.Tail.{records_of, first_of, IsTail}
 use Rattle.segmented_log.specs.Parts.{Part, end_of, tail_slots, tail_end, first_in, end_from, joined, AreInLine, Ascend, log_slots, AreParts}
+use Rattle.segmented_log.specs.Dropping.{AreOfOneLog}
 
 pub joined-push : (n : ℕ) (parts : List Part) (part : Part) → joined n (parts ++ part ∷ []) ≡ joined n parts ++ drop (end_from n parts - part.first) part.slots
 joined-push n [] part = append-nil (drop (n - part.first) part.slots)
@@ -31,6 +32,19 @@ begin_before n (p ∷ parts) line =
     let end = end_from (max n (end_of p)) parts in
     let le : max n (end_of p) ≤ end = from_le_end (max n (end_of p)) parts in
     (omega (arith, le, line.1), begin_before (max n (end_of p)) parts line.2)
+
+-- the segments of a log
+pub one_log : (first : ℕ) (segments : List Part) (tail : List ℕ) → AreParts first segments tail → AreOfOneLog segments
+one_log first [] tail parts = record { in_line = tt; ascend = tt; fits = omega arith }
+one_log first (p ∷ segments) tail parts = record {
+  in_line = subst (λ (n : ℕ). AreInLine n (p ∷ segments)) parts.first_is parts.in_line;
+  ascend = (omega arith, parts.ascend.1);
+  fits = subst (λ (n : ℕ). end_from n (p ∷ segments) < 2 ^ 64) parts.first_is parts.fits;
+}
+
+pub ascend_first : (segments : List Part) → Ascend 0 segments → Ascend (first_in segments 0) segments
+ascend_first [] up = tt
+ascend_first (p ∷ segments) up = (omega arith, up.1)
 
 ascend-push : (n : ℕ) (parts : List Part) (part : Part) → n ≤ part.first → AllByRecursion (λ other. other.first < part.first) parts → Ascend n parts → Ascend n (parts ++ part ∷ [])
 ascend-push n [] part le below up = (le, tt)

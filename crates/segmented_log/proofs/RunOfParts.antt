@@ -12,13 +12,13 @@ use Rattle.segmented_log.specs.Parts.{Part, Sealed, end_of, end_from, parts_of, 
 use Rattle.segmented_log.specs.Log.{HasSegment, Holds, IsLog}
 use Rattle.segmented_log.specs.Settled.{AddsSegment, IsSettledFolder}
 use Rattle.segmented_log.specs.Dropping.{LosesSegment}
-use Rattle.segmented_log.specs.Compacting.{slots_in, IsRun, with_joined, IsCovered}
+use Rattle.segmented_log.specs.Compacting.{slots_in, IsRun, one_of, IsCovered}
 use Rattle.segmented_log.proofs.JoinedParts.{whole_slots, left_slots}
 use Rattle.segmented_log.proofs.CompactLemmas.{joining_log, joined_folder, removing_log, removed_folder}
 
--- the part that a run becomes
-abbrev pub one_of : {parts : List Part} {place count : ℕ} → IsRun parts place count → Part
-one_of r = record { first = r.head.first; slots = r.head.slots ++ slots_in r.run }
+-- the parts with the run as one
+abbrev pub with_joined : {parts : List Part} {place count : ℕ} → IsRun parts place count → List Part
+with_joined r = r.before ++ one_of r ∷ (r.run ++ r.after)
 
 -- what holds of each part holds of what stands for it
 pub all_of : {X : Type 0} (P : Part → Type 0) (f : X → Part) (xs : List X) → AllByRecursion P (map f xs) → All (λ x. P (f x)) xs
@@ -43,9 +43,9 @@ run_moved xs ys place count same r = record {
   next = r.next;
 }
 
-pub moved_joined : (xs ys : List Part) (place count : ℕ) (same : xs ≡ ys) (r : IsRun xs place count) → with_joined (run_moved xs ys place count same r) ≡ with_joined r
+pub moved_one : (xs ys : List Part) (place count : ℕ) (same : xs ≡ ys) (r : IsRun xs place count) → one_of (run_moved xs ys place count same r) ≡ one_of r
 unfolding run_moved
-moved_joined xs ys place count same r = refl
+moved_one xs ys place count same r = refl
 
 pub covered_moved : (first : ℕ) (xs ys : List Part) (place : ℕ) → xs ≡ ys → IsCovered first xs place → IsCovered first ys place
 covered_moved first xs ys place same v = record {
@@ -125,13 +125,18 @@ covered_is f xs first place v x within is =
     ap f is ∙ sym (get_or-map f xs place x (f x) within) ∙ ap (λ (l : List Part). get_or l place (f x)) v.split
     ∙ get_or_at v.before v.covered v.after (f x) place v.place_is
 
+-- what is left of some where one goes
+pub map_removed : {X Y : Type 0} (f : X → Y) (xs : List X) (place : ℕ) → map f (remove xs place) ≡ remove (map f xs) place
+map_removed f xs place =
+    map-append f (take place xs) (drop (suc place) xs)
+    ∙ (λ i. sym (take-map f place xs) i ++ sym (drop-map f (suc place) xs) i)
+
 pub covered_left : {X : Type 0} (f : X → Part) (xs : List X) (first place : ℕ) (v : IsCovered first (map f xs) place) → map f (remove xs place) ≡ without v
 covered_left f xs first place v =
     let l = v.before ++ v.covered ∷ v.after in
     let next : place + 1 ≡ suc place = omega arith in
-    map-append f (take place xs) (drop (suc place) xs)
-    ∙ (λ i. sym (take-map f place xs) i ++ sym (drop-map f (suc place) xs) i)
-    ∙ ap (λ (m : List Part). take place m ++ drop (suc place) m) v.split
+    map_removed f xs place
+    ∙ ap (λ (m : List Part). remove m place) v.split
     ∙ ap (λ (m : List Part). m ++ drop (suc place) l) (take_at v.before (v.covered ∷ v.after) place v.place_is)
     ∙ ap (λ (m : List Part). v.before ++ m) (ap (λ (n : ℕ). drop n l) (sym next) ∙ sym (drop-drop 1 place l)
     ∙ ap (λ (m : List Part). drop 1 m) (drop_at v.before (v.covered ∷ v.after) place v.place_is))

@@ -6,7 +6,8 @@ use Rattle.std.proofs.lemmas.Grind.{flat_map-append}
 use Rattle.std.proofs.lemmas.List.Elements.{Contains-append_left, Contains-append_right, Contains-append_cases}
 use Rattle.store_format.specs.Block.{Slot}
 use Rattle.segmented_log.specs.Parts.{Part}
-use Rattle.segmented_log.specs.Compacting.{slots_in, IsRun, with_joined}
+use Rattle.segmented_log.specs.Compacting.{slots_in, IsRun}
+use Rattle.segmented_log.proofs.RunOfParts.{with_joined}
 
 -- what is at a place is an element
 pub get_contains : (xs : List Slot) (i : ℕ) (s : Slot) → slice_get xs i ≡ Some s → Contains xs s

@@ -1,13 +1,20 @@
 -- Neighbours that can become one, as they are looked for.
-use Rattle.std.proofs.Common.{◌≡◌, ℕ, zero, suc, ◌+◌, ◌-◌, ◌<◌, ◌≤◌, ◌^◌, List, [], ◌∷◌, ◌++◌, length, take, drop, map, get_or, Some, None}
+use Rattle.std.proofs.Common.{◌≡◌, ℕ, zero, suc, ◌+◌, ◌-◌, ◌<◌, ◌≤◌, List, [], ◌∷◌, ◌++◌, length, take, drop, map, get_or, Some, None}
 use Rattle.std.proofs.Common.{refl, sym, ◌∙◌, ap, subst, arith, length-append}
-use Rattle.std.specs.Prelude.{slice_get}
-use Rattle.std.proofs.lemmas.List.{length-map, length-take-le, take-append-drop, map-append, drop_at, take_at}
+use Rattle.std.specs.Prelude.{All, slice_get}
+use Rattle.std.proofs.lemmas.List.Elements.{All-nil, All-cons}
+use Rattle.std.specs.List.{Contains}
+use Rattle.std.proofs.lemmas.List.{length-map, length-take-le, take-append-drop, take-map, map-append, drop_at, take_at}
 use Rattle.std.proofs.lemmas.Grind.{flat_map-append}
-use Rattle.segmented_log.specs.Parts.{Part, Sealed, end_of, end_from}
-use Rattle.segmented_log.specs.Compacting.{slots_in, AreNext, IsRun, with_joined, CoversFirst, IsPassedByFirst, CoversNext, CanBecomeOne, IsCovered, CanJoin, CanJoinFirst, AreApart}
+use Rattle.store_format.specs.Block.{Slot}
+use Rattle.store_reader.specs.Reading.{Reading, IsSeen, store_of}
+use Rattle.segmented_log.specs.Parts.{Part, Sealed, sealed_of, parts_of, end_of, end_from}
+use Rattle.segmented_log.specs.Compacting.{slots_in, AreNext, IsRun, one_of, IsOfStore, BecomesOne, CoversFirst, IsPassedByFirst, CoversNext, CanBecomeOne, IsStep, Compacts, stay, join, remove_next}
+use Rattle.segmented_log.specs.Compacting.{IsCovered, CanJoin, CanJoinFirst, AreApart}
+use Rattle.segmented_log.specs.Dropping.{CanGo}
 use Rattle.segmented_log.proofs.PartLemmas.{end_from-push}
-use Rattle.segmented_log.proofs.RunOfParts.{one_of}
+use Rattle.segmented_log.proofs.RunOfParts.{with_joined, run_set}
+use Rattle.segmented_log.proofs.SlotLemmas.{in_joined, in_left}
 
 -- where parts end that follow one another from a number on
 abbrev pub end_after : ℕ → List Part → ℕ
@@ -27,6 +34,36 @@ end_more n parts more p is = ap (end_after n) is ∙ by n parts
     by : (m : ℕ) (some : List Part) → end_after m (some ++ p ∷ []) ≡ end_of p
     by m [] = refl
     by m (q ∷ some) = by (end_of q) some
+
+end_is : (n : ℕ) (parts : List Part) → AreNext n parts → end_from n parts ≡ end_after n parts
+end_is n [] next = refl
+end_is n (p ∷ parts) next = ap (λ (m : ℕ). end_from m parts) (omega (arith, next.0)) ∙ end_is (end_of p) parts next.1
+
+-- one more is sealed
+pub next_sealed : (n : ℕ) (parts more : List Part) (p : Part) → more ≡ parts ++ p ∷ [] → AreNext n parts → p.first ≡ end_from n parts → AreNext n more
+next_sealed n parts more p is next at = next_more n parts more p is next (at ∙ end_is n parts next)
+
+-- the first is dropped
+pub next_dropped : (first number next tail_first : ℕ) (parts : List Part) → CanGo first number parts tail_first next → AreNext first parts → AreNext next (drop 1 parts)
+next_dropped first number next tail_first [] can all = absurd can
+next_dropped first number next tail_first (p ∷ parts) can all = subst (λ (n : ℕ). AreNext n parts) (omega (arith, can.1, all.0)) all.1
+
+-- where one of them does not end after a number, those before it don't
+pub ends_to : {X : Type 0} (f : X → Part) (number n i : ℕ) (xs : List X) (x : X) → AreNext n (map f xs) → i < length xs → x ≡ get_or xs i x → end_of (f x) ≤ number
+    → All (λ y. end_of (f y) ≤ number) (take (suc i) xs)
+ends_to {X} f number n i xs x next within is ends = by n i xs next within is
+  where
+    from : (m j : ℕ) (ys : List X) → AreNext m (map f ys) → j < length ys → x ≡ get_or ys j x → m ≤ end_of (f x)
+    from m j [] all some here = absurd (omega (arith, some))
+    from m zero (y ∷ ys) all some here = omega (arith, all.0, ap (λ (z : X). end_of (f z)) here)
+    from m (suc j) (y ∷ ys) all some here = omega (arith, all.0, from (end_of (f y)) j ys all.1 (omega (arith, some)) here)
+
+    by : (m j : ℕ) (ys : List X) → AreNext m (map f ys) → j < length ys → x ≡ get_or ys j x → All (λ y. end_of (f y) ≤ number) (take (suc j) ys)
+    by m j [] all some here = absurd (omega (arith, some))
+    by m zero (y ∷ ys) all some here = All-cons (λ z. end_of (f z) ≤ number) y [] (omega (arith, ends, ap (λ (z : X). end_of (f z)) here)) (All-nil (λ z. end_of (f z) ≤ number))
+    by m (suc j) (y ∷ ys) all some here =
+        let more : j < length ys = omega (arith, some) in
+        All-cons (λ z. end_of (f z) ≤ number) y (take (suc j) ys) (omega (arith, ends, from (end_of (f y)) j ys all.1 more here)) (by (end_of (f y)) j ys all.1 more here)
 
 -- a thing of some, those before it and those after it
 pub split_place : {X Y : Type 0} (f : X → Y) (xs : List X) (i : ℕ) (x : X) → i < length xs → x ≡ get_or xs i x → map f xs ≡ map f (take i xs) ++ f x ∷ map f (drop (suc i) xs)
@@ -62,14 +99,19 @@ run_taken parts place count r =
     ∙ ap (λ (l : List Part). take (count + 1) l) (drop_at r.before (r.head ∷ (r.run ++ r.after)) place r.place_is)
     ∙ take_at (r.head ∷ r.run) r.after (count + 1) size
 
--- how many slots it has
-pub few_at : {X : Type 0} (f : X → Part) (xs others : List X) (i count : ℕ) (x : X) → i < length xs → x ≡ get_or xs i x → others ≡ drop (suc i) xs → count ≤ length others
-    → AreNext (end_of (f x)) (map f (take count others)) → length (f x).slots + length (slots_in (map f (take count others))) < 2 ^ 32
-    → length (slots_in (take (count + 1) (drop i (map f xs)))) < 2 ^ 32
-unfolding run_at
-few_at f xs others i count x within is rest some next few =
-    let taken = run_taken (map f xs) i count (run_at f xs others i count x within is rest some next) in
-    omega (arith, few, ap (λ (l : List Part). length (slots_in l)) taken, length-append (f x).slots (slots_in (map f (take count others))))
+-- a thing and those that follow it
+pub taken_at : {X Y : Type 0} (f : X → Y) (xs others : List X) (i count : ℕ) (x : X) → i < length xs → x ≡ get_or xs i x → others ≡ drop (suc i) xs
+    → take (count + 1) (drop i (map f xs)) ≡ f x ∷ map f (take count others)
+taken_at {X} {Y} f xs others i count x within is rest =
+    let next : count + 1 ≡ suc count = omega arith in
+    ap (λ (n : ℕ). take n (drop i (map f xs))) next
+    ∙ ap (λ (l : List Y). take (suc count) l) (from xs i within is rest)
+    ∙ ap (λ (l : List Y). f x ∷ l) (take-map f count others)
+  where
+    from : (ys : List X) (j : ℕ) → j < length ys → x ≡ get_or ys j x → others ≡ drop (suc j) ys → drop j (map f ys) ≡ f x ∷ map f others
+    from [] j some here after = absurd (omega (arith, some))
+    from (y ∷ ys) zero some here after = λ k. f (sym here k) ∷ map f (sym after k)
+    from (y ∷ ys) (suc j) some here after = from ys j (omega (arith, some)) here after
 
 -- the slots of parts and one more
 pub slots_more : (parts more : List Part) (p : Part) → more ≡ parts ++ p ∷ [] → length (slots_in more) ≡ length (slots_in parts) + length p.slots
@@ -160,7 +202,7 @@ apart_more {X} f g part_is size xs others i x within is rest passed not so_far j
         at_place (subst (λ (n : ℕ). slice_get (map g xs) n ≡ Some a) same got) (subst (λ (n : ℕ). slice_get (map g xs) (n + 1) ≡ Some b) same more)
     by k (suc left) sum got more = so_far k a b (omega (arith, sum)) got more
 
--- ---- what a step removes
+-- ---- what is removed
 
 end_at_last : (n : ℕ) (before : List Part) (p : Part) → end_of p ≤ end_from n (before ++ p ∷ [])
 end_at_last n before p = omega (arith, end_from-push n before p)
@@ -182,7 +224,7 @@ next_covered first parts place c = record {
     append_push (z ∷ xs) x ys = ap (λ (l : List Part). z ∷ l) (append_push xs x ys)
 
 -- the first part of a run that was joined
-pub joined_covers : (parts : List Part) (place count : ℕ) (r : IsRun parts place count) → 0 < count → CoversNext (with_joined r) place
+joined_covers : (parts : List Part) (place count : ℕ) (r : IsRun parts place count) → 0 < count → CoversNext (with_joined r) place
 joined_covers parts place count r some = by r.run (omega (arith, r.count_is, some)) r.next refl
   where
     by : (run : List Part) → 0 < length run → AreNext (end_of r.head) run → run ≡ r.run → CoversNext (with_joined r) place
@@ -203,11 +245,52 @@ joined_covers parts place count r some = by r.run (omega (arith, r.count_is, som
       );
     }
 
--- the place after a step is one of the parts
-pub step_within : (parts : List Part) (place count : ℕ) → CanBecomeOne parts place count → place + 1 < length parts
-step_within parts place zero can =
-    let c = can.covers refl in
-    omega (arith, ap length c.split, length-append c.before (c.head ∷ c.covered ∷ c.after), c.place_is)
-step_within parts place (suc count) can =
-    let r = can.run (omega arith) in
-    omega (arith, ap length r.split, length-append r.before (r.head ∷ (r.run ++ r.after)), length-append r.run r.after, r.place_is, r.count_is)
+-- the place after a step is one of the segments
+pub step_within : (size : ℕ) (segments : List Sealed) (place count : ℕ) → IsStep size segments place count → place + 1 < length segments
+step_within size segments place zero step =
+    let c = step.covers refl in
+    omega (arith, length-map segments (λ (s : Sealed). s.part), ap length c.split, length-append c.before (c.head ∷ c.covered ∷ c.after), c.place_is)
+step_within size segments place (suc count) step =
+    let r = (step.joins (omega arith)).run in
+    omega (
+      arith,
+      length-map segments (λ (s : Sealed). s.part),
+      ap length r.split,
+      length-append r.before (r.head ∷ (r.run ++ r.after)),
+      length-append r.run r.after,
+      r.place_is,
+      r.count_is,
+    )
+
+-- ---- steps
+
+pub of_store : (first : ℕ) (reader : Reading) → IsSeen reader → IsOfStore (sealed_of first reader)
+of_store first reader seen = record {
+  blocks = store_of reader;
+  are = seen.blocks;
+  slots_are = refl;
+  bytes_are = ap length seen.data_is;
+}
+
+-- the parts where a run has become one
+become_parts : (old new : List Sealed) (place count : ℕ) (r : IsRun (parts_of old) place count) → BecomesOne old r new → parts_of new ≡ with_joined r
+become_parts old new place count r b = ap parts_of b.new_is ∙ run_set (λ (s : Sealed). s.part) old place count r b.one b.part_is
+
+-- the first of a run has covered the next one since
+pub first_covers : {size : ℕ} {old new : List Sealed} {place count : ℕ} (can : CanBecomeOne size old place count) → BecomesOne old can.run new → CoversNext (parts_of new) place
+first_covers {size} {old} {new} {place} {count} can becomes =
+    subst (λ (l : List Part). CoversNext l place) (sym (become_parts old new place count can.run becomes)) (joined_covers (parts_of old) place count can.run can.some)
+
+-- steps after others
+pub compact_more : {size : ℕ} {old mid new : List Sealed} → Compacts size old mid → Compacts size mid new → Compacts size old new
+compact_more one stay = one
+compact_more one (join two can becomes) = join (compact_more one two) can becomes
+compact_more one (remove_next two covers) = remove_next (compact_more one two) covers
+
+-- they bring no slots
+pub compact_slots : {size : ℕ} {old new : List Sealed} (slot : Slot) → Compacts size old new → Contains (slots_in (parts_of new)) slot → Contains (slots_in (parts_of old)) slot
+compact_slots slot stay has = has
+compact_slots slot (join {mid} {new} {place} {count} some can becomes) has =
+    compact_slots slot some
+    (in_joined (parts_of mid) place count can.run slot (subst (λ (l : List Part). Contains (slots_in l) slot) (become_parts mid new place count can.run becomes) has))
+compact_slots slot (remove_next {mid} {place} some covers) has = compact_slots slot some (in_left (λ (s : Sealed). s.part) slot (place + 1) mid has)

@@ -1,20 +1,20 @@
 -- A tail with bytes after its own.
-use Rattle.std.proofs.Common.{◌≡◌, ◌≢◌, ◌<◌, ◌+◌, ◌^◌, ◌⊎◌, inl, inr, ⊎_elim, ℕ, List, [], ◌∷◌, ◌++◌, length, take, map, refl, sym, ◌∙◌, ap, subst, arith, length-append, Some}
+use Rattle.std.proofs.Common.{◌≡◌, ◌≢◌, ◌<◌, ◌≤◌, ◌+◌, ◌^◌, ◌⊎◌, inl, inr, ⊎_elim, ℕ, List, [], ◌∷◌, ◌++◌, length, take, map, refl, sym, ◌∙◌, ap, subst, arith, length-append, Some}
 use Rattle.std.proofs.lemmas.List.{append-nil, take_all, take-append-le}
 use Rattle.std.proofs.lemmas.List.Concat.{flat_map-append}
 use Rattle.std.specs.List.{flat_map}
 use Rattle.store_folder.specs.Folder.{Look}
 use Rattle.store_format.specs.Block.{Slot, doc}
-use Rattle.log_tail.specs.Tail.{sum_of, records_in, records_of, records_from, first_of, bodies_of, bodies_after, IsTail, IsWholeTo}
+use Rattle.log_tail.specs.Tail.{sum_of, IsWholeRecords, records_in, records_of, records_from, first_of, bodies_of, bodies_after, IsTail, IsWholeTo}
 use Rattle.segmented_log.specs.declared.commit.Commit.{Commit}
 use Rattle.segmented_log.specs.declared.commit.Commit.TheVariants.{OneSync, TwoSyncs}
 use Rattle.store_folder.proofs.NamesLemmas.{decided}
 use Rattle.log_tail.specs.Heads.{head_body, headed}
-use Rattle.log_tail.proofs.HeadLemmas.{headed_records}
+use Rattle.log_tail.proofs.HeadLemmas.{length-headed, headed_records}
 use Rattle.log_tail.proofs.Logs.{first_same}
 use Rattle.segmented_log.specs.Names.{segment_name, tail_name}
 use Rattle.segmented_log.specs.Parts.{Part, log_slots, AreParts}
-use Rattle.segmented_log.specs.Log.{Holds, IsLog, KeepsOrAdds}
+use Rattle.segmented_log.specs.Log.{Holds, IsLog, KeepsOrAdds, batch_length}
 use Rattle.segmented_log.specs.Settled.{GrowsTail, PutsBatch}
 use Rattle.segmented_log.proofs.PartLemmas.{more_parts, more_slots}
 use Rattle.segmented_log.proofs.NameLemmas.{segment_no_tail, segment_no_tail_beside}
@@ -71,9 +71,9 @@ module _ (first : ℕ) (segments : List Part) (tail body : List ℕ) (parts : Ar
     holds = other_tail segments tail (tail ++ after) old c held names is;
   }
 
-  keeps_or_grows : (before : Look → Type 0) → ((c : Look) → before c → Holds segments tail c) → (c : Look) → GrowsTail before tail c
-      → KeepsOrAdds OneSync first (log_slots first segments tail) (records_in body) c
-  keeps_or_grows before held c grown =
+  keeps_or_grows : (n : ℕ) → n ≡ batch_length (records_in body) → (before : Look → Type 0) → ((c : Look) → before c → Holds segments tail c) → (c : Look)
+      → GrowsTail before tail n c → KeepsOrAdds OneSync first (log_slots first segments tail) (records_in body) c
+  keeps_or_grows n size before held c grown =
       let log = grown_log c grown.old grown.after (held grown.old grown.was) (λ k. grown.elsewhere (segment_name k) (segment_no_tail k)) grown.tail_is in
       let slots = log_slots first segments tail in
       let after = grown.after in
@@ -89,17 +89,18 @@ module _ (first : ℕ) (segments : List Part) (tail body : List ℕ) (parts : Ar
             inr (inr (record {
               one_sync = refl;
               bytes = after;
-              forged = record { some = others.0; other = others.1 };
+              forged = record { some = others.0; other = others.1; short = subst (λ (k : ℕ). length after ≤ k) size grown.short };
               log = log;
             }))
       ]
 
   -- a crash leaves the log as it was, or with the whole batch; or, with one sync, forged ones
-  pub keeps_or_adds : (commit : Commit) (number place : ℕ) → 8 + length body < 2 ^ 32 → sum_of body < 2 ^ 64
+  pub keeps_or_adds : (commit : Commit) (number place : ℕ) → IsWholeRecords body → 8 + length body < 2 ^ 32 → sum_of body < 2 ^ 64
       → sum_of (head_body number place (length body)) < 2 ^ 64 → (before : Look → Type 0) → ((c : Look) → before c → Holds segments tail c) → (c : Look)
       → PutsBatch commit before tail (headed number place body) c → KeepsOrAdds commit first (log_slots first segments tail) (records_in body) c
-  keeps_or_adds OneSync number place small fits head_fits before held c grown = keeps_or_grows before held c grown
-  keeps_or_adds TwoSyncs number place small fits head_fits before held c o =
+  keeps_or_adds OneSync number place records small fits head_fits before held c grown =
+      keeps_or_grows (length (headed number place body)) (length-headed number place body ∙ ap (λ (l : List ℕ). 50 + length l) records.encoded) before held c grown
+  keeps_or_adds TwoSyncs number place records small fits head_fits before held c o =
       let was = held o.old o.was in
       let names = λ (k : ℕ). o.elsewhere (segment_name k) (segment_no_tail_beside k) (segment_no_tail k) in
       let slots = log_slots first segments tail in

@@ -6,8 +6,9 @@ use Rattle.store_format.specs.Block.{Slot}
 use Rattle.store_format.specs.Laws.{StoresAreApart}
 use Rattle.log_tail.specs.Tail.{first_of}
 use Rattle.segmented_log.specs.Parts.{Part, first_in, end_from, Ascend, log_slots}
-use Rattle.segmented_log.specs.Log.{HasSegment, Holds, IsLog, IsBlank}
-use Rattle.segmented_log.proofs.HoldLemmas.{firsts}
+use Rattle.segmented_log.specs.Log.{HasSegment, IsLog, IsBlank}
+use Rattle.segmented_log.specs.Dropping.{HasOnly, AreOfOneLog}
+use Rattle.segmented_log.proofs.HoldLemmas.{firsts, only_of}
 use Rattle.segmented_log.proofs.PartLemmas.{begin_before}
 use Rattle.segmented_log.proofs.StoreLemmas.{same_slots}
 
@@ -52,12 +53,12 @@ same_parts apart c n (p ∷ parts) (q ∷ others) up up' in' in'' has has' =
     λ i. record { first = first i; slots = slots i } ∷ rest i
 
 -- a segment that is there is known
-known_all : (c : Look) (segments : List Part) (tail : List ℕ) (parts : List Part) (end : ℕ) → end < 2 ^ 64 → AllByRecursion (λ part. part.first < end) parts → AllByRecursion (HasSegment c) parts
-    → Holds segments tail c → AreAmong parts segments
-known_all c segments tail [] end low below has held = tt
-known_all c segments tail (p ∷ parts) end low below has held = (
-  ⊎_elim (λ none. absurd (there has.0.0 (sym none ∙ has.0.2))) (λ among. among) (held.no_others p.first (omega (arith, below.0, low))),
-  known_all c segments tail parts end low below.1 has.1 held,
+known_all : (c : Look) (segments parts : List Part) (end : ℕ) → end < 2 ^ 64 → AllByRecursion (λ part. part.first < end) parts → AllByRecursion (HasSegment c) parts → HasOnly segments c
+    → AreAmong parts segments
+known_all c segments [] end low below has only = tt
+known_all c segments (p ∷ parts) end low below has only = (
+  ⊎_elim (λ none. absurd (there has.0.0 (sym none ∙ has.0.2))) (λ among. among) (only.no_others p.first (omega (arith, below.0, low))),
+  known_all c segments parts end low below.1 has.1 only,
 )
   where
     there : (content : List ℕ) → None ≡ Some content → ⊥
@@ -75,13 +76,21 @@ same_log apart c first other all slots a b =
     let below = begin_before first a.segments a.parts.in_line in
     let below' = begin_before other b.segments b.parts.in_line in
     let parts : a.segments ≡ b.segments = same_parts apart c 0 a.segments b.segments (from_zero first a.segments a.parts.ascend) (from_zero other b.segments b.parts.ascend)
-    (known_all c b.segments b.tail a.segments (end_from first a.segments) a.parts.fits below a.holds.each b.holds)
-    (known_all c a.segments a.tail b.segments (end_from other b.segments) b.parts.fits below' b.holds.each a.holds) a.holds.each b.holds.each in
+    (known_all c b.segments a.segments (end_from first a.segments) a.parts.fits below a.holds.each (only_of b.segments b.tail c b.holds))
+    (known_all c a.segments b.segments (end_from other b.segments) b.parts.fits below' b.holds.each (only_of a.segments a.tail c a.holds)) a.holds.each b.holds.each in
     let tails : a.tail ≡ b.tail = some_is a.tail b.tail (sym a.holds.tail_is ∙ b.holds.tail_is) in
     let firsts_same : first ≡ other = a.parts.first_is ∙ (λ i. first_in (parts i) (first_of (tails i))) ∙ sym b.parts.first_is in (
       firsts_same,
       a.slots_are ∙ (λ i. log_slots (firsts_same i) (parts i) (tails i)) ∙ sym b.slots_are,
     )
+
+-- the segments of a log are those that its folder has
+pub log_parts : StoresAreApart → (c : Look) (parts : List Part) → AreOfOneLog parts → HasOnly parts c → (first : ℕ) (all : List Slot) (log : IsLog first all c) → log.segments ≡ parts
+log_parts apart c parts are only first all log =
+    same_parts apart c 0 log.segments parts (from_zero first log.segments log.parts.ascend) are.ascend
+    (known_all c parts log.segments (end_from first log.segments) log.parts.fits (begin_before first log.segments log.parts.in_line) log.holds.each only)
+    (known_all c log.segments parts (end_from (first_in parts 0) parts) are.fits (begin_before (first_in parts 0) parts are.in_line) only.each (only_of log.segments log.tail c log.holds))
+    log.holds.each only.each
 
 -- a log has a tail
 pub not_blank : (c : Look) (first : ℕ) (all : List Slot) → IsLog first all c → IsBlank c → ⊥

@@ -1,9 +1,10 @@
 -- A log whose neighbouring segments are joined.
-use Rattle.std.specs.Prelude.{◌≡◌, ◌≢◌, ◌⊎◌, ℕ, ◌+◌, ◌<◌, ◌≤◌, ◌^◌, List, [], ◌∷◌, ◌++◌, length, take, drop, slice_get, Some, None, IsSome}
-use Rattle.std.specs.List.{Contains, flat_map}
+use Rattle.std.specs.Prelude.{◌≡◌, ◌≢◌, ◌⊎◌, ℕ, ◌+◌, ◌<◌, ◌≤◌, ◌^◌, List, [], ◌∷◌, ◌++◌, length, take, drop, set, slice_get, Some, None, IsSome}
+use Rattle.std.specs.List.{flat_map, sum_by, remove}
 use Rattle.store_format.specs.declared.version.DocStoreVersion.TheVariants.{V1}
 use Rattle.store_format.specs.Block.{Slot}
 use Rattle.store_format.specs.Slots.{slots}
+use Rattle.store_format.specs.StoreFile.{StoreBlock, AreBlocks, data_of}
 use Rattle.store_reader.specs.Reading.{num_docs, store_of}
 use Rattle.store_merge.specs.declared.input.MergeInput.{MergeInput}
 use Rattle.store_folder.specs.Folder.{Look}
@@ -16,14 +17,14 @@ use Rattle.segmented_log.specs.Log.{Holds}
 abbrev pub slots_in : List Part → List Slot
 slots_in parts = flat_map (λ p. p.slots) parts
 
+-- how many bytes the data of segments has
+abbrev pub bytes_in : List Sealed → ℕ
+bytes_in segments = sum_by (λ s. s.bytes) segments
+
 -- All slots of an input are alive, and there is one for each document.
 pub record IsWhole {H : Type 0} (x : MergeInput H) : Type 0 where
   pub alive : x.alive ≡ None
   pub counted : num_docs x.reader ≡ length (slots (store_of x.reader))
-
--- Each slot of the new segments is one of the old.
-abbrev pub BringNoSlots : List Sealed → List Sealed → Type 0
-BringNoSlots old new = (slot : Slot) → Contains (slots_in (parts_of new)) slot → Contains (slots_in (parts_of old)) slot
 
 -- Each part begins where the one before it ends, the first of them at this number.
 abbrev pub AreNext : ℕ → List Part → Type 0
@@ -42,9 +43,32 @@ pub record IsRun (parts : List Part) (place count : ℕ) : Type 0 where
   pub count_is : length run ≡ count
   pub next : AreNext (end_of head) run
 
--- the parts with the run as one
-abbrev pub with_joined : {parts : List Part} {place count : ℕ} → IsRun parts place count → List Part
-with_joined r = r.before ++ record { first = r.head.first; slots = r.head.slots ++ slots_in r.run } ∷ (r.run ++ r.after)
+-- the part that a run becomes
+abbrev pub one_of : {parts : List Part} {place count : ℕ} → IsRun parts place count → Part
+one_of r = record { first = r.head.first; slots = r.head.slots ++ slots_in r.run }
+
+-- Its data is blocks that have its slots.
+pub record IsOfStore (s : Sealed) : Type 0 where
+  pub blocks : List StoreBlock
+  pub are : AreBlocks blocks
+  pub slots_are : slots blocks ≡ s.part.slots
+  pub bytes_are : length (data_of blocks) ≡ s.bytes
+
+-- A segment of all slots of a run has the place of the run's first segment. The others stay.
+pub record BecomesOne (old : List Sealed) {place count : ℕ} (run : IsRun (parts_of old) place count) (new : List Sealed) : Type 0 where
+  pub one : Sealed
+  pub part_is : one.part ≡ one_of run
+  pub store : IsOfStore one
+  pub new_is : new ≡ set old place one
+
+-- The segment at this place and those that follow it can become one: they are at most a hundred, their data together has at
+-- most `size` bytes, and a store has numbers for their slots.
+pub record CanBecomeOne (size : ℕ) (segments : List Sealed) (place count : ℕ) : Type 0 where
+  pub run : IsRun (parts_of segments) place count
+  pub some : 0 < count
+  pub few : count < 100
+  pub small : bytes_in (take (count + 1) (drop place segments)) ≤ size
+  pub numbered : length (slots_in (take (count + 1) (drop place (parts_of segments)))) < 2 ^ 32
 
 -- A part has all slots of the first of those after it, and may have more.
 abbrev pub CoversFirst : Part → List Part → Type 0
@@ -66,12 +90,17 @@ pub record CoversNext (parts : List Part) (place : ℕ) : Type 0 where
   pub place_is : length before ≡ place
   pub ends : end_of covered ≤ end_of head
 
--- The part at this place and those that follow it can become one, for whose slots a store has numbers; or it covers the
--- next one where none follow it.
-pub record CanBecomeOne (parts : List Part) (place count : ℕ) : Type 0 where
-  pub run : 0 < count → IsRun parts place count
-  pub few : 0 < count → length (slots_in (take (count + 1) (drop place parts))) < 2 ^ 32
-  pub covers : count ≡ 0 → CoversNext parts place
+-- The segment at this place and those that follow it can become one; or it covers the next one where none follow it.
+pub record IsStep (size : ℕ) (segments : List Sealed) (place count : ℕ) : Type 0 where
+  pub joins : 0 < count → CanBecomeOne size segments place count
+  pub covers : count ≡ 0 → CoversNext (parts_of segments) place
+
+-- The old segments become the new ones by steps, each of which makes one segment of some that can become one, or removes one
+-- that the one before it covers.
+pub data Compacts (size : ℕ) (old : List Sealed) : List Sealed → Type 0 where
+  stay : Compacts size old old
+  join : {mid new : List Sealed} {place count : ℕ} → Compacts size old mid → (can : CanBecomeOne size mid place count) → BecomesOne mid can.run new → Compacts size old new
+  remove_next : {mid : List Sealed} {place : ℕ} → Compacts size old mid → CoversNext (parts_of mid) place → Compacts size old (remove mid (place + 1))
 
 -- The part at this place has no slot that those before it have not.
 pub record IsCovered (first : ℕ) (parts : List Part) (place : ℕ) : Type 0 where

@@ -1,10 +1,11 @@
 -- A log whose first segments are removed.
-use Rattle.std.specs.Prelude.{◌≡◌, ◌⊎◌, ℕ, ◌+◌, ◌-◌, ◌<◌, ◌≤◌, max, List, [], ◌∷◌, length, drop, None}
+use Rattle.std.specs.Prelude.{◌≡◌, ◌⊎◌, ℕ, ◌+◌, ◌-◌, ◌^◌, ◌<◌, ◌≤◌, max, List, [], ◌∷◌, length, map, drop, Some, None}
+use Rattle.std.specs.List.{AllByRecursion, Contains}
 use Rattle.store_folder.specs.Folder.{Look, LosesFile}
 use Rattle.store_format.specs.Block.{Slot}
 use Rattle.log_tail.specs.Tail.{first_of}
-use Rattle.segmented_log.specs.Names.{segment_name}
-use Rattle.segmented_log.specs.Parts.{Part, end_of, first_in, AreParts}
+use Rattle.segmented_log.specs.Names.{segment_name, tail_name}
+use Rattle.segmented_log.specs.Parts.{Part, end_of, end_from, first_in, AreInLine, Ascend, AreParts}
 use Rattle.segmented_log.specs.Log.{HasSegment, Holds, IsLog}
 
 -- The first of these segments can be removed: its slots begin at the number `first` and end at `next`, which is at most
@@ -43,3 +44,39 @@ pub record IsDropped (first number : ℕ) (c : Look) : Type 0 where
   pub parts : AreParts first segments tail
   pub holds : Holds segments tail c
   pub stays : (next : ℕ) → CanGo first number segments (first_of tail) next → ⊥
+
+-- Old segments are gone, and nothing else: each name has what it had, or had a segment whose slots all have smaller numbers
+-- than this one. Whatever log the folder was, the rest of it is left.
+pub record LosesOld (number : ℕ) (old new : Look) : Type 0 where
+  pub files : RemovesOnly number old new
+  pub log : (first : ℕ) (all : List Slot) → IsLog first all old → DropsTo first all number new
+
+-- What a crash leaves while old segments are removed: what it could leave before, maybe without some of them.
+abbrev pub IsOldWithout : ℕ → (Look → Type 0) → Look → Type 0
+IsOldWithout number before c = (old : Look) × before old × LosesOld number old c
+
+-- If the folder is a log, its first slot has this number.
+abbrev pub BeginsAt : ℕ → Look → Type 0
+BeginsAt n c = (first : ℕ) (all : List Slot) → IsLog first all c → first ≡ n
+
+-- If the folder has a tail, this is the number of the tail's first slot, or 0.
+abbrev pub TailBeginsAt : ℕ → Look → Type 0
+TailBeginsAt n c = (tail : List ℕ) → c tail_name ≡ Some tail → 0 < n → first_of tail ≡ n
+
+-- The folder has these segments and no others.
+pub record HasOnly (segments : List Part) (c : Look) : Type 0 where
+  pub each : AllByRecursion (HasSegment c) segments
+  pub no_others : (first : ℕ) → first < 2 ^ 64 → (c (segment_name first) ≡ None) ⊎ Contains (map (λ part. part.first) segments) first
+
+-- They are the segments of one log, whatever its tail is.
+pub record AreOfOneLog (segments : List Part) : Type 0 where
+  pub in_line : AreInLine (first_in segments 0) segments
+  pub ascend : Ascend 0 segments
+  pub fits : end_from (first_in segments 0) segments < 2 ^ 64
+
+-- The folder's segments are those of one log, and none of them can be removed that another one follows.
+pub record HasNoOld (number : ℕ) (c : Look) : Type 0 where
+  pub segments : List Part
+  pub only : HasOnly segments c
+  pub are : AreOfOneLog segments
+  pub stays : (next : ℕ) → CanGo (first_in segments 0) number segments 0 next → ⊥

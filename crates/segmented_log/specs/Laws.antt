@@ -6,7 +6,8 @@ use Rattle.store_format.specs.Block.{Slot, doc}
 use Rattle.segmented_log.specs.declared.commit.Commit.{Commit}
 use Rattle.segmented_log.specs.declared.commit.Commit.TheVariants.{TwoSyncs}
 use Rattle.segmented_log.specs.declared.runs.Call.{Call}
-use Rattle.segmented_log.specs.Log.{IsLog, IsBlank}
+use Rattle.log_tail.specs.Tail.{records_from}
+use Rattle.segmented_log.specs.Log.{IsLog, IsBlank, IsForged}
 use Rattle.segmented_log.specs.Dropping.{DropsTo}
 use Rattle.segmented_log.specs.Opening.{IsAsBefore}
 use Rattle.segmented_log.specs.Runs.{joined, batches_by, pending_by, slots_of, dropped_by, Drops, Makes, HasBeginning, IsOldOrCalled}
@@ -90,14 +91,20 @@ abbrev pub IsLeftByAll : {F : Type 0} → (F → Look) → (F → Look → Type 
 IsLeftByAll seen may_leave [] old new = new ≡ old
 IsLeftByAll {F = F} seen may_leave (process ∷ later) old new = (left : F) × IsEndOf process (may_leave old) (seen old) (may_leave left) × IsLeftByAll seen may_leave later left new
 
+-- None, or the records of forged batches, where the first of these batches was being written.
+abbrev pub AreForged : List (List (List ℕ)) → List (List ℕ) → Type 0
+AreForged [] forged = forged ≡ []
+AreForged (batch ∷ _) forged = (forged ≡ []) ⊎ ((bytes : List ℕ) × IsForged batch bytes × (forged ≡ records_from bytes))
+
 -- The records of a process whose sync had not returned can be these: those of the first batches of its next calls, and then
--- maybe forged ones, but none if it commits with two syncs.
+-- maybe those of forged ones in the place of the next batch, but none if it commits with two syncs.
 pub record MayFollow (process : Process) (more : List (List ℕ)) : Type 0 where
   pub written : List (List (List ℕ))
   pub others : List (List (List ℕ))
   pub all : batches_by (pending_by [] process.made) process.others ≡ written ++ others
   pub forged : List (List ℕ)
   pub more_is : more ≡ joined written ++ forged
+  pub are_forged : AreForged others forged
   pub none : process.commit ≡ TwoSyncs → forged ≡ []
 
 -- the slots of a process: its acknowledged records, and then these, whose sync had not returned

@@ -10,3 +10,4 @@ pub mod Laws
 pub mod Dropping
 pub mod Compacting
 pub mod TailBuffer
+pub mod Sealing

@@ -6,7 +6,7 @@ use Rattle.std.specs.declared.alloc.Global.{Global}
 use Rattle.store_format.specs.Block.{Slot, doc, damaged}
 use Rattle.store_format.specs.Slots.{slots}
 use Rattle.store_format.specs.StoreFile.{StoreBlock, IsStore}
-use Rattle.log_tail.specs.Tail.{records_from}
+use Rattle.log_tail.specs.Tail.{body_of, records_from}
 use Rattle.segmented_log.specs.declared.commit.Commit.{Commit}
 use Rattle.segmented_log.specs.declared.commit.Commit.TheVariants.{OneSync}
 use Rattle.segmented_log.specs.declared.error.LogError.{LogError}
@@ -50,10 +50,16 @@ pub record KeepsLog (old new : Look) : Type 0 where
   pub same : (first : ℕ) (all : List Slot) → IsLog first all old → IsLog first all new
   pub begun : IsBlank old → IsBlank new ⊎ IsLog 0 [] new
 
--- Where a batch of these records was being written, a crash left batches whose sums fit, and which have other records.
+-- how many bytes a batch of these records takes in a tail, with its head
+abbrev pub batch_length : List (List ℕ) → ℕ
+batch_length records = 50 + length (body_of records)
+
+-- Where a batch of these records was being written, a crash left batches whose sums fit, which have other records, and take
+-- no more bytes than that batch.
 pub record IsForged (added : List (List ℕ)) (bytes : List ℕ) : Type 0 where
   pub some : records_from bytes ≢ []
   pub other : records_from bytes ≢ added
+  pub short : length bytes ≤ batch_length added
 
 -- The folder is the log of these slots, and then of the records of forged batches, where one batch of these records was
 -- being written with one sync.

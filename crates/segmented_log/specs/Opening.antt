@@ -1,7 +1,9 @@
 -- What a log finds as it is opened.
-use Rattle.std.specs.Prelude.{◌≡◌, ◌≢◌, ◌⊎◌, ℕ, ◌≤◌, ◌<◌, ◌^◌, Bool, true, false, List, [], Option, Some, None, IsSome}
+use Rattle.std.specs.Prelude.{◌≡◌, ◌≢◌, ◌⊎◌, ℕ, ◌≤◌, ◌<◌, ◌^◌, Bool, true, false, List, [], ◌++◌, Option, Some, None, IsSome}
 use Rattle.std.specs.List.{Contains}
-use Rattle.store_folder.specs.Folder.{Look, Keeps}
+use Rattle.store_base.specs.Counts.{HasRisen}
+use Rattle.store_folder.specs.Folder.{Look, Elsewhere, ElsewhereOfBoth, Keeps}
+use Rattle.store_folder.specs.Publishing.{part}
 use Rattle.store_format.specs.Block.{Slot}
 use Rattle.log_tail.specs.Tail.{records_of, first_of, IsTail}
 use Rattle.log_tail.specs.Heads.{is_damaged, rest_of}
@@ -49,6 +51,10 @@ HasSegments c = (first : ℕ) × IsSome (c (segment_name first))
 pub record IsNoSegment (c : Look) (first : ℕ) : Type 0 where
   pub fits : first < 2 ^ 64
   pub no_store : (all : List Slot) → HasSegment c (record { first = first; slots = all }) → ⊥
+
+-- Each file stays but the tail and the file beside it; or a sync of one of the log's files failed, and each other file stays.
+abbrev pub KeepsButFailed : ℕ → ℕ → Look → Look → Type 0
+KeepsButFailed before now old new = ElsewhereOfBoth (tail_name ++ part) tail_name old new ⊎ (HasRisen before now × ((name : List ℕ) × IsOfLog name × Elsewhere name old new))
 
 -- These bytes of a tail are damaged: some have changed that were written whole, or some are no whole batch.
 abbrev pub HasDamage : List ℕ → Type 0

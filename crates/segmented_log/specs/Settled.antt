@@ -19,19 +19,20 @@ pub record TailIsKept (may_hold : List ℕ → List ℕ → Type 0) (may_leave :
   pub trust : trusted tail_name
   pub outcomes : Keeps tail_name (Some tail) may_leave
 
--- What a crash leaves while bytes are put after those of the tail: all that it could leave before, but for the tail, which
--- has bytes after its own.
-pub record GrowsTail (before : Look → Type 0) (tail : List ℕ) (c : Look) : Type 0 where
+-- What a crash leaves while n bytes are put after those of the tail: all that it could leave before, but for the tail, which
+-- has any bytes after its own, at most n.
+pub record GrowsTail (before : Look → Type 0) (tail : List ℕ) (n : ℕ) (c : Look) : Type 0 where
   pub old : Look
   pub was : before old
   pub elsewhere : Elsewhere tail_name old c
   pub after : List ℕ
+  pub short : length after ≤ n
   pub tail_is : c tail_name ≡ Some (tail ++ after)
 
--- What a crash leaves while a batch is put after those of the tail: with one sync, maybe any bytes after the tail's own; with
--- two, the tail or the one with the batch.
+-- What a crash leaves while a batch is put after those of the tail: with one sync, maybe any bytes after the tail's own, at
+-- most as many as the batch has; with two, the tail or the one with the batch.
 abbrev pub PutsBatch : Commit → (Look → Type 0) → List ℕ → List ℕ → Look → Type 0
-PutsBatch OneSync before tail batch c = GrowsTail before tail c
+PutsBatch OneSync before tail batch c = GrowsTail before tail (length batch) c
 PutsBatch TwoSyncs before tail batch c = IsOldOrWhole before (tail_name ++ part) tail_name (Some (tail ++ batch)) c
 
 -- the part of a tail's records at these places

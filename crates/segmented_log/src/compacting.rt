@@ -3,15 +3,15 @@
 ghost use Rattle.std.specs.Prelude.{◌≡◌, ◌≢◌, ◌⊎◌, ◌↔◌, false, ◌≤◌, ◌<◌, ◌+◌, ◌^◌, ℕ};
 ghost use Rattle.std.specs.Prelude.{List, [], ◌∷◌, length, map, take, drop};
 ghost use Rattle.std.specs.Prelude.{IsTrue, IfOk, IfErr, IfSome, IfNone, OnSome, OnOk, OnErr, IsErrOf};
-ghost use Rattle.std.specs.List.{Contains};
+ghost use Rattle.std.specs.List.{Contains, remove};
 ghost use Rattle.store_base.specs.Counts.{HasRisen};
 ghost use Rattle.store_folder.specs.Moments.{LeavesOnly};
 ghost use Rattle.store_format.specs.Block.{damaged};
 ghost use Rattle.segmented_log.specs.Parts.{part_of, sealed_of, parts_of, end_of};
 ghost use Rattle.segmented_log.specs.Log.{IsLog};
-ghost use Rattle.segmented_log.specs.Compacting.{AreNext, IsRun, with_joined, IsCovered, CanFollow, AreApart};
-ghost use Rattle.segmented_log.specs.Compacting.{CoversFirst, IsPassedByFirst, CanJoinFirst, CanBecomeOne, IsCompacted};
-ghost use Rattle.segmented_log.specs.Compacting.{slots_in, ChangesSegments, BringNoSlots};
+ghost use Rattle.segmented_log.specs.Compacting.{slots_in, bytes_in, AreNext, IsRun, BecomesOne, IsCovered};
+ghost use Rattle.segmented_log.specs.Compacting.{CanFollow, CoversFirst, IsPassedByFirst, CanJoinFirst, AreApart};
+ghost use Rattle.segmented_log.specs.Compacting.{IsStep, Compacts, IsCompacted, ChangesSegments};
 ghost use Rattle.segmented_log.specs.Opening.{HasSegments};
 ghost use Rattle.segmented_log.specs.Causes.{IsOfJoins, HasTooLong, IsFault};
 
@@ -19,10 +19,14 @@ use crate::dropping::remove_segment;
 use crate::error::LogError;
 use crate::joining::join_segments;
 use crate::log::SegmentedLog;
-use crate::segment::Segment;
+use crate::reading::may_overlap;
+use crate::segment::{Segment, end_of_segment};
 use docstore::{DocStoreVersion, FileHandle};
 use std::mem;
 use store_folder::ReadableFolder;
+
+/// How many segments `compact` joins at once, at most. Each of them is opened once more for that.
+pub const MAX_JOINED: usize = 100;
 
 // Neighbours that can be joined: the number where they end, the bytes of their data, and how many records they have.
 #[derive(Clone, Copy)]
@@ -65,6 +69,7 @@ fn with_next<H: FileHandle>(run: Run, segment: &Segment<H>, size: u64) -> Option
     ensures some { OnSome result (CanFollow size run.end run.bytes run.records
         (sealed_of segment.now.first segment.now.reader)) }
     ensures end { IfSome result (λ more. more.end ≡ end_of (part_of segment.now.first segment.now.reader)) }
+    ensures bytes { IfSome result (λ more. more.bytes ≡ run.bytes + length segment.now.reader.file.content) }
     ensures records { IfSome result (λ more. more.records
         ≡ run.records + length (part_of segment.now.first segment.now.reader).slots) }
     ensures none { IfNone result (CanFollow size run.end run.bytes run.records
@@ -83,33 +88,30 @@ fn with_next<H: FileHandle>(run: Run, segment: &Segment<H>, size: u64) -> Option
     })
 }
 
-// How many of these segments can be joined with the one before them.
+// How many of these segments can be joined with the one before them at once.
 fn count_next<H: FileHandle>(segment: &Segment<H>, others: &[Segment<H>], size: u64) -> usize
     ensures within { result ≤ length others.now }
+    ensures many { result < 100 }
     ensures next { AreNext (end_of (part_of segment.now.first segment.now.reader))
         (map (λ s. part_of s.first s.reader) (take result others.now)) }
     ensures few { 0 < result → length (part_of segment.now.first segment.now.reader).slots
         + length (slots_in (map (λ s. part_of s.first s.reader) (take result others.now))) < 2 ^ 32 }
+    ensures small { 0 < result → length segment.now.reader.file.content
+        + bytes_in (map (λ s. sealed_of s.first s.reader) (take result others.now)) ≤ size }
     ensures none { result ≡ 0 → CanJoinFirst size (sealed_of segment.now.first segment.now.reader)
         (map (λ s. sealed_of s.first s.reader) others.now) → ⊥ }
 {
     let Some(mut run) = run_of(segment) else {
         return 0;
     };
-    for i in 0..others.len() {
+    let most = others.len().min(MAX_JOINED - 1);
+    for i in 0..most {
         match with_next(run, &others[i], size) {
             Some(more) => run = more,
             None => return i,
         }
     }
-    others.len()
-}
-
-// The number where a segment ends.
-fn end_of_segment<H: FileHandle>(segment: &Segment<H>) -> u128
-    ensures { result ≡ end_of (part_of segment.now.first segment.now.reader) }
-{
-    u128::from(segment.first) + u128::from(segment.reader.num_docs())
+    most
 }
 
 // Whether a segment has all records of the first of those after it.
@@ -127,7 +129,7 @@ fn covers_next<H: FileHandle>(segment: &Segment<H>, others: &[Segment<H>]) -> bo
 
 // The first neighbours that can become one.
 fn find_step<H: FileHandle>(segments: &[Segment<H>], size: u64) -> Option<Step>
-    ensures some { IfSome result (λ step. CanBecomeOne (map (λ s. part_of s.first s.reader) segments.now)
+    ensures some { IfSome result (λ step. IsStep size (map (λ s. sealed_of s.first s.reader) segments.now)
         step.first step.count) }
     ensures none { IfNone result (AreApart size (map (λ s. sealed_of s.first s.reader) segments.now)) }
 {
@@ -159,7 +161,8 @@ impl<F: ReadableFolder> SegmentedLog<F> {
         ensures slots { IsTrue F.honest → self.new.slots ≡ self.old.slots }
         ensures pending { self.new.pending ≡ self.old.pending }
         ensures joined { IsTrue F.honest → OnOk result ((r : IsRun (parts_of self.old.segments) place count)
-            → parts_of self.new.segments ≡ with_joined r) }
+            → BecomesOne self.old.segments r self.new.segments) }
+        ensures same { OnErr result (self.new.segments ≡ self.old.segments) }
         ensures many { length self.new.segments ≡ length self.old.segments }
         ensures works { OnOk result (self.new.is_broken ≡ false) }
         ensures broken { OnErr result (IsTrue self.new.is_broken) }
@@ -176,6 +179,7 @@ impl<F: ReadableFolder> SegmentedLog<F> {
     {
         // A call that fails leaves the log so.
         self.is_broken = true;
+        self.may_overlap = true;
         let end = place + count + 1;
         let first = self.segments[place].first;
         let joined = join_segments(
@@ -200,8 +204,8 @@ impl<F: ReadableFolder> SegmentedLog<F> {
         ensures seal_size { self.new.seal_size ≡ self.old.seal_size }
         ensures slots { IsTrue F.honest → self.new.slots ≡ self.old.slots }
         ensures pending { self.new.pending ≡ self.old.pending }
-        ensures fewer { OnOk result (length self.new.segments + 1 ≡ length self.old.segments) }
-        ensures none_new { BringNoSlots self.old.segments self.new.segments }
+        ensures left { OnOk result (self.new.segments ≡ remove self.old.segments place) }
+        ensures same { OnErr result (self.new.segments ≡ self.old.segments) }
         ensures works { OnOk result (self.new.is_broken ≡ false) }
         ensures broken { OnErr result (IsTrue self.new.is_broken) }
         ensures any_moment { IsTrue F.honest → LeavesOnly F.moment F.left_since self.old.folder self.new.folder
@@ -216,6 +220,7 @@ impl<F: ReadableFolder> SegmentedLog<F> {
         let first = self.segments[place].first;
         remove_segment(self.alloc, &mut self.folder, first)?;
         drop(self.segments.remove(place));
+        self.may_overlap = may_overlap(&self.segments, self.first);
         self.is_broken = false;
         Ok(())
     }
@@ -231,7 +236,7 @@ impl<F: ReadableFolder> SegmentedLog<F> {
         ensures slots { IsTrue F.honest → self.new.slots ≡ self.old.slots }
         ensures pending { self.new.pending ≡ self.old.pending }
         ensures fewer { IfOk result (λ more. IsTrue more → length self.new.segments < length self.old.segments) }
-        ensures none_new { IsTrue F.honest → OnOk result (BringNoSlots self.old.segments self.new.segments) }
+        ensures joins { IsTrue F.honest → Compacts size self.old.segments self.new.segments }
         ensures compacted { IsTrue F.honest → IfOk result (λ more. more ≡ false
             → IsCompacted self.new.first size self.new.segments (F.seen self.new.folder)) }
         ensures works { OnOk result (self.new.is_broken ≡ false) }
@@ -261,9 +266,10 @@ impl<F: ReadableFolder> SegmentedLog<F> {
         Ok(true)
     }
 
-    /// Joins neighbouring segments whose data together has at most this many bytes. Numbers and records stay. A segment
-    /// is joined with the next one only if that one begins at the number where it ends, and a store has numbers for the
-    /// records of both. A segment all of whose records the one before it has is removed.
+    /// Joins neighbouring segments whose data together has at most this many bytes, at most `MAX_JOINED` at once; what
+    /// was joined is joined with the next ones, too. Numbers and records stay. A segment is joined with the next one
+    /// only if that one begins at the number where it ends, and a store has numbers for the records of both. A segment
+    /// all of whose records the one before it has is removed.
     ///
     /// The joined segment takes the name of its first one, and then the others are removed. So at any moment the log is
     /// the same. What waits for a sync goes on waiting. The joined segment is made in memory.
@@ -279,6 +285,9 @@ impl<F: ReadableFolder> SegmentedLog<F> {
         ensures slots { IsTrue F.honest → self.new.slots ≡ self.old.slots }
         ensures pending { self.new.pending ≡ self.old.pending }
         ensures works { OnOk result (self.new.is_broken ≡ false) }
+
+        // It goes by steps. What a step joins has at most this many bytes of data together. So it is after an error.
+        ensures joins { IsTrue F.honest → Compacts size self.old.segments self.new.segments }
 
         // No neighbours are left that can be joined.
         ensures compacted { IsTrue F.honest → OnOk result

@@ -20,8 +20,8 @@ use docstore::FileHandle;
 use std::alloc::Global;
 use store_folder::{Folder, FolderCall, ReadableFolder, carry_out};
 
-// Where the first of these segments ends, if it can be removed.
-fn end_of_first<H: FileHandle>(
+/// Where the first of these segments ends, if it can be removed.
+pub(crate) fn end_of_first<H: FileHandle>(
     segments: &[Segment<H>],
     first: u64,
     tail_first: u64,

@@ -8,6 +8,7 @@ ghost use Rattle.store_folder.specs.Moments.{ComesFrom, LeavesOnly};
 ghost use Rattle.store_folder.specs.Folder.{ElsewhereOfBoth, EntriesStayElsewhereOfBoth, FilesElsewhereOfBoth};
 ghost use Rattle.store_folder.specs.Publishing.{part};
 ghost use Rattle.store_format.specs.Block.{Slot, damaged};
+ghost use Rattle.store_reader.specs.Reading.{IsSeen};
 ghost use Rattle.store_merge.specs.Choice.{alive_slots};
 ghost use Rattle.store_merge.specs.Merge.{IsHonest};
 ghost use Rattle.segmented_log.specs.Names.{segment_name};
@@ -129,6 +130,7 @@ fn replace_segment<F: ReadableFolder>(
     ensures segment { IsTrue F.honest → (all : List Slot) → IsStoreWith all bytes.now
         → IfOk result (λ s. part_of s.first s.reader ≡ record { first = first; slots = all }) }
     ensures honest { IsTrue F.honest → IfOk result (λ s. IsTrue s.reader.file.honest) }
+    ensures seen { IfOk result (λ s. IsSeen s.reader) }
     ensures published { IsTrue F.honest → (all : List Slot) → IsStoreWith all bytes.now
         → OnOk result ((c : List ℕ → _) → F.may_leave folder.new c
         → HasSegment c (record { first = first; slots = all })) }
@@ -169,6 +171,7 @@ pub(crate) fn join_segments<F: ReadableFolder>(
         → IfOk result (λ s. part_of s.first s.reader
         ≡ record { first = first; slots = slots_in (map (λ s. part_of s.first s.reader) segments.now) }) }
     ensures honest { IsTrue F.honest → IfOk result (λ s. IsTrue s.reader.file.honest) }
+    ensures seen { IfOk result (λ s. IsSeen s.reader) }
     ensures published { IsTrue F.honest
         → All (λ s. HasSegment (F.seen folder.old) (part_of s.first s.reader)) segments.now
         → OnOk result ((c : List ℕ → _) → F.may_leave folder.new c → HasSegment c

@@ -1,7 +1,7 @@
 //! A log that is opened.
 
 ghost use Rattle.std.specs.Prelude.{◌≡◌, ◌≢◌, false, ◌≤◌, ◌<◌, ◌^◌, ◌+◌, ◌++◌, ℕ, List, [], Some, None, length, map};
-ghost use Rattle.std.specs.Prelude.{◌⊎◌, All, string_bytes, IsTrue, IfOk, IfErr, OnOk, IsErrOf};
+ghost use Rattle.std.specs.Prelude.{◌⊎◌, All, string_bytes, IsTrue, IfOk, IfErr, OnOk, OnErr, IsErrOf};
 ghost use Rattle.store_base.specs.Counts.{HasRisen};
 ghost use Rattle.store_folder.specs.Moments.{ComesFrom, LeavesOnly};
 ghost use Rattle.store_folder.specs.Folder.{ElsewhereOfBoth, AreNames};
@@ -14,6 +14,7 @@ ghost use Rattle.segmented_log.specs.Parts.{part_of, tail_end, end_from, ArePart
 ghost use Rattle.segmented_log.specs.Log.{IsLog, IsBlank, KeepsLog};
 ghost use Rattle.segmented_log.specs.Opening.{IsSyncedButTail, IsOldOrSeen, IsNoLog, HasFullTail};
 ghost use Rattle.segmented_log.specs.Opening.{HasSegments, IsTailOf, IsNoTail, HasDamagedTail, HasSoundTail};
+ghost use Rattle.segmented_log.specs.Opening.{KeepsButFailed};
 ghost use Rattle.segmented_log.specs.Settled.{TailIsKept, IsSettledTail, IsSettledFolder};
 ghost use Rattle.segmented_log.specs.Causes.{IsOfTails, IsOfOpenings};
 
@@ -23,6 +24,7 @@ use crate::found_files::sync_found_files;
 use crate::log::SegmentedLog;
 use crate::names::TAIL;
 use crate::opening::{end_of_segments, numbers_in, open_segments};
+use crate::reading::may_overlap;
 use crate::segment::{Segment, first_number};
 use crate::tail::{Cut, Tail, begin_tail, repair_tail};
 use crate::tail_buffer::TailBuffer;
@@ -196,6 +198,8 @@ fn load<F: ReadableFolder>(alloc: Global, folder: &mut F) -> Result<Parts<F::Fil
     ensures sound { IsTrue F.honest → OnOk result (HasSoundTail (F.seen folder.old)) }
     ensures elsewhere { IsTrue F.honest → OnOk result (ElsewhereOfBoth (tail_name ++ part) tail_name
         (F.seen folder.old) (F.seen folder.new)) }
+    ensures elsewhere_err { IsTrue F.honest → OnErr result (KeepsButFailed
+        (F.failures folder.old) (F.failures folder.new) (F.seen folder.old) (F.seen folder.new)) }
     ensures failures { F.failures folder.old ≤ F.failures folder.new }
     ensures failed { IsTrue F.honest → IsTrue F.is_readable → IsErrOf result LogError.Failed
         → HasRisen (F.failures folder.old) (F.failures folder.new) ⊎ HasSegments (F.seen folder.old) }
@@ -203,7 +207,7 @@ fn load<F: ReadableFolder>(alloc: Global, folder: &mut F) -> Result<Parts<F::Fil
 {
     let names = folder.names(alloc)?;
     let cut = found_cut(folder);
-    let is_kept = sync_found_files(folder, &names)?;
+    let is_kept = sync_found_files(folder, &names, true)?;
     load_synced(alloc, folder, &names, is_kept, cut)
 }
 
@@ -248,6 +252,9 @@ impl<F: ReadableFolder> SegmentedLog<F> {
         // Of the folder's files only the tail and the file beside it may be others.
         ensures files { IsTrue F.honest → IfOk result (λ log. ElsewhereOfBoth (tail_name ++ part) tail_name
             (F.seen folder) (F.seen log.folder)) }
+        // So it is after an error; or a sync of one of the log's files failed, and each other file is as it was.
+        ensures files_err { IsTrue F.honest → IfErr result (λ e. KeepsButFailed
+            (F.failures folder) (F.failures e.1) (F.seen folder) (F.seen e.1)) }
 
         // A log is not refused, nor a folder where one can begin. Where the folder is read, a call of it failed, or the
         // file of a segment.
@@ -278,6 +285,7 @@ impl<F: ReadableFolder> SegmentedLog<F> {
                     first: tail_first,
                     places,
                 } = tail;
+                let may_overlap = may_overlap(&segments, first);
                 Ok(SegmentedLog {
                     alloc,
                     folder,
@@ -287,6 +295,7 @@ impl<F: ReadableFolder> SegmentedLog<F> {
                     sealed,
                     tail_first,
                     segments,
+                    may_overlap,
                     tail: TailBuffer::new(alloc, bytes),
                     places,
                     next,

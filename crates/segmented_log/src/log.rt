@@ -36,7 +36,9 @@ pub struct SegmentedLog<F: ReadableFolder> {
     pub(crate) first: u64,
     pub(crate) sealed: u64,
     pub(crate) tail_first: u64,
+    // The segments, and whether some may not begin just where the one before it ends.
     pub(crate) segments: Vec<Segment<F::File>>,
+    pub(crate) may_overlap: bool,
     // The tail, with the batch that the next sync writes, and where its records lie.
     pub(crate) tail: TailBuffer,
     pub(crate) places: Vec<Place>,
@@ -55,6 +57,7 @@ impl<F: ReadableFolder> Model for SegmentedLog<F> {
     ghost use Rattle.segmented_log.specs.Parts.{part_of, sealed_of, log_slots};
     ghost use Rattle.segmented_log.specs.Log.{LogView};
     ghost use Rattle.segmented_log.specs.Settled.{IsSettledTail, IsSettledFolder};
+    ghost use Rattle.segmented_log.specs.Compacting.{AreNext};
 
     ghost Value = { LogView F };
 
@@ -77,7 +80,8 @@ impl<F: ReadableFolder> Model for SegmentedLog<F> {
         l.tail.pending × (IsTrue F.honest → IsSettledFolder (F.may_hold l.folder) (F.may_leave l.folder)
         (F.entry_kept l.folder)
         (F.trusted l.folder) l.first l.sealed (map (λ s. part_of s.first s.reader) l.segments.items) l.tail.bytes
-        × All (λ s. IsTrue s.reader.file.honest) l.segments.items)) };
+        × All (λ s. IsTrue s.reader.file.honest) l.segments.items
+        × OnFalse l.may_overlap (AreNext l.first (map (λ s. part_of s.first s.reader) l.segments.items)))) };
 }
 
 impl<F: ReadableFolder> SegmentedLog<F> {
@@ -190,7 +194,7 @@ impl<F: ReadableFolder> SegmentedLog<F> {
             return Ok(None);
         }
         if number < self.sealed {
-            return get_from(self.alloc, &mut self.segments, number);
+            return get_from(self.alloc, &mut self.segments, self.may_overlap, number);
         }
         let index = (number - self.tail_first) as usize;
         if index >= self.places.len() {

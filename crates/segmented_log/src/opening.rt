@@ -75,6 +75,7 @@ pub(crate) fn open_segments<F: ReadableFolder>(
 /// The number where segments end the first of which has this number. None where they are no segments of one log.
 pub(crate) fn end_of_segments<H: FileHandle>(segments: &[Segment<H>], first: u64) -> Option<u64>
     ensures end { IfSome result (λ end. end ≡ end_from first (map (λ s. part_of s.first s.reader) segments.now)) }
+    ensures fits { IfSome result (λ end. end < 2 ^ 64) }
     ensures line { IfSome result (λ _. AreInLine first (map (λ s. part_of s.first s.reader) segments.now)) }
     ensures ascend { IfSome result (λ _. Ascend first (map (λ s. part_of s.first s.reader) segments.now)) }
     ensures none { IfNone result (AreInLine first (map (λ s. part_of s.first s.reader) segments.now)

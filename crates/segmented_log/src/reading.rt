@@ -2,16 +2,21 @@
 
 ghost use Rattle.std.specs.Prelude.{◌≡◌, ◌≢◌, ◌⊎◌, ◌≤◌, ◌<◌, ◌-◌, ◌↔◌, ℕ, length, map, take, All, IsTrue, IfErr, IfOk};
 ghost use Rattle.std.specs.Prelude.{HoldsAt, IsErrOf, slice_get};
+ghost use Rattle.std.specs.Bool.{OnFalse};
 ghost use Rattle.std.specs.List.{sum_by};
 ghost use Rattle.store_base.specs.Counts.{HasRisen};
+ghost use Rattle.store_format.specs.Slots.{slots};
+ghost use Rattle.store_reader.specs.GetAnswer.{AnswersTruly};
+ghost use Rattle.store_reader.specs.Reading.{IsSameStore, num_docs, store_of};
 ghost use Rattle.segmented_log.specs.Parts.{part_of, sealed_of, end_of, end_from, joined, AreInLine};
 ghost use Rattle.segmented_log.specs.Log.{Gives};
+ghost use Rattle.segmented_log.specs.Compacting.{AreNext};
 ghost use Rattle.segmented_log.specs.Causes.{IsOfReads, IsDamaged};
 ghost use Rattle.log_tail.specs.Place.{content};
 
 use crate::error::LogError;
-use crate::segment::Segment;
-use docstore::{FileHandle, StoreError};
+use crate::segment::{Segment, end_of_segment};
+use docstore::{DocId, FileHandle, OwnedBytes, StoreError, StoreReader};
 use log_tail::Place;
 use std::alloc::{AllocError, Global};
 
@@ -20,6 +25,41 @@ fn ends_after<H: FileHandle>(segment: &Segment<H>, number: u64) -> bool
     ensures { IsTrue result ↔ (number < end_of (part_of segment.now.first segment.now.reader)) }
 {
     number < segment.first || number - segment.first < u64::from(segment.reader.num_docs())
+}
+
+/// Whether the first of these segments may not begin at this number, or another one where the one before it ends.
+pub(crate) fn may_overlap<H: FileHandle>(segments: &[Segment<H>], first: u64) -> bool
+    ensures { OnFalse result (AreNext first (map (λ s. part_of s.first s.reader) segments.now)) }
+{
+    let mut end = u128::from(first);
+    for segment in segments {
+        if u128::from(segment.first) != end {
+            return true;
+        }
+        end = end_of_segment(segment);
+    }
+    false
+}
+
+// The place of the first segment that ends after this number, or how many there are, where none overlap.
+fn find_by_halves<H: FileHandle>(segments: &[Segment<H>], number: u64) -> usize
+    ensures within { result ≤ length segments.now }
+    ensures before { (n : ℕ) → AreNext n (map (λ s. part_of s.first s.reader) segments.now)
+        → All (λ s. end_of (part_of s.first s.reader) ≤ number) (take result segments.now) }
+    ensures found { result < length segments.now
+        → HoldsAt (λ s. number < end_of (part_of s.first s.reader)) segments.now result }
+{
+    let mut low = 0;
+    let mut high = segments.len();
+    while low < high {
+        let middle = low + (high - low) / 2;
+        if ends_after(&segments[middle], number) {
+            high = middle;
+        } else {
+            low = middle + 1;
+        }
+    }
+    low
 }
 
 // The place of the first segment that ends after this number, or how many there are.
@@ -37,17 +77,55 @@ fn find_segment<H: FileHandle>(segments: &[Segment<H>], number: u64) -> usize
     segments.len()
 }
 
+// The same, by halves where no segments overlap.
+fn place_of<H: FileHandle>(segments: &[Segment<H>], may_overlap: bool, number: u64) -> usize
+    ensures within { result ≤ length segments.now }
+    ensures before { (n : ℕ) → OnFalse may_overlap (AreNext n (map (λ s. part_of s.first s.reader) segments.now))
+        → All (λ s. end_of (part_of s.first s.reader) ≤ number) (take result segments.now) }
+    ensures found { result < length segments.now
+        → HoldsAt (λ s. number < end_of (part_of s.first s.reader)) segments.now result }
+{
+    if may_overlap {
+        find_segment(segments, number)
+    } else {
+        find_by_halves(segments, number)
+    }
+}
+
 // Why a record of a segment could not be read.
 fn get_error(error: StoreError) -> LogError
     ensures damaged { result ≡ LogError.Damaged → IsDamaged error }
     ensures failed { result ≡ LogError.Failed → (error ≢ StoreError.Memory) × (IsDamaged error → ⊥) }
     ensures read { error ≡ StoreError.Read → result ≡ LogError.Failed }
+    ensures memory { result ≡ LogError.Memory → error ≡ StoreError.Memory }
     ensures kind { IsOfReads result }
 {
     match error {
         StoreError::Memory => LogError::Memory,
         StoreError::DamagedDocument(_) => LogError::Damaged,
         _ => LogError::Failed,
+    }
+}
+
+// The bytes of a record of a segment. Its block is read and kept if it is the next after the record before: more of the
+// block will be read then. Otherwise only the record is read.
+fn read_record<H: FileHandle>(
+    alloc: Global,
+    reader: &mut StoreReader<H>,
+    id: DocId,
+    is_next: bool,
+) -> Result<OwnedBytes, StoreError>
+    ensures no_document { IsErrOf result (StoreError.InvalidArgument id) ↔ (num_docs reader.old ≤ id) }
+    ensures honest { IsTrue reader.old.file.honest
+        → AnswersTruly id (slice_get (slots (store_of reader.old)) id) result }
+    ensures failed { IsErrOf result StoreError.Read → HasRisen reader.old.file.failures reader.new.file.failures }
+    ensures steady { IsErrOf result StoreError.Read ⊎ (reader.new.file.failures ≡ reader.old.file.failures) }
+    ensures same_store { IsSameStore reader.old reader.new }
+{
+    if is_next {
+        reader.get_document_bytes(alloc, id)
+    } else {
+        reader.read_document_bytes(alloc, id)
     }
 }
 
@@ -75,7 +153,9 @@ fn get_in<H: FileHandle>(
         return Err(LogError::Failed);
     }
     let id = (number - segment.first) as u32;
-    match segment.reader.get_document_bytes(alloc, id) {
+    let is_next = id == segment.next;
+    segment.next = id + 1;
+    match read_record(alloc, &mut segment.reader, id, is_next) {
         Ok(bytes) => Ok(Some(bytes.as_slice().to_vec(alloc)?)),
         Err(error) => Err(get_error(error)),
     }
@@ -85,6 +165,7 @@ fn get_in<H: FileHandle>(
 pub(crate) fn get_from<H: FileHandle>(
     alloc: Global,
     segments: &mut Vec<Segment<H>>,
+    may_overlap: bool,
     number: u64,
 ) -> Result<Option<Vec<u8>>, LogError>
     ensures parts { map (λ s. part_of s.first s.reader) segments.new.items
@@ -94,13 +175,15 @@ pub(crate) fn get_from<H: FileHandle>(
     ensures honest { All (λ s. IsTrue s.reader.file.honest) segments.old.items
         → All (λ s. IsTrue s.reader.file.honest) segments.new.items }
     ensures found { (n : ℕ) → All (λ s. IsTrue s.reader.file.honest) segments.old.items
-        → AreInLine n (map (λ s. part_of s.first s.reader) segments.old.items) → n ≤ number
+        → AreInLine n (map (λ s. part_of s.first s.reader) segments.old.items)
+        → OnFalse may_overlap (AreNext n (map (λ s. part_of s.first s.reader) segments.old.items)) → n ≤ number
         → number < end_from n (map (λ s. part_of s.first s.reader) segments.old.items)
         → Gives (slice_get (joined n (map (λ s. part_of s.first s.reader) segments.old.items)) (number - n)) result }
     ensures count { sum_by (λ s. s.reader.file.failures) segments.old.items
         ≤ sum_by (λ s. s.reader.file.failures) segments.new.items }
     ensures failed { (n : ℕ) → All (λ s. IsTrue s.reader.file.honest) segments.old.items
-        → AreInLine n (map (λ s. part_of s.first s.reader) segments.old.items) → n ≤ number
+        → AreInLine n (map (λ s. part_of s.first s.reader) segments.old.items)
+        → OnFalse may_overlap (AreNext n (map (λ s. part_of s.first s.reader) segments.old.items)) → n ≤ number
         → number < end_from n (map (λ s. part_of s.first s.reader) segments.old.items)
         → IsErrOf result LogError.Failed → HasRisen (sum_by (λ s. s.reader.file.failures) segments.old.items)
         (sum_by (λ s. s.reader.file.failures) segments.new.items) }
@@ -108,7 +191,7 @@ pub(crate) fn get_from<H: FileHandle>(
         ≡ sum_by (λ s. s.reader.file.failures) segments.old.items) }
     ensures kind { IfErr result IsOfReads }
 {
-    let i = find_segment(segments, number);
+    let i = place_of(segments, may_overlap, number);
     if i >= segments.len() {
         return Err(LogError::Failed);
     }

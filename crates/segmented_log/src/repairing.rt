@@ -143,7 +143,7 @@ pub fn repair<F: ReadableFolder>(alloc: Global, folder: &mut F) -> Result<Option
     ensures kind { IfErr result IsOfTails }
 {
     let names = folder.names(alloc)?;
-    let _ = sync_found_files(folder, &names)?;
+    let _ = sync_found_files(folder, &names, true)?;
     let Some(bytes) = folder.read(alloc, TAIL)? else {
         return Err(LogError::NoLog);
     };

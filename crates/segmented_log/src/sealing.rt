@@ -58,12 +58,15 @@ pub(crate) struct TailRecords<'a> {
 impl<'a> Filling for TailRecords<'a> {
     ghost use Rattle.std.specs.Prelude.{◌≡◌, map};
     ghost use Rattle.store_format.specs.Block.{doc};
+    ghost use Rattle.docstore.specs.Trace.{AreFlushed};
     ghost use Rattle.log_tail.specs.Place.{contents};
     ghost use Rattle.segmented_log.specs.Causes.{RefusesRecords};
 
     type Error = StoreError;
 
     ghost brings = { λ old new slots. slots ≡ map doc (contents old.tail.now old.places.now) };
+
+    ghost cuts = { λ old size blocks. AreFlushed size (contents old.tail.now old.places.now) blocks };
 
     ghost refuses = { λ old new block_size. RefusesRecords block_size (contents old.tail.now old.places.now) };
 

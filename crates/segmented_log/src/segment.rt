@@ -7,17 +7,19 @@ ghost use Rattle.store_folder.specs.Moments.{ComesFrom, LeavesOnly};
 ghost use Rattle.store_folder.specs.Folder.{ElsewhereOfBoth, EntriesStayElsewhereOfBoth, FilesElsewhereOfBoth};
 ghost use Rattle.store_folder.specs.Publishing.{part};
 ghost use Rattle.log_tail.specs.Place.{contents, EndsBy};
+ghost use Rattle.store_reader.specs.Reading.{IsSeen};
 ghost use Rattle.segmented_log.specs.Names.{segment_name};
-ghost use Rattle.segmented_log.specs.Parts.{part_of, first_in};
+ghost use Rattle.segmented_log.specs.Parts.{part_of, end_of, first_in};
 ghost use Rattle.segmented_log.specs.Log.{HasSegment};
 ghost use Rattle.segmented_log.specs.Settled.{part_at, AddsSegment};
+ghost use Rattle.segmented_log.specs.Sealing.{HasPacked};
 ghost use Rattle.segmented_log.specs.Opening.{IsNoSegment};
 ghost use Rattle.segmented_log.specs.Causes.{IsOfFiles, IsOfSeals, HasNoRoom, IsFault};
 
 use crate::error::LogError;
 use crate::names::segment_file;
 use crate::sealing::{BLOCK_SIZE, TailRecords, fill_error};
-use docstore::{FileHandle, FileSlice, StoreError, StoreReader, USUAL_PERIOD, laws};
+use docstore::{DocId, FileHandle, FileSlice, StoreError, StoreReader, USUAL_PERIOD, laws};
 use log_tail::Place;
 use std::alloc::Global;
 use store_folder::{Folder, ReadableFolder};
@@ -31,6 +33,15 @@ const CACHED_BLOCKS: usize = 4;
 pub(crate) struct Segment<H: FileHandle> {
     pub(crate) first: u64,
     pub(crate) reader: StoreReader<H>,
+    // The id after that of the record that was got last, or 0 before any.
+    pub(crate) next: DocId,
+}
+
+/// The number where a segment ends.
+pub(crate) fn end_of_segment<H: FileHandle>(segment: &Segment<H>) -> u128
+    ensures { result ≡ end_of (part_of segment.now.first segment.now.reader) }
+{
+    u128::from(segment.first) + u128::from(segment.reader.num_docs())
 }
 
 /// The first number of these segments, or that of the tail where there are none.
@@ -64,13 +75,18 @@ pub(crate) fn open_segment<F: ReadableFolder>(
     ensures first { IfOk result (λ s. s.first ≡ first) }
     ensures found { IsTrue F.honest → IfOk result (λ s. HasSegment (F.seen folder.now) (part_of s.first s.reader)) }
     ensures honest { IsTrue F.honest → IfOk result (λ s. IsTrue s.reader.file.honest) }
+    ensures seen { IfOk result (λ s. IsSeen s.reader) }
     ensures no_log { IsTrue F.honest → IsErrOf result LogError.NoLog → IsNoSegment (F.seen folder.now) first }
     ensures kind { IfErr result IsOfFiles }
 {
     let name = segment_file(alloc, first)?;
     let file = folder.open(alloc, name.as_str())?;
     match StoreReader::open(alloc, FileSlice::new(file), CACHED_BLOCKS) {
-        Ok(reader) => Ok(Segment { first, reader }),
+        Ok(reader) => Ok(Segment {
+            first,
+            reader,
+            next: 0,
+        }),
         Err(refusal) => Err(open_error(refusal.error)),
     }
 }
@@ -88,6 +104,7 @@ pub(crate) fn publish_segment<F: Folder>(
     // After an Ok, each crash leaves the segment.
     ensures published { IsTrue F.honest → OnOk result ((c : List ℕ → _) → F.may_leave folder.new c
         → HasSegment c (part_at first tail.now places.now)) }
+    ensures packed { IsTrue F.honest → OnOk result (HasPacked (F.seen folder.new) first) }
     ensures kept { IsTrue F.honest → OnOk result ((n : List ℕ) → F.entry_kept folder.new n) }
     ensures trust { IsTrue F.honest → EntriesStayElsewhereOfBoth (segment_name first ++ part) (segment_name first)
         (F.trusted folder.old) (F.trusted folder.new) }
@@ -146,6 +163,7 @@ pub(crate) fn add_segment<F: ReadableFolder>(
     ensures honest { IsTrue F.honest → IfOk result (λ s. IsTrue s.reader.file.honest) }
     ensures published { IsTrue F.honest → OnOk result ((c : List ℕ → _) → F.may_leave folder.new c
         → HasSegment c (part_at first tail.now places.now)) }
+    ensures packed { IsTrue F.honest → OnOk result (HasPacked (F.seen folder.new) first) }
     ensures kept { IsTrue F.honest → OnOk result ((n : List ℕ) → F.entry_kept folder.new n) }
     ensures trust { IsTrue F.honest → EntriesStayElsewhereOfBoth (segment_name first ++ part) (segment_name first)
         (F.trusted folder.old) (F.trusted folder.new) }

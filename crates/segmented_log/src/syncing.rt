@@ -9,6 +9,7 @@ ghost use Rattle.segmented_log.specs.Log.{IsLog, KeepsOrAdds};
 ghost use Rattle.store_folder.specs.Folder.{ElsewhereOfBoth};
 ghost use Rattle.store_folder.specs.Publishing.{part};
 ghost use Rattle.segmented_log.specs.Names.{tail_name};
+ghost use Rattle.segmented_log.specs.Sealing.{AddsPacked};
 ghost use Rattle.segmented_log.specs.Causes.{IsOfSeals, HasNewSegment, HasNoRoomForLast};
 ghost use Rattle.segmented_log.specs.Causes.{IsFault, IsOfSyncs, KeepsOthers};
 
@@ -36,8 +37,7 @@ impl<F: ReadableFolder> SegmentedLog<F> {
         ensures works { OnOk result (self.new.is_broken ≡ false) }
         ensures broken { OnErr result (IsTrue self.new.is_broken) }
         ensures elsewhere { IsTrue F.honest
-            → OnOk result (ElsewhereOfBoth (tail_name ++ part) tail_name
-            (F.seen self.old.folder) (F.seen self.new.folder)) }
+            → ElsewhereOfBoth (tail_name ++ part) tail_name (F.seen self.old.folder) (F.seen self.new.folder) }
         ensures any_moment { IsTrue F.honest → LeavesOnly F.moment F.left_since self.old.folder self.new.folder
             (KeepsOrAdds self.old.commit self.old.first self.old.slots self.old.pending) }
         ensures failures { F.failures self.old.folder ≤ F.failures self.new.folder }
@@ -70,6 +70,7 @@ impl<F: ReadableFolder> SegmentedLog<F> {
         ensures any_moment { IsTrue F.honest → LeavesOnly F.moment F.left_since self.old.folder self.new.folder
             (IsLog self.old.first self.old.slots) }
         ensures files { IsTrue F.honest → KeepsOthers (F.seen self.old.folder) (F.seen self.new.folder) }
+        ensures packed { IsTrue F.honest → OnOk result (AddsPacked (F.seen self.old.folder) (F.seen self.new.folder)) }
         ensures failures { F.failures self.old.folder ≤ F.failures self.new.folder }
         ensures failed { IsTrue F.honest → IsErrOf result LogError.Failed
             → HasRisen (F.failures self.old.folder) (F.failures self.new.folder)
@@ -152,8 +153,9 @@ impl<F: ReadableFolder> SegmentedLog<F> {
         // A crash at any moment leaves the same log.
         ensures any_moment { IsTrue F.honest → self.old.is_broken ≡ false
             → LeavesOnly F.moment F.left_since self.old.folder self.new.folder (IsLog self.old.first self.old.slots) }
-        // Of the folder's other files each stays.
+        // Of the folder's other files each stays, and a new segment is as `pack` writes it.
         ensures files { IsTrue F.honest → KeepsOthers (F.seen self.old.folder) (F.seen self.new.folder) }
+        ensures packed { IsTrue F.honest → OnOk result (AddsPacked (F.seen self.old.folder) (F.seen self.new.folder)) }
         ensures broken { IsErrOf result LogError.Broken ↔ IsTrue self.old.is_broken }
         ensures err { OnErr result (IsTrue self.new.is_broken) }
         ensures same { IsTrue self.old.is_broken → self.new ≡ self.old }
@@ -187,6 +189,7 @@ impl<F: ReadableFolder> SegmentedLog<F> {
         ensures any_moment { IsTrue F.honest → LeavesOnly F.moment F.left_since self.old.folder self.new.folder
             (IsLog self.old.first self.old.slots) }
         ensures files { IsTrue F.honest → KeepsOthers (F.seen self.old.folder) (F.seen self.new.folder) }
+        ensures packed { IsTrue F.honest → OnOk result (AddsPacked (F.seen self.old.folder) (F.seen self.new.folder)) }
         ensures failures { F.failures self.old.folder ≤ F.failures self.new.folder }
         ensures failed { IsTrue F.honest → IsErrOf result LogError.Failed
             → HasRisen (F.failures self.old.folder) (F.failures self.new.folder)
@@ -214,6 +217,7 @@ impl<F: ReadableFolder> SegmentedLog<F> {
         ensures any_moment { IsTrue F.honest → LeavesOnly F.moment F.left_since self.old.folder self.new.folder
             (IsLog self.old.first self.old.slots) }
         ensures files { IsTrue F.honest → KeepsOthers (F.seen self.old.folder) (F.seen self.new.folder) }
+        ensures packed { IsTrue F.honest → OnOk result (AddsPacked (F.seen self.old.folder) (F.seen self.new.folder)) }
         ensures failures { F.failures self.old.folder ≤ F.failures self.new.folder }
         ensures failed { IsTrue F.honest → IsErrOf result LogError.Failed
             → HasRisen (F.failures self.old.folder) (F.failures self.new.folder)
@@ -250,9 +254,9 @@ impl<F: ReadableFolder> SegmentedLog<F> {
         ensures any_moment { IsTrue F.honest → self.old.is_broken ≡ false
             → LeavesOnly F.moment F.left_since self.old.folder self.new.folder
             (KeepsOrAdds self.old.commit self.old.first self.old.slots self.old.pending) }
-        // Of the folder's other files each stays.
-        ensures files { IsTrue F.honest
-            → OnOk result (KeepsOthers (F.seen self.old.folder) (F.seen self.new.folder)) }
+        // Of the folder's other files each stays, and a new segment is as `pack` writes it.
+        ensures files { IsTrue F.honest → KeepsOthers (F.seen self.old.folder) (F.seen self.new.folder) }
+        ensures packed { IsTrue F.honest → OnOk result (AddsPacked (F.seen self.old.folder) (F.seen self.new.folder)) }
         ensures broken { IsErrOf result LogError.Broken ↔ IsTrue self.old.is_broken }
         ensures err { OnErr result (IsTrue self.new.is_broken) }
         ensures same { IsTrue self.old.is_broken → self.new ≡ self.old }

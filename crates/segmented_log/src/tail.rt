@@ -42,8 +42,8 @@ pub(crate) enum Cut {
     Damage,
 }
 
-// Whether more would be cut off than may be, where the whole batches end at this place.
-fn is_too_much(cut: Cut, bytes: &[u8], first: u64, end: usize) -> bool
+/// Whether more would be cut off than may be, where the whole batches end at this place.
+pub(crate) fn is_too_much(cut: Cut, bytes: &[u8], first: u64, end: usize) -> bool
     requires first { first ≡ first_of bytes.now }
     requires within { end ≤ length bytes.now }
     requires rest { drop end bytes.now ≡ rest_of bytes.now }

@@ -35,15 +35,16 @@ fn append_batch<F: Folder>(folder: &mut F, batch: &[u8]) -> Result<(), LogError>
         (F.trusted folder.old) tail
         → TailIsKept (F.may_hold folder.new) (F.may_leave folder.new) (F.entry_kept folder.new)
         (F.trusted folder.new) (tail ++ batch.now)) }
-    ensures elsewhere { IsTrue F.honest → OnOk result (Elsewhere tail_name (F.seen folder.old) (F.seen folder.new)) }
+    ensures elsewhere { IsTrue F.honest → Elsewhere tail_name (F.seen folder.old) (F.seen folder.new) }
     ensures crash { IsTrue F.honest
         → ComesFrom (Elsewhere tail_name) (F.may_leave folder.old) (F.may_leave folder.new) }
 
-    // A crash at any moment leaves what was there, and maybe any bytes after the tail.
+    // A crash at any moment leaves what was there, and maybe any bytes after the tail, no more than the batch has.
     ensures any_moment { IsTrue F.honest → (tail : List ℕ)
         → TailIsKept (F.may_hold folder.old) (F.may_leave folder.old) (F.entry_kept folder.old)
         (F.trusted folder.old) tail
-        → LeavesOnly F.moment F.left_since folder.old folder.new (GrowsTail (F.may_leave folder.old) tail) }
+        → LeavesOnly F.moment F.left_since folder.old folder.new
+        (GrowsTail (F.may_leave folder.old) tail (length batch.now)) }
     ensures failures { F.failures folder.old ≤ F.failures folder.new }
     ensures failed { OnErr result (HasRisen (F.failures folder.old) (F.failures folder.new)) }
     ensures kind { IfErr result IsFault }
@@ -66,8 +67,8 @@ pub(crate) fn write_batch<F: Folder>(
         (F.trusted folder.old) (take end tail.now) }
     ensures kept { IsTrue F.honest → OnOk result (TailIsKept (F.may_hold folder.new) (F.may_leave folder.new)
         (F.entry_kept folder.new) (F.trusted folder.new) tail.now) }
-    ensures elsewhere { IsTrue F.honest → OnOk result
-        (ElsewhereOfBoth (tail_name ++ part) tail_name (F.seen folder.old) (F.seen folder.new)) }
+    ensures elsewhere { IsTrue F.honest
+        → ElsewhereOfBoth (tail_name ++ part) tail_name (F.seen folder.old) (F.seen folder.new) }
     ensures crash { IsTrue F.honest → ComesFrom (ElsewhereOfBoth (tail_name ++ part) tail_name)
         (F.may_leave folder.old) (F.may_leave folder.new) }
     ensures any_moment { IsTrue F.honest → LeavesOnly F.moment F.left_since folder.old folder.new

@@ -1,8 +1,6 @@
 -- What is known of a folder while one file of it is written.
-use Rattle.std.proofs.Common.{◌≡◌, ◌⊎◌, inl, inr, ⊎_elim, ℕ, ◌≤◌, List, refl, ◌∙◌, arith}
-use Rattle.std.specs.IoError.{error_kind}
+use Rattle.std.proofs.Common.{inl, inr, ⊎_elim, ℕ, ◌≤◌, List, refl, ◌∙◌, arith}
 use Rattle.std.specs.declared.io.Error.{Error}
-use Rattle.store_base.specs.Counts.{HasRisen}
 use Rattle.store_base.proofs.ListLemmas.{risen_later, risen_on}
 use Rattle.store_folder.specs.Moments.{ComesFrom, Elapses}
 use Rattle.store_folder.specs.Folder.{Look, Elsewhere, FilesElsewhere, EntriesStayElsewhere}

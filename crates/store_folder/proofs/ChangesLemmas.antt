@@ -1,6 +1,6 @@
 -- What one change does to a folder in memory.
 use Rattle.std.proofs.Common.{◌≡◌, ◌≢◌, ◌⊎◌, inl, inr, ℕ, ◌+◌, ◌<◌, get_or, Bool, true, false, List, [], ◌∷◌, ◌++◌, length, take, Option, Some, None}
-use Rattle.std.proofs.Common.{string_bytes, nat_eq, refl, sym, ◌∙◌, ap, subst}
+use Rattle.std.proofs.Common.{string_bytes, nat_eq, refl, sym, ◌∙◌, ap, subst, arith}
 use Rattle.std.specs.Prelude.{if◌then◌else◌, unwrap_or, IsSome}
 use Rattle.std.proofs.lemmas.List.{append-nil, take_more}
 use Rattle.std.proofs.lemmas.Cmp.{nat_list_eq_equiv}
@@ -8,7 +8,7 @@ use Rattle.std.specs.Cmp.Lexicographic.{same_text}
 use Rattle.store_base.proofs.ListLemmas.{either}
 use lib.Pointwise.{pointwise}
 use Rattle.store_folder.specs.Moments.{ComesFrom, Elapses}
-use Rattle.store_folder.specs.Folder.{Look, Elsewhere, ElsewhereOfBoth, FilesElsewhere, Extends, Written, Renamed, LosesFile, bytes_of}
+use Rattle.store_folder.specs.Folder.{Look, Elsewhere, ElsewhereOfBoth, Extends, Written, Renamed, LosesFile, bytes_of}
 use Rattle.store_folder.specs.Changes.{after, changed, nothing, look_of, Is, WasSince}
 use Rattle.store_folder.specs.declared.memory.Change.{Change}
 use Rattle.store_folder.proofs.Elapsing.{goes_on}
@@ -115,9 +115,9 @@ crash_written name old new e which c is = (
 
 -- what a file in memory holds after more bytes, or after none
 pub extended : (old new : Option (List ℕ)) (more : List ℕ) → IsSome old → (new ≡ Some (unwrap_or old [] ++ more)) ⊎ (new ≡ old)
-    → Extends (λ bytes. old ≡ Some bytes) (λ bytes. new ≡ Some bytes)
+    → Extends (length more) (λ bytes. old ≡ Some bytes) (λ bytes. new ≡ Some bytes)
 extended None new more there which bytes holds = let no : ⊥ = cc in absurd no
 extended (Some kept) new more there (inl grown) bytes holds =
-    (kept, more, refl, ap (λ (o : Option (List ℕ)). unwrap_or o []) (sym holds ∙ grown))
+    (kept, more, refl, omega arith, ap (λ (o : Option (List ℕ)). unwrap_or o []) (sym holds ∙ grown))
 extended (Some kept) new more there (inr same) bytes holds =
-    (kept, [], refl, ap (λ (o : Option (List ℕ)). unwrap_or o []) (sym holds ∙ same) ∙ sym (append-nil kept))
+    (kept, [], refl, omega arith, ap (λ (o : Option (List ℕ)). unwrap_or o []) (sym holds ∙ same) ∙ sym (append-nil kept))

@@ -1,14 +1,11 @@
 -- What a crash leaves once the calls of a publication were made.
-use Rattle.std.proofs.Common.{◌≡◌, ◌≢◌, ◌⊎◌, inl, inr, ℕ, List, [], ◌∷◌, ◌++◌, Bool, true, false, Option, Some, refl, sym, ◌∙◌, ap, subst}
+use Rattle.std.proofs.Common.{◌≡◌, inl, inr, ℕ, List, [], ◌∷◌, Bool, true, false, Some, refl, ◌∙◌}
 use Rattle.std.specs.Prelude.{IsTrue, Result, Ok, Err, OnOk, is_ok}
-use Rattle.store_base.specs.ReadingLemmas.{some_is}
 use Rattle.store_folder.specs.Moments.{LeavesOnly}
 use Rattle.store_folder.specs.Folder.{Look, Keeps}
 use Rattle.store_folder.specs.Publishing.{IsOldOrWhole}
-use Rattle.store_folder.specs.Stages.{IsBeside}
-use Rattle.store_folder.specs.Calls.{Kind, Does, Carried, publishing, replacing, creates, appends, syncs, renames, syncs_folder}
-use Rattle.store_folder.proofs.Steps.{started, goes_on, weaker, old_stays, renamed, leads_to_whole, written_elsewhere}
-use Rattle.store_folder.proofs.Runs.{begun, not_begun, untouched_old, appended, append_failed, named, named_kept}
+use Rattle.store_folder.specs.Calls.{Kind, Does, Carried, publishing, syncs, renames, syncs_folder}
+use Rattle.store_folder.proofs.Steps.{started, goes_on, old_stays, renamed, leads_to_whole}
 use Rattle.store_folder.proofs.CallsLemmas.{first_call, last_call}
 
 never : {A : Type 0} (ok : Bool) → ok ≡ false → IsTrue ok → A

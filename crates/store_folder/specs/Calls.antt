@@ -1,5 +1,5 @@
 -- Calls of a folder as data, and what a list of them does to it.
-use Rattle.std.specs.Prelude.{◌≡◌, ◌≢◌, ◌⊎◌, ℕ, List, [], ◌∷◌, ◌++◌, Bool, true, false, Option, Some, None, IsSome, IsTrue, unwrap_or}
+use Rattle.std.specs.Prelude.{◌≡◌, ◌≢◌, ◌⊎◌, ℕ, List, [], ◌∷◌, ◌++◌, length, Bool, true, false, Some, None, IsSome, IsTrue, unwrap_or}
 use Rattle.store_folder.specs.Moments.{ComesFrom, NoMore, Elapses}
 use Rattle.store_folder.specs.Folder.{Look, Elsewhere, ElsewhereOfBoth, FilesElsewhere, FilesElsewhereOfBoth, Extends, Written, Renamed, LosesFile, EntriesAreKept, Keeps}
 use Rattle.store_folder.specs.Folder.{EntriesStay, EntriesStayElsewhere, EntriesStayElsewhereOfBoth}
@@ -62,7 +62,7 @@ pub record Creates {F : Type 0} (k : Kind F) (name : List ℕ) (ok : Bool) (old 
 pub record Appends {F : Type 0} (k : Kind F) (name bytes : List ℕ) (ok : Bool) (old new : F) : Type 0 where
   pub appended : IsTrue ok → k.seen new name ≡ Some (unwrap_or (k.seen old name) [] ++ bytes)
   pub elsewhere : Elsewhere name (k.seen old) (k.seen new)
-  pub file : Extends (k.may_hold old name) (k.may_hold new name)
+  pub file : Extends (length bytes) (k.may_hold old name) (k.may_hold new name)
   pub files : FilesElsewhere name (k.may_hold old) (k.may_hold new)
   pub crash : ComesFrom (Written name (k.may_hold new name)) (k.may_leave old) (k.may_leave new)
   pub entries : EntriesStay (k.entry_kept old) (k.entry_kept new)

@@ -1,6 +1,6 @@
 //! A folder as a model: what a look sees, and what a crash may leave.
 
-ghost use Rattle.std.specs.Prelude.{◌≡◌, ◌≢◌, ◌++◌, ◌≤◌, ℕ, List, [], Bool, Option, IsTrue, IsSome};
+ghost use Rattle.std.specs.Prelude.{◌≡◌, ◌≢◌, ◌++◌, ◌≤◌, ℕ, List, [], length, Bool, Option, IsTrue, IsSome};
 ghost use Rattle.std.specs.Prelude.{OnOk, OnErr, unwrap_or};
 ghost use Rattle.store_base.specs.Counts.{HasRisen};
 ghost use Rattle.store_folder.specs.Moments.{ComesFrom, NoMore, Elapses};
@@ -12,10 +12,10 @@ use std::io;
 
 /// A folder of files, each of which has one name.
 ///
-/// A crash may replace bytes that were not synced by any bytes of any length, or leave no file. Until the folder's next
-/// sync it may undo a removal, or a rename, and leave anything under the old name of a renamed one. A file that was
-/// synced and not written since keeps its bytes, whatever name it has later; one that was appended to since begins with
-/// them.
+/// A crash may leave any bytes of any length in a file that was not synced since it was made. A file that was synced
+/// keeps its bytes, whatever name it has later; if it was appended to since, a crash leaves after them any bytes, no
+/// more than were appended. Until the folder's next sync a crash may undo a removal or a rename, and leave anything
+/// under the name of a file that was made and under the old name of a renamed one.
 ///
 /// Once a sync of a file has failed, the system may take for written what it did not write, as Linux does. Then no
 /// later sync says anything of this file; a new file in its place can be synced.
@@ -71,13 +71,14 @@ pub trait Folder: Drop {
         ensures same { handle self.new ≡ handle self.old };
 
     /// Writes the bytes at the end of a file. What was synced before stays: a crash leaves in the file what it might
-    /// have left before, and after it any bytes of any length.
+    /// have left before, and after it any bytes, no more than were appended.
     fn append(&mut self, name: &str, bytes: &[u8]) -> io::Result<()>
         requires { IsTrue honest → IsSome (seen self.old name.now) }
         ensures appended { IsTrue honest → OnOk result
             (seen self.new name.now ≡ Some (unwrap_or (seen self.old name.now) [] ++ bytes.now)) }
         ensures elsewhere { IsTrue honest → Elsewhere name.now (seen self.old) (seen self.new) }
-        ensures file { IsTrue honest → Extends (may_hold self.old name.now) (may_hold self.new name.now) }
+        ensures file { IsTrue honest
+            → Extends (length bytes.now) (may_hold self.old name.now) (may_hold self.new name.now) }
         ensures files { IsTrue honest → FilesElsewhere name.now (may_hold self.old) (may_hold self.new) }
         ensures crash { IsTrue honest → ComesFrom (Written name.now (may_hold self.new name.now))
             (may_leave self.old) (may_leave self.new) }
@@ -90,7 +91,8 @@ pub trait Folder: Drop {
         ensures same { handle self.new ≡ handle self.old };
 
     /// Syncs a file. After an Ok, if no sync of it has failed, a crash leaves the file's bytes as they are, even if it
-    /// is renamed later; and it leaves them under the name, if the entry of the name was on the disk.
+    /// is renamed later; and it leaves them under the name, if the entry of the name was on the disk. After an error a
+    /// look may see other bytes of it, as some file systems then show the old ones again.
     fn sync_file(&mut self, name: &str) -> io::Result<()>
         requires { IsTrue honest → IsSome (seen self.old name.now) }
         ensures durable { IsTrue honest → OnOk result (trusted self.old name.now

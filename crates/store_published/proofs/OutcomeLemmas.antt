@@ -1,5 +1,5 @@
 -- What a crash leaves of a store that is written beside its name, and then published.
-use Rattle.std.proofs.Common.{◌≡◌, ◌≢◌, inl, inr, ⊎_elim, ℕ, List, ◌++◌, Option, Some, Result, Err, sym, ◌∙◌, subst}
+use Rattle.std.proofs.Common.{◌≡◌, inl, inr, ⊎_elim, ℕ, List, ◌++◌, Some, Result, sym, ◌∙◌, subst}
 use Rattle.std.specs.Prelude.{IfErr}
 use Rattle.store_published.specs.declared.publishing.FillError.{FillError}
 use Rattle.store_published.specs.declared.publishing.FillError.TheVariants.{Filling, Folder, Store}

@@ -1,10 +1,10 @@
 -- What fills a store, and what a publication of it leaves.
-use Rattle.std.specs.Prelude.{◌≡◌, ◌⊎◌, ℕ, List, ◌++◌, length, map, Some}
+use Rattle.std.specs.Prelude.{◌≡◌, ◌⊎◌, ℕ, List, [], ◌∷◌, ◌++◌, length, map, Some}
 use Rattle.store_format.specs.Block.{Slot, doc}
 use Rattle.store_format.specs.Slots.{slots}
 use Rattle.store_format.specs.StoreFile.{StoreBlock, file, IsStore}
 use Rattle.docstore.specs.Laws.{taken}
-use Rattle.docstore.specs.Writer.{Writing}
+use Rattle.docstore.specs.Writer.{Writing, flushed, with_document, with_failures}
 use Rattle.store_folder.specs.Folder.{Look, ElsewhereOfBoth}
 use Rattle.store_published.specs.declared.publishing.Written.{Written}
 
@@ -13,10 +13,20 @@ pub record IsSameFile (old new : Writing) : Type 0 where
   pub before : new.output.before ≡ old.output.before
   pub period : new.output.period ≡ old.output.period
 
+-- a writer that has taken these documents too
+abbrev pub with_documents : Writing → List (List ℕ) → Writing
+with_documents w [] = w
+with_documents w (document ∷ documents) = with_documents (with_document w document) documents
+
 -- These documents were put after those of a writer, in the same file.
 pub record AddsDocuments (documents : List (List ℕ)) (old new : Writing) : Type 0 where
   pub grown : taken new ≡ taken old ++ map doc documents
   pub file : IsSameFile old new
+  pub stored : new ≡ with_failures new.output.failures (with_documents old documents)
+
+-- the blocks of the file that a writer closes
+abbrev pub blocks_in : Writing → List StoreBlock
+blocks_in w = (flushed w).output.finished
 
 -- Some documents were.
 abbrev pub AddsSome : Writing → Writing → Type 0
@@ -26,12 +36,13 @@ AddsSome old new = (documents : List (List ℕ)) × AddsDocuments documents old 
 abbrev pub AreSound : List Slot → Type 0
 AreSound all = (documents : List (List ℕ)) × (all ≡ map doc documents)
 
--- These bytes are the file of a store of this period whose slots were brought.
-pub record IsStoreOf (brought : List Slot → Type 0) (period : ℕ) (content : List ℕ) : Type 0 where
+-- These bytes are the file of a store of this period, with blocks that are cut so, whose slots were brought.
+pub record IsStoreOf (brought : List Slot → Type 0) (cut : List StoreBlock → Type 0) (period : ℕ) (content : List ℕ) : Type 0 where
   pub blocks : List StoreBlock
   pub is_file : content ≡ file period 3 blocks
   pub store : IsStore period content 3 blocks
   pub came : brought (slots blocks)
+  pub cut_is : cut blocks
 
 -- The numbers are those of a file with these blocks.
 pub record AreNumbersOf (content : List ℕ) (blocks : List StoreBlock) (written : Written) : Type 0 where

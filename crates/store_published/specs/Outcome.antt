@@ -1,5 +1,5 @@
 -- Why a store was not published.
-use Rattle.std.specs.Prelude.{◌≡◌, ℕ, Result, Ok, Err}
+use Rattle.std.specs.Prelude.{◌≡◌, ℕ, Result, Err}
 use Rattle.store_base.specs.Counts.{HasRisen}
 use Rattle.store_base.specs.declared.error.Cause.TheVariants.{Write}
 use Rattle.store_base.specs.declared.error.StoreError.{StoreError}

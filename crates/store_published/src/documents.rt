@@ -37,10 +37,13 @@ pub struct DocumentList<'a> {
 impl<'a> Filling for DocumentList<'a> {
     ghost use Rattle.std.specs.Prelude.{◌≡◌, map};
     ghost use Rattle.store_format.specs.Block.{doc};
+    ghost use Rattle.docstore.specs.Trace.{AreFlushed};
 
     type Error = StoreError;
 
     ghost brings = { λ old new slots. slots ≡ map doc (map (λ d. d.items) old.documents.now) };
+
+    ghost cuts = { λ old size blocks. AreFlushed size (map (λ d. d.items) old.documents.now) blocks };
 
     fn fill<W: TerminatingWrite>(&mut self, writer: &mut StoreWriter<W>) -> Result<(), StoreError> {
         for document in self.documents {

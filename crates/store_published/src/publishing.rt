@@ -23,7 +23,7 @@ ghost use Rattle.store_folder.specs.Moments.{ComesFrom, LeavesOnly};
 ghost use Rattle.store_folder.specs.Folder.{Keeps, ElsewhereOfBoth, EntriesStayElsewhereOfBoth, FilesElsewhereOfBoth};
 ghost use Rattle.store_folder.specs.Publishing.{part};
 ghost use Rattle.store_folder.specs.Beside.{standing, Follows, TouchesOnly};
-ghost use Rattle.store_published.specs.Filling.{IsStoreOf, AreNumbersOf, IsOldOrNew};
+ghost use Rattle.store_published.specs.Filling.{blocks_in, IsStoreOf, AreNumbersOf, IsOldOrNew};
 ghost use Rattle.store_published.specs.Outcome.{IsFillFault, IsRefusal};
 
 use crate::filling::Filling;
@@ -98,7 +98,8 @@ fn end_store<F: Folder, K: Origin, E: Drop>(
 ) -> Result<(Beside<F, K>, Written), (FillError<E>, F)>
     ensures filled { OnOk result (IsOk filled) }
     ensures stored { IfOk result (λ r. writer.output.before ≡ [] → (store : IsStoreOf (λ slots. slots ≡ taken writer)
-        writer.output.period r.0.content) × AreNumbersOf r.0.content store.blocks r.1) }
+        (λ blocks. blocks ≡ blocks_in writer) writer.output.period r.0.content)
+        × AreNumbersOf r.0.content store.blocks r.1) }
     ensures follows { IfErr result (λ e. Follows (IsTrue F.honest) K.name K.first
         (standing F.seen F.may_hold F.may_leave F.moment F.left_since
         F.entry_kept F.trusted F.handle F.failures e.1)) }
@@ -143,7 +144,7 @@ fn write_beside<F: Folder, K: Origin, S: Filling>(
         F.entry_kept F.trusted F.handle F.failures folder) }
     requires name { K.name ≡ string_bytes beside }
     ensures stored { IfOk result (λ r. (content : List ℕ)
-        × ((store : IsStoreOf (S.brings filling.old filling.new) period content)
+        × ((store : IsStoreOf (S.brings filling.old filling.new) (S.cuts filling.old block_size) period content)
         × AreNumbersOf content store.blocks r.written)
         × (IsTrue F.honest → F.seen r.folder K.name ≡ Some content)) }
     ensures trusted { IsTrue F.honest → IfOk result (λ r. F.trusted r.folder K.name) }
@@ -191,7 +192,7 @@ fn write_in<F: Folder, S: Filling>(
     requires least { 2 ≤ period }
     requires most { period ≤ 64 }
     ensures stored { IfOk result (λ written. (content : List ℕ)
-        × ((store : IsStoreOf (S.brings filling.old filling.new) period content)
+        × ((store : IsStoreOf (S.brings filling.old filling.new) (S.cuts filling.old block_size) period content)
         × AreNumbersOf content store.blocks written)
         × (IsTrue F.honest → F.seen folder.new (string_bytes beside) ≡ Some content)) }
     ensures trusted { IsTrue F.honest → OnOk result (F.trusted folder.new (string_bytes beside)) }
@@ -242,13 +243,13 @@ pub fn publish_store<F: Folder, S: Filling>(
     requires least { 2 ≤ period }
     requires most { period ≤ 64 }
     ensures stored { IfOk result (λ written. (content : List ℕ)
-        × ((store : IsStoreOf (S.brings filling.old filling.new) period content)
+        × ((store : IsStoreOf (S.brings filling.old filling.new) (S.cuts filling.old block_size) period content)
         × AreNumbersOf content store.blocks written)
         × (IsTrue F.honest → Keeps name.now (Some content) (F.may_leave folder.new))
         × (IsTrue F.honest → F.seen folder.new name.now ≡ Some content)) }
     ensures any_moment { IsTrue F.honest → LeavesOnly F.moment F.left_since folder.old folder.new
         (IsOldOrNew (F.may_leave folder.old) (name.now ++ part) name.now
-        (IsStoreOf (S.brings filling.old filling.new) period)) }
+        (IsStoreOf (S.brings filling.old filling.new) (S.cuts filling.old block_size) period)) }
 
     // No other name was touched, and after an Ok the entry of every name is on the disk.
     ensures elsewhere { IsTrue F.honest

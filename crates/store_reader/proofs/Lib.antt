@@ -7,6 +7,8 @@ pub mod LookUpLemmas
 pub mod ReaderStoreLemmas
 pub mod StoreSlotLemmas
 pub mod GetAnswerLemmas
+pub mod TwoReadsLemmas
+pub mod DocumentReadLemmas
 pub mod WalkingLemmas
 pub mod AskedLemmas
 pub mod RecentLemmas

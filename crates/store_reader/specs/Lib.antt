@@ -6,6 +6,7 @@ pub mod LookingUp
 pub mod Covering
 pub mod Reading
 pub mod GetAnswer
+pub mod TwoReads
 pub mod BlockRequests
 pub mod Documents
 pub mod Iteration

@@ -7,6 +7,7 @@ ghost use Rattle.store_reader.specs.Laws.{StoredDocumentsAreGot};
 ghost use Rattle.store_reader.specs.ViewLaws.{ViewsOpenAsReaders, ViewsAnswerAsReaders, ViewsReadAsReaders};
 ghost use Rattle.store_reader.specs.SliceLaws.{SlicesGiveEachSlot};
 ghost use Rattle.store_reader.specs.StoreTails.{TailsAreWantedOnce};
+ghost use Rattle.store_reader.specs.TwoReads.{BlocksSayCounts};
 ghost use Rattle.store_reader.specs.ViewLaws.{ViewsGiveEachSlot, ViewsGiveEachAlive};
 
 use store_base::{DocumentDeserialize, StoredDocument};
@@ -36,6 +37,12 @@ pub fn stats_are_added()
 /// memory aside. Documents of the versions 2 and 3 are read as version 2.
 pub fn stored_documents_are_got<D: StoredDocument>()
     ensures { StoredDocumentsAreGot D.doc_bytes (D.reading 2) D.stored }
+{}
+
+/// A block of documents says the count of its checkpoint, so `StoreReader::read_document_bytes` reads no more of it
+/// than the entries from the document's on and the document.
+pub fn blocks_say_counts()
+    ensures { BlocksSayCounts }
 {}
 
 /// The slots decide what a list of reading calls answers where no read failed and memory was found: neither the cache

@@ -22,6 +22,7 @@ mod store_index;
 pub mod store_slice;
 pub mod store_tail;
 pub mod tail_error;
+mod two_reads;
 pub mod view;
 pub mod walk;
 

@@ -22,7 +22,7 @@ pub(crate) struct EnteredBlock {
 }
 
 // Reads a checkpoint's block.
-fn read_block<H: FileHandle>(
+pub(crate) fn read_block<H: FileHandle>(
     file: &mut FileSlice<H>,
     alloc: Global,
     checkpoint: &Checkpoint,

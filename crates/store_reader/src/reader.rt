@@ -14,6 +14,7 @@ ghost use Rattle.store_format.specs.Slots.{slots};
 ghost use Rattle.store_format.specs.StoreFile.{IsStore};
 ghost use Rattle.store_reader.specs.Walking.{set_of, set_in, taken_last, IsEntered, IsWalk, LooksAlong};
 
+mod document;
 pub mod parts;
 
 use crate::block_request::BlockRequest;

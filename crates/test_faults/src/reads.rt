@@ -1,5 +1,6 @@
 //! A store whose reads fail in turn: those of the footer and the index, of each block for a get and for an iteration,
-//! and of the data for a stacking. Each call that fails is made again, with the right answer.
+//! of a document without its block, and of the data for a stacking. Each call that fails is made again, with the right
+//! answer.
 
 use docstore::{Compressor, FileSlice, MemSink, StoreError, StoreReader, StoreWriter};
 use std::alloc::Global;
@@ -138,6 +139,40 @@ fn a_read_that_fails_keeps_nothing_in_the_cache(rt: HostRuntime) -> Result<(), F
             && got(alloc, &mut reader) == (true, 1, 0, 2)
             && got(alloc, &mut reader) == (true, 1, 1, 2)
     );
+    Ok(())
+}
+
+// Whether a read without the block gives this document.
+fn is_read(alloc: Global, reader: &mut Reader, doc_id: u32, document: &[u8]) -> bool {
+    match reader.read_document_bytes(alloc, doc_id) {
+        Ok(bytes) => bytes.as_slice() == document,
+        Err(_) => false,
+    }
+}
+
+// How many reads of documents of one block fail, whose read of the file of this number fails. The cache stays empty.
+fn failed_reads(alloc: Global, failing_read: u64) -> Failed {
+    let file = FailingFile::new(alloc, written(alloc, 16384, &DOCUMENTS)?, failing_read)?;
+    let mut reader = opened_with_cache(alloc, file, 100)?;
+    let mut failed = 0usize;
+    for (doc_id, document) in (0..3u32).zip(DOCUMENTS) {
+        let more = match reader.read_document_bytes(alloc, doc_id) {
+            Ok(bytes) => none_if(bytes.as_slice() == document),
+            Err(error) => one_if(error, is_read(alloc, &mut reader, doc_id, document)),
+        };
+        failed = failed.saturating_add(more?);
+    }
+    none_if(reader.cache_stats().num_entries == 0)?;
+    Ok(failed)
+}
+
+#[test]
+fn a_document_is_read_by_two_reads_of_the_file(rt: HostRuntime) -> Result<(), Fail> {
+    // The first two open it.
+    for failing_read in 3..9u64 {
+        assert!(rt; failed_reads(rt.alloc(), failing_read)? == 1);
+    }
+    assert!(rt; failed_reads(rt.alloc(), 9)? == 0);
     Ok(())
 }
 

@@ -4,11 +4,11 @@ use crate::dice::Dice;
 use std::alloc::{AllocError, Global};
 use torn_folder::Event;
 
-// A file: its bytes, and how many of them are synced.
+// A file: its bytes, and how many of them are synced; none if it was not synced since it was made.
 #[derive(Drop)]
 struct File {
     bytes: Vec<u8>,
-    synced: usize,
+    synced: Option<usize>,
 }
 
 // A name, and the files that a crash may leave under it: a look sees the last one.
@@ -34,22 +34,27 @@ pub struct LeftFile {
 }
 
 // What a crash leaves of a file's bytes: those that are synced, and of the others all, none, a front, or a front and
-// other bytes.
+// other bytes. In a file that was synced these are no more than were appended.
 fn tear(alloc: Global, file: &File, dice: &mut Dice) -> Result<Vec<u8>, AllocError> {
     let mut bytes = file.bytes.to_vec(alloc)?;
     let kind = dice.roll(4);
     if kind == 0 {
         return Ok(bytes);
     }
-    let unsynced = bytes.len().saturating_sub(file.synced);
+    let synced = file.synced.unwrap_or(0);
+    let unsynced = bytes.len().saturating_sub(synced);
     let front = if kind == 1 {
         0
     } else {
         dice.roll(unsynced.saturating_add(1))
     };
-    bytes.truncate(file.synced.saturating_add(front));
+    bytes.truncate(synced.saturating_add(front));
     if kind == 3 && unsynced > 0 {
-        for _ in 0..dice.roll(30) {
+        let room = match file.synced {
+            Some(_) => unsynced.saturating_sub(front).min(29),
+            None => 29,
+        };
+        for _ in 0..dice.roll(room.saturating_add(1)) {
             bytes.push(dice.roll(3) as u8)?;
         }
     }
@@ -103,7 +108,7 @@ impl Disk {
         let file = self.files.len();
         self.files.push(File {
             bytes: Vec::new(self.alloc),
-            synced: 0,
+            synced: None,
         })?;
         self.lead(name, Some(file))?;
         Ok(file)
@@ -123,7 +128,7 @@ impl Disk {
     fn sync_file(&mut self, name: &str) {
         if let Some(number) = self.look(name) {
             if let Some(file) = self.files.get_mut(number) {
-                file.synced = file.bytes.len();
+                file.synced = Some(file.bytes.len());
             }
         }
     }

@@ -1,11 +1,12 @@
 //! Whole lists of calls, and the functions of the main theorem.
 
 use docstore::{
-    Answer, BlockCompressor, Compressor, Field, MemFile, MemSink, ReadCall, RecordDocument, Schema,
-    StoreCommand, StoreError, answer_all, write_store,
+    AliveBitSet, Answer, BlockCompressor, Compressor, Field, MemFile, MemSink, ReadCall,
+    RecordDocument, Schema, StoreCommand, StoreError, answer_all, write_store,
 };
 use main_theorem::{
-    CountedBlock, IndexAnswer, index_read_and_written, stacked_in_two_orders, written_and_asked,
+    CountedBlock, IndexAnswer, Workload, index_read_and_written, stacked_in_two_orders,
+    written_and_asked,
 };
 use std::alloc::Global;
 use std::process::Abort;
@@ -66,13 +67,34 @@ fn got(answer: &Answer) -> Option<Result<&[u8], StoreError>> {
     }
 }
 
-// Whether gets of the first three ids returned `x`, `abc` and an error.
+// Gets of the first three ids, and an iteration whose live set has all ids but the first, and no more.
+#[derive(Drop)]
+struct GetsAndLive;
+
+impl Workload for GetsAndLive {
+    fn calls(&mut self, alloc: Global, num_docs: u32) -> Result<Vec<ReadCall>, StoreError> {
+        let mut alive = AliveBitSet::all(alloc, num_docs)?;
+        alive.delete(0);
+        let mut calls = Vec::new(alloc);
+        calls.push(ReadCall::Bytes(0))?;
+        calls.push(ReadCall::Bytes(1))?;
+        calls.push(ReadCall::Bytes(2))?;
+        calls.push(ReadCall::Iter {
+            alive: Some(alive),
+            take: 3,
+        })?;
+        Ok(calls)
+    }
+}
+
+// Whether gets of the first three ids returned `x`, `abc` and an error, and the iteration `abc` alone.
 fn are_right(answers: &[Answer]) -> bool {
     match answers {
-        [first, second, third] => {
+        [first, second, third, Answer::Listed(items)] => {
             got(first) == Some(Ok(b"x".as_slice()))
                 && got(second) == Some(Ok(b"abc".as_slice()))
                 && got(third) == Some(Err(StoreError::InvalidArgument(2)))
+                && items.len() == 1
         }
         _ => false,
     }
@@ -81,8 +103,16 @@ fn are_right(answers: &[Answer]) -> bool {
 // Whether what was written has its results, and is answered with both capacities.
 fn is_answered(alloc: Global) -> Result<bool, StoreError> {
     let schema = Schema::with_fields(1);
-    let calls = [ReadCall::Bytes(0), ReadCall::Bytes(1), ReadCall::Bytes(2)];
-    let asked = written_and_asked(alloc, 0, 8, &schema, &mut commands(alloc)?, 0, 100, &calls)?;
+    let asked = written_and_asked(
+        alloc,
+        0,
+        8,
+        &schema,
+        &mut commands(alloc)?,
+        0,
+        100,
+        &mut GetsAndLive,
+    )?;
     let has_results = asked.results.as_slice() == RESULTS.as_slice();
     Ok(has_results && are_right(&asked.first.answers) && are_right(&asked.second.answers))
 }

@@ -1,6 +1,6 @@
 -- What an entry that is on the disk leads to, in a folder that may tear.
-use Rattle.std.specs.Prelude.{◌≡◌, ◌⊎◌, ℕ, List, [], ◌∷◌, ◌++◌, Option, Some, None, IsSome, unwrap_or, refl, Vec, String, string_bytes}
-use Rattle.std.proofs.Common.{sym, ◌∙◌, subst, inl, inr}
+use Rattle.std.specs.Prelude.{◌≡◌, ◌⊎◌, ℕ, List, [], ◌∷◌, ◌++◌, length, Option, Some, None, IsSome, unwrap_or, refl, Vec, String, string_bytes}
+use Rattle.std.proofs.Common.{sym, ◌∙◌, subst, inl, inr, arith}
 use Rattle.std.proofs.lemmas.List.{append-nil}
 use Rattle.std.specs.declared.alloc.Global.{Global}
 use Rattle.store_folder.specs.Folder.{Look, LeadsTo, Written, Renamed}
@@ -16,10 +16,10 @@ same_entry None new held holds was left is at then leads = subst (λ (o : Option
 same_entry (Some _) new held holds was left is at then leads = subst (λ (o : Option (List ℕ)). LeadsTo o holds left) (sym is) (leads.0, then leads.0 leads.1, at ∙ leads.2)
 
 -- what was in a file is in it after nothing more
-still_holds : (file left : Option (List ℕ)) (held : List ℕ → Type 0) → IsSome file → LeadsTo file held left
-    → (bytes : List ℕ) × appended_holds file held bytes × (left ≡ Some bytes)
-still_holds None left held there leads = let no : ⊥ = cc in absurd no
-still_holds (Some _) left held there leads = (leads.0, (leads.0, [], leads.1, sym (append-nil leads.0)), leads.2)
+still_holds : (n : ℕ) (file left : Option (List ℕ)) (held : List ℕ → Type 0) → IsSome file → LeadsTo file held left
+    → (bytes : List ℕ) × appended_holds n file held bytes × (left ≡ Some bytes)
+still_holds n None left held there leads = let no : ⊥ = cc in absurd no
+still_holds n (Some _) left held there leads = (leads.0, (leads.0, [], leads.1, omega arith, sym (append-nil leads.0)), leads.2)
 
 -- a file that was synced under a name that is kept
 whole : (file left : Option (List ℕ)) (held : List ℕ → Type 0) → left ≡ file → ((bytes : List ℕ) → file ≡ Some bytes → held bytes) → LeadsTo file held left
@@ -35,7 +35,7 @@ appended_leads : (name : String Global) (more : Vec ℕ Global) (events : List E
     → LeadsTo (seen_by (Appended name more ∷ events) n) (held_by (Appended name more ∷ events) n) (c n)
 appended_leads name more events n d c kept written leads = elim (decided n m) [
   | inl e ↦ elim (subst (λ (k : List ℕ). (c k ≡ d k) ⊎ ((bytes : List ℕ) × held_by new k bytes × (c k ≡ Some bytes))) (sym e) written.at_name) [
-    | inl same ↦ from_old e same (still_holds (seen_by events n) (d n) (held_by events n) (kept.0 e) leads)
+    | inl same ↦ from_old e same (still_holds (length more.items) (seen_by events n) (d n) (held_by events n) (kept.0 e) leads)
     | inr torn ↦ leads_some (seen_by new n) (c n) (held_by new n) whole torn.0 (there e) torn.1 torn.2
   ]
   | inr ne ↦ same_entry (seen_by events n) (seen_by new n) (held_by events n) (held_by new n) (d n) (c n) (put_elsewhere m (Some whole) (seen_by events) n ne) (written.elsewhere n ne)
@@ -54,7 +54,7 @@ appended_leads name more events n d c kept written leads = elim (decided n m) [
     there : n ≡ m → seen_by new n ≡ Some whole
     there e = subst (λ (k : List ℕ). seen_by new k ≡ Some whole) (sym e) (put_there m (Some whole) (seen_by events))
 
-    from_old : n ≡ m → c n ≡ d n → (bytes : List ℕ) × appended_holds (seen_by events n) (held_by events n) bytes × (d n ≡ Some bytes)
+    from_old : n ≡ m → c n ≡ d n → (bytes : List ℕ) × appended_holds (length more.items) (seen_by events n) (held_by events n) bytes × (d n ≡ Some bytes)
         → LeadsTo (seen_by new n) (held_by new n) (c n)
     from_old e same old = leads_some (seen_by new n) (c n) (held_by new n) whole old.0 (there e) (λ _. old.1, λ ne. absurd (ne e)) (same ∙ old.2)
 

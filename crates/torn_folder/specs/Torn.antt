@@ -3,7 +3,7 @@ use Rattle.std.specs.Prelude.{◌≡◌, ◌≢◌, ◌⊎◌, ℕ, ◌≤◌, B
 use Rattle.std.specs.Prelude.{unwrap_or, IsSome, refl, Vec, String, string_bytes, nat_eq}
 use lib.Pointwise.{pointwise}
 use Rattle.std.proofs.Common.{sym, ◌∙◌, ap, subst, arith, inl, inr}
-use Rattle.std.proofs.lemmas.List.{take_all}
+use Rattle.std.proofs.lemmas.List.{take_all, append-nil}
 use Rattle.std.proofs.lemmas.Cmp.{nat_list_eq_equiv}
 use Rattle.std.specs.declared.alloc.Global.{Global}
 use Rattle.store_folder.proofs.ChangesLemmas.{differ}
@@ -34,18 +34,19 @@ abbrev pub moved_holds : Option (List ℕ) → Type 0 → Type 0 → Type 0
 moved_holds None renamed stays = stays
 moved_holds (Some _) renamed stays = renamed
 
--- what a file holds that was appended to: what it might have held before, and after it any bytes; any where there was none
-abbrev pub appended_holds : Option (List ℕ) → (List ℕ → Type 0) → List ℕ → Type 0
-appended_holds None held bytes = Unit {0}
-appended_holds (Some _) held bytes = (kept : List ℕ) × (more : List ℕ) × held kept × (bytes ≡ kept ++ more)
+-- what a file holds after an append of n bytes: what it might have held before, and after it any bytes, at most n; any
+-- where there was none
+abbrev pub appended_holds : ℕ → Option (List ℕ) → (List ℕ → Type 0) → List ℕ → Type 0
+appended_holds n None held bytes = Unit {0}
+appended_holds n (Some _) held bytes = (kept : List ℕ) × (more : List ℕ) × held kept × (length more ≤ n) × (bytes ≡ kept ++ more)
 
--- Which bytes a crash may leave in the file that has the name: any since it was made, any after those that were synced
--- since it was last appended to, and once it was synced just its own, under whatever name.
+-- Which bytes a crash may leave in the file that has the name: any since it was made; once it was synced just its own,
+-- under whatever name; and after each append since as many more, of any kind, as were appended, or fewer.
 abbrev pub held_by : List Event → List ℕ → List ℕ → Type 0
 held_by [] n bytes = ⊥
 held_by (Created name ∷ events) n bytes = n ≢ string_bytes name → held_by events n bytes
 held_by (Appended name more ∷ events) n bytes =
-    (n ≡ string_bytes name → appended_holds (seen_by events n) (held_by events n) bytes) × (n ≢ string_bytes name → held_by events n bytes)
+    (n ≡ string_bytes name → appended_holds (length more.items) (seen_by events n) (held_by events n) bytes) × (n ≢ string_bytes name → held_by events n bytes)
 held_by (Moved from to ∷ events) n bytes =
     (n ≡ string_bytes to → moved_holds (seen_by events (string_bytes from)) (held_by events (string_bytes from) bytes) (held_by events n bytes)) × (n ≢ string_bytes to → held_by events n bytes)
 held_by (Removed name ∷ events) n bytes = held_by events n bytes
@@ -168,9 +169,9 @@ appended_possible name more events was = record {
     at_m : put m (Some whole) old m ≡ Some whole
     at_m = put_there m (Some whole) old
 
-    held : (n bytes : List ℕ) (x : Option (List ℕ)) → x ≡ old n → bytes ≡ unwrap_or x [] ++ more.items → appended_holds x (held_by events n) bytes
+    held : (n bytes : List ℕ) (x : Option (List ℕ)) → x ≡ old n → bytes ≡ unwrap_or x [] ++ more.items → appended_holds (length more.items) x (held_by events n) bytes
     held n bytes None e is = tt
-    held n bytes (Some kept) e is = (kept, more.items, was.files n kept (sym e), is)
+    held n bytes (Some kept) e is = (kept, more.items, was.files n kept (sym e), omega arith, is)
 
     files : (n bytes : List ℕ) → put m (Some whole) old n ≡ Some bytes → held_by (Appended name more ∷ events) n bytes
     files n bytes is = (
@@ -180,15 +181,15 @@ appended_possible name more events was = record {
     )
 
 -- A file that was made and appended to since may hold any bytes.
-any_holds : (x : Option (List ℕ)) (held : List ℕ → Type 0) (torn : List ℕ) → held [] → appended_holds x held torn
-any_holds None held torn empty = tt
-any_holds (Some _) held torn empty = ([], torn, empty, refl)
+any_holds : (n : ℕ) (x : Option (List ℕ)) (held : List ℕ → Type 0) (torn : List ℕ) → held torn → appended_holds n x held torn
+any_holds n None held torn any = tt
+any_holds n (Some _) held torn any = (torn, [], any, omega arith, sym (append-nil torn))
 
 pub new_holds : (beside : String Global) (bytes : Vec ℕ Global) (events : List Event) (torn : List ℕ)
     → held_by (Appended beside bytes ∷ Created beside ∷ events) (string_bytes beside) torn
 new_holds beside bytes events torn =
     let b = string_bytes beside in (
-      λ _. any_holds (seen_by (Created beside ∷ events) b) (held_by (Created beside ∷ events) b) torn (λ ne. absurd (ne refl)),
+      λ _. any_holds (length bytes.items) (seen_by (Created beside ∷ events) b) (held_by (Created beside ∷ events) b) torn (λ ne. absurd (ne refl)),
       λ ne. absurd (ne refl),
     )
 

@@ -10,6 +10,7 @@ use Rattle.segmented_log.specs.Opening.{IsOldOrSeen, IsNoLog, HasFullTail, HasSo
 use Rattle.segmented_log.proofs.FoundLemmas.{one_look}
 use Rattle.segmented_log.specs.Names.{tail_name}
 use Rattle.segmented_log.proofs.OpeningLemmas.{as_before}
+use Rattle.segmented_log.proofs.RunLemmas.{always_err}
 use Rattle.segmented_log.proofs.SyncLemmas.{always_ok}
 use Rattle.segmented_log.proofs.loading.load.Goals.{After-load_synced}
 use Rattle.segmented_log.proofs.loading.load.Goals as goal
@@ -81,3 +82,9 @@ returns-clause-elsewhere g c = λ h.
     always_ok c.load_synced.result
     (subst (λ s. ElsewhereOfBoth (tail_name ++ part) tail_name s (g.F.Folder.seen c.load_synced.new.folder)) (same_look g (goal.at.returns-clause-elsewhere g c).After-load_synced h)
     (c.load_synced.ensures.elsewhere h))
+
+pub returns-clause-elsewhere_err : goal.returns-clause-elsewhere_err
+returns-clause-elsewhere_err g c = λ h.
+    always_err c.load_synced.result
+    (inl (subst (λ s. ElsewhereOfBoth (tail_name ++ part) tail_name s (g.F.Folder.seen c.load_synced.new.folder))
+    (same_look g (goal.at.returns-clause-elsewhere_err g c).After-load_synced h) (c.load_synced.ensures.elsewhere h)))

@@ -7,7 +7,7 @@ use Rattle.segmented_log.proofs.opening.end_of_segments.Goals.{then-segment-end-
 use Rattle.segmented_log.proofs.opening.end_of_segments.Goals as goal
 
 pub loop-segment-init : goal.loop-segment-init
-loop-segment-init g c = scanned_none c.args.first
+loop-segment-init g c = record { scanned = scanned_none c.args.first; fits = omega (arith, c.ranges.first.fits) }
 
 pub loop-segment-preserved : goal.loop-segment-preserved
 loop-segment-preserved g c =
@@ -21,8 +21,11 @@ loop-segment-preserved g c =
     let size : c.from-count.result ≡ length p.slots = c.from-count.ensures ∙ c.num_docs.ensures.slots in
     let some : 0 < length p.slots = omega (arith, size, c.if-count-eq0.false) in
     let sum : c.in_ok-checked_add.field-0 ≡ x.first + length p.slots = omega (arith, size, c.in_ok-checked_add.ensures) in
-    scanned_more c.args.first c.loop-segment.end c.loop-segment.least (map (λ s. part_of s.first s.reader) (take i segments)) _ p c.max-end.result (x.first + 1) more_is c.loop-segment.invariant
-    (omega (arith, c.if-segment-end.false)) (omega (arith, c.if-segment-least.false)) some (c.max-end.ensures ∙ ap (λ n. max c.loop-segment.end n) sum) refl
+    record {
+      scanned = scanned_more c.args.first c.loop-segment.end c.loop-segment.least (map (λ s. part_of s.first s.reader) (take i segments)) _ p c.max-end.result (x.first + 1) more_is
+          c.loop-segment.invariant.scanned (omega (arith, c.if-segment-end.false)) (omega (arith, c.if-segment-least.false)) some (c.max-end.ensures ∙ ap (λ n. max c.loop-segment.end n) sum) refl;
+      fits = omega (arith, c.max-end.ensures, c.in_ok-checked_add.ensures, c.loop-segment.invariant.fits);
+    }
 
 pub returns-then-segment-end-clause-none : goal.returns-then-segment-end-clause-none
 returns-then-segment-end-clause-none g c = λ line up fits.
@@ -30,7 +33,7 @@ returns-then-segment-end-clause-none g c = λ line up fits.
     let p = part_of x.first x.reader in
     let size : c.from-count.result ≡ length p.slots = c.from-count.ensures ∙ c.num_docs.ensures.slots in
     let split = split_at (λ s. part_of s.first s.reader) c.args.segments.now c.loop-segment.segment-index x c.loop-segment-test.true c.segment-item.is in
-    goes_on c.args.first c.loop-segment.end c.loop-segment.least _ _ p split.0 c.loop-segment.invariant split.1 line up
+    goes_on c.args.first c.loop-segment.end c.loop-segment.least _ _ p split.0 c.loop-segment.invariant.scanned split.1 line up
     (elim c.then-segment-end.branch [
       | then-segment-end-via-then-segment-end w ↦ inl (omega (arith, w.if-segment-end.true))
       | then-segment-end-via-else-segment-end+then-segment-least w ↦ inr (inl (omega (arith, w.if-segment-least.true)))

@@ -6,7 +6,7 @@ use Rattle.store_folder.specs.Moments.{LeavesOnly}
 use Rattle.store_folder.specs.Publishing.{part, IsOldOrWhole}
 use Rattle.segmented_log.specs.declared.commit.Commit.{Commit}
 use Rattle.segmented_log.specs.Names.{tail_name}
-use Rattle.segmented_log.specs.Settled.{TailIsKept, PutsBatch}
+use Rattle.segmented_log.specs.Settled.{TailIsKept, GrowsTail, PutsBatch}
 use Rattle.segmented_log.proofs.tail_file.write_batch.Goals as goal
 
 -- the tail that is on the disk, with the batch after it
@@ -26,7 +26,7 @@ returns-in-OneSync-clause-kept g c = λ h.
     (c.append_batch.ensures.kept h)
 
 pub returns-in-OneSync-clause-elsewhere : goal.returns-in-OneSync-clause-elsewhere
-returns-in-OneSync-clause-elsewhere g c = λ h. on_ok_weaker c.append_batch.result (λ same n beside ne. same n ne) (c.append_batch.ensures.elsewhere h)
+returns-in-OneSync-clause-elsewhere g c = λ h n beside ne. c.append_batch.ensures.elsewhere h n ne
 
 pub returns-in-OneSync-clause-crash : goal.returns-in-OneSync-clause-crash
 returns-in-OneSync-clause-crash g c = λ h l left.
@@ -39,7 +39,9 @@ returns-in-OneSync-clause-any_moment g c = λ h.
     let old = c.args.folder.now in
     let tail = c.args.tail.now in
     subst (λ (x : Commit). LeavesOnly F.moment F.left_since old c.append_batch.new.folder (PutsBatch x (F.may_leave old) (take c.args.end tail) (drop c.args.end tail))) (sym c.in-OneSync.is)
-    (c.append_batch.ensures.any_moment h (take c.args.end tail) (c.requires.kept h))
+    (subst (λ b. LeavesOnly F.moment F.left_since old c.append_batch.new.folder (GrowsTail (F.may_leave old) (take c.args.end tail) (length b)))
+    (between_to_end tail c.args.end (length tail) (omega arith))
+    (c.append_batch.ensures.any_moment h (take c.args.end tail) (c.requires.kept h)))
 
 pub returns-in-TwoSyncs-clause-any_moment : goal.returns-in-TwoSyncs-clause-any_moment
 returns-in-TwoSyncs-clause-any_moment g c = λ h.

@@ -1,7 +1,7 @@
-use Rattle.std.proofs.Common.{◌≡◌, ℕ, ◌+◌, ◌<◌, ◌≤◌, List, [], ◌∷◌, ◌++◌, length, map, take, drop, true, false, IsTrue, is_ok, refl, sym, ◌∙◌, ap, subst, arith, get_or, take-append-drop, append_assoc}
+use Rattle.std.proofs.Common.{◌≡◌, ℕ, ◌+◌, ◌<◌, List, [], ◌∷◌, ◌++◌, length, map, take, drop, true, false, sym, ◌∙◌, ap, subst, arith, get_or, take-append-drop, append_assoc}
 use Rattle.std.proofs.lemmas.List.{map-append, take_more}
 use Rattle.std.proofs.lemmas.Result.{err_from_is_err_and}
-use Rattle.store_folder.specs.Calls.{Doing, Kind, doing_of, kind, Does, Carried, IsReady, AreReady}
+use Rattle.store_folder.specs.Calls.{Doing, Kind, doing_of, kind, Carried, AreReady}
 use Rattle.store_folder.specs.declared.calls.FolderCall.{FolderCall}
 use Rattle.store_folder.specs.declared.calls.FolderCall.TheVariants.{Create}
 use Rattle.store_folder.proofs.CallsLemmas.{one_more, no_more, ready_after}

@@ -1,4 +1,4 @@
-use Rattle.std.proofs.Common.{◌≡◌, List, ℕ, ◌++◌, ◌∙◌, ap}
+use Rattle.std.proofs.Common.{List, ℕ, ◌++◌, ◌∙◌, ap}
 use Rattle.store_format.specs.StoreFile.{file}
 use Rattle.store_reader.specs.Reading.{Reading}
 use Rattle.tantivy_export.specs.Exporting.{IsExportOf}

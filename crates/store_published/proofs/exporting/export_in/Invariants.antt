@@ -1,5 +1,4 @@
 use Rattle.std.proofs.Common.{string_bytes}
-use Rattle.store_folder.specs.Beside.{standing}
 use Rattle.store_published.proofs.exporting.export_in.Given as goal
 
 abbrev pub ghosts-export_beside : goal.ghosts-export_beside

@@ -1,4 +1,4 @@
-use Rattle.std.proofs.Common.{◌≡◌, ◌++◌, List, ℕ, Option, Some, string_bytes, ◌∙◌, ap, subst, sym}
+use Rattle.std.proofs.Common.{◌++◌, List, ℕ, Option, ◌∙◌, ap, subst, sym}
 use Rattle.std.specs.Prelude.{IsTrue}
 use Rattle.store_folder.specs.Moments.{LeavesOnly}
 use Rattle.store_folder.specs.Publishing.{part, IsOldOrWhole}

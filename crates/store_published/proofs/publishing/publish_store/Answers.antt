@@ -1,4 +1,4 @@
-use Rattle.std.proofs.Common.{◌≡◌, ◌++◌, List, ℕ, Option, Some, string_bytes, ◌∙◌, ap, subst, sym}
+use Rattle.std.proofs.Common.{◌++◌, List, ℕ, Option, ◌∙◌, ap, subst, sym}
 use Rattle.std.specs.Prelude.{IsTrue}
 use Rattle.store_folder.specs.Moments.{LeavesOnly}
 use Rattle.store_folder.specs.Publishing.{part, IsOldOrWhole}
@@ -29,7 +29,8 @@ returns-in_err-written-clause-any_moment g c = λ h.
     beside_run F.may_leave F.moment F.left_since c.args.name.now _ c.args.folder.now c.write_in.new.folder (record { later = b.later; each = b.each; before = b.before })
 
 published : (g : _) (c : After-publish g) → IsTrue g.F.Folder.honest
-    → Run g.F.Folder.may_leave g.F.Folder.moment g.F.Folder.left_since c.args.name.now (IsStoreOf (g.S.Filling.brings c.args.filling.now c.write_in.new.filling) c.args.period) c.args.folder.now
+    → Run g.F.Folder.may_leave g.F.Folder.moment g.F.Folder.left_since c.args.name.now (IsStoreOf (g.S.Filling.brings c.args.filling.now c.write_in.new.filling)
+    (g.S.Filling.cuts c.args.filling.now c.args.block_size) c.args.period) c.args.folder.now
     c.publish.new.folder
 published g c h =
     let F = g.F.Folder in

@@ -6,8 +6,9 @@ use Rattle.segmented_log.specs.declared.error.LogError.TheVariants.{Failed, Full
 use Rattle.store_folder.specs.Moments.{LeavesOnly}
 use Rattle.store_folder.proofs.Steps.{started, weaker, joined}
 use Rattle.segmented_log.specs.Log.{IsLog}
-use Rattle.segmented_log.specs.Compacting.{ChangesSegments}
+use Rattle.segmented_log.specs.Compacting.{Compacts, stay, ChangesSegments}
 use Rattle.segmented_log.proofs.CompactLemmas.{changes_none, changes_more, changes_has}
+use Rattle.segmented_log.proofs.StepLemmas.{compact_more, compact_slots}
 use Rattle.segmented_log.proofs.log.SegmentedLog.compact.Goals.{After-compact_next}
 use Rattle.segmented_log.proofs.log.SegmentedLog.compact.Goals as goal
 
@@ -23,7 +24,7 @@ loop-init g c =
       first = refl;
       slots = λ h. refl;
       pending = refl;
-      none_new = λ h slot has. has;
+      joins = λ h. stay;
       files = λ h. changes_none (F.seen log.folder);
       any_moment = λ h.
           started F.moment F.left_since log.folder _ (λ l left. c.is_broken.ensures.durable h c.if-is_broken.false l (g.met.F.Folder.only_now log.folder l left));
@@ -63,6 +64,19 @@ returns-in_err-compact_next-clause-files g c = λ h. files_now g (goal.at.return
 pub returns-in_err-compact_next-clause-any_moment : goal.returns-in_err-compact_next-clause-any_moment
 returns-in_err-compact_next-clause-any_moment g c = λ h works. moments_now g (goal.at.returns-in_err-compact_next-clause-any_moment g c).After-compact_next h
 
+pub returns-then-is_broken-clause-joins : goal.returns-then-is_broken-clause-joins
+returns-then-is_broken-clause-joins g c = λ h. stay
+
+-- the steps so far
+joins_now : (g : _) (c : After-compact_next g) → IsTrue g.F.Folder.honest → Compacts c.args.size c.args.self.now.segments c.compact_next.new.self.segments
+joins_now g c h = compact_more (c.loop.invariant.joins h) (c.compact_next.ensures.joins h)
+
+pub returns-in_err-compact_next-clause-joins : goal.returns-in_err-compact_next-clause-joins
+returns-in_err-compact_next-clause-joins g c = λ h. joins_now g (goal.at.returns-in_err-compact_next-clause-joins g c).After-compact_next h
+
+pub returns-clause-joins : goal.returns-clause-joins
+returns-clause-joins g c = λ h. joins_now g (goal.at.returns-clause-joins g c).After-compact_next h
+
 pub loop-smaller : goal.loop-smaller
 loop-smaller g c = omega (arith, c.in_ok-compact_next.ensures.fewer c.if-branch.true)
 
@@ -78,7 +92,7 @@ loop-preserved g c =
       first = c.compact_next.ensures.first ∙ before.first;
       slots = λ h. slots_now g here h;
       pending = c.compact_next.ensures.pending ∙ before.pending;
-      none_new = λ h slot has. before.none_new h slot (c.in_ok-compact_next.ensures.none_new h slot has);
+      joins = λ h. joins_now g here h;
       files = λ h. files_now g here h;
       any_moment = λ h. moments_now g here h;
       failures = omega (arith, before.failures, c.compact_next.ensures.failures);
@@ -107,10 +121,10 @@ returns-in_err-compact_next-clause-failed g c = λ h is.
 pub returns-in_err-compact_next-clause-damaged : goal.returns-in_err-compact_next-clause-damaged
 returns-in_err-compact_next-clause-damaged g c = λ h is.
     let refused : IsErrOf c.compact_next.result Damaged = search rules in
-    c.loop.invariant.none_new h damaged (c.compact_next.ensures.damaged h refused)
+    compact_slots damaged (c.loop.invariant.joins h) (c.compact_next.ensures.damaged h refused)
 
 pub returns-in_err-compact_next-clause-full : goal.returns-in_err-compact_next-clause-full
 returns-in_err-compact_next-clause-full g c = λ h is.
     let refused : IsErrOf c.compact_next.result Full = search rules in
     let long = c.compact_next.ensures.full h refused in
-    (long.0, c.loop.invariant.none_new h (doc long.0) long.1, long.2)
+    (long.0, compact_slots (doc long.0) (c.loop.invariant.joins h) long.1, long.2)

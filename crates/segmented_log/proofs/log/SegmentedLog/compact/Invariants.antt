@@ -2,7 +2,7 @@ use Rattle.std.proofs.Common.{◌≡◌, ◌≤◌, length, false}
 use Rattle.std.specs.Prelude.{IsTrue}
 use Rattle.store_folder.specs.Moments.{LeavesOnly}
 use Rattle.segmented_log.specs.Log.{IsLog}
-use Rattle.segmented_log.specs.Compacting.{ChangesSegments, BringNoSlots}
+use Rattle.segmented_log.specs.Compacting.{Compacts, ChangesSegments}
 use Rattle.segmented_log.proofs.log.SegmentedLog.compact.Given as goal
 
 -- some neighbours have become one
@@ -17,7 +17,7 @@ invariant-loop g l = let F = g.F.Folder in
       first : l.self.first ≡ old.first;
       slots : IsTrue F.honest → l.self.slots ≡ old.slots;
       pending : l.self.pending ≡ old.pending;
-      none_new : IsTrue F.honest → BringNoSlots old.segments l.self.segments;
+      joins : IsTrue F.honest → Compacts l.size old.segments l.self.segments;
       files : IsTrue F.honest → ChangesSegments (F.seen old.folder) (F.seen l.self.folder);
       any_moment : IsTrue F.honest → LeavesOnly F.moment F.left_since old.folder l.self.folder (IsLog old.first old.slots);
       failures : F.failures old.folder ≤ F.failures l.self.folder;

@@ -1,22 +1,21 @@
-use Rattle.std.proofs.Common.{rules, inl, inr, ◌≡◌, ◌<◌, List, length, map, refl, sym, ◌∙◌, ap, subst, arith}
+use Rattle.std.proofs.Common.{rules, inl, inr, ◌+◌, ◌^◌, ◌<◌, length, map, refl, sym, ◌∙◌, ap, subst, arith}
 use Rattle.std.specs.Prelude.{IsTrue, IsErrOf}
-use Rattle.std.specs.List.{Contains}
 use Rattle.std.proofs.lemmas.Bool.{OnFalse_at}
 use Rattle.std.proofs.lemmas.List.{length-map}
+use Rattle.std.proofs.lemmas.List.Edits.{length-remove}
 use Rattle.store_folder.specs.Moments.{LeavesOnly}
 use Rattle.store_folder.proofs.Steps.{weaker, joined}
 use Rattle.segmented_log.specs.declared.error.LogError.TheVariants.{Failed, Full, Damaged}
 use Rattle.segmented_log.specs.Causes.{IsFault}
-use Rattle.segmented_log.specs.Parts.{Sealed, part_of, sealed_of, parts_of, AreParts}
+use Rattle.segmented_log.specs.Parts.{part_of, sealed_of, parts_of, AreParts}
 use Rattle.segmented_log.specs.Log.{Holds, IsLog}
-use Rattle.segmented_log.specs.Compacting.{slots_in, CoversNext, CanBecomeOne, AreApart, IsCompacted}
+use Rattle.segmented_log.specs.Compacting.{IsStep, Compacts, stay, join, remove_next, AreApart, IsCompacted}
 use Rattle.segmented_log.proofs.SyncLemmas.{log_stays}
 use Rattle.segmented_log.proofs.CompactLemmas.{changes_none, changes_more}
 use Rattle.segmented_log.proofs.RunOfParts.{view_parts}
 use Rattle.segmented_log.proofs.CauseLemmas.{never}
-use Rattle.segmented_log.proofs.SlotLemmas.{in_joined}
-use Rattle.segmented_log.proofs.StepLemmas.{step_within, next_covered, joined_covers}
-use Rattle.segmented_log.proofs.log.SegmentedLog.compact_next.Goals.{In-Some, After-join}
+use Rattle.segmented_log.proofs.StepLemmas.{step_within, next_covered, first_covers}
+use Rattle.segmented_log.proofs.log.SegmentedLog.compact_next.Goals.{In-Some, After-join, In_ok-join}
 use Rattle.segmented_log.proofs.log.SegmentedLog.compact_next.Goals as goal
 
 pub returns-in_default-clause-files : goal.returns-in_default-clause-files
@@ -44,50 +43,32 @@ returns-in_default-clause-compacted g c = λ h no.
       apart = subst (λ l. AreApart c.args.size (map (λ s. sealed_of s.first s.reader) l)) c.deref.ensures.value c.in_default.ensures.none;
     })
 
--- what can become one
-step_is : (g : _) (c : In-Some g) → CanBecomeOne (parts_of c.args.self.now.segments) c.in-Some.step.first c.in-Some.step.count
+-- what can be done
+step_is : (g : _) (c : In-Some g) → IsStep c.args.size c.args.self.now.segments c.in-Some.step.first c.in-Some.step.count
 step_is g c =
-    let log = c.self.inside in
-    let same = view_parts (λ s. sealed_of s.first s.reader) (λ s. part_of s.first s.reader) (λ s. refl) log.segments.items in
-    subst (λ v. CanBecomeOne (parts_of v.segments) c.in-Some.step.first c.in-Some.step.count) c.self.view_is
-    (subst (λ l. CanBecomeOne l c.in-Some.step.first c.in-Some.step.count) (sym same)
-    (subst (λ l. CanBecomeOne (map (λ s. part_of s.first s.reader) l) c.in-Some.step.first c.in-Some.step.count) c.deref.ensures.value c.in-Some.ensures.some))
+    subst (λ v. IsStep c.args.size v.segments c.in-Some.step.first c.in-Some.step.count) c.self.view_is
+    (subst (λ l. IsStep c.args.size (map (λ s. sealed_of s.first s.reader) l) c.in-Some.step.first c.in-Some.step.count) c.deref.ensures.value c.in-Some.ensures.some)
 
--- how many parts there are
-many_parts : (xs : List Sealed) → length (parts_of xs) ≡ length xs
-many_parts xs = length-map xs (λ s. s.part)
+-- there is a place after it
+step_fits : (g : _) (c : In-Some g) → c.in-Some.step.first + 1 < 2 ^ 64
+step_fits g c =
+    let log = c.self.inside in
+    omega (
+      arith,
+      step_within _ _ _ _ (step_is g c),
+      ap (λ v. length v.segments) c.self.view_is,
+      length-map log.segments.items (λ x. sealed_of x.first x.reader),
+      log.segments.ok.0,
+    )
 
 pub overflow_add-step : goal.overflow_add-step
-overflow_add-step g c =
-    let log = c.self.inside in
-    let s = step_is g (goal.at.overflow_add-step g c).In-Some in
-    omega (
-      arith,
-      step_within _ _ _ s,
-      many_parts c.args.self.now.segments,
-      ap (λ v. length v.segments) c.self.view_is,
-      length-map log.segments.items
-          (λ x. sealed_of x.first x.reader),
-      log.segments.ok.0,
-    )
+overflow_add-step g c = omega (arith, step_fits g (goal.at.overflow_add-step g c).In-Some)
 
 pub overflow_add-step-2 : goal.overflow_add-step-2
-overflow_add-step-2 g c =
-    let log = c.self.inside in
-    let s = step_is g (goal.at.overflow_add-step-2 g c).In-Some in
-    omega (
-      arith,
-      step_within _ _ _ s,
-      many_parts c.args.self.now.segments,
-      ap (λ v. length v.segments) c.self.view_is,
-      length-map log.segments.items
-          (λ x. sealed_of x.first x.reader),
-      log.segments.ok.0,
-    )
+overflow_add-step-2 g c = omega (arith, step_fits g (goal.at.overflow_add-step-2 g c).In-Some)
 
 pub remove_covered-requires-clause-within : goal.remove_covered-requires-clause-within
-remove_covered-requires-clause-within g c =
-    omega (arith, step_within _ _ _ (step_is g (goal.at.remove_covered-requires-clause-within g c).In-Some), many_parts c.args.self.now.segments)
+remove_covered-requires-clause-within g c = step_within _ _ _ _ (step_is g (goal.at.remove_covered-requires-clause-within g c).In-Some)
 
 pub remove_covered-requires-clause-covered : goal.remove_covered-requires-clause-covered
 remove_covered-requires-clause-covered g c = λ h.
@@ -95,20 +76,18 @@ remove_covered-requires-clause-covered g c = λ h.
     next_covered c.args.self.now.first (parts_of c.args.self.now.segments) c.in-Some.step.first (s.covers (omega arith))
 
 pub join-requires-clause-run : goal.join-requires-clause-run
-join-requires-clause-run g c = (step_is g (goal.at.join-requires-clause-run g c).In-Some).run (omega arith)
+join-requires-clause-run g c = ((step_is g (goal.at.join-requires-clause-run g c).In-Some).joins (omega arith)).run
+
+pub join-requires-clause-few : goal.join-requires-clause-few
+join-requires-clause-few g c = ((step_is g (goal.at.join-requires-clause-few g c).In-Some).joins (omega arith)).numbered
 
 pub remove_covered-requires-2-clause-within : goal.remove_covered-requires-2-clause-within
-remove_covered-requires-2-clause-within g c =
-    omega (arith, step_within _ _ _ (step_is g (goal.at.remove_covered-requires-2-clause-within g c).In-Some), many_parts c.args.self.now.segments, c.join.ensures.many)
+remove_covered-requires-2-clause-within g c = omega (arith, step_within _ _ _ _ (step_is g (goal.at.remove_covered-requires-2-clause-within g c).In-Some), c.join.ensures.many)
 
 pub remove_covered-requires-2-clause-covered : goal.remove_covered-requires-2-clause-covered
 remove_covered-requires-2-clause-covered g c = λ h.
-    let s = step_is g (goal.at.remove_covered-requires-2-clause-covered g c).In-Some in
-    let some : 0 < c.in-Some.step.count = omega arith in
-    let r = s.run some in
-    let parts_are = c.in_ok-join.ensures.joined h r in
-    next_covered c.join.new.self.first (parts_of c.join.new.self.segments) c.in-Some.step.first
-    (subst (λ l. CoversNext l c.in-Some.step.first) (sym parts_are) (joined_covers (parts_of c.args.self.now.segments) c.in-Some.step.first c.in-Some.step.count r some))
+    let can = (step_is g (goal.at.remove_covered-requires-2-clause-covered g c).In-Some).joins (omega arith) in
+    next_covered c.join.new.self.first (parts_of c.join.new.self.segments) c.in-Some.step.first (first_covers can (c.in_ok-join.ensures.joined h can.run))
 
 -- the run was joined, and then a segment was removed
 moments_now : (g : _) (c : After-join g) (new : _) → IsTrue g.F.Folder.honest
@@ -139,20 +118,53 @@ returns-clause-files g c = λ h.
     let F = g.F.Folder in
     changes_more (F.seen c.args.self.now.folder) (F.seen c.join.new.self.folder) _ (c.join.ensures.files h) (c.remove_covered-2.ensures.files h)
 
--- ---- which slots the segments have, and why a step fails
+-- ---- what becomes of the segments
 
-pub returns-in_default-clause-none_new : goal.returns-in_default-clause-none_new
-returns-in_default-clause-none_new g c = λ h slot has. has
+pub returns-in_default-clause-joins : goal.returns-in_default-clause-joins
+returns-in_default-clause-joins g c = λ h. stay
 
-pub returns-clause-none_new : goal.returns-clause-none_new
-returns-clause-none_new g c = λ h slot has.
-    let s = step_is g (goal.at.returns-clause-none_new g c).In-Some in
-    let r = s.run (omega arith) in
-    in_joined (parts_of c.args.self.now.segments) c.in-Some.step.first c.in-Some.step.count r slot
-    (subst (λ l. Contains (slots_in l) slot) (c.in_ok-join.ensures.joined h r) (c.remove_covered-2.ensures.none_new slot has))
+pub returns-in_err-remove_covered-clause-joins : goal.returns-in_err-remove_covered-clause-joins
+returns-in_err-remove_covered-clause-joins g c = λ h. subst (λ l. Compacts c.args.size c.args.self.now.segments l) (sym c.in_err-remove_covered.ensures.same) stay
 
-pub join-requires-clause-few : goal.join-requires-clause-few
-join-requires-clause-few g c = (step_is g (goal.at.join-requires-clause-few g c).In-Some).few (omega arith)
+pub returns-then-step-eq0-clause-joins : goal.returns-then-step-eq0-clause-joins
+returns-then-step-eq0-clause-joins g c = λ h.
+    let step = step_is g (goal.at.returns-then-step-eq0-clause-joins g c).In-Some in
+    subst (λ l. Compacts c.args.size c.args.self.now.segments l) (sym c.in_ok-remove_covered.ensures.left) (remove_next stay (step.covers c.if-step-eq0.true))
+
+pub returns-in_err-join-clause-joins : goal.returns-in_err-join-clause-joins
+returns-in_err-join-clause-joins g c = λ h. subst (λ l. Compacts c.args.size c.args.self.now.segments l) (sym c.in_err-join.ensures.same) stay
+
+-- a run has become one
+run_joined : (g : _) (c : In_ok-join g) → IsTrue g.F.Folder.honest → Compacts c.args.size c.args.self.now.segments c.join.new.self.segments
+run_joined g c h =
+    let can = (step_is g (goal.at.In_ok-join g c).In-Some).joins (omega (arith, c.if-step-eq0.false)) in
+    join stay can (c.in_ok-join.ensures.joined h can.run)
+
+pub returns-in_err-remove_covered-2-clause-joins : goal.returns-in_err-remove_covered-2-clause-joins
+returns-in_err-remove_covered-2-clause-joins g c = λ h.
+    let here = (goal.at.returns-in_err-remove_covered-2-clause-joins g c).In_ok-join in
+    subst (λ l. Compacts c.args.size c.args.self.now.segments l) (sym c.in_err-remove_covered-2.ensures.same) (run_joined g here h)
+
+pub returns-clause-joins : goal.returns-clause-joins
+returns-clause-joins g c = λ h.
+    let here = (goal.at.returns-clause-joins g c).In_ok-join in
+    let can = (step_is g (goal.at.returns-clause-joins g c).In-Some).joins (omega (arith, c.if-step-eq0.false)) in
+    subst (λ l. Compacts c.args.size c.args.self.now.segments l) (sym c.in_ok-remove_covered-2.ensures.left)
+    (remove_next (run_joined g here h) (first_covers can (c.in_ok-join.ensures.joined h can.run)))
+
+-- one of them is gone
+pub returns-then-step-eq0-clause-fewer : goal.returns-then-step-eq0-clause-fewer
+returns-then-step-eq0-clause-fewer g c = λ more.
+    let within = step_within _ _ _ _ (step_is g (goal.at.returns-then-step-eq0-clause-fewer g c).In-Some) in
+    omega (arith, ap (λ l. length l) c.in_ok-remove_covered.ensures.left, length-remove c.args.self.now.segments (c.in-Some.step.first + 1) within)
+
+pub returns-clause-fewer : goal.returns-clause-fewer
+returns-clause-fewer g c = λ more.
+    let within = step_within _ _ _ _ (step_is g (goal.at.returns-clause-fewer g c).In-Some) in
+    let many = c.join.ensures.many in
+    omega (arith, many, ap (λ l. length l) c.in_ok-remove_covered-2.ensures.left, length-remove c.join.new.self.segments (c.in-Some.step.first + 1) (omega (arith, within, many)))
+
+-- ---- why a step fails
 
 pub returns-in_err-join-clause-failed : goal.returns-in_err-join-clause-failed
 returns-in_err-join-clause-failed g c = λ h is. inr (c.join.ensures.there h)

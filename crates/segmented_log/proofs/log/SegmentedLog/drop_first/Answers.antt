@@ -1,6 +1,7 @@
 use Rattle.std.proofs.Common.{◌<◌, inl, drop, map, refl, sym, ◌∙◌, ap, subst, arith}
 use Rattle.std.specs.Prelude.{All, IsTrue}
-use Rattle.std.proofs.lemmas.Bool.{OnFalse_at}
+use Rattle.std.specs.Bool.{OnFalse}
+use Rattle.std.proofs.lemmas.Bool.{OnFalse_at, OnFalse_from}
 use Rattle.std.proofs.lemmas.List.{drop-map}
 use Rattle.std.proofs.lemmas.List.Elements.{All-drop, All-same}
 use Rattle.store_folder.specs.Moments.{LeavesOnly}
@@ -16,6 +17,8 @@ use Rattle.segmented_log.proofs.NameLemmas.{segment_no_tail}
 use Rattle.segmented_log.proofs.log.SegmentedLog.drop_first.Goals.{In-Some}
 use Rattle.segmented_log.proofs.CauseLemmas.{ok_alone}
 use Rattle.segmented_log.specs.declared.error.LogError.TheVariants.{Failed}
+use Rattle.segmented_log.proofs.StepLemmas.{next_dropped}
+use Rattle.segmented_log.specs.Compacting.{AreNext}
 use Rattle.segmented_log.proofs.log.SegmentedLog.drop_first.Goals as goal
 
 pub returns-in_default-clause-rest : goal.returns-in_default-clause-rest
@@ -57,7 +60,8 @@ known_is : (g : _) (c : In-Some g)
     × (IsTrue g.F.Folder.honest → IsSettledFolder (g.F.Folder.may_hold c.self.inside.folder) (g.F.Folder.may_leave c.self.inside.folder) (g.F.Folder.entry_kept c.self.inside.folder)
     (g.F.Folder.trusted c.self.inside.folder)
     c.self.inside.first c.self.inside.sealed (map (λ x. part_of x.first x.reader) c.self.inside.segments.items) c.self.inside.tail.bytes
-    × All (λ x. IsTrue x.reader.file.honest) c.self.inside.segments.items)
+    × All (λ x. IsTrue x.reader.file.honest) c.self.inside.segments.items
+    × OnFalse c.self.inside.may_overlap (AreNext c.self.inside.first (map (λ x. part_of x.first x.reader) c.self.inside.segments.items)))
 known_is g c = OnFalse_at (ap (λ v. v.is_broken) c.self.view_is ∙ c.requires.works) c.self.invariant
 
 can_go : (g : _) (c : In-Some g) → CanGo c.self.inside.first c.args.number (map (λ x. part_of x.first x.reader) c.self.inside.segments.items) (first_of c.self.inside.tail.bytes) c.in-Some.next
@@ -148,6 +152,7 @@ invariant_of-self-2 g c =
             (c.in_ok-remove_segment.ensures.gone h)),
         All-same (λ x. IsTrue x.reader.file.honest) c.remove.new.self.items (drop 1 log.segments.items) c.remove.ensures.by_index.2
             (All-drop (λ x. IsTrue x.reader.file.honest) 1 log.segments.items (known.1 h).1),
+        OnFalse_from log.may_overlap _ (λ none. subst (AreNext next) (sym left) (next_dropped log.first c.args.number next _ segments (can_go g here) (OnFalse_at none (known.1 h).2))),
       ),
     )
 

@@ -1,5 +1,6 @@
 use Rattle.std.proofs.Common.{◌≡◌, [], ◌+◌, ◌++◌, length, map, Some, refl, sym, ◌∙◌, ap, subst, arith}
 use Rattle.std.specs.Prelude.{All, IsTrue}
+use Rattle.std.specs.Bool.{OnFalse}
 use Rattle.std.proofs.lemmas.Bool.{OnFalse_at}
 use Rattle.std.specs.List.{flat_map}
 use Rattle.store_folder.specs.Moments.{LeavesOnly}
@@ -8,6 +9,7 @@ use Rattle.store_folder.specs.Folder.{ElsewhereOfBoth}
 use Rattle.store_folder.specs.Publishing.{part, IsOldOrWhole}
 use Rattle.log_tail.specs.Tail.{records_in, records_of}
 use Rattle.segmented_log.specs.Names.{tail_name}
+use Rattle.segmented_log.specs.Compacting.{AreNext}
 use Rattle.segmented_log.specs.Parts.{part_of, tail_end, end_from, log_slots}
 use Rattle.segmented_log.specs.Log.{IsLog}
 use Rattle.segmented_log.specs.Settled.{TailIsKept, IsSettledTail, IsSettledFolder}
@@ -30,7 +32,8 @@ known_is : (g : _) (c : After-deref g) → IsSettledTail c.self.inside.sealed c.
     × (IsTrue g.F.Folder.honest → IsSettledFolder (g.F.Folder.may_hold c.self.inside.folder) (g.F.Folder.may_leave c.self.inside.folder) (g.F.Folder.entry_kept c.self.inside.folder)
     (g.F.Folder.trusted c.self.inside.folder)
     c.self.inside.first c.self.inside.sealed (map (λ x. part_of x.first x.reader) c.self.inside.segments.items) c.self.inside.tail.bytes
-    × All (λ x. IsTrue x.reader.file.honest) c.self.inside.segments.items)
+    × All (λ x. IsTrue x.reader.file.honest) c.self.inside.segments.items
+    × OnFalse c.self.inside.may_overlap (AreNext c.self.inside.first (map (λ x. part_of x.first x.reader) c.self.inside.segments.items)))
 known_is g c = OnFalse_at (ap (λ v. v.is_broken) c.self.view_is ∙ c.requires.works) c.self.invariant
 
 end_is : (g : _) (c : After-deref g) → c.self.inside.tail_first + c.len-2.result ≡ c.self.inside.tail_first + length c.self.inside.places.items
@@ -128,6 +131,7 @@ invariant_of-self-2 g c =
             (subst (λ b. TailIsKept (F.may_hold new) (F.may_leave new) (F.entry_kept new) (F.trusted new) b) c.deref.ensures.value (c.in_ok-replace_tail.ensures.kept h))
             (c.replace_tail.ensures.crash h)),
         (known.1 h).1,
+        (known.1 h).2,
       ),
     )
 

@@ -1,15 +1,19 @@
-use Rattle.std.proofs.Common.{◌≡◌, ◌≤◌, ◌<◌, ◌-◌, map, get_or, Some, None, refl, sym, ◌∙◌, ap, subst, arith}
+use Rattle.std.proofs.Common.{◌≡◌, ◌⊎◌, length, ◌≤◌, ◌<◌, ◌-◌, map, get_or, Some, None, refl, sym, ◌∙◌, ap, subst, arith}
 use Rattle.std.proofs.lemmas.Bool.{OnFalse_at, false≢true}
+use Rattle.std.specs.Prelude.{IsErrOf}
+use Rattle.std.specs.List.{sum_by}
+use Rattle.store_base.specs.Counts.{HasRisen}
 use Rattle.store_format.specs.Block.{doc}
 use Rattle.segmented_log.specs.Parts.{part_of, sealed_of, parts_of, tail_end, end_from}
-use Rattle.log_tail.specs.Place.{content}
+use Rattle.log_tail.specs.Place.{content, EndsBy}
 use Rattle.segmented_log.specs.Log.{slot_at, Gives}
 use Rattle.segmented_log.specs.declared.error.LogError.TheVariants.{Broken, Failed}
 use Rattle.segmented_log.specs.Causes.{IsOfReads}
 use Rattle.segmented_log.proofs.CauseLemmas.{never, ok_alone, err_alone, memory_alone, failed_memory, broken_failed}
 use Rattle.segmented_log.proofs.RunOfParts.{view_parts}
-use Rattle.segmented_log.proofs.SyncLemmas.{tail_is_there}
+use Rattle.segmented_log.proofs.SyncLemmas.{both_on_false, tail_is_there}
 use Rattle.segmented_log.proofs.ReadLemmas.{slot_after, slot_sealed, slot_read}
+use Rattle.segmented_log.proofs.log.SegmentedLog.get.Goals.{After-bytes}
 use Rattle.segmented_log.proofs.log.SegmentedLog.get.Goals as goal
 
 pub returns-then-number-self-2-clause-found : goal.returns-then-number-self-2-clause-found
@@ -22,7 +26,27 @@ returns-then-number-self-2-clause-found g c = λ h.
     let le : log.first ≤ number = omega arith in
     let below : number < end_from log.first segments = omega (arith, f.sealed_is) in
     subst (λ v. Gives (slot_at v.first v.slots number) c.get_from.result) c.self.view_is
-    (subst (λ o. Gives o c.get_from.result) (sym (slot_sealed log.first segments log.tail.bytes f.parts number le below)) (c.get_from.ensures.found log.first (known.1 h).1 f.parts.in_line le below))
+    (subst (λ o. Gives o c.get_from.result) (sym (slot_sealed log.first segments log.tail.bytes f.parts number le below))
+    (c.get_from.ensures.found log.first (known.1 h).1 f.parts.in_line (known.1 h).2 le below))
+
+pub invariant_of-self : goal.invariant_of-self
+invariant_of-self g c =
+    let known = OnFalse_at c.if-self.false c.self.invariant in
+    rw c.get_from.ensures.parts (both_on_false _ _ _ known.0 (λ h. ((known.1 h).0, c.get_from.ensures.honest (known.1 h).1, (known.1 h).2)))
+
+pub returns-then-number-self-2-clause-failed : goal.returns-then-number-self-2-clause-failed
+returns-then-number-self-2-clause-failed g c = λ h refused.
+    let log = c.self.inside in
+    let known = OnFalse_at c.if-self.false c.self.invariant in
+    let f = (known.1 h).0 in
+    let le : log.first ≤ c.args.number = omega arith in
+    let below : c.args.number < end_from log.first (map (λ x. part_of x.first x.reader) log.segments.items) = omega (arith, f.sealed_is) in
+    subst (λ v. HasRisen v.read_failures (sum_by (λ s. s.reader.file.failures) c.get_from.new.segments.items)) c.self.view_is
+    (c.get_from.ensures.failed log.first (known.1 h).1 f.parts.in_line (known.1 h).2 le below refused)
+
+pub returns-then-number-self-2-clause-steady : goal.returns-then-number-self-2-clause-steady
+returns-then-number-self-2-clause-steady g c =
+    subst (λ v. IsErrOf c.get_from.result Failed ⊎ (sum_by (λ s. s.reader.file.failures) c.get_from.new.segments.items ≡ v.read_failures)) c.self.view_is c.get_from.ensures.steady
 
 pub returns-then-number-self-2-clause-broken : goal.returns-then-number-self-2-clause-broken
 returns-then-number-self-2-clause-broken g c = (
@@ -94,3 +118,19 @@ returns-in_err-copy_record-clause-failed g c = λ h is. absurd (memory_alone Fai
 
 pub returns-in_err-copy_record-clause-sealed : goal.returns-in_err-copy_record-clause-sealed
 returns-in_err-copy_record-clause-sealed g c = λ h is. absurd (memory_alone Failed failed_memory _ c.from_residual.ensures.1 is)
+
+-- the place that is copied ends by the end of the tail
+ends : (g : _) (c : After-bytes g) → EndsBy (length c.self.inside.tail.bytes) c.index-place.result.now
+ends g c =
+    let log = c.self.inside in
+    let known = OnFalse_at c.if-self.false c.self.invariant in
+    let place = c.index-place.result.now in
+    subst (EndsBy (length log.tail.bytes)) (sym c.index-place.ensures) (known.0.within (c.args.number - log.tail_first) place (omega (arith, c.len.ensures, c.if-index-len.false)))
+
+pub copy_record-requires-clause-order : goal.copy_record-requires-clause-order
+copy_record-requires-clause-order g c = (ends g (goal.at.copy_record-requires-clause-order g c).After-bytes).0
+
+pub copy_record-requires-clause-within : goal.copy_record-requires-clause-within
+copy_record-requires-clause-within g c =
+    let end = (ends g (goal.at.copy_record-requires-clause-within g c).After-bytes).1 in
+    omega (arith, ap length c.bytes.ensures)

@@ -1,6 +1,7 @@
 use Rattle.std.proofs.Common.{rules, ◌^◌, ◌≡◌, ◌+◌, ◌-◌, ◌<◌, ◌++◌, length, map, take, drop, set, refl, sym, ◌∙◌, ap, subst, arith}
 use Rattle.std.specs.Prelude.{All, IsTrue, IsSome, IsErrOf}
 use Rattle.std.proofs.lemmas.Bool.{OnFalse_at}
+use Rattle.std.proofs.lemmas.List.{map-set}
 use Rattle.std.proofs.lemmas.List.Elements.{All-set}
 use Rattle.std.specs.List.{Contains}
 use Rattle.store_folder.specs.Moments.{LeavesOnly, ComesFrom}
@@ -13,12 +14,12 @@ use Rattle.segmented_log.specs.Names.{segment_name, tail_name}
 use Rattle.segmented_log.specs.Parts.{Part, part_of, sealed_of, parts_of, log_slots}
 use Rattle.segmented_log.specs.Log.{HasSegment, Holds, IsLog}
 use Rattle.segmented_log.specs.Settled.{AddsSegment, IsSettledFolder}
-use Rattle.segmented_log.specs.Compacting.{IsRun, slots_in, with_joined, ChangesSegments}
+use Rattle.segmented_log.specs.Compacting.{IsRun, one_of, IsOfStore, slots_in, ChangesSegments}
 use Rattle.segmented_log.specs.Opening.{HasSegments}
 use Rattle.segmented_log.proofs.CompactLemmas.{changes_replaced, segment_there}
 use Rattle.segmented_log.proofs.SlotLemmas.{in_part}
-use Rattle.segmented_log.proofs.StepLemmas.{run_taken}
-use Rattle.segmented_log.proofs.RunOfParts.{one_of, run_moved, moved_joined, view_parts, run_within, parts_there, head_is, run_part, run_slots, run_set, run_log, run_same, run_folder}
+use Rattle.segmented_log.proofs.StepLemmas.{run_taken, of_store}
+use Rattle.segmented_log.proofs.RunOfParts.{run_moved, moved_one, view_parts, run_within, parts_there, head_is, run_part, run_slots, run_set, run_log, run_same, run_folder}
 use Rattle.segmented_log.proofs.NameLemmas.{beside_no_tail, segment_no_tail}
 use Rattle.segmented_log.proofs.log.SegmentedLog.join.Goals.{After-join_segments}
 use Rattle.segmented_log.proofs.log.SegmentedLog.join.Goals as goal
@@ -66,9 +67,9 @@ run_is g c r =
     let same = ap (λ w. parts_of w.segments) (sym c.self.view_is) ∙ view_parts (λ s. sealed_of s.first s.reader) (λ s. part_of s.first s.reader) (λ s. refl) log.segments.items in
     run_moved _ (map (λ s. part_of s.first s.reader) log.segments.items) c.args.place c.args.count same r
 
-run_joined : (g : _) (c : After-join_segments g) (r : IsRun (parts_of c.args.self.now.segments) c.args.place c.args.count) → with_joined (run_is g c r) ≡ with_joined r
+run_one : (g : _) (c : After-join_segments g) (r : IsRun (parts_of c.args.self.now.segments) c.args.place c.args.count) → one_of (run_is g c r) ≡ one_of r
 unfolding run_is
-run_joined g c r = moved_joined _ _ c.args.place c.args.count _ r
+run_one g c r = moved_one _ _ c.args.place c.args.count _ r
 
 -- the folder has its segments
 there : (g : _) (c : After-join_segments g) → IsTrue g.F.Folder.honest
@@ -203,8 +204,12 @@ returns-clause-joined g c = λ h run.
     let y = c.replace.new.dest in
     let r = run_is g here run in
     let is : part_of y.first y.reader ≡ one_of r = ap (λ s. part_of s.first s.reader) c.replace.ensures.after ∙ c.in_ok-joined.ensures.segment h (there g here h) ∙ part_is g here r in
-    view_parts (λ s. sealed_of s.first s.reader) (λ s. part_of s.first s.reader) (λ s. refl) (set items c.args.place y)
-    ∙ run_set (λ s. part_of s.first s.reader) items c.args.place c.args.count r y is ∙ run_joined g here run
+    record {
+      one = sealed_of y.first y.reader;
+      part_is = is ∙ run_one g here run;
+      store = subst (λ s. IsOfStore (sealed_of s.first s.reader)) (sym c.replace.ensures.after) (of_store _ _ c.in_ok-joined.ensures.seen);
+      new_is = map-set (λ s. sealed_of s.first s.reader) items c.args.place y ∙ ap (λ w. set w.segments c.args.place (sealed_of y.first y.reader)) c.self.view_is;
+    }
 
 pub returns-clause-slots : goal.returns-clause-slots
 returns-clause-slots g c = λ h.
@@ -242,5 +247,6 @@ invariant_of-self-2 g c = (
             (subst (λ n. ComesFrom (ElsewhereOfBoth (segment_name n ++ part) (segment_name n)) (F.may_leave log.folder) (F.may_leave new)) name_is (c.join_segments.ensures.crash h))
             (subst (λ p. (d : _) → F.may_leave new d → HasSegment d p) (part_is g here r) (c.in_ok-joined.ensures.published h (there g here h)))),
         All-set (λ s. IsTrue s.reader.file.honest) log.segments.items c.args.place y (subst (λ s. IsTrue s.reader.file.honest) (sym c.replace.ensures.after) (c.in_ok-joined.ensures.honest h)) kept.1,
+        tt,
       ),
 )

@@ -1,7 +1,9 @@
-use Rattle.std.proofs.Common.{◌≡◌, ⊎_elim, map, ap, ◌∙◌}
+use Rattle.std.proofs.Common.{◌≡◌, ⊎_elim, map, ap, ◌∙◌, subst}
 use Rattle.std.specs.Prelude.{IsTrue}
+use Rattle.std.specs.Bool.{OnFalse}
 use Rattle.segmented_log.specs.Log.{KeepsLog}
 use Rattle.segmented_log.specs.Parts.{part_of, log_slots}
+use Rattle.segmented_log.specs.Compacting.{AreNext}
 use Rattle.segmented_log.proofs.SyncLemmas.{log_on_disk}
 use Rattle.segmented_log.proofs.UniqueLemmas.{same_log, not_blank}
 use Rattle.segmented_log.proofs.log.SegmentedLog.open.Goals.{In-Ok, After-new}
@@ -34,3 +36,8 @@ returns-in-Ok-clause-begun g c = λ h blank.
     ⊎_elim (λ none. absurd (not_blank (F.seen new) _ _ here none))
     (λ log. let same = same_log c.stores_are_apart.ensures (F.seen new) _ 0 _ _ here log in (same.0, in_memory g (goal.at.returns-in-Ok-clause-begun g c).After-new ∙ same.1))
     ((kept_log g (goal.at.returns-in-Ok-clause-begun g c).In-Ok h).begun blank)
+
+pub invariant_of-result : goal.invariant_of-result
+invariant_of-result g c =
+    let next = subst (λ s. OnFalse c.may_overlap-may_overlap.result (AreNext c.in-Ok.parts.first (map (λ x. part_of x.first x.reader) s))) c.deref.ensures.value c.may_overlap-may_overlap.ensures in
+    rw (c.new.ensures.bytes, c.new.ensures.none_pending) (c.in-Ok.ensures.settled, λ h. (c.in-Ok.ensures.folder h, c.in-Ok.ensures.honest h, next))

@@ -1,7 +1,8 @@
 use Rattle.std.proofs.Common.{rules, ◌⊎◌, inl, inr, ⊎_elim, ◌≡◌, ◌+◌, ◌-◌, ◌<◌, ◌++◌, ◌∷◌, List, [], length, take, drop, map, None, refl, ◌∙◌, ap, subst, sym, arith}
 use Rattle.std.specs.Prelude.{All, IsTrue, IsErrOf}
 use Rattle.store_base.specs.Counts.{HasRisen}
-use Rattle.std.proofs.lemmas.Bool.{OnFalse_at}
+use Rattle.std.specs.Bool.{OnFalse}
+use Rattle.std.proofs.lemmas.Bool.{OnFalse_at, OnFalse_from}
 use Rattle.std.proofs.lemmas.List.{take_rest, map_push}
 use Rattle.std.proofs.lemmas.List.Elements.{All-drop, All-push, All-same}
 use Rattle.store_folder.specs.Moments.{LeavesOnly}
@@ -10,18 +11,22 @@ use Rattle.store_folder.specs.Folder.{Look, ElsewhereOfBoth}
 use Rattle.store_folder.specs.Publishing.{part}
 use Rattle.log_tail.specs.declared.batches.Place.{Place}
 use Rattle.log_tail.specs.Place.{contents, EndsBy}
+use Rattle.segmented_log.specs.Compacting.{AreNext}
 use Rattle.segmented_log.specs.Parts.{Part, part_of, joined, log_slots}
 use Rattle.segmented_log.specs.Log.{HasSegment, IsLog}
 use Rattle.segmented_log.specs.Settled.{part_at, AddsSegment, IsSettledTail, IsSettledFolder}
 use Rattle.segmented_log.specs.declared.error.LogError.TheVariants.{Failed, Full}
 use Rattle.segmented_log.specs.Causes.{HasNoRoom, HasNoRoomForLast, HasNewSegment, KeepsOthers}
 use Rattle.segmented_log.proofs.CauseLemmas.{none_sealed}
+use Rattle.segmented_log.specs.Sealing.{AddsPacked}
 use Rattle.segmented_log.proofs.FrameLemmas.{keeps_all, keeps_new}
+use Rattle.segmented_log.proofs.PackLemmas.{packs_none, packs_new}
 use Rattle.segmented_log.proofs.SyncLemmas.{log_stays}
 use Rattle.segmented_log.proofs.SegmentLemmas.{part_is, settled_segment, segment_log, slots_segment, folder_segment}
 use Rattle.segmented_log.specs.Names.{segment_name, tail_name}
 use Rattle.segmented_log.proofs.NameLemmas.{beside_no_tail, segment_no_tail}
 use Rattle.segmented_log.proofs.log.SegmentedLog.publish_unsealed.Goals.{After-deref}
+use Rattle.segmented_log.proofs.StepLemmas.{next_sealed}
 use Rattle.segmented_log.proofs.log.SegmentedLog.publish_unsealed.Goals as goal
 
 pub returns-then-self-end-clause-any_moment : goal.returns-then-self-end-clause-any_moment
@@ -36,7 +41,8 @@ known_is : (g : _) (c : After-deref g)
     × (IsTrue g.F.Folder.honest → IsSettledFolder (g.F.Folder.may_hold c.self.inside.folder) (g.F.Folder.may_leave c.self.inside.folder) (g.F.Folder.entry_kept c.self.inside.folder)
     (g.F.Folder.trusted c.self.inside.folder)
     c.self.inside.first c.self.inside.sealed (map (λ x. part_of x.first x.reader) c.self.inside.segments.items) c.self.inside.tail.bytes
-    × All (λ x. IsTrue x.reader.file.honest) c.self.inside.segments.items)
+    × All (λ x. IsTrue x.reader.file.honest) c.self.inside.segments.items
+    × OnFalse c.self.inside.may_overlap (AreNext c.self.inside.first (map (λ x. part_of x.first x.reader) c.self.inside.segments.items)))
 known_is g c = OnFalse_at (ap (λ v. v.is_broken) c.self.view_is ∙ c.requires.works) c.self.invariant
 
 -- the places of the records that no segment has
@@ -102,6 +108,16 @@ returns-in_err-push-clause-files g c = λ h.
 pub returns-clause-files : goal.returns-clause-files
 returns-clause-files g c = λ h. others_stay g (goal.at.returns-clause-files g c).After-deref c.add_segment.new.folder h (c.add_segment.ensures.elsewhere h)
 
+pub returns-then-self-end-clause-packed : goal.returns-then-self-end-clause-packed
+returns-then-self-end-clause-packed g c = λ h. packs_none (g.F.Folder.seen c.args.self.now.folder)
+
+pub returns-clause-packed : goal.returns-clause-packed
+returns-clause-packed g c = λ h.
+    let F = g.F.Folder in
+    let new = c.add_segment.new.folder in
+    subst (λ v. AddsPacked (F.seen v.folder) (F.seen new)) c.self.view_is
+    (packs_new c.self.inside.sealed (F.seen c.self.inside.folder) (F.seen new) (c.add_segment.ensures.elsewhere h) (c.in_ok-segment.ensures.packed h))
+
 pub add_segment-requires : goal.add_segment-requires
 add_segment-requires g c =
     let here = (goal.at.add_segment-requires g c).After-deref in
@@ -161,6 +177,8 @@ invariant_of-self-2 g c =
                 (c.add_segment.ensures.crash h)),
             All-same (λ x. IsTrue x.reader.file.honest) c.push.new.self.items (log.segments.items ++ segment ∷ []) c.in_ok-push.ensures.items
                 (All-push (λ x. IsTrue x.reader.file.honest) log.segments.items segment (known.1 h).1 (c.in_ok-segment.ensures.honest h)),
+            OnFalse_from log.may_overlap _ (λ none. next_sealed log.first (map (λ x. part_of x.first x.reader) log.segments.items) _ (part_of segment.first segment.reader) grown
+                (OnFalse_at none (known.1 h).2) (ap (λ (p : Part). p.first) part_is ∙ (known.1 h).0.sealed_is)),
           ),
     )
 

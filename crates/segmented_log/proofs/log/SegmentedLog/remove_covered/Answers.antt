@@ -3,7 +3,7 @@ use Rattle.std.specs.Prelude.{IsTrue, IsSome, None}
 use Rattle.std.proofs.lemmas.Bool.{OnFalse_at}
 use Rattle.std.proofs.lemmas.List.{length-map}
 use Rattle.std.proofs.lemmas.List.Elements.{All-take, All-drop, All-append, All-same}
-use Rattle.std.specs.List.{Contains}
+use Rattle.std.specs.List.{remove}
 use Rattle.store_folder.specs.Moments.{LeavesOnly}
 use Rattle.store_folder.specs.Folder.{LosesFile, FilesElsewhere}
 use Rattle.store_folder.specs.Moments.{ComesFrom}
@@ -13,14 +13,14 @@ use Rattle.segmented_log.specs.Parts.{Part, part_of, sealed_of, parts_of, log_sl
 use Rattle.segmented_log.specs.Log.{Holds, IsLog}
 use Rattle.segmented_log.specs.Settled.{IsSettledFolder}
 use Rattle.segmented_log.specs.Dropping.{LosesSegment}
-use Rattle.segmented_log.specs.Compacting.{slots_in, IsCovered, ChangesSegments}
+use Rattle.segmented_log.specs.Compacting.{AreNext, IsCovered, ChangesSegments}
 use Rattle.segmented_log.proofs.CompactLemmas.{changes_removed, segment_there}
-use Rattle.segmented_log.proofs.RunOfParts.{covered_moved, view_parts, covered_is, covered_left, without, covered_same, covered_log, covered_folder}
-use Rattle.segmented_log.proofs.SlotLemmas.{in_left}
+use Rattle.segmented_log.proofs.RunOfParts.{covered_moved, view_parts, covered_is, map_removed, covered_left, without, covered_same, covered_log, covered_folder}
 use Rattle.segmented_log.proofs.NameLemmas.{segment_no_tail}
 use Rattle.segmented_log.proofs.log.SegmentedLog.remove_covered.Goals.{After-remove_segment, After-remove}
 use Rattle.segmented_log.proofs.CauseLemmas.{ok_alone}
 use Rattle.segmented_log.specs.declared.error.LogError.TheVariants.{Failed}
+use Rattle.std.specs.Bool.{OnFalse}
 use Rattle.segmented_log.proofs.log.SegmentedLog.remove_covered.Goals as goal
 
 -- what the log knows of its folder
@@ -100,17 +100,11 @@ returns-clause-slots g c = λ h.
     ∙ covered_same log.first (map (λ s. part_of s.first s.reader) log.segments.items) log.tail.bytes c.args.place v (settled g (goal.at.returns-clause-slots g c).After-remove_segment h).parts
     ∙ ap (λ w. w.slots) c.self.view_is
 
-pub returns-in_err-remove_segment-clause-none_new : goal.returns-in_err-remove_segment-clause-none_new
-returns-in_err-remove_segment-clause-none_new g c = λ slot has. subst (λ v. Contains (slots_in (parts_of v.segments)) slot) c.self.view_is has
-
-pub returns-clause-none_new : goal.returns-clause-none_new
-returns-clause-none_new g c = λ slot has.
+pub returns-clause-left : goal.returns-clause-left
+returns-clause-left g c =
     let items = c.self.inside.segments.items in
-    let left = items_left g (goal.at.returns-clause-none_new g c).After-remove in
-    let now = view_parts (λ s. sealed_of s.first s.reader) (λ s. part_of s.first s.reader) (λ s. refl) c.remove.new.self.items ∙ ap (λ l. map (λ s. part_of s.first s.reader) l) left in
-    let was = view_parts (λ s. sealed_of s.first s.reader) (λ s. part_of s.first s.reader) (λ s. refl) items in
-    subst (λ v. Contains (slots_in (parts_of v.segments)) slot) c.self.view_is
-    (subst (λ l. Contains (slots_in l) slot) (sym was) (in_left (λ s. part_of s.first s.reader) slot c.args.place items (subst (λ l. Contains (slots_in l) slot) now has)))
+    ap (λ l. map (λ s. sealed_of s.first s.reader) l) (items_left g (goal.at.returns-clause-left g c).After-remove)
+    ∙ map_removed (λ s. sealed_of s.first s.reader) items c.args.place ∙ ap (λ w. remove w.segments c.args.place) c.self.view_is
 
 pub invariant_of-self-2 : goal.invariant_of-self-2
 invariant_of-self-2 g c = (
@@ -137,6 +131,7 @@ invariant_of-self-2 g c = (
             (items_left g (goal.at.invariant_of-self-2 g c).After-remove)
             (All-append (λ s. IsTrue s.reader.file.honest) (take place log.segments.items) (drop (suc place) log.segments.items)
             (All-take (λ s. IsTrue s.reader.file.honest) place log.segments.items honest) (All-drop (λ s. IsTrue s.reader.file.honest) (suc place) log.segments.items honest)),
+        subst (λ l. OnFalse c.may_overlap-self-inside.result (AreNext log.first (map (λ s. part_of s.first s.reader) l))) c.deref.ensures.value c.may_overlap-self-inside.ensures,
       ),
 )
 

@@ -3,6 +3,7 @@ use Rattle.std.proofs.lemmas.Bool.{OnFalse_at}
 use Rattle.store_folder.specs.Moments.{LeavesOnly}
 use Rattle.segmented_log.specs.Log.{IsLog}
 use Rattle.segmented_log.proofs.FrameLemmas.{keeps_all}
+use Rattle.segmented_log.proofs.PackLemmas.{packs_none}
 use Rattle.segmented_log.proofs.SyncLemmas.{log_stays}
 use Rattle.segmented_log.proofs.log.SegmentedLog.seal_large.Goals as goal
 
@@ -14,3 +15,6 @@ returns-then-len-self-clause-any_moment g c = λ h.
 
 pub returns-then-len-self-clause-files : goal.returns-then-len-self-clause-files
 returns-then-len-self-clause-files g c = λ h. keeps_all _
+
+pub returns-then-len-self-clause-packed : goal.returns-then-len-self-clause-packed
+returns-then-len-self-clause-packed g c = λ h. packs_none (g.F.Folder.seen c.args.self.now.folder)

@@ -8,6 +8,8 @@ use Rattle.segmented_log.specs.Causes.{IsFault}
 use Rattle.segmented_log.specs.Log.{IsLog}
 use Rattle.segmented_log.proofs.CauseLemmas.{if_seals, never}
 use Rattle.segmented_log.proofs.FrameLemmas.{keeps_before_tail}
+use Rattle.segmented_log.proofs.PackLemmas.{packs_before_tail}
+use Rattle.segmented_log.proofs.SyncLemmas.{always_ok}
 use Rattle.segmented_log.proofs.log.SegmentedLog.seal_tail.Goals as goal
 
 pub returns-clause-any_moment : goal.returns-clause-any_moment
@@ -22,6 +24,13 @@ returns-clause-any_moment g c = λ h.
 
 pub returns-clause-files : goal.returns-clause-files
 returns-clause-files g c = λ h. keeps_before_tail _ _ _ (c.publish_unsealed.ensures.files h) (c.empty_tail.ensures.elsewhere h)
+
+pub returns-clause-packed : goal.returns-clause-packed
+returns-clause-packed g c = λ h.
+    let seen = g.F.Folder.seen in
+    always_ok c.empty_tail.result
+    (packs_before_tail (seen c.args.self.now.folder) (seen c.publish_unsealed.new.self.folder) (seen c.empty_tail.new.self.folder) (c.in_ok-publish_unsealed.ensures.packed h)
+    (c.empty_tail.ensures.elsewhere h))
 
 pub returns-clause-slots : goal.returns-clause-slots
 returns-clause-slots g c = λ h.

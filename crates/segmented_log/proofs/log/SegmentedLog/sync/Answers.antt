@@ -11,7 +11,8 @@ use Rattle.segmented_log.specs.Names.{segment_name}
 use Rattle.segmented_log.specs.Log.{IsLog, KeepsOrAdds}
 use Rattle.segmented_log.proofs.NameLemmas.{segment_no_tail, segment_no_tail_beside}
 use Rattle.segmented_log.proofs.CauseLemmas.{never, err_alone, broken_failed, broken_full}
-use Rattle.segmented_log.proofs.FrameLemmas.{keeps_after_tail}
+use Rattle.segmented_log.proofs.FrameLemmas.{keeps_all, keeps_after_tail}
+use Rattle.segmented_log.proofs.PackLemmas.{packs_after_tail}
 use Rattle.segmented_log.proofs.SyncLemmas.{nothing_pending, always_ok}
 use Rattle.segmented_log.proofs.log.SegmentedLog.sync.Goals as goal
 
@@ -61,7 +62,7 @@ returns-in_err-write_pending-clause-full g c = λ h is.
 pub returns-clause-failed : goal.returns-clause-failed
 returns-clause-failed g c = λ h is.
     ⊎_elim (λ risen. inl (risen_later _ _ _ c.write_pending.ensures.failures risen))
-    (λ new. inr (new.0, sym (c.in_ok-write_pending.ensures.elsewhere h (segment_name new.0) (segment_no_tail_beside new.0) (segment_no_tail new.0)) ∙ new.1, new.2))
+    (λ new. inr (new.0, sym (c.write_pending.ensures.elsewhere h (segment_name new.0) (segment_no_tail_beside new.0) (segment_no_tail new.0)) ∙ new.1, new.2))
     (c.seal_large-2.ensures.failed h is)
 
 pub returns-clause-full : goal.returns-clause-full
@@ -74,7 +75,20 @@ pub returns-then-self-clause-full : goal.returns-then-self-clause-full
 returns-then-self-clause-full g c = λ h is. absurd (err_alone Broken Full broken_full is)
 
 pub returns-then-is_empty-clause-files : goal.returns-then-is_empty-clause-files
-returns-then-is_empty-clause-files g c = λ h. always_ok c.seal_large.result (c.seal_large.ensures.files h)
+returns-then-is_empty-clause-files g c = λ h. c.seal_large.ensures.files h
 
 pub returns-clause-files : goal.returns-clause-files
-returns-clause-files g c = λ h. always_ok c.seal_large-2.result (keeps_after_tail _ _ _ (c.in_ok-write_pending.ensures.elsewhere h) (c.seal_large-2.ensures.files h))
+returns-clause-files g c = λ h. keeps_after_tail _ _ _ (c.write_pending.ensures.elsewhere h) (c.seal_large-2.ensures.files h)
+
+pub returns-in_err-write_pending-clause-files : goal.returns-in_err-write_pending-clause-files
+returns-in_err-write_pending-clause-files g c = λ h n beside tail others. c.write_pending.ensures.elsewhere h n beside tail
+
+pub returns-then-self-clause-files : goal.returns-then-self-clause-files
+returns-then-self-clause-files g c = λ h. keeps_all (g.F.Folder.seen c.args.self.now.folder)
+
+pub returns-clause-packed : goal.returns-clause-packed
+returns-clause-packed g c = λ h.
+    let seen = g.F.Folder.seen in
+    on_ok_weaker c.seal_large-2.result
+    (packs_after_tail (seen c.args.self.now.folder) (seen c.write_pending.new.self.folder) (seen c.seal_large-2.new.self.folder) (c.write_pending.ensures.elsewhere h))
+    (c.seal_large-2.ensures.packed h)

@@ -87,7 +87,7 @@ kept_or_added g c new h putting =
     subst (λ v. LeavesOnly F.moment F.left_since v.folder new (KeepsOrAdds v.commit v.first v.slots v.pending)) c.self.view_is
     (weaker F.moment F.left_since log.folder new _ _
     (λ l puts. keeps_or_adds log.first (map (λ s. part_of s.first s.reader) log.segments.items) log.tail.bytes log.tail.pending (known.1 h).0.parts known.0.whole
-    log.commit log.tail_first (length log.tail.bytes) known.0.small (fits_is g c) (head_fits_is g c) (F.may_leave log.folder) (λ d left. (known.1 h).0.on_disk.outcomes d left) l
+    log.commit log.tail_first (length log.tail.bytes) known.0.pending_whole known.0.small (fits_is g c) (head_fits_is g c) (F.may_leave log.folder) (λ d left. (known.1 h).0.on_disk.outcomes d left) l
     (subst (λ b. PutsBatch log.commit (F.may_leave log.folder) log.tail.bytes b l) (back_is g c)
     (subst (λ t. PutsBatch log.commit (F.may_leave log.folder) t (drop c.len-end.result c.bytes.result.now) l) (front_is g c) puts))) putting)
 
@@ -102,7 +102,12 @@ returns-clause-any_moment g c = λ h.
 pub returns-clause-elsewhere : goal.returns-clause-elsewhere
 returns-clause-elsewhere g c = λ h.
     let F = g.F.Folder in
-    subst (λ v. ElsewhereOfBoth (tail_name ++ part) tail_name (F.seen v.folder) (F.seen c.write_batch.new.folder)) c.self.view_is (c.in_ok-write_batch.ensures.elsewhere h)
+    subst (λ v. ElsewhereOfBoth (tail_name ++ part) tail_name (F.seen v.folder) (F.seen c.write_batch.new.folder)) c.self.view_is (c.write_batch.ensures.elsewhere h)
+
+pub returns-in_err-write_batch-clause-elsewhere : goal.returns-in_err-write_batch-clause-elsewhere
+returns-in_err-write_batch-clause-elsewhere g c = λ h.
+    let F = g.F.Folder in
+    subst (λ v. ElsewhereOfBoth (tail_name ++ part) tail_name (F.seen v.folder) (F.seen c.write_batch.new.folder)) c.self.view_is (c.write_batch.ensures.elsewhere h)
 
 pub returns-clause-tail : goal.returns-clause-tail
 returns-clause-tail g c =
@@ -148,6 +153,7 @@ invariant_of-self-2 g c =
                 (F.trusted new_folder) (known.1 h).0 kept
                 (c.write_batch.ensures.crash h),
             (known.1 h).1,
+            (known.1 h).2,
           ),
     )
 
