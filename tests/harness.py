@@ -9,6 +9,7 @@ import resource
 import shutil
 import signal
 import subprocess
+import sys
 import tempfile
 import time
 import unittest
@@ -18,6 +19,15 @@ from typing import Callable
 
 TOP = Path(__file__).resolve().parent.parent
 SECONDS = 120
+
+# Runs a command, and prints how many KiB of memory it had at most. The system counts the memory of the process that
+# starts a command, too; so it is this small one, and not that of the tests.
+MEASURED = """
+import resource, subprocess, sys
+status = subprocess.call(sys.argv[1:])
+print(resource.getrusage(resource.RUSAGE_CHILDREN).ru_maxrss, file=sys.stderr)
+sys.exit(status)
+"""
 
 
 @dataclass(frozen=True)
@@ -242,6 +252,20 @@ class ProgramCase(FolderCase):
     def cat(self, name: str, *words: str) -> bytes:
         """The documents of a store."""
         return self.program.gives("cat", name, *words)
+
+    def measured(self, *words: str, **how) -> subprocess.Popen:
+        """Starts the program, whose memory is measured."""
+        command = [sys.executable, "-c", MEASURED, self.program.path, *words]
+        return subprocess.Popen(command, cwd=self.folder, stderr=subprocess.PIPE, **how)
+
+    def assert_ends_within(self, most: int, process: subprocess.Popen) -> None:
+        """A process that is measured ends with 0, without errors, and has fewer bytes of memory than `most`."""
+        said = process.stderr.read().decode()
+        process.stderr.close()
+        self.assertEqual(process.wait(), 0, said)
+        # `verify` says there, too, what it does not find.
+        self.assertRegex(said, r"^(note: .*\n)?\d+\n$")
+        self.assertLess(int(said.split()[-1]) * 1024, most, "bytes of memory")
 
     def assert_documents(self, name: str, wanted: bytes, *words: str) -> None:
         """What `cat` prints of a store."""

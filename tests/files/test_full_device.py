@@ -197,6 +197,7 @@ class Logs(DeviceCase):
         self.write("events/lock", b"none")
         for left in range(self.SEGMENTS - 1, 0, -1):
             self.fill(0)
+            self.assert_no_room()
             self.first += self.SEALED
             self.program.gives("log", "drop", "events", "--before", str(self.first))
             self.free()
@@ -207,9 +208,15 @@ class Logs(DeviceCase):
         self.assertIn(b"were no whole batch, as after a crash", done.stderr)
         self.drop_all_segments()
 
+    def assert_no_room(self):
+        """On the full device a command fails that opens the log and writes; it leaves the device as full as it was."""
+        self.program.fails(3, f"zevkhadun: events: {REASON}", "log", "seal", "events")
+        self.assertEqual(os.statvfs(self.folder).f_bavail, 0)
+
     def drop_all_segments(self):
         """Drops the records of all segments on the full device."""
         self.fill(0)
+        self.assert_no_room()
         self.program.gives("log", "drop", "events", "--before", str(self.next))
         self.free()
         self.assertEqual(list(self.folder.glob("events/*.store")), [])
@@ -217,6 +224,7 @@ class Logs(DeviceCase):
     def test_each_segment_can_be_dropped(self):
         for _ in range(self.SEGMENTS):
             self.fill(0)
+            self.assert_no_room()
             self.drop_oldest()
             self.free()
         self.go_on()

@@ -2,18 +2,10 @@
 
 import shutil
 import subprocess
-import sys
 
 from files.old_store import OldStoreCase
 
-# Runs a command, and prints how many KiB of memory it had at most. The system counts the memory of the process that
-# starts a command, too; so it is this small one, and not that of the tests.
-MEASURED = """
-import resource, subprocess, sys
-status = subprocess.call(sys.argv[1:])
-print(resource.getrusage(resource.RUSAGE_CHILDREN).ru_maxrss, file=sys.stderr)
-sys.exit(status)
-"""
+MOST_MEMORY = 200_000_000
 
 
 class Large(OldStoreCase):
@@ -30,19 +22,9 @@ class Large(OldStoreCase):
         """Line i, with its end."""
         return b"%010d" % i + self.rest
 
-    def measured(self, *words, **how):
-        """Starts the program, whose memory is measured."""
-        command = [sys.executable, "-c", MEASURED, self.program.path, *words]
-        return subprocess.Popen(command, cwd=self.folder, stderr=subprocess.PIPE, **how)
-
     def end(self, process):
         """Waits for a process, which has to end with 0, without errors, and in less than 200 MB of memory."""
-        said = process.stderr.read().decode()
-        process.stderr.close()
-        self.assertEqual(process.wait(), 0, said)
-        # `verify` says there, too, what it does not find.
-        self.assertRegex(said, r"^(note: .*\n)?\d+\n$")
-        self.assertLess(int(said.split()[-1]) * 1024, 200_000_000, "bytes of memory")
+        self.assert_ends_within(MOST_MEMORY, process)
 
     def pack_lines(self, name):
         packing = self.measured("pack", name, stdin=subprocess.PIPE)

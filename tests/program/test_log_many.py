@@ -3,11 +3,18 @@
 import json
 import resource
 import subprocess
+from pathlib import Path
 
 from harness import limited, numbers
 from program.log_case import FIRST, LogCase
 
 MOST_FILES = 256
+
+
+def written_bytes() -> int:
+    """How many bytes this process has written, and those that it waited for."""
+    counts = Path("/proc/self/io").read_text().splitlines()
+    return next(int(line.split()[1]) for line in counts if line.startswith("wchar:"))
 
 
 class Many(LogCase):
@@ -43,6 +50,13 @@ class Many(LogCase):
         counts = json.loads(self.gives("stat", "--json", "events"))
         self.assertEqual((counts["first"], counts["next"], counts["segments"]), (500, self.COUNT + 1, 1))
         self.assert_same(self.gives("cat", "events"), text[500 * 7:] + b"new\n", "other records after a compaction")
+
+    def test_each_record_is_copied_once_by_each_round_of_joins(self):
+        segments = sum(len(content) for name, content in self.files().items() if name.endswith(".store"))
+        before = written_bytes()
+        self.gives("compact", "events")
+        self.assertLess(written_bytes() - before, segments)
+        self.assertEqual(sorted(self.files()), [FIRST, "tail.log"])
 
 
 class Beside(LogCase):

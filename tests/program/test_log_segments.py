@@ -90,6 +90,15 @@ class Compact(SegmentCase):
         self.assertEqual(self.segments(), [FIRST])
         self.assertEqual(self.records(), text)
 
+    def test_a_joined_segment_is_not_made_in_memory(self):
+        text = b"".join(b"%07d" % i * 1000 + b"\n" for i in range(10_000))
+        self.append(text)
+        self.program.gives("log", "seal", "events")
+        self.assertGreater(len(self.segments()), 5)
+        self.assert_ends_within(32 << 20, self.measured("log", "compact", "events"))
+        self.assertEqual(self.segments(), [FIRST])
+        self.assert_same(self.records(), text, "other records")
+
     def test_segments_that_cannot_be_joined_stay_as_they_are(self):
         self.seal(LINES)
         self.append(b"four\n")

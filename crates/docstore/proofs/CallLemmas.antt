@@ -7,7 +7,7 @@ use Rattle.store_base.specs.declared.error.StoreError.{StoreError}
 use Rattle.store_base.specs.declared.error.StoreError.TheVariants.{ShortFile, BadVersion, BadBlockKind, BadOffset, BadIndex, InvalidArgument, DamagedDocument, BadDocument, Read, Memory, OldVersion}
 use Rattle.store_base.specs.declared.error.StoreError.TheVariants.{Unserializable, BlockTooLarge, TooManyDocs, Failed, BadPeriod}
 use Rattle.store_format.specs.StoreFile.{StoreBlock}
-use Rattle.docstore.specs.Trace.{Call, Answer, read_failed, no_memory, refused, store, store_bytes, stack, no_effect, effect_of}
+use Rattle.docstore.specs.Trace.{Call, Answer, no_memory, refused, store, store_bytes, stack, no_effect, effect_of}
 use Rattle.docstore.specs.Writer.{Writing, flushed, with_failures, AfterFailed, AfterRefusal, AfterDocument, StoresDocument}
 use Rattle.store_reader.specs.Reading.{Reading}
 use Rattle.docstore.specs.Stacking.{AreRead, with_store, AfterStack}

@@ -9,6 +9,7 @@ pub mod StackLawLemmas
 pub mod CallLemmas
 pub mod CutLemmas
 pub mod RunSoFarLemmas
+pub mod FileLemmas
 pub mod MeaningLemmas
 pub mod CommandLemmas
 pub mod CauseLemmas

@@ -1,18 +1,17 @@
 -- What the reading of a store in parts brings, and what a part that is refused leaves.
-use Rattle.std.proofs.Common.{◌≡◌, ◌⊎◌, inl, inr, ℕ, zero, suc, ◌+◌, ◌-◌, ◌^◌, ◌<◌, ◌≤◌, IsTrue, List, [], ◌∷◌, ◌++◌, length, take, drop, Option, Some, None}
+use Rattle.std.proofs.Common.{◌≡◌, ℕ, zero, suc, ◌+◌, ◌-◌, ◌^◌, ◌<◌, ◌≤◌, IsTrue, List, [], ◌∷◌, ◌++◌, length, take, drop, Option, Some, None}
 use Rattle.std.proofs.Common.{refl, sym, ◌∙◌, ap, subst, arith, append_assoc, length-append}
 use Rattle.std.specs.Prelude.{slice_range, IfSome, IsNone, Ok, Err}
 use Rattle.std.specs.List.{sum_by, AllByRecursion}
-use Rattle.std.proofs.lemmas.List.{append-nil, map-append, take_all, take-map, take-append-drop}
+use Rattle.std.proofs.lemmas.List.{map-append, take_all, take-map, take-append-drop}
 use Rattle.std.proofs.lemmas.List.Sums.{sum_by-append}
 use Rattle.std.proofs.Math.Seq.{take-add}
 use Rattle.layered_index.proofs.OuterLayersLemmas.{docs_end-append}
 use Rattle.layered_index.proofs.LayerLemmas.{docs_grow}
-use Rattle.store_base.specs.Counts.{HasRisen, raised}
+use Rattle.store_base.specs.Counts.{raised}
 use Rattle.store_base.specs.declared.error.Cause.{Cause}
 use Rattle.store_base.specs.declared.error.Cause.TheVariants.{Write, Memory as OutOfMemory}
 use Rattle.store_base.specs.declared.error.StoreError.{StoreError}
-use Rattle.store_base.specs.declared.error.StoreError.TheVariants.{Read, Memory}
 use Rattle.layered_index.specs.declared.checkpoint.Checkpoint.{Checkpoint}
 use Rattle.layered_index.specs.Checkpoint.{doc_count, docs_end, bytes_end, IsInLineFrom, IsFilled, Covers}
 use Rattle.layered_index.proofs.LineLemmas.{in_line-split}
@@ -21,12 +20,12 @@ use Rattle.store_format.proofs.StoreLemmas.{docs_in-cons, docs_in-append, length
 use Rattle.store_reader.specs.Reading.{Reading, IsReadOnce, store_of, part_of}
 use Rattle.store_reader.specs.Parts.{byte_at, number_of_parts, EndsPart, IsPartFrom, IsPartRead}
 use Rattle.store_reader.specs.declared.reader.parts.StorePart.{StorePart}
-use Rattle.store_reader.proofs.PartLemmas.{block_at, byte_order, byte_within, none_following}
+use Rattle.store_reader.proofs.PartLemmas.{block_at, byte_order, byte_within}
 use Rattle.store_reader.proofs.ReaderStoreLemmas.{blocks_of, store_is}
 use Rattle.store_reader.proofs.WalkingLemmas.{there}
 use Rattle.docstore.specs.BlockOutput.{BlockOutput, IsSound, with_blocks, with_risen, HasCause, FailsFor, AfterFailedBlock}
 use Rattle.docstore.specs.Stacking.{AreRead, CutAll}
-use Rattle.docstore.specs.StackingInParts.{after_more, IsReadTimes, IsReadAtMost, IsReadInPieces, BeginsStacking, AfterStackingInParts, StacksFirst, IsReadUpTo}
+use Rattle.docstore.specs.StackingInParts.{after_more, IsReadTimes, IsReadAtMost, StacksFirst, IsReadUpTo}
 use Rattle.docstore.proofs.BlocksCutLemmas.{is_cut, cut_own}
 use Rattle.docstore.proofs.ShiftedCheckpointLemmas.{docs_up}
 

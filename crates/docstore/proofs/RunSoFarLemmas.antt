@@ -5,10 +5,13 @@ use Rattle.std.proofs.lemmas.Bool.{cases_lt, lt-ltb, le-ltb}
 use Rattle.std.proofs.lemmas.List.Concat.{flat_map-append}
 use Rattle.std.specs.List.{flat_map, AllByRecursion}
 use Rattle.store_base.proofs.ListLemmas.{all_append}
+use Rattle.store_format.specs.Block.{Slot, doc}
+use Rattle.store_format.specs.Slots.{slots}
 use Rattle.store_format.specs.StoreFile.{StoreBlock}
-use Rattle.docstore.specs.Trace.{Step, Effect, adds, ends, may_end, no_effect, effect, weight, AreFlushed, BlocksBy, BlocksFrom, AreJoined, Blocks}
+use Rattle.docstore.specs.Laws.{taken}
+use Rattle.docstore.specs.Trace.{Step, took, Effect, adds, ends, may_end, no_effect, effect, weight, AreFlushed, BlocksBy, BlocksFrom, AreJoined, Blocks}
 use Rattle.store_format.specs.StoreFile.{block_of}
-use Rattle.docstore.specs.Writer.{Writing, blocks_of, flushed, with_document, with_failures}
+use Rattle.docstore.specs.Writer.{Writing, blocks_of, blocks_in, flushed, with_document, with_documents, with_failures}
 use Rattle.docstore.specs.Stacking.{with_store}
 use Rattle.docstore.specs.Run.{after_effect}
 use Rattle.docstore.proofs.CallLemmas.{store_of_none}
@@ -42,6 +45,15 @@ run_begins size period held w size_is period_is before none finished = record {
   light = omega (arith, ap weight none);
   goes_on = λ rest bs h. subst (λ (docs : List (List ℕ)). BlocksFrom size docs rest bs) none h;
 }
+
+no_documents : (all : List Slot) (documents : List (List ℕ)) → all ++ map doc documents ≡ [] → documents ≡ []
+no_documents [] [] is = refl
+no_documents [] (d ∷ documents) is = let no : ⊥ = cc in absurd no
+no_documents (s ∷ all) documents is = let no : ⊥ = cc in absurd no
+
+-- a writer that has taken nothing
+pub run_of_new : (w : Writing) → taken w ≡ [] → w.output.finished ≡ [] → IsRunSoFar w.block_size w.output.period w.output.before [] w
+run_of_new w empty none = run_begins w.block_size w.output.period w.output.before w refl refl refl (no_documents (slots w.output.finished) w.pending empty) none
 
 pub blocks_of-some : (docs : List (List ℕ)) → 0 < length docs → blocks_of docs ≡ block_of docs ∷ []
 blocks_of-some [] some = absurd (omega (arith, some))
@@ -177,8 +189,16 @@ run_step size period held trace step old new is run =
     subst (IsRunSoFar size period held (trace ++ step ∷ [])) (sym is)
     (run_same size period new.output.failures held (trace ++ step ∷ []) (after_effect old (effect step)) (run_more size period held trace step old (effect step) refl run))
 
+-- more documents that were taken
+pub run_documents : (size period : ℕ) (held : List ℕ) (trace : List Step) (w : Writing) (documents : List (List ℕ)) → IsRunSoFar size period held trace w
+    → IsRunSoFar size period held (trace ++ map took documents) (with_documents w documents)
+run_documents size period held trace w [] run = subst (λ (t : List Step). IsRunSoFar size period held t w) (sym (append-nil trace)) run
+run_documents size period held trace w (document ∷ documents) run =
+    subst (λ (t : List Step). IsRunSoFar size period held t (with_documents (with_document w document) documents)) (append_assoc trace (took document ∷ []) (map took documents))
+    (run_documents size period held (trace ++ took document ∷ []) (with_document w document) documents (run_step size period held trace (took document) w (with_document w document) refl run))
+
 -- the blocks of a run that is closed
-pub run_closes : (size period : ℕ) (held : List ℕ) (trace : List Step) (w : Writing) → IsRunSoFar size period held trace w → Blocks size trace (flushed w).output.finished
+pub run_closes : (size period : ℕ) (held : List ℕ) (trace : List Step) (w : Writing) → IsRunSoFar size period held trace w → Blocks size trace (blocks_in w)
 run_closes size period held trace w run =
     let bs = map block_of run.groups ++ blocks_of w.pending in
     let all : BlocksFrom size [] (trace ++ []) (run.front ++ bs) = run.goes_on [] bs (last_flush size run.groups w.pending run.full run.light) in

@@ -1,6 +1,7 @@
 -- A store that is written, and what its calls do.
 use Rattle.std.specs.Prelude.{◌≡◌, ℕ, ◌+◌, ◌-◌, ◌<◌, ◌≤◌, ◌^◌, nat_lt, if◌then◌else◌, List, [], ◌∷◌, ◌++◌, length}
 use Rattle.std.specs.Prelude.{Option, Some, None}
+use Rattle.std.specs.List.{fold}
 use Rattle.store_base.specs.declared.error.Cause.{Cause}
 use Rattle.store_base.specs.declared.error.StoreError.{StoreError}
 use Rattle.store_base.specs.declared.error.StoreError.TheVariants.{Memory, Unserializable, BlockTooLarge, TooManyDocs}
@@ -41,6 +42,19 @@ flushed_if_full w = if nat_lt w.block_size (weight w.pending) then flushed w els
 -- one more document
 abbrev pub with_document : Writing → List ℕ → Writing
 with_document w document = flushed_if_full (record w { pending = w.pending ++ document ∷ [] })
+
+-- these documents more, one after the other
+abbrev pub with_documents : Writing → List (List ℕ) → Writing
+with_documents w documents = fold with_document w documents
+
+-- the blocks of the file that a close writes
+abbrev pub blocks_in : Writing → List StoreBlock
+blocks_in w = (flushed w).output.finished
+
+-- A writer goes on with its file: after the same bytes, and with the same period.
+pub record IsSameFile (old new : Writing) : Type 0 where
+  pub before : new.output.before ≡ old.output.before
+  pub period : new.output.period ≡ old.output.period
 
 -- up to how often the output failed, new is w
 abbrev pub with_failures : ℕ → Writing → Writing

@@ -2,8 +2,8 @@
 use Rattle.std.proofs.Common.{◌≡◌, []}
 use Rattle.std.specs.Prelude.{Result, Ok, Err, OnOk}
 use Rattle.docstore.specs.Laws.{taken}
-use Rattle.docstore.specs.Writer.{Writing}
-use Rattle.store_published.specs.Filling.{AddsSome, AreSound, IsSameFile}
+use Rattle.docstore.specs.Writer.{Writing, IsSameFile}
+use Rattle.store_published.specs.Filling.{AddsSome, AreSound}
 
 -- a fact of a result that came, by what it was
 pub on_ok_given : {T E : Type 0} (r : Result T E) (x : T) (P : Type 0) → r ≡ Ok x → OnOk r P → P

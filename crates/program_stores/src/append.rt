@@ -1,7 +1,7 @@
 //! `append`: adds documents to those of a store.
 
 ghost use Rattle.std.specs.Prelude.{IfOk, OnOk};
-ghost use Rattle.store_published.specs.Filling.{IsSameFile};
+ghost use Rattle.docstore.specs.Writer.{IsSameFile};
 ghost use Rattle.store_commands.specs.Appending.{CopiesStore};
 
 use crate::merge::PART_BYTES;

@@ -1,7 +1,7 @@
 //! `merge`: writes a store of the documents of others, in order.
 
 ghost use Rattle.std.specs.Prelude.{OnOk};
-ghost use Rattle.store_published.specs.Filling.{IsSameFile};
+ghost use Rattle.docstore.specs.Writer.{IsSameFile};
 
 use clap::{ArgMatches, Command};
 use docstore::{DocStoreVersion, StoreError, StoreWriter, TerminatingWrite};

@@ -9,7 +9,7 @@ use Rattle.segmented_log.specs.declared.error.LogError.TheVariants.{Memory, Fail
 use Rattle.segmented_log.specs.Names.{segment_name}
 use Rattle.segmented_log.specs.Parts.{Part, end_from, AreParts}
 use Rattle.segmented_log.specs.Log.{Holds}
-use Rattle.segmented_log.specs.Causes.{IsOfSeals, IsFault}
+use Rattle.segmented_log.specs.Causes.{IsOfSeals, IsOfJoins, IsFault}
 use Rattle.segmented_log.proofs.HoldLemmas.{firsts}
 use Rattle.segmented_log.proofs.PartLemmas.{begin_before}
 use Rattle.segmented_log.proofs.UniqueLemmas.{among_cons}
@@ -22,6 +22,12 @@ seals_of _ of = absurd of
 pub if_seals : {T : Type 0} (r : Result T LogError) → IfErr r IsFault → IfErr r IsOfSeals
 if_seals (Ok x) of = tt
 if_seals (Err e) of = seals_of e of
+
+-- a fault is an error of a call that joins segments
+pub joins_of : (e : LogError) → IsFault e → IsOfJoins e
+joins_of Memory of = tt
+joins_of Failed of = tt
+joins_of _ of = absurd of
 
 -- an error that a table has not
 pub never : {T : Type 0} (P : LogError → Type 0) (e : LogError) → (P e → ⊥) → (r : Result T LogError) → IfErr r P → IsErrOf r e → ⊥

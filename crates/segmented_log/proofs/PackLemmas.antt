@@ -1,9 +1,10 @@
 -- Which segments are new.
-use Rattle.std.proofs.Common.{◌≡◌, ◌⊎◌, inl, inr, ⊎_elim, ℕ, List, ◌++◌, Some, refl, sym, ◌∙◌, subst}
-use Rattle.store_folder.specs.Folder.{Look, ElsewhereOfBoth}
+use Rattle.std.proofs.Common.{◌≡◌, inl, inr, ⊎_elim, ℕ, List, ◌++◌, Some, None, refl, sym, ◌∙◌, ap, subst}
+use Rattle.store_folder.specs.Folder.{Look, Elsewhere, ElsewhereOfBoth}
 use Rattle.store_folder.specs.Publishing.{part}
 use Rattle.store_folder.proofs.NamesLemmas.{decided}
 use Rattle.segmented_log.specs.Names.{segment_name, tail_name}
+use Rattle.segmented_log.specs.Joining.{HasJoined, JoinsSome, AreJoinedFrom, none, next}
 use Rattle.segmented_log.specs.Sealing.{IsPacked, HasPacked, AddsPacked}
 use Rattle.segmented_log.proofs.NameLemmas.{beside_no_segment, segment_no_tail, segment_no_tail_beside}
 
@@ -25,3 +26,21 @@ pub packs_after_tail : (old mid new : Look) → ElsewhereOfBoth (tail_name ++ pa
 packs_after_tail old mid new tail packs n =
     let stayed = tail (segment_name n) (segment_no_tail_beside n) (segment_no_tail n) in
     ⊎_elim (λ same. inl (same ∙ stayed)) (λ has. inr has) (packs n)
+
+-- ---- segments that are joined
+
+pub joins_one : (first : ℕ) (firsts : List ℕ) (old new : Look) → HasJoined old new first firsts → ElsewhereOfBoth (segment_name first ++ part) (segment_name first) old new → JoinsSome old new
+joins_one first firsts old new has elsewhere n = elim (decided (segment_name n) (segment_name first)) [
+  | inl e ↦ inr (inr (firsts, record { parts = has.parts; blocks = has.blocks; came = has.came; cut = has.cut; is = ap new e ∙ has.is }))
+  | inr ne ↦ inl (elsewhere (segment_name n) (beside_no_segment first n) ne)
+]
+
+pub joins_gone : (first : ℕ) (old new : Look) → new (segment_name first) ≡ None → Elsewhere (segment_name first) old new → JoinsSome old new
+joins_gone first old new gone elsewhere n = elim (decided (segment_name n) (segment_name first)) [
+  | inl e ↦ inr (inl (ap new e ∙ gone))
+  | inr ne ↦ inl (elsewhere (segment_name n) ne)
+]
+
+pub joined_more : {old mid new : Look} → AreJoinedFrom old mid → AreJoinedFrom mid new → AreJoinedFrom old new
+joined_more first none = first
+joined_more first (next more step) = next (joined_more first more) step

@@ -1,9 +1,10 @@
 -- Why segments that are merged are refused.
-use Rattle.std.proofs.Common.{◌≡◌, ⊎_elim, ℕ, ◌+◌, ◌≤◌, ◌^◌, List, [], ◌∷◌, ◌++◌, length, take, map, Option, Some, None, refl, sym, ◌∙◌, ap, subst, arith, length-append}
-use Rattle.std.specs.Prelude.{Bool, true, false, if◌then◌else◌, IfSome, Result, Err, IfErr, slice_get}
-use Rattle.std.specs.List.{AllByRecursion, Contains, flat_map}
+use Rattle.std.proofs.Common.{◌≡◌, ◌⊎◌, ⊎_elim, ℕ, zero, suc, ◌+◌, ◌<◌, ◌≤◌, ◌^◌, List, [], ◌∷◌, ◌++◌, length, take, map, Option, Some, None, refl, sym, ◌∙◌, ap, subst, arith, length-append}
+use Rattle.std.specs.Prelude.{IsTrue, is_none, IfSome, Result, Err, IfErr, slice_get}
+use Rattle.std.specs.List.{All, AllByRecursion, Contains, flat_map}
 use Rattle.std.proofs.lemmas.List.{length-map, length-take-le}
 use Rattle.store_base.proofs.ListLemmas.{all_take}
+use Rattle.store_base.specs.declared.error.StoreError.{StoreError}
 use Rattle.store_base.specs.declared.error.StoreError.TheVariants.{DamagedDocument, TooManyDocs, BlockTooLarge, OldVersion}
 use Rattle.store_format.specs.Block.{Slot, doc, damaged}
 use Rattle.store_format.specs.Slots.{slots}
@@ -11,42 +12,25 @@ use Rattle.store_reader.specs.Iteration.{alive, flags_of}
 use Rattle.store_reader.specs.Reading.{num_docs as docs_of, store_of}
 use Rattle.docstore.specs.Laws.{taken, IdsAreGivenInOrder, StackedSlotsAreCounted}
 use Rattle.docstore.specs.StackingInParts.{BeginsStack}
-use Rattle.docstore.specs.Writer.{Writing, num_docs, flushed, with_document, IsStoreWriter}
+use Rattle.docstore.specs.Writer.{Writing, num_docs, IsStoreWriter}
 use Rattle.docstore.proofs.PendingLemmas.{limit}
 use Rattle.store_merge.specs.declared.input.MergeInput.{MergeInput}
 use Rattle.store_merge.specs.declared.merge_error.MergeError.{MergeError}
-use Rattle.store_merge.specs.Bringing.{Brought, stacked, copied, with_documents, with_brought, merged, slots_brought}
+use Rattle.store_merge.specs.Bringing.{slots_brought}
 use Rattle.store_merge.specs.Choice.{alive_slots}
 use Rattle.store_merge.specs.Inputs.{HasWholeSet}
 use Rattle.store_merge.specs.Merge.{IsHonest, IsEnded}
 use Rattle.store_merge.specs.Refusals.{StopsAt, RefusesDocument, RefusesInput}
 use Rattle.store_merge.proofs.HonestLemmas.{all_slots}
+use Rattle.store_merge.proofs.PartLemmas.{size_documents, size_merged}
+use Rattle.store_published.specs.declared.publishing.FillError.{FillError}
+use Rattle.store_published.specs.declared.publishing.FillError.TheVariants.{Filling, Folder, Store}
+use Rattle.store_published.specs.Outcome.{IsRefusal}
 use Rattle.segmented_log.specs.Compacting.{IsWhole}
-use Rattle.segmented_log.specs.Causes.{HasTooLong}
+use Rattle.segmented_log.specs.Joining.{RefusesJoin}
+use Rattle.segmented_log.specs.Causes.{IsDamaged, IsFillingOf, HasTooLong}
 use Rattle.segmented_log.proofs.JoinLemmas.{alive_all}
 use Rattle.segmented_log.proofs.SlotLemmas.{get_contains, get_within, one_of_all, in_all, fewer_before}
-
-pub whole_sets : {H : Type 0} (xs : List (MergeInput H)) → AllByRecursion IsWhole xs → AllByRecursion HasWholeSet xs
-whole_sets [] all = tt
-whole_sets (x ∷ xs) all = (subst (λ a. IfSome a (λ set. docs_of x.reader ≤ length set)) (sym all.0.alive) tt, whole_sets xs all.1)
-
--- ---- the block size stays
-
-size_flushed : (w : Writing) (full : Bool) → (if full then flushed w else w).block_size ≡ w.block_size
-size_flushed w true = refl
-size_flushed w false = refl
-
-size_documents : (w : Writing) (docs : List (List ℕ)) → (with_documents w docs).block_size ≡ w.block_size
-size_documents w [] = refl
-size_documents w (d ∷ docs) = size_documents (with_document w d) docs ∙ size_flushed (record w { pending = w.pending ++ d ∷ [] }) _
-
-size_brought : (w : Writing) (part : Brought) → (with_brought w part).block_size ≡ w.block_size
-size_brought w (stacked bs) = refl
-size_brought w (copied docs) = size_documents w docs
-
-size_merged : (w : Writing) (parts : List Brought) → (merged w parts).block_size ≡ w.block_size
-size_merged w [] = refl
-size_merged w (part ∷ parts) = size_merged (with_brought w part) parts ∙ size_brought w part
 
 -- ---- the input that was refused
 
@@ -133,3 +117,37 @@ module _ {H : Type 0} (inputs left : List (MergeInput H)) (old new : Writing) (e
       (λ s. absurd s.1)
       (λ c. ⊎_elim (λ item. absurd item.0) (λ document. copied_long c.1 document size sound) c.1.cause)
       (subst (λ d. RefusesInput BeginsStack h.named h.rest h.before new d) is h.refused)
+
+-- ---- inputs without sets
+
+pub all_none : {H : Type 0} (xs : List (MergeInput H)) → AllByRecursion IsWhole xs → All (λ x. IsTrue (is_none x.alive)) xs
+all_none [] all k d low = absurd (omega (arith, low))
+all_none (x ∷ xs) all zero d low = ap is_none all.0.alive
+all_none (x ∷ xs) all (suc k) d low = all_none xs all.1 k d (omega (arith, low))
+
+no_set : {A : Type 0} (P : A → Type 0) (o : Option A) → IsTrue (is_none o) → IfSome o P
+no_set P None is = tt
+no_set P (Some a) is = let no : ⊥ = cc in absurd no
+
+pub none_sets : {H : Type 0} (xs : List (MergeInput H)) → All (λ x. IsTrue (is_none x.alive)) xs → AllByRecursion HasWholeSet xs
+none_sets [] all = tt
+none_sets (x ∷ xs) all = (no_set (λ set. docs_of x.reader ≤ length set) x.alive (all 0 x (omega arith)), none_sets xs (λ k d low. all (suc k) d (omega (arith, low))))
+
+-- ---- why a joined segment was not published
+
+module _ {H : Type 0} (inputs : List (MergeInput H)) (old new : ℕ) (honest : AllByRecursion IsHonest inputs) (whole : AllByRecursion IsWhole inputs) where
+  abbrev Refuses : StoreError → Type 0
+  Refuses e = AllByRecursion IsHonest inputs → AllByRecursion IsWhole inputs → RefusesJoin 16384 (flat_map alive_slots inputs) e
+
+  pub join_damaged : (e : FillError StoreError) → IsRefusal Refuses old new e → IsFillingOf IsDamaged e → Contains (flat_map alive_slots inputs) damaged
+  join_damaged (Filling e) refused is = (refused honest whole).damaged is
+  join_damaged (Folder e) refused is = absurd is
+  join_damaged (Store e) refused is = absurd is
+
+  pub join_full : (e : FillError StoreError) → IsRefusal Refuses old new e → length (flat_map alive_slots inputs) < 2 ^ 32
+      → IsFillingOf (λ d. (d ≡ TooManyDocs) ⊎ (d ≡ BlockTooLarge)) e → HasTooLong (flat_map alive_slots inputs)
+  join_full (Filling e) refused few is =
+      let refusal = refused honest whole in
+      ⊎_elim (λ many. absurd (omega (arith, few, refusal.many many))) (λ large. refusal.large large refl) is
+  join_full (Folder e) refused few is = absurd is
+  join_full (Store e) refused few is = absurd is

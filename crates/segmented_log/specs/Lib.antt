@@ -9,5 +9,6 @@ pub mod Runs
 pub mod Laws
 pub mod Dropping
 pub mod Compacting
+pub mod Joining
 pub mod TailBuffer
 pub mod Sealing

@@ -64,6 +64,11 @@ HasDamage tail = (is_damaged tail ≡ true) ⊎ (rest_of tail ≢ [])
 abbrev pub HasDamagedTail : Look → Type 0
 HasDamagedTail c = (tail : List ℕ) × (c tail_name ≡ Some tail) × HasDamage tail
 
+-- A sync of the folder's tail can be asked for: it is not damaged, nor torn, or it is on the disk already. A sync of a torn one
+-- would make its end look like damage.
+abbrev pub CanSyncTail : Look → (List ℕ → List ℕ → Type 0) → Type 0
+CanSyncTail seen may_hold = (HasDamagedTail seen → ⊥) ⊎ ((bytes : List ℕ) → may_hold tail_name bytes → seen tail_name ≡ Some bytes)
+
 -- No bytes of the folder's tail have changed that were written whole: no batch follows the first one that is not whole, so
 -- only one that was never acknowledged is cut off, and the tail has the first number that its first head names.
 abbrev pub HasSoundTail : Look → Type 0

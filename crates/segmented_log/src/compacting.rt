@@ -1,6 +1,6 @@
 //! Neighbouring segments that become one.
 
-ghost use Rattle.std.specs.Prelude.{◌≡◌, ◌≢◌, ◌⊎◌, ◌↔◌, false, ◌≤◌, ◌<◌, ◌+◌, ◌^◌, ℕ};
+ghost use Rattle.std.specs.Prelude.{◌≡◌, ◌≢◌, ◌⊎◌, ◌↔◌, false, ◌≤◌, ◌<◌, ◌+◌, ◌*◌, ◌^◌, min, ℕ};
 ghost use Rattle.std.specs.Prelude.{List, [], ◌∷◌, length, map, take, drop};
 ghost use Rattle.std.specs.Prelude.{IsTrue, IfOk, IfErr, IfSome, IfNone, OnSome, OnOk, OnErr, IsErrOf};
 ghost use Rattle.std.specs.List.{Contains, remove};
@@ -12,6 +12,7 @@ ghost use Rattle.segmented_log.specs.Log.{IsLog};
 ghost use Rattle.segmented_log.specs.Compacting.{slots_in, bytes_in, AreNext, IsRun, BecomesOne, IsCovered};
 ghost use Rattle.segmented_log.specs.Compacting.{CanFollow, CoversFirst, IsPassedByFirst, CanJoinFirst, AreApart};
 ghost use Rattle.segmented_log.specs.Compacting.{IsStep, Compacts, IsCompacted, ChangesSegments};
+ghost use Rattle.segmented_log.specs.Joining.{JoinsSome, AreJoinedFrom};
 ghost use Rattle.segmented_log.specs.Opening.{HasSegments};
 ghost use Rattle.segmented_log.specs.Causes.{IsOfJoins, HasTooLong, IsFault};
 
@@ -127,17 +128,20 @@ fn covers_next<H: FileHandle>(segment: &Segment<H>, others: &[Segment<H>]) -> bo
     }
 }
 
-// The first neighbours that can become one.
-fn find_step<H: FileHandle>(segments: &[Segment<H>], size: u64) -> Option<Step>
+// The first neighbours that can become one, from this place on. The segment before it may cover the one there.
+fn find_step<H: FileHandle>(segments: &[Segment<H>], size: u64, from: usize) -> Option<Step>
     ensures some { IfSome result (λ step. IsStep size (map (λ s. sealed_of s.first s.reader) segments.now)
         step.first step.count) }
-    ensures none { IfNone result (AreApart size (map (λ s. sealed_of s.first s.reader) segments.now)) }
+    ensures none { from ≡ 0 → IfNone result (AreApart size (map (λ s. sealed_of s.first s.reader) segments.now)) }
 {
-    for first in 0..segments.len() {
+    for first in from.saturating_sub(1)..segments.len() {
         let segment = &segments[first];
         let others = &segments[first + 1..];
         if covers_next(segment, others) {
             return Some(Step { first, count: 0 });
+        }
+        if first < from {
+            continue;
         }
         let count = count_next(segment, others, size);
         if count > 0 {
@@ -162,6 +166,8 @@ impl<F: ReadableFolder> SegmentedLog<F> {
         ensures pending { self.new.pending ≡ self.old.pending }
         ensures joined { IsTrue F.honest → OnOk result ((r : IsRun (parts_of self.old.segments) place count)
             → BecomesOne self.old.segments r self.new.segments) }
+        ensures packed { IsTrue F.honest
+            → OnOk result (JoinsSome (F.seen self.old.folder) (F.seen self.new.folder)) }
         ensures same { OnErr result (self.new.segments ≡ self.old.segments) }
         ensures many { length self.new.segments ≡ length self.old.segments }
         ensures works { OnOk result (self.new.is_broken ≡ false) }
@@ -205,6 +211,8 @@ impl<F: ReadableFolder> SegmentedLog<F> {
         ensures slots { IsTrue F.honest → self.new.slots ≡ self.old.slots }
         ensures pending { self.new.pending ≡ self.old.pending }
         ensures left { OnOk result (self.new.segments ≡ remove self.old.segments place) }
+        ensures packed { IsTrue F.honest
+            → OnOk result (JoinsSome (F.seen self.old.folder) (F.seen self.new.folder)) }
         ensures same { OnErr result (self.new.segments ≡ self.old.segments) }
         ensures works { OnOk result (self.new.is_broken ≡ false) }
         ensures broken { OnErr result (IsTrue self.new.is_broken) }
@@ -225,9 +233,10 @@ impl<F: ReadableFolder> SegmentedLog<F> {
         Ok(())
     }
 
-    // Makes one of the first neighbours that can be joined, and removes the next one, which the first then covers.
-    // Returns whether there were any.
-    fn compact_next(&mut self, size: u64) -> Result<bool, LogError>
+    // Makes one of the first neighbours from this place on that can be joined, and removes the next one, which the
+    // first then covers. Returns from which place to go on: after what was joined, or at the first segment once there
+    // were no more; None if there were none at all. So no record is copied again before all others were.
+    fn compact_next(&mut self, size: u64, from: usize) -> Result<Option<usize>, LogError>
         requires works { self.old.is_broken ≡ false }
         ensures first { self.new.first ≡ self.old.first }
         ensures commit { self.new.commit ≡ self.old.commit }
@@ -235,10 +244,13 @@ impl<F: ReadableFolder> SegmentedLog<F> {
         ensures seal_size { self.new.seal_size ≡ self.old.seal_size }
         ensures slots { IsTrue F.honest → self.new.slots ≡ self.old.slots }
         ensures pending { self.new.pending ≡ self.old.pending }
-        ensures fewer { IfOk result (λ more. IsTrue more → length self.new.segments < length self.old.segments) }
+        ensures fewer { IfOk result (λ more. IfSome more (λ next.
+            2 * length self.new.segments + min next 1 < 2 * length self.old.segments + min from 1)) }
         ensures joins { IsTrue F.honest → Compacts size self.old.segments self.new.segments }
-        ensures compacted { IsTrue F.honest → IfOk result (λ more. more ≡ false
-            → IsCompacted self.new.first size self.new.segments (F.seen self.new.folder)) }
+        ensures packed { IsTrue F.honest
+            → OnOk result (AreJoinedFrom (F.seen self.old.folder) (F.seen self.new.folder)) }
+        ensures compacted { IsTrue F.honest → IfOk result (λ more. IfNone more
+            (IsCompacted self.new.first size self.new.segments (F.seen self.new.folder))) }
         ensures works { OnOk result (self.new.is_broken ≡ false) }
         ensures broken { OnErr result (IsTrue self.new.is_broken) }
         ensures any_moment { IsTrue F.honest → LeavesOnly F.moment F.left_since self.old.folder self.new.folder
@@ -254,16 +266,19 @@ impl<F: ReadableFolder> SegmentedLog<F> {
             → HasTooLong (slots_in (parts_of self.old.segments)) }
         ensures kind { IfErr result IsOfJoins }
     {
-        let Some(step) = find_step(&self.segments, size) else {
-            return Ok(false);
+        let Some(step) = find_step(&self.segments, size, from) else {
+            if from == 0 {
+                return Ok(None);
+            }
+            return Ok(Some(0));
         };
         if step.count == 0 {
             self.remove_covered(step.first + 1)?;
-            return Ok(true);
+            return Ok(Some(from));
         }
         self.join(step.first, step.count)?;
         self.remove_covered(step.first + 1)?;
-        Ok(true)
+        Ok(Some(step.first + 1))
     }
 
     /// Joins neighbouring segments whose data together has at most this many bytes, at most `MAX_JOINED` at once; what
@@ -272,7 +287,8 @@ impl<F: ReadableFolder> SegmentedLog<F> {
     /// all of whose records the one before it has is removed.
     ///
     /// The joined segment takes the name of its first one, and then the others are removed. So at any moment the log is
-    /// the same. What waits for a sync goes on waiting. The joined segment is made in memory.
+    /// the same. What waits for a sync goes on waiting. The joined segment is written as it is made: memory has one of
+    /// its blocks, a part of the segment that is read, and the index.
     ///
     /// Errors: `Broken`; `Memory`; `Failed` where a call of the folder or a read of a segment failed; `Damaged` where a
     /// segment of fewer than six blocks has a damaged record; and `Full` where a record of a segment is too long for a
@@ -288,6 +304,11 @@ impl<F: ReadableFolder> SegmentedLog<F> {
 
         // It goes by steps. What a step joins has at most this many bytes of data together. So it is after an error.
         ensures joins { IsTrue F.honest → Compacts size self.old.segments self.new.segments }
+
+        // The file of each joined segment is exact: its period is 8, and its blocks are those of the segments that
+        // have at least six, and of the other ones' documents, cut at 16384 bytes.
+        ensures packed { IsTrue F.honest
+            → OnOk result (AreJoinedFrom (F.seen self.old.folder) (F.seen self.new.folder)) }
 
         // No neighbours are left that can be joined.
         ensures compacted { IsTrue F.honest → OnOk result
@@ -317,7 +338,10 @@ impl<F: ReadableFolder> SegmentedLog<F> {
         if self.is_broken() {
             return Err(LogError::Broken);
         }
-        while self.compact_next(size)? {}
+        let mut from = 0;
+        while let Some(next) = self.compact_next(size, from)? {
+            from = next;
+        }
         Ok(())
     }
 }

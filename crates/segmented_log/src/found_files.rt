@@ -6,7 +6,7 @@ ghost use Rattle.store_base.specs.Counts.{HasRisen};
 ghost use Rattle.store_folder.specs.Moments.{LeavesOnly, NoMore};
 ghost use Rattle.store_folder.specs.Folder.{AreNames, EntriesAreKept, EntriesStay};
 ghost use Rattle.segmented_log.specs.Names.{tail_name};
-ghost use Rattle.segmented_log.specs.Opening.{IsOfLog, IsSyncedButTail, HasSegments, KeepsButFailed};
+ghost use Rattle.segmented_log.specs.Opening.{IsOfLog, IsSyncedButTail, HasSegments, KeepsButFailed, CanSyncTail};
 ghost use Rattle.segmented_log.specs.Settled.{TailIsKept};
 ghost use Rattle.segmented_log.specs.Causes.{IsFault};
 
@@ -93,8 +93,8 @@ fn sync_entries<F: Folder>(folder: &mut F) -> io::Result<()>
 
 /// Puts on the disk what a look sees of a log's files, which are among the files of these names: all that there are.
 /// The process before this one may have written them without a sync, and ended. The tail is synced only if that is
-/// asked for. Returns whether it is on the disk then, if there is one: it is not if a sync of it has failed. A segment
-/// of which a sync has failed is refused.
+/// asked for, which it can be where it is not torn. Returns whether it is on the disk then, if there is one: it is not
+/// if a sync of it has failed. A segment of which a sync has failed is refused.
 ///
 /// A crash at any moment leaves what it could leave before the call. A look sees the same as before, but for a file
 /// whose sync failed.
@@ -103,7 +103,8 @@ pub(crate) fn sync_found_files<F: Folder>(
     names: &[String],
     syncs_tail: bool,
 ) -> Result<bool, LogError>
-    requires { IsTrue F.honest → AreNames (F.seen folder.old) (map string_bytes names.now) }
+    requires names { IsTrue F.honest → AreNames (F.seen folder.old) (map string_bytes names.now) }
+    requires whole { IsTrue F.honest → IsTrue syncs_tail → CanSyncTail (F.seen folder.old) (F.may_hold folder.old) }
     ensures synced { IsTrue F.honest → OnOk result (IsSyncedButTail (F.seen folder.new) (F.may_leave folder.new)) }
     ensures tail { IsTrue F.honest → IfOk result (λ done. IsTrue done → (bytes : List ℕ)
         → F.seen folder.new tail_name ≡ Some bytes → TailIsKept (F.may_hold folder.new) (F.may_leave folder.new)

@@ -1,31 +1,37 @@
 //! The store of a segment, made of others.
 
-ghost use Rattle.std.specs.Prelude.{◌≡◌, ◌⊎◌, ◌≤◌, ◌<◌, ◌^◌, ◌++◌, ℕ};
+ghost use Rattle.std.specs.Prelude.{◌≡◌, ◌⊎◌, ◌≤◌, ◌<◌, ◌^◌, ◌++◌, [], ℕ};
 ghost use Rattle.std.specs.Prelude.{List, All, IsTrue, IfOk, IfErr, OnOk, IsErrOf, map};
-ghost use Rattle.std.specs.Prelude.{length};
+ghost use Rattle.std.specs.Prelude.{length, is_none};
 ghost use Rattle.std.specs.List.{AllByRecursion, Contains, flat_map};
 ghost use Rattle.store_folder.specs.Moments.{ComesFrom, LeavesOnly};
 ghost use Rattle.store_folder.specs.Folder.{ElsewhereOfBoth, EntriesStayElsewhereOfBoth, FilesElsewhereOfBoth};
 ghost use Rattle.store_folder.specs.Publishing.{part};
 ghost use Rattle.store_format.specs.Block.{Slot, damaged};
-ghost use Rattle.store_reader.specs.Reading.{IsSeen};
+ghost use Rattle.store_reader.specs.Reading.{store_of, IsSeen};
+ghost use Rattle.docstore.specs.Laws.{taken};
+ghost use Rattle.docstore.specs.Writer.{blocks_in, IsSameFile};
 ghost use Rattle.store_merge.specs.Choice.{alive_slots};
+ghost use Rattle.store_merge.specs.Inputs.{HasWholeSet};
 ghost use Rattle.store_merge.specs.Merge.{IsHonest};
 ghost use Rattle.segmented_log.specs.Names.{segment_name};
 ghost use Rattle.segmented_log.specs.Parts.{part_of};
-ghost use Rattle.segmented_log.specs.Log.{IsStoreWith, HasSegment};
+ghost use Rattle.segmented_log.specs.Log.{HasSegment};
 ghost use Rattle.segmented_log.specs.Settled.{AddsSegment};
 ghost use Rattle.segmented_log.specs.Compacting.{slots_in, IsWhole};
-ghost use Rattle.segmented_log.specs.Causes.{IsOfJoins, IsDamaged, HasTooLong, IsFault};
+ghost use Rattle.segmented_log.specs.Joining.{HasBlocks, HaveBlocks, AreMerged, HasMerged, HasJoined, RefusesJoin};
+ghost use Rattle.segmented_log.specs.Causes.{IsOfJoins, IsDamaged, IsFillingOf, HasTooLong, IsFault};
 
 use crate::error::LogError;
-use crate::names::{name_beside, segment_file};
+use crate::names::segment_file;
 use crate::sealing::BLOCK_SIZE;
 use crate::segment::{Segment, open_segment, reopen_error};
-use docstore::{Compressor, FileHandle, MemSink, StoreError, StoreWriter, laws};
+use docstore::{FileHandle, StoreError, StoreWriter, TerminatingWrite, USUAL_PERIOD, laws};
 use std::alloc::Global;
-use store_folder::{ReadableFolder, replace};
+use std::mem;
+use store_folder::ReadableFolder;
 use store_merge::{MergeInput, merge_in_parts};
+use store_published::{FillError, Filling, publish_store};
 
 /// How many bytes of a segment are read at a time.
 const PART_BYTES: usize = 1 << 20;
@@ -37,11 +43,25 @@ fn join_error(error: StoreError) -> LogError
     ensures kind { IsOfJoins result }
 {
     match error {
-        // An output in memory fails for lack of memory alone.
         StoreError::Memory | StoreError::Failed(_) => LogError::Memory,
         StoreError::TooManyDocs | StoreError::BlockTooLarge => LogError::Full,
         StoreError::DamagedDocument(_) => LogError::Damaged,
         _ => LogError::Failed,
+    }
+}
+
+// Why the store of a segment that joins others was not published.
+fn joining_error(error: FillError<StoreError>) -> LogError
+    ensures full { result ≡ LogError.Full → IsFillingOf (λ e.
+        (e ≡ StoreError.TooManyDocs) ⊎ (e ≡ StoreError.BlockTooLarge)) error }
+    ensures damaged { result ≡ LogError.Damaged → IsFillingOf IsDamaged error }
+    ensures kind { IsOfJoins result }
+{
+    match error {
+        FillError::Filling(error) => join_error(error),
+        FillError::Folder(error) => LogError::from(error),
+        // An output that no call of the folder failed fails for lack of memory alone.
+        FillError::Store(_) => LogError::Memory,
     }
 }
 
@@ -51,6 +71,8 @@ fn open_input<F: ReadableFolder>(
     folder: &F,
     first: u64,
 ) -> Result<MergeInput<F::File>, LogError>
+    ensures blocks { IsTrue F.honest
+        → IfOk result (λ input. HasBlocks (F.seen folder.now) first (store_of input.reader)) }
     ensures slots { IsTrue F.honest → (all : List Slot)
         → HasSegment (F.seen folder.now) (record { first = first; slots = all })
         → IfOk result (λ input. alive_slots input ≡ all) }
@@ -82,6 +104,8 @@ fn open_inputs<F: ReadableFolder>(
         → All (λ s. HasSegment (F.seen folder.now) (part_of s.first s.reader)) segments.now
         → IfOk result (λ inputs. flat_map alive_slots inputs.items
         ≡ slots_in (map (λ s. part_of s.first s.reader) segments.now)) }
+    ensures blocks { IsTrue F.honest → IfOk result (λ inputs.
+        HaveBlocks (F.seen folder.now) (map (λ s. s.first) segments.now) inputs.items) }
     ensures honest { IsTrue F.honest → IfOk result (λ inputs. AllByRecursion IsHonest inputs.items) }
     ensures whole { IfOk result (λ inputs. AllByRecursion IsWhole inputs.items) }
     ensures kind { IfErr result IsFault }
@@ -93,47 +117,75 @@ fn open_inputs<F: ReadableFolder>(
     Ok(inputs)
 }
 
-// The bytes of a store of these inputs, merged.
-fn merged_bytes<H: FileHandle>(
+// Puts the records of these inputs into a new store.
+fn merge_all<W: TerminatingWrite, H: FileHandle>(
     alloc: Global,
+    writer: &mut StoreWriter<W>,
     inputs: &mut [MergeInput<H>],
-) -> Result<Vec<u8>, LogError>
-    requires whole { AllByRecursion IsWhole inputs.old }
-    ensures store { AllByRecursion IsHonest inputs.old
-        → IfOk result (λ bytes. IsStoreWith (flat_map alive_slots inputs.old) bytes.items) }
-    ensures damaged { AllByRecursion IsHonest inputs.old → IsErrOf result LogError.Damaged
-        → Contains (flat_map alive_slots inputs.old) damaged }
-    ensures full { AllByRecursion IsHonest inputs.old → length (flat_map alive_slots inputs.old) < 2 ^ 32
-        → IsErrOf result LogError.Full → HasTooLong (flat_map alive_slots inputs.old) }
-    ensures kind { IfErr result IsOfJoins }
+) -> Result<(), StoreError>
+    requires new { taken writer.old ≡ [] }
+    requires no_blocks { writer.old.output.finished ≡ [] }
+    requires sets { AllByRecursion HasWholeSet inputs.old }
+    ensures brought { OnOk result (AllByRecursion IsHonest inputs.old
+        → taken writer.new ≡ flat_map alive_slots inputs.old) }
+    ensures cut { OnOk result (AreMerged writer.old.block_size inputs.old (blocks_in writer.new)) }
+    ensures file { OnOk result (IsSameFile writer.old writer.new) }
+    ensures refused { IfErr result (λ e. AllByRecursion IsHonest inputs.old → AllByRecursion IsWhole inputs.old
+        → RefusesJoin writer.old.block_size (flat_map alive_slots inputs.old) e) }
 {
-    laws::written_documents_are_found();
     laws::ids_are_given_in_order();
     laws::stacked_slots_are_counted();
-    let mut writer = StoreWriter::new(alloc, MemSink::new(alloc), Compressor::None, BLOCK_SIZE);
-    if let Err(refusal) = merge_in_parts(alloc, &mut writer, inputs, PART_BYTES) {
-        return Err(join_error(refusal.error));
-    }
-    match writer.close() {
-        Ok(sink) => Ok(sink.into_bytes()),
-        Err(closing) => Err(join_error(closing.error)),
+    match merge_in_parts(alloc, writer, inputs, PART_BYTES) {
+        Ok(()) => Ok(()),
+        Err(refusal) => Err(refusal.error),
     }
 }
 
-// Publishes this file as the segment of this number, and opens it.
-fn replace_segment<F: ReadableFolder>(
+// Segments, opened once more, as what fills the store of one that has all their records.
+#[derive(Drop)]
+struct JoinedSegments<H: FileHandle> {
+    alloc: Global,
+    inputs: Vec<MergeInput<H>>,
+    ghost none: { All (λ x. IsTrue (is_none x.alive)) inputs.items },
+}
+
+impl<H: FileHandle> Filling for JoinedSegments<H> {
+    ghost use Rattle.std.specs.Prelude.{◌≡◌};
+    ghost use Rattle.std.specs.List.{AllByRecursion, flat_map};
+    ghost use Rattle.store_merge.specs.Choice.{alive_slots};
+    ghost use Rattle.store_merge.specs.Merge.{IsHonest};
+    ghost use Rattle.segmented_log.specs.Compacting.{IsWhole};
+    ghost use Rattle.segmented_log.specs.Joining.{AreMerged, RefusesJoin};
+
+    type Error = StoreError;
+
+    ghost brings = { λ old new slots. AllByRecursion IsHonest old.inputs.items
+        → slots ≡ flat_map alive_slots old.inputs.items };
+
+    ghost cuts = { λ old size blocks. AreMerged size old.inputs.items blocks };
+
+    ghost refuses = { λ old new block_size e. AllByRecursion IsHonest old.inputs.items
+        → AllByRecursion IsWhole old.inputs.items
+        → RefusesJoin block_size (flat_map alive_slots old.inputs.items) e };
+
+    fn fill<W: TerminatingWrite>(&mut self, writer: &mut StoreWriter<W>) -> Result<(), StoreError> {
+        let mut inputs = mem::replace(&mut self.inputs, Vec::new(self.alloc));
+        merge_all(self.alloc, writer, &mut inputs)
+    }
+}
+
+// Publishes a segment of the records of these inputs, under this number.
+fn publish_joined<F: ReadableFolder>(
     alloc: Global,
     folder: &mut F,
     first: u64,
-    bytes: &[u8],
-) -> Result<Segment<F::File>, LogError>
-    ensures segment { IsTrue F.honest → (all : List Slot) → IsStoreWith all bytes.now
-        → IfOk result (λ s. part_of s.first s.reader ≡ record { first = first; slots = all }) }
-    ensures honest { IsTrue F.honest → IfOk result (λ s. IsTrue s.reader.file.honest) }
-    ensures seen { IfOk result (λ s. IsSeen s.reader) }
-    ensures published { IsTrue F.honest → (all : List Slot) → IsStoreWith all bytes.now
+    inputs: Vec<MergeInput<F::File>>,
+) -> Result<(), LogError>
+    requires whole { AllByRecursion IsWhole inputs.items }
+    ensures published { IsTrue F.honest → AllByRecursion IsHonest inputs.items
         → OnOk result ((c : List ℕ → _) → F.may_leave folder.new c
-        → HasSegment c (record { first = first; slots = all })) }
+        → HasSegment c (record { first = first; slots = flat_map alive_slots inputs.items })) }
+    ensures cut { IsTrue F.honest → OnOk result (HasMerged inputs.items first (F.seen folder.new)) }
     ensures kept { IsTrue F.honest → OnOk result ((n : List ℕ) → F.entry_kept folder.new n) }
     ensures trust { IsTrue F.honest → EntriesStayElsewhereOfBoth (segment_name first ++ part) (segment_name first)
         (F.trusted folder.old) (F.trusted folder.new) }
@@ -143,19 +195,28 @@ fn replace_segment<F: ReadableFolder>(
         (F.may_hold folder.old) (F.may_hold folder.new) }
     ensures crash { IsTrue F.honest → ComesFrom (ElsewhereOfBoth (segment_name first ++ part) (segment_name first))
         (F.may_leave folder.old) (F.may_leave folder.new) }
-    ensures any_moment { IsTrue F.honest → (all : List Slot) → IsStoreWith all bytes.now
-        → LeavesOnly F.moment F.left_since folder.old folder.new
-        (AddsSegment (F.may_leave folder.old) (record { first = first; slots = all })) }
+    ensures any_moment { IsTrue F.honest → AllByRecursion IsHonest inputs.items
+        → LeavesOnly F.moment F.left_since folder.old folder.new (AddsSegment (F.may_leave folder.old)
+        (record { first = first; slots = flat_map alive_slots inputs.items })) }
     ensures failures { F.failures folder.old ≤ F.failures folder.new }
-    ensures kind { IfErr result IsFault }
+    ensures damaged { AllByRecursion IsHonest inputs.items → IsErrOf result LogError.Damaged
+        → Contains (flat_map alive_slots inputs.items) damaged }
+    ensures full { AllByRecursion IsHonest inputs.items → length (flat_map alive_slots inputs.items) < 2 ^ 32
+        → IsErrOf result LogError.Full → HasTooLong (flat_map alive_slots inputs.items) }
+    ensures kind { IfErr result IsOfJoins }
 {
-    laws::stores_are_apart();
     let name = segment_file(alloc, first)?;
-    let beside = name_beside(alloc, &name)?;
-    replace(folder, beside.as_str(), name.as_str(), bytes)?;
-    match open_segment(alloc, folder, first) {
-        Ok(segment) => Ok(segment),
-        Err(error) => Err(reopen_error(error)),
+    let mut joined = JoinedSegments { alloc, inputs };
+    match publish_store(
+        alloc,
+        folder,
+        name.as_str(),
+        BLOCK_SIZE,
+        USUAL_PERIOD,
+        &mut joined,
+    ) {
+        Ok(_) => Ok(()),
+        Err(error) => Err(joining_error(error)),
     }
 }
 
@@ -176,6 +237,8 @@ pub(crate) fn join_segments<F: ReadableFolder>(
         → All (λ s. HasSegment (F.seen folder.old) (part_of s.first s.reader)) segments.now
         → OnOk result ((c : List ℕ → _) → F.may_leave folder.new c → HasSegment c
         (record { first = first; slots = slots_in (map (λ s. part_of s.first s.reader) segments.now) })) }
+    ensures joined { IsTrue F.honest → OnOk result (HasJoined (F.seen folder.old) (F.seen folder.new) first
+        (map (λ s. s.first) segments.now)) }
     ensures kept { IsTrue F.honest → OnOk result ((n : List ℕ) → F.entry_kept folder.new n) }
     ensures trust { IsTrue F.honest → EntriesStayElsewhereOfBoth (segment_name first ++ part) (segment_name first)
         (F.trusted folder.old) (F.trusted folder.new) }
@@ -204,7 +267,11 @@ pub(crate) fn join_segments<F: ReadableFolder>(
         → IsErrOf result LogError.Full → HasTooLong (slots_in (map (λ s. part_of s.first s.reader) segments.now)) }
     ensures kind { IfErr result IsOfJoins }
 {
-    let mut inputs = open_inputs(alloc, folder, segments)?;
-    let bytes = merged_bytes(alloc, &mut inputs)?;
-    replace_segment(alloc, folder, first, &bytes)
+    laws::stores_are_apart();
+    let inputs = open_inputs(alloc, folder, segments)?;
+    publish_joined(alloc, folder, first, inputs)?;
+    match open_segment(alloc, folder, first) {
+        Ok(segment) => Ok(segment),
+        Err(error) => Err(reopen_error(error)),
+    }
 }

@@ -6,6 +6,7 @@ mod compacting;
 mod dropping;
 pub mod error;
 mod found_files;
+mod found_tail;
 mod joining;
 pub mod laws;
 mod loading;

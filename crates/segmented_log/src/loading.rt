@@ -4,7 +4,7 @@ ghost use Rattle.std.specs.Prelude.{◌≡◌, ◌≢◌, false, ◌≤◌, ◌<
 ghost use Rattle.std.specs.Prelude.{◌⊎◌, All, string_bytes, IsTrue, IfOk, IfErr, OnOk, OnErr, IsErrOf};
 ghost use Rattle.store_base.specs.Counts.{HasRisen};
 ghost use Rattle.store_folder.specs.Moments.{ComesFrom, LeavesOnly};
-ghost use Rattle.store_folder.specs.Folder.{ElsewhereOfBoth, AreNames};
+ghost use Rattle.store_folder.specs.Folder.{ElsewhereOfBoth, AreNames, bytes_of};
 ghost use Rattle.store_folder.specs.Publishing.{part};
 ghost use Rattle.store_format.specs.Block.{Slot};
 ghost use Rattle.log_tail.specs.Place.{contents, EndsBy};
@@ -21,6 +21,7 @@ ghost use Rattle.segmented_log.specs.Causes.{IsOfTails, IsOfOpenings};
 use crate::commit::Commit;
 use crate::error::LogError;
 use crate::found_files::sync_found_files;
+use crate::found_tail::can_sync_tail;
 use crate::log::SegmentedLog;
 use crate::names::TAIL;
 use crate::opening::{end_of_segments, numbers_in, open_segments};
@@ -42,10 +43,11 @@ struct Parts<H: FileHandle> {
     tail: Tail,
 }
 
-// The tail of a log's folder, or a new one where there is none and no segment.
-fn load_tail<F: ReadableFolder>(
+// The tail of a log's folder, in which this one was found, or a new one where there is none and no segment.
+fn load_tail<F: Folder>(
     alloc: Global,
     folder: &mut F,
+    found: Option<Vec<u8>>,
     is_blank: bool,
     is_kept: bool,
     cut: Cut,
@@ -54,6 +56,7 @@ fn load_tail<F: ReadableFolder>(
     requires tail { IsTrue F.honest → IsTrue is_kept → (bytes : List ℕ) → F.seen folder.old tail_name ≡ Some bytes
         → TailIsKept (F.may_hold folder.old) (F.may_leave folder.old) (F.entry_kept folder.old) (F.trusted folder.old)
         bytes }
+    requires found { IsTrue F.honest → bytes_of found ≡ F.seen folder.old tail_name }
     ensures tail { IfOk result (λ t. IsTail t.bytes.items × IsWholeTo (length t.bytes.items) t.bytes.items
         × (t.first ≡ first_of t.bytes.items)) }
     ensures records { IfOk result (λ t. contents t.bytes.items t.places.items ≡ records_of t.bytes.items) }
@@ -71,11 +74,10 @@ fn load_tail<F: ReadableFolder>(
     ensures damaged { IsTrue F.honest → IsErrOf result LogError.DamagedTail → HasDamagedTail (F.seen folder.old) }
     ensures sound { IsTrue F.honest → cut ≢ Cut.Damage → OnOk result (HasSoundTail (F.seen folder.old)) }
     ensures failures { F.failures folder.old ≤ F.failures folder.new }
-    ensures failed { IsTrue F.is_readable → IsErrOf result LogError.Failed
-        → HasRisen (F.failures folder.old) (F.failures folder.new) }
+    ensures failed { IsErrOf result LogError.Failed → HasRisen (F.failures folder.old) (F.failures folder.new) }
     ensures kind { IfErr result IsOfTails }
 {
-    match folder.read(alloc, TAIL)? {
+    match found {
         Some(bytes) => repair_tail(alloc, folder, bytes, is_kept, cut),
         None if is_blank => begin_tail(alloc, folder),
         None => Err(LogError::NoLog),
@@ -133,11 +135,13 @@ fn assemble<H: FileHandle>(segments: Vec<Segment<H>>, tail: Tail) -> Result<Part
     })
 }
 
-// Reads a log's folder, which has these names and is on the disk, but maybe for its tail, and repairs its tail.
+// Reads a log's folder, which has these names and this tail and is on the disk, but maybe for its tail, and repairs its
+// tail.
 fn load_synced<F: ReadableFolder>(
     alloc: Global,
     folder: &mut F,
     names: &[String],
+    found: Option<Vec<u8>>,
     is_kept: bool,
     cut: Cut,
 ) -> Result<Parts<F::File>, LogError>
@@ -146,6 +150,7 @@ fn load_synced<F: ReadableFolder>(
         → TailIsKept (F.may_hold folder.old) (F.may_leave folder.old) (F.entry_kept folder.old) (F.trusted folder.old)
         bytes }
     requires names { IsTrue F.honest → AreNames (F.seen folder.old) (map string_bytes names.now) }
+    requires found { IsTrue F.honest → bytes_of found ≡ F.seen folder.old tail_name }
     ensures settled { IfOk result (λ p. IsSettledTail p.sealed p.tail.first p.next p.tail.bytes.items
         p.tail.places.items []) }
     ensures folder { IsTrue F.honest → IfOk result (λ p. IsSettledFolder (F.may_hold folder.new)
@@ -173,12 +178,12 @@ fn load_synced<F: ReadableFolder>(
     let numbers = numbers_in(alloc, names)?;
     let segments = open_segments(alloc, folder, &numbers)?;
     let is_blank = segments.is_empty();
-    let tail = load_tail(alloc, folder, is_blank, is_kept, cut)?;
+    let tail = load_tail(alloc, folder, found, is_blank, is_kept, cut)?;
     let parts = assemble(segments, tail)?;
     Ok(parts)
 }
 
-// Puts on the disk what a look sees of a log's folder, reads it, and repairs its tail.
+// Puts on the disk what a look sees of a log's folder, but for a torn tail, reads it, and repairs its tail.
 fn load<F: ReadableFolder>(alloc: Global, folder: &mut F) -> Result<Parts<F::File>, LogError>
     ensures settled { IfOk result (λ p. IsSettledTail p.sealed p.tail.first p.next p.tail.bytes.items
         p.tail.places.items []) }
@@ -207,16 +212,18 @@ fn load<F: ReadableFolder>(alloc: Global, folder: &mut F) -> Result<Parts<F::Fil
 {
     let names = folder.names(alloc)?;
     let cut = found_cut(folder);
-    let is_kept = sync_found_files(folder, &names, true)?;
-    load_synced(alloc, folder, &names, is_kept, cut)
+    let found = folder.read(alloc, TAIL)?;
+    let syncs_tail = can_sync_tail(alloc, folder, &found)?;
+    let is_kept = sync_found_files(folder, &names, syncs_tail)?;
+    load_synced(alloc, folder, &names, found, is_kept, cut)
 }
 
 impl<F: ReadableFolder> SegmentedLog<F> {
     /// Opens the log of a folder, or makes a new one, whose first record has the number 0, in a folder that has no file
     /// of a log. What it finds and is not known to be on the disk is put there first, as the process that wrote it may
-    /// have ended before its syncs; then a batch that it left unfinished at the end of the tail is cut off. A tail of
-    /// which a sync may have failed is replaced. A crash during it leaves the same log, or what it could leave before.
-    /// A tail that grows past the seal size, in bytes, is sealed by `sync`.
+    /// have ended before its syncs, but for a tail with a batch at its end that was left unfinished. Such a tail, and
+    /// one of which a sync may have failed, is replaced by one of its whole batches. A crash during it leaves the same
+    /// log, or what it could leave before. A tail that grows past the seal size, in bytes, is sealed by `sync`.
     ///
     /// With `Commit::OneSync` a sync appends to the tail. With `Commit::TwoSyncs` it replaces the tail by one that has
     /// the records too, so a crash leaves all of them or none, whatever their sum is; as it then writes the whole tail,

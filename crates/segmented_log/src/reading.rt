@@ -62,7 +62,8 @@ fn find_by_halves<H: FileHandle>(segments: &[Segment<H>], number: u64) -> usize
     low
 }
 
-// The place of the first segment that ends after this number, or how many there are.
+// The place of the first segment that ends after this number, or how many there are. Where segments overlap, as a crash
+// of `compact` leaves them, one may end before the one before it ends, so halves could pass over the first.
 fn find_segment<H: FileHandle>(segments: &[Segment<H>], number: u64) -> usize
     ensures within { result ≤ length segments.now }
     ensures before { All (λ s. end_of (part_of s.first s.reader) ≤ number) (take result segments.now) }

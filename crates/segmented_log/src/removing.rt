@@ -10,7 +10,7 @@ ghost use Rattle.log_tail.specs.Tail.{first_of, IsTail};
 ghost use Rattle.segmented_log.specs.Names.{tail_name};
 ghost use Rattle.segmented_log.specs.Parts.{part_of, first_in};
 ghost use Rattle.segmented_log.specs.Log.{IsLog};
-ghost use Rattle.segmented_log.specs.Opening.{IsSyncedButTail, IsNoLog, HasSegments, HasDamage, HasDamagedTail};
+ghost use Rattle.segmented_log.specs.Opening.{IsSyncedButTail, IsNoLog, HasSegments, HasDamagedTail};
 ghost use Rattle.segmented_log.specs.Dropping.{DropsTo, RemovesOnly, LosesOld, IsOldWithout, BeginsAt, TailBeginsAt};
 ghost use Rattle.segmented_log.specs.Dropping.{AreOfOneLog, HasOnly, HasNoOld};
 ghost use Rattle.segmented_log.specs.Causes.{IsFault, IsOfFiles};
@@ -18,62 +18,13 @@ ghost use Rattle.segmented_log.specs.Causes.{IsFault, IsOfFiles};
 use crate::dropping::{end_of_first, remove_segment};
 use crate::error::LogError;
 use crate::found_files::sync_found_files;
-use crate::names::TAIL;
+use crate::found_tail::{FoundTail, find_tail};
 use crate::opening::{end_of_segments, numbers_in, open_segments};
 use crate::segment::{Segment, first_number};
-use crate::tail::{Cut, is_too_much};
 use docstore::laws;
-use log_tail::batches::find_records;
-use log_tail::tail;
 use std::alloc::Global;
 use std::ops::Range;
-use store_folder::{Folder, ReadableFolder};
-
-// What is seen of a tail: the number of its first record, and whether all its bytes are sound batches.
-#[derive(Clone, Copy)]
-struct FoundTail {
-    first: u64,
-    is_whole: bool,
-}
-
-// Where there is no tail.
-const NO_TAIL: FoundTail = FoundTail {
-    first: 0,
-    is_whole: false,
-};
-
-// What is seen of a tail of these bytes.
-fn look_at(alloc: Global, bytes: &[u8]) -> Result<FoundTail, LogError>
-    ensures first { IfOk result (λ t. IsTail bytes.now → t.first ≡ first_of bytes.now) }
-    ensures tail { IfOk result (λ t. IsTrue t.is_whole → IsTail bytes.now) }
-    ensures whole { IfOk result (λ t. IsTrue t.is_whole → HasDamage bytes.now → ⊥) }
-    ensures kind { IfErr result (λ e. e ≡ LogError.Memory) }
-{
-    let Some(first) = tail::first_number(bytes) else {
-        return Ok(NO_TAIL);
-    };
-    let end = find_records(alloc, bytes)?.end;
-    Ok(FoundTail {
-        first,
-        is_whole: !is_too_much(Cut::Nothing, bytes, first, end),
-    })
-}
-
-// What is seen of a folder's tail.
-fn find_tail<F: ReadableFolder>(alloc: Global, folder: &F) -> Result<FoundTail, LogError>
-    ensures first { IsTrue F.honest → IfOk result (λ t. (bytes : List ℕ) → F.seen folder.now tail_name ≡ Some bytes
-        → IsTail bytes → t.first ≡ first_of bytes) }
-    ensures whole { IsTrue F.honest → IfOk result (λ t. IsTrue t.is_whole → HasDamagedTail (F.seen folder.now) → ⊥) }
-    ensures tail { IsTrue F.honest → IfOk result (λ t. IsTrue t.is_whole → (bytes : List ℕ)
-        × (F.seen folder.now tail_name ≡ Some bytes) × IsTail bytes) }
-    ensures failed { IsTrue F.is_readable → IsErrOf result LogError.Failed → ⊥ }
-    ensures kind { IfErr result IsFault }
-{
-    match folder.read(alloc, TAIL)? {
-        Some(bytes) => look_at(alloc, &bytes),
-        None => Ok(NO_TAIL),
-    }
-}
+use store_folder::ReadableFolder;
 
 // Opens the segments of a folder that has these names, if they are those of one log.
 fn open_all<F: ReadableFolder>(
@@ -236,7 +187,6 @@ pub fn drop_segments<F: ReadableFolder>(
 {
     let names = folder.names(alloc)?;
     let tail = find_tail(alloc, folder)?;
-    // A tail that is not whole is not synced: the next opening would take what is torn for damage.
     let is_kept = sync_found_files(folder, &names, tail.is_whole)?;
     drop_found(alloc, folder, &names, tail, is_kept, number)
 }

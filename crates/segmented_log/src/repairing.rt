@@ -14,6 +14,7 @@ ghost use Rattle.segmented_log.specs.Causes.{IsFault, IsOfTails};
 
 use crate::error::LogError;
 use crate::found_files::sync_found_files;
+use crate::found_tail::can_sync_tail;
 use crate::names::{TAIL, cut_file, name_beside};
 use crate::tail::{Cut, repair_tail};
 use log_tail::batches::find_records;
@@ -143,8 +144,10 @@ pub fn repair<F: ReadableFolder>(alloc: Global, folder: &mut F) -> Result<Option
     ensures kind { IfErr result IsOfTails }
 {
     let names = folder.names(alloc)?;
-    let _ = sync_found_files(folder, &names, true)?;
-    let Some(bytes) = folder.read(alloc, TAIL)? else {
+    let found = folder.read(alloc, TAIL)?;
+    let syncs_tail = can_sync_tail(alloc, folder, &found)?;
+    let _ = sync_found_files(folder, &names, syncs_tail)?;
+    let Some(bytes) = found else {
         return Err(LogError::NoLog);
     };
     let Some(first) = first_number(&bytes) else {

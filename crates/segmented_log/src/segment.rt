@@ -7,12 +7,13 @@ ghost use Rattle.store_folder.specs.Moments.{ComesFrom, LeavesOnly};
 ghost use Rattle.store_folder.specs.Folder.{ElsewhereOfBoth, EntriesStayElsewhereOfBoth, FilesElsewhereOfBoth};
 ghost use Rattle.store_folder.specs.Publishing.{part};
 ghost use Rattle.log_tail.specs.Place.{contents, EndsBy};
-ghost use Rattle.store_reader.specs.Reading.{IsSeen};
+ghost use Rattle.store_reader.specs.Reading.{store_of, IsSeen};
 ghost use Rattle.segmented_log.specs.Names.{segment_name};
 ghost use Rattle.segmented_log.specs.Parts.{part_of, end_of, first_in};
 ghost use Rattle.segmented_log.specs.Log.{HasSegment};
 ghost use Rattle.segmented_log.specs.Settled.{part_at, AddsSegment};
 ghost use Rattle.segmented_log.specs.Sealing.{HasPacked};
+ghost use Rattle.segmented_log.specs.Joining.{HasBlocks};
 ghost use Rattle.segmented_log.specs.Opening.{IsNoSegment};
 ghost use Rattle.segmented_log.specs.Causes.{IsOfFiles, IsOfSeals, HasNoRoom, IsFault};
 
@@ -74,6 +75,8 @@ pub(crate) fn open_segment<F: ReadableFolder>(
 ) -> Result<Segment<F::File>, LogError>
     ensures first { IfOk result (λ s. s.first ≡ first) }
     ensures found { IsTrue F.honest → IfOk result (λ s. HasSegment (F.seen folder.now) (part_of s.first s.reader)) }
+    ensures blocks { IsTrue F.honest
+        → IfOk result (λ s. HasBlocks (F.seen folder.now) first (store_of s.reader)) }
     ensures honest { IsTrue F.honest → IfOk result (λ s. IsTrue s.reader.file.honest) }
     ensures seen { IfOk result (λ s. IsSeen s.reader) }
     ensures no_log { IsTrue F.honest → IsErrOf result LogError.NoLog → IsNoSegment (F.seen folder.now) first }

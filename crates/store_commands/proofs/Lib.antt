@@ -5,7 +5,6 @@ pub mod CheckLemmas
 pub mod CountLemmas
 pub mod DamagedLemmas
 pub mod EndingLemmas
-pub mod FileLemmas
 pub mod GivingLemmas
 pub mod MergedLemmas
 pub mod PartLemmas

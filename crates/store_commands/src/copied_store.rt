@@ -2,7 +2,7 @@
 
 ghost use Rattle.std.specs.Prelude.{◌≡◌, ◌≤◌, ◌⊎◌, [], IfOk, IfErr, IsErrAnd, OnOk};
 ghost use Rattle.docstore.specs.Writer.{IsStoreWriter};
-ghost use Rattle.store_published.specs.Filling.{IsSameFile};
+ghost use Rattle.docstore.specs.Writer.{IsSameFile};
 ghost use Rattle.store_commands.specs.Appending.{CopiesStore};
 ghost use Rattle.store_commands.specs.Merging.{IsMergedReader, IsReadIfStacked, IsSteadyMerge};
 ghost use Rattle.store_commands.specs.Merging.{EndsMerge, IsOfOutput};

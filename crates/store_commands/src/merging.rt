@@ -8,7 +8,7 @@ ghost use Rattle.store_merge.specs.declared.input.MergeInput.{MergeInput};
 ghost use Rattle.store_merge.specs.Inputs.{HasWholeSet};
 ghost use Rattle.store_reader.specs.Reading.{num_docs, store_of};
 ghost use Rattle.store_commands.specs.Merging.{kept_slots, KeepsDocuments, RefusesSet, bytes_of};
-ghost use Rattle.store_published.specs.Filling.{IsSameFile};
+ghost use Rattle.docstore.specs.Writer.{IsSameFile};
 ghost use Rattle.store_commands.specs.Merging.{IsMergedReader, IsReadIfStacked, IsSteadyMerge, EndsMerge, IsOfOutput};
 
 use crate::kept_documents::input_without;

@@ -21,13 +21,14 @@ use Rattle.store_reader.specs.Reading.{Reading, IsSameStore, num_docs, store_of}
 use Rattle.store_format.specs.Slots.{slots}
 use Rattle.docstore.specs.Trace.{weight}
 use Rattle.store_reader.specs.Walking.{taken_last, GivesNext, IsBlockTaken, IsSteadyBetween, IsWalk, LooksAlong}
-use Rattle.docstore.specs.Writer.{Writing, flushed, with_document, with_failures}
+use Rattle.docstore.specs.Writer.{Writing, flushed, with_document, with_documents, with_failures}
 use Rattle.docstore.specs.Laws.{taken}
 use Rattle.store_reader.proofs.AskedLemmas.{asked_within}
 use Rattle.store_reader.proofs.IterationLookUpLemmas.{looks_joined}
 use Rattle.layered_index.specs.Checkpoint.{Covers}
 use Rattle.store_merge.specs.Inputs.{IsAskedOnce}
-use Rattle.store_merge.specs.Bringing.{IsCopied, with_documents}
+use Rattle.docstore.proofs.FileLemmas.{counted_document}
+use Rattle.store_merge.specs.Bringing.{IsCopied}
 use Rattle.store_merge.specs.Copying.{IsItemStored, IsRefused}
 use Rattle.store_merge.specs.Refusals.{RefusesItem, StopsAt}
 
@@ -85,17 +86,6 @@ alive_to set all from last on le dead =
     ap (λ (n : ℕ). alive (take n all) set) (sym is) ∙ alive_dead set all from j (omega (arith, le, is)) (λ k above below. dead k above (omega (arith, below, is)))
 
 -- ---- writers
-
--- a document, whatever the output's count of failures
-pub counted_document : (n : ℕ) (w : Writing) (document : List ℕ) → with_document (with_failures n w) document ≡ with_failures n (with_document w document)
-counted_document n w document = by (nat_lt w.block_size (weight (w.pending ++ document ∷ [])))
-  where
-    more : Writing
-    more = record w { pending = w.pending ++ document ∷ [] }
-
-    by : (full : Bool) → cond full (flushed (with_failures n more)) (with_failures n more) ≡ with_failures n (cond full (flushed more) more)
-    by true = refl
-    by false = refl
 
 -- documents leave a writer as failed as it was
 pub same_failure : (w : Writing) (docs : List (List ℕ)) → (with_documents w docs).output.failure ≡ w.output.failure

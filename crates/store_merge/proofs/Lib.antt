@@ -4,3 +4,4 @@ pub mod MergeLemmas
 pub mod HonestLemmas
 pub mod EndLemmas
 pub mod StackedLemmas
+pub mod PartLemmas

@@ -11,12 +11,13 @@ use Rattle.store_base.proofs.ListLemmas.{front_more, next_same}
 use Rattle.store_format.specs.Block.{Slot}
 use Rattle.docstore.specs.Laws.{taken}
 use Rattle.docstore.specs.Stacking.{with_store}
-use Rattle.docstore.specs.Writer.{Writing, with_document, with_failures}
+use Rattle.docstore.specs.Writer.{Writing, with_document, with_documents, with_failures}
 use Rattle.store_merge.specs.declared.input.MergeInput.{MergeInput}
-use Rattle.store_merge.specs.Bringing.{Brought, stacked, copied, with_documents, with_brought, merged, slots_brought, IsBrought, AreBrought}
+use Rattle.store_merge.specs.Bringing.{Brought, stacked, copied, with_brought, merged, slots_brought, IsBrought, AreBrought}
 use Rattle.store_merge.specs.Inputs.{AreEach, AreInputsKept, IsInputKept, IsInputTaken, IsSteadyInput}
 use Rattle.store_merge.specs.Merge.{IsMerged}
-use Rattle.store_merge.proofs.CopyLemmas.{counted_document, same_failure}
+use Rattle.store_merge.proofs.CopyLemmas.{same_failure}
+use Rattle.docstore.proofs.FileLemmas.{counted_documents}
 use Rattle.store_reader.proofs.RecentLemmas.{same_as_it_is}
 
 -- ---- lists that are gone over
@@ -83,10 +84,6 @@ pub kept_all : {H : Type 0} (i : ℕ) (olds news : List (MergeInput H)) → AreI
 kept_all i olds news h rest = rest_all IsInputKept kept_same i olds news h rest
 
 -- ---- what has come
-
-counted_documents : (n : ℕ) (w : Writing) (docs : List (List ℕ)) → with_documents (with_failures n w) docs ≡ with_failures n (with_documents w docs)
-counted_documents n w [] = refl
-counted_documents n w (d ∷ docs) = ap (λ (v : Writing). with_documents v docs) (counted_document n w d) ∙ counted_documents n (with_document w d) docs
 
 counted : (n : ℕ) (w : Writing) (part : Brought) → with_brought (with_failures n w) part ≡ with_failures n (with_brought w part)
 counted n w (stacked bs) = refl

@@ -6,7 +6,8 @@ use Rattle.store_format.specs.Slots.{slots}
 use Rattle.docstore.specs.Stacking.{AreRead, with_store}
 use Rattle.store_format.specs.StoreFile.{StoreBlock}
 use Rattle.docstore.specs.Laws.{taken}
-use Rattle.docstore.specs.Writer.{Writing, with_document, with_failures}
+use Rattle.docstore.specs.Trace.{Step, stack, accepted, took}
+use Rattle.docstore.specs.Writer.{Writing, with_documents, with_failures}
 use Rattle.store_merge.specs.declared.input.MergeInput.{MergeInput}
 use Rattle.store_merge.specs.Choice.{is_stacked, alive_slots}
 
@@ -14,10 +15,6 @@ use Rattle.store_merge.specs.Choice.{is_stacked, alive_slots}
 pub data Brought : Type 0 where
   stacked : List StoreBlock → Brought
   copied : List (List ℕ) → Brought
-
--- a writer after these documents, one after the other
-abbrev pub with_documents : Writing → List (List ℕ) → Writing
-with_documents w docs = fold with_document w docs
 
 -- a writer after what came of an input
 abbrev pub with_brought : Writing → Brought → Writing
@@ -27,6 +24,11 @@ with_brought w (copied docs) = with_documents w docs
 -- the same of some inputs, in order
 abbrev pub merged : Writing → List Brought → Writing
 merged w parts = fold with_brought w parts
+
+-- the calls that took what came of an input
+abbrev pub calls_of : Brought → List Step
+calls_of (stacked bs) = record { call = stack bs; answer = accepted } ∷ []
+calls_of (copied docs) = map took docs
 
 -- the slots that came of an input
 abbrev pub slots_brought : Brought → List Slot

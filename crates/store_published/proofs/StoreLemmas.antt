@@ -1,12 +1,12 @@
 -- What is known of a store that was filled, closed and published.
 use Rattle.std.proofs.Common.{◌≡◌, ℕ, List, [], ◌++◌, length, refl, sym, ◌∙◌, ap, subst}
 use Rattle.docstore.specs.Laws.{taken, file_of, WrittenDocumentsAreFound, IdsAreGivenInOrder}
-use Rattle.docstore.specs.Writer.{Writing, num_docs, flushed}
+use Rattle.docstore.specs.Writer.{Writing, num_docs, flushed, blocks_in, IsSameFile}
 use Rattle.store_format.specs.Block.{Slot}
 use Rattle.store_format.specs.Slots.{slots}
 use Rattle.store_format.specs.StoreFile.{StoreBlock, file, IsStore}
 use Rattle.store_published.specs.declared.publishing.Written.{Written}
-use Rattle.store_published.specs.Filling.{IsSameFile, blocks_in, IsStoreOf, AreNumbersOf}
+use Rattle.store_published.specs.Filling.{IsStoreOf, AreNumbersOf}
 
 -- a store of these slots in such blocks, and its numbers
 abbrev pub HasStore : (List Slot → Type 0) → (List StoreBlock → Type 0) → ℕ → List ℕ → Written → Type 0

@@ -4,29 +4,15 @@ use Rattle.store_format.specs.Block.{Slot, doc}
 use Rattle.store_format.specs.Slots.{slots}
 use Rattle.store_format.specs.StoreFile.{StoreBlock, file, IsStore}
 use Rattle.docstore.specs.Laws.{taken}
-use Rattle.docstore.specs.Writer.{Writing, flushed, with_document, with_failures}
+use Rattle.docstore.specs.Writer.{Writing, IsSameFile, with_documents, with_failures}
 use Rattle.store_folder.specs.Folder.{Look, ElsewhereOfBoth}
 use Rattle.store_published.specs.declared.publishing.Written.{Written}
-
--- A writer goes on with its file: after the same bytes, and with the same period.
-pub record IsSameFile (old new : Writing) : Type 0 where
-  pub before : new.output.before ≡ old.output.before
-  pub period : new.output.period ≡ old.output.period
-
--- a writer that has taken these documents too
-abbrev pub with_documents : Writing → List (List ℕ) → Writing
-with_documents w [] = w
-with_documents w (document ∷ documents) = with_documents (with_document w document) documents
 
 -- These documents were put after those of a writer, in the same file.
 pub record AddsDocuments (documents : List (List ℕ)) (old new : Writing) : Type 0 where
   pub grown : taken new ≡ taken old ++ map doc documents
   pub file : IsSameFile old new
   pub stored : new ≡ with_failures new.output.failures (with_documents old documents)
-
--- the blocks of the file that a writer closes
-abbrev pub blocks_in : Writing → List StoreBlock
-blocks_in w = (flushed w).output.finished
 
 -- Some documents were.
 abbrev pub AddsSome : Writing → Writing → Type 0

@@ -2,7 +2,7 @@
 
 ghost use Rattle.std.specs.Prelude.{◌≡◌, [], OnOk};
 ghost use Rattle.docstore.specs.Laws.{taken};
-ghost use Rattle.store_published.specs.Filling.{IsSameFile, blocks_in};
+ghost use Rattle.docstore.specs.Writer.{IsSameFile, blocks_in};
 
 use docstore::{StoreWriter, TerminatingWrite};
 
@@ -12,7 +12,7 @@ pub trait Filling {
     ghost use Rattle.store_format.specs.Block.{Slot};
     ghost use Rattle.store_format.specs.StoreFile.{StoreBlock};
     ghost use Rattle.docstore.specs.Laws.{taken};
-    ghost use Rattle.store_published.specs.Filling.{IsSameFile, blocks_in};
+    ghost use Rattle.docstore.specs.Writer.{IsSameFile, blocks_in};
 
     /// Why it ends before all came.
     type Error: Drop;

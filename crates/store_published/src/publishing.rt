@@ -23,7 +23,8 @@ ghost use Rattle.store_folder.specs.Moments.{ComesFrom, LeavesOnly};
 ghost use Rattle.store_folder.specs.Folder.{Keeps, ElsewhereOfBoth, EntriesStayElsewhereOfBoth, FilesElsewhereOfBoth};
 ghost use Rattle.store_folder.specs.Publishing.{part};
 ghost use Rattle.store_folder.specs.Beside.{standing, Follows, TouchesOnly};
-ghost use Rattle.store_published.specs.Filling.{blocks_in, IsStoreOf, AreNumbersOf, IsOldOrNew};
+ghost use Rattle.docstore.specs.Writer.{blocks_in};
+ghost use Rattle.store_published.specs.Filling.{IsStoreOf, AreNumbersOf, IsOldOrNew};
 ghost use Rattle.store_published.specs.Outcome.{IsFillFault, IsRefusal};
 
 use crate::filling::Filling;

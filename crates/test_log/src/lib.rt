@@ -11,3 +11,5 @@ mod folder_runs;
 mod torn_files;
 #[cfg(test)]
 mod torn_logs;
+#[cfg(test)]
+mod torn_tails;

@@ -59,12 +59,12 @@ loop-first-preserved g c =
     let next : i + 1 ≡ suc i = omega arith in
     let rest = take_rest segments (i + 1) ∙ ap (λ n. drop n segments) next in
     let none : c.count_next-count.result ≡ 0 = omega (arith, c.if-count-gt0.false) in
-    apart_more (λ s. part_of s.first s.reader) (λ s. sealed_of s.first s.reader) (λ s. refl) c.args.size segments
+    λ first. apart_more (λ s. part_of s.first s.reader) (λ s. sealed_of s.first s.reader) (λ s. refl) c.args.size segments
     (take (length segments - (i + 1)) (drop (i + 1) segments)) i x c.loop-first-test.true c.index-segments-first.is rest
-    (c.covers_next.ensures.no c.if-covers_next.false) (c.count_next-count.ensures.none none) c.loop-first.invariant
+    (c.covers_next.ensures.no c.if-covers_next.false) (c.count_next-count.ensures.none none) (c.loop-first.invariant first)
 
 pub returns-clause-none : goal.returns-clause-none
 returns-clause-none g c =
     let segments = c.args.segments.now in
     let at_end : length (map (λ s. sealed_of s.first s.reader) segments) ≤ c.loop-first.first = omega (arith, length-map segments (λ s. sealed_of s.first s.reader), c.loop-first-test.false) in
-    all_apart c.loop-first.first c.args.size (map (λ s. sealed_of s.first s.reader) segments) at_end c.loop-first.invariant
+    λ first. all_apart c.loop-first.first c.args.size (map (λ s. sealed_of s.first s.reader) segments) at_end (c.loop-first.invariant first)

@@ -57,7 +57,7 @@ returns-clause-synced g c = λ h.
     let old = c.args.folder.now in
     let mid = c.loop-name.folder in
     let new = c.sync_entries.new.folder in
-    all_synced (F.seen old) (F.may_leave old) (map string_bytes c.args.names.now) (c.requires h) c.loop-name.all (F.seen mid) (F.seen new) (F.may_hold mid) (F.may_hold new) (F.may_leave mid)
+    all_synced (F.seen old) (F.may_leave old) (map string_bytes c.args.names.now) (c.requires.names h) c.loop-name.all (F.seen mid) (F.seen new) (F.may_hold mid) (F.may_hold new) (F.may_leave mid)
     (F.may_leave new)
     (F.trusted mid) (F.trusted new) (was g (goal.at.returns-clause-synced g c).After-sync_entries h) (c.in_ok-sync_entries.ensures.durable h) (c.sync_entries.ensures.seen h)
 
@@ -67,7 +67,7 @@ returns-clause-tail g c = λ h.
     let old = c.args.folder.now in
     let mid = c.loop-name.folder in
     let new = c.sync_entries.new.folder in
-    tail_synced (F.seen old) (F.may_leave old) (map string_bytes c.args.names.now) (c.requires h) c.loop-name.all (F.seen mid) (F.seen new) (F.may_hold mid) (F.may_hold new) (F.may_leave mid)
+    tail_synced (F.seen old) (F.may_leave old) (map string_bytes c.args.names.now) (c.requires.names h) c.loop-name.all (F.seen mid) (F.seen new) (F.may_hold mid) (F.may_hold new) (F.may_leave mid)
     (F.may_leave new)
     (F.trusted mid) (F.trusted new) (was g (goal.at.returns-clause-tail g c).After-sync_entries h) (c.in_ok-sync_entries.ensures.durable h) (c.sync_entries.ensures.seen h)
     (F.entry_kept new) (c.in_ok-sync_entries.ensures.kept h) (c.sync_entries.ensures.files h) (c.sync_entries.ensures.trust h)

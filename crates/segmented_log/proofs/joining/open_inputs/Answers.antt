@@ -5,7 +5,7 @@ use Rattle.store_merge.specs.Merge.{IsHonest}
 use Rattle.segmented_log.specs.Parts.{part_of}
 use Rattle.segmented_log.specs.Log.{HasSegment}
 use Rattle.segmented_log.specs.Compacting.{IsWhole}
-use Rattle.segmented_log.proofs.JoinLemmas.{flat_push, all_push}
+use Rattle.segmented_log.proofs.JoinLemmas.{flat_push, all_push, have_push}
 use Rattle.segmented_log.proofs.joining.open_inputs.Goals as goal
 
 pub loop-segment-preserved : goal.loop-segment-preserved
@@ -26,5 +26,8 @@ loop-segment-preserved g c =
           ∙ (λ j. c.loop-segment.invariant.0 h all j ++ c.in_ok-open_input.ensures.slots h (part_of s.first s.reader).slots here j)
           ∙ sym (flat_push (λ p. p.slots) (map (λ y. part_of y.first y.reader) (take i segments)) _ (part_of s.first s.reader) more),
       λ h. all_push IsHonest old new input items (c.loop-segment.invariant.1 h) (c.in_ok-open_input.ensures.honest h),
-      all_push IsWhole old new input items c.loop-segment.invariant.2 c.in_ok-open_input.ensures.whole,
+      λ h.
+          let more = map_more (λ x. x.first) segments i s c.loop-segment-test.true ∙ ap (λ x. map (λ y. y.first) (take i segments) ++ x.first ∷ []) (sym c.segment-item.is) in
+          have_push seen (map (λ y. y.first) (take i segments)) _ s.first old new input more items (c.loop-segment.invariant.2 h) (c.in_ok-open_input.ensures.blocks h),
+      all_push IsWhole old new input items c.loop-segment.invariant.3 c.in_ok-open_input.ensures.whole,
     )

@@ -1,12 +1,13 @@
-use Rattle.std.proofs.Common.{◌≡◌, inl, inr, ⊎_elim, ◌++◌, map, string_bytes, sym, subst}
+use Rattle.std.proofs.Common.{◌≡◌, inl, inr, ⊎_elim, ◌++◌, map, string_bytes, sym, ◌∙◌, subst}
 use Rattle.std.specs.Prelude.{IsTrue}
 use Rattle.std.proofs.lemmas.Result.{on_ok_weaker}
+use Rattle.store_base.proofs.ListLemmas.{risen_later}
 use Rattle.store_folder.specs.Folder.{AreNames, ElsewhereOfBoth}
 use Rattle.store_folder.specs.Publishing.{part}
 use Rattle.store_folder.specs.Moments.{LeavesOnly}
 use Rattle.store_folder.proofs.Steps.{started, weaker, joined}
 use Rattle.segmented_log.specs.Log.{KeepsLog}
-use Rattle.segmented_log.specs.Opening.{IsOldOrSeen, IsNoLog, HasFullTail, HasSoundTail}
+use Rattle.segmented_log.specs.Opening.{IsOldOrSeen, IsNoLog, HasFullTail, HasSegments, HasSoundTail}
 use Rattle.segmented_log.proofs.FoundLemmas.{one_look}
 use Rattle.segmented_log.specs.Names.{tail_name}
 use Rattle.segmented_log.proofs.OpeningLemmas.{as_before}
@@ -36,6 +37,21 @@ returns-in_err-names-clause-any_moment g c = λ h.
     let F = g.F.Folder in
     let old = c.args.folder.now in
     started F.moment F.left_since old _ (λ l left. inl (as_before (F.may_leave old) l (g.met.F.Folder.only_now old l left)))
+
+pub returns-in_err-found-clause-any_moment : goal.returns-in_err-found-clause-any_moment
+returns-in_err-found-clause-any_moment g c = λ h.
+    let F = g.F.Folder in
+    let old = c.args.folder.now in
+    started F.moment F.left_since old _ (λ l left. inl (as_before (F.may_leave old) l (g.met.F.Folder.only_now old l left)))
+
+pub returns-in_err-syncs_tail-clause-any_moment : goal.returns-in_err-syncs_tail-clause-any_moment
+returns-in_err-syncs_tail-clause-any_moment g c = λ h.
+    let F = g.F.Folder in
+    let old = c.args.folder.now in
+    started F.moment F.left_since old _ (λ l left. inl (as_before (F.may_leave old) l (g.met.F.Folder.only_now old l left)))
+
+pub load_synced-requires-clause-found : goal.load_synced-requires-clause-found
+load_synced-requires-clause-found g c = λ h. c.in_ok-found.ensures.bytes h ∙ sym (c.in_ok-is_kept.ensures.seen h tail_name)
 
 pub returns-in_err-is_kept-clause-any_moment : goal.returns-in_err-is_kept-clause-any_moment
 returns-in_err-is_kept-clause-any_moment g c = λ h.
@@ -88,3 +104,8 @@ returns-clause-elsewhere_err g c = λ h.
     always_err c.load_synced.result
     (inl (subst (λ s. ElsewhereOfBoth (tail_name ++ part) tail_name s (g.F.Folder.seen c.load_synced.new.folder))
     (same_look g (goal.at.returns-clause-elsewhere_err g c).After-load_synced h) (c.load_synced.ensures.elsewhere h)))
+
+pub returns-clause-failed : goal.returns-clause-failed
+returns-clause-failed g c = λ h readable is.
+    ⊎_elim (λ risen. inl (risen_later _ _ _ c.sync_found_files.ensures.failures risen))
+    (λ has. inr (subst HasSegments (same_look g (goal.at.returns-clause-failed g c).After-load_synced h) has)) (c.load_synced.ensures.failed h readable is)

@@ -1,4 +1,4 @@
-use Rattle.std.proofs.Common.{◌≡◌, sym, subst}
+use Rattle.std.proofs.Common.{◌≡◌, inl, sym, subst}
 use Rattle.std.specs.Prelude.{IsTrue}
 use Rattle.std.proofs.lemmas.Result.{on_ok_weaker, IfOk-weaker}
 use Rattle.store_folder.proofs.Steps.{weaker, joined}
@@ -36,3 +36,6 @@ returns-clause-any_moment g c = λ h.
 
 pub returns-clause-no_log : goal.returns-clause-no_log
 returns-clause-no_log g c = λ h is. subst IsNoLog (same_look g (goal.at.returns-clause-no_log g c).After-drop_found h) (c.drop_found.ensures.no_log h is)
+
+pub sync_found_files-requires-clause-whole : goal.sync_found_files-requires-clause-whole
+sync_found_files-requires-clause-whole g c = λ h is. inl (c.in_ok-tail.ensures.whole h is)

@@ -38,9 +38,9 @@ returns-clause-log g c = λ h l left.
 pub returns-clause-kept : goal.returns-clause-kept
 returns-clause-kept g c = λ h bytes is l left.
     let F = g.F.Folder in
-    let there : F.seen c.sync_found_files.new.folder tail_name ≡ Some c.in-Some.bytes.items = search rules in
+    let there : F.seen c.args.folder.now tail_name ≡ Some c.in-Some.bytes.items = search rules in
     c.in_ok-name.ensures.kept h l left
-    ∙ ap (λ b. Some (rest_of b)) (some_is c.in-Some.bytes.items bytes (sym there ∙ c.in_ok-sync_found_files.ensures.seen h tail_name ∙ is))
+    ∙ ap (λ b. Some (rest_of b)) (some_is c.in-Some.bytes.items bytes (sym there ∙ is))
 
 pub returns-in_err-check_number-clause-any_moment : goal.returns-in_err-check_number-clause-any_moment
 returns-in_err-check_number-clause-any_moment g c = λ h.
@@ -57,8 +57,8 @@ returns-then-end-len-clause-whole g c = λ h bytes is.
     let F = g.F.Folder in
     let read = c.in-Some.bytes.items in
     let end = c.in_ok-end.field-0.end in
-    let there : F.seen c.sync_found_files.new.folder tail_name ≡ Some read = search rules in
-    let same = some_is read bytes (sym there ∙ c.in_ok-sync_found_files.ensures.seen h tail_name ∙ is) in
+    let there : F.seen c.args.folder.now tail_name ≡ Some read = search rules in
+    let same = some_is read bytes (sym there ∙ is) in
     let rest : drop end read ≡ rest_of read = subst (λ b. drop end b ≡ rest_of b) c.deref-3.ensures.value c.in_ok-end.ensures.rest in
     let none : length (rest_of read) ≡ 0 = omega (arith, ap length rest, length-drop end read) in
     subst (λ b. length (rest_of b) ≡ 0) same none
@@ -67,6 +67,6 @@ pub returns-then-end-len-clause-sound : goal.returns-then-end-len-clause-sound
 returns-then-end-len-clause-sound g c = λ h bytes is.
     let F = g.F.Folder in
     let read = c.in-Some.bytes.items in
-    let there : F.seen c.sync_found_files.new.folder tail_name ≡ Some read = search rules in
-    let same = some_is read bytes (sym there ∙ c.in_ok-sync_found_files.ensures.seen h tail_name ∙ is) in
+    let there : F.seen c.args.folder.now tail_name ≡ Some read = search rules in
+    let same = some_is read bytes (sym there ∙ is) in
     subst (λ b. is_damaged b ≡ false) (c.deref-then-end-len.ensures.value ∙ same) c.in_ok-check_number.ensures.sound

@@ -7,7 +7,7 @@ use Rattle.store_merge.specs.Choice.{alive_slots}
 use Rattle.store_merge.specs.Merge.{IsHonest}
 use Rattle.store_reader.specs.Reading.{Reading}
 use Rattle.store_commands.specs.Merging.{KeepsDocuments}
-use Rattle.store_commands.proofs.FileLemmas.{merged_in_file}
+use Rattle.store_merge.proofs.PartLemmas.{merged_in_file}
 use Rattle.store_commands.proofs.MergedLemmas.{kept_alone, items_left, reader_alone, read_alone, steady_alone, ends_alone}
 use Rattle.store_commands.proofs.merging.merge_store.Goals as goal
 

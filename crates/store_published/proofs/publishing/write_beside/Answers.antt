@@ -1,6 +1,5 @@
 use Rattle.std.proofs.Common.{ℕ, ◌∙◌, ap, subst}
-use Rattle.docstore.specs.Writer.{Writing}
-use Rattle.store_published.specs.Filling.{blocks_in}
+use Rattle.docstore.specs.Writer.{Writing, blocks_in}
 use Rattle.store_published.proofs.Results.{on_ok_is}
 use Rattle.store_published.proofs.StoreLemmas.{filled_store}
 use Rattle.store_published.proofs.publishing.write_beside.Goals as goal

@@ -1,7 +1,7 @@
 use Rattle.std.proofs.Common.{refl}
 use Rattle.std.proofs.lemmas.Result.{on_ok_weaker}
 use Rattle.store_commands.proofs.AppendLemmas.{some_appended}
-use Rattle.store_published.proofs.FileLemmas.{file_goes_on}
+use Rattle.docstore.proofs.FileLemmas.{file_goes_on}
 use Rattle.program_stores.proofs.FillLemmas.{some_in_file}
 use Rattle.program_stores.proofs.append.AppendingFilling.fill.Goals as goal
 

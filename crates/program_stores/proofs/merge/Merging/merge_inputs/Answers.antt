@@ -1,4 +1,4 @@
-use Rattle.store_published.proofs.FileLemmas.{file_goes_on}
+use Rattle.docstore.proofs.FileLemmas.{file_goes_on}
 use Rattle.program_stores.proofs.FillLemmas.{on_ok_given}
 use Rattle.program_stores.proofs.merge.Merging.merge_inputs.Goals as goal
 

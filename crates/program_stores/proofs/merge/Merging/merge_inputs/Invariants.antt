@@ -1,4 +1,4 @@
-use Rattle.store_published.specs.Filling.{IsSameFile}
+use Rattle.docstore.specs.Writer.{IsSameFile}
 use Rattle.program_stores.proofs.merge.Merging.merge_inputs.Given as goal
 
 -- the writer goes on with its file

@@ -10,27 +10,45 @@ use Rattle.segmented_log.specs.Causes.{IsFault}
 use Rattle.segmented_log.specs.Parts.{part_of, sealed_of, parts_of, AreParts}
 use Rattle.segmented_log.specs.Log.{Holds, IsLog}
 use Rattle.segmented_log.specs.Compacting.{IsStep, Compacts, stay, join, remove_next, AreApart, IsCompacted}
+use Rattle.segmented_log.specs.Joining.{none, next}
 use Rattle.segmented_log.proofs.SyncLemmas.{log_stays}
 use Rattle.segmented_log.proofs.CompactLemmas.{changes_none, changes_more}
 use Rattle.segmented_log.proofs.RunOfParts.{view_parts}
 use Rattle.segmented_log.proofs.CauseLemmas.{never}
 use Rattle.segmented_log.proofs.StepLemmas.{step_within, next_covered, first_covers}
-use Rattle.segmented_log.proofs.log.SegmentedLog.compact_next.Goals.{In-Some, After-join, In_ok-join}
+use Rattle.segmented_log.proofs.log.SegmentedLog.compact_next.Goals.{In_default, In-Some, After-join, In_ok-join}
 use Rattle.segmented_log.proofs.log.SegmentedLog.compact_next.Goals as goal
 
 pub returns-in_default-clause-files : goal.returns-in_default-clause-files
 returns-in_default-clause-files g c = λ h. changes_none (g.F.Folder.seen c.args.self.now.folder)
 
-pub returns-in_default-clause-any_moment : goal.returns-in_default-clause-any_moment
-returns-in_default-clause-any_moment g c = λ h.
+-- where there is no step, the log stays
+stays : (g : _) (c : In_default g) → IsTrue g.F.Folder.honest
+    → LeavesOnly g.F.Folder.moment g.F.Folder.left_since c.args.self.now.folder c.args.self.now.folder (IsLog c.args.self.now.first c.args.self.now.slots)
+stays g c h =
     let F = g.F.Folder in
     let log = c.self.inside in
     let settled = (OnFalse_at (ap (λ v. v.is_broken) c.self.view_is ∙ c.requires.works) c.self.invariant).1 h in
     subst (λ v. LeavesOnly F.moment F.left_since v.folder v.folder (IsLog v.first v.slots)) c.self.view_is
     (log_stays _ _ _ _ _ _ _ _ _ _ settled.0 log.folder (g.met.F.Folder.only_now log.folder))
 
-pub returns-in_default-clause-compacted : goal.returns-in_default-clause-compacted
-returns-in_default-clause-compacted g c = λ h no.
+pub returns-in_default-clause-any_moment : goal.returns-in_default-clause-any_moment
+returns-in_default-clause-any_moment g c = λ h. stays g (goal.at.returns-in_default-clause-any_moment g c).In_default h
+
+pub returns-then-from-eq0-clause-any_moment : goal.returns-then-from-eq0-clause-any_moment
+returns-then-from-eq0-clause-any_moment g c = λ h. stays g (goal.at.returns-then-from-eq0-clause-any_moment g c).In_default h
+
+pub returns-then-from-eq0-clause-files : goal.returns-then-from-eq0-clause-files
+returns-then-from-eq0-clause-files g c = λ h. changes_none (g.F.Folder.seen c.args.self.now.folder)
+
+pub returns-then-from-eq0-clause-joins : goal.returns-then-from-eq0-clause-joins
+returns-then-from-eq0-clause-joins g c = λ h. stay
+
+pub returns-then-from-eq0-clause-packed : goal.returns-then-from-eq0-clause-packed
+returns-then-from-eq0-clause-packed g c = λ h. none
+
+pub returns-then-from-eq0-clause-compacted : goal.returns-then-from-eq0-clause-compacted
+returns-then-from-eq0-clause-compacted g c = λ h.
     let F = g.F.Folder in
     let log = c.self.inside in
     let f = ((OnFalse_at (ap (λ v. v.is_broken) c.self.view_is ∙ c.requires.works) c.self.invariant).1 h).0 in
@@ -40,7 +58,7 @@ returns-in_default-clause-compacted g c = λ h no.
       tail = log.tail.bytes;
       parts = subst (λ l. AreParts log.first l log.tail.bytes) (sym same) f.parts;
       holds = subst (λ l. Holds l log.tail.bytes (F.seen log.folder)) (sym same) (f.on_disk.outcomes (F.seen log.folder) (g.met.F.Folder.seen_may_be_left log.folder h));
-      apart = subst (λ l. AreApart c.args.size (map (λ s. sealed_of s.first s.reader) l)) c.deref.ensures.value c.in_default.ensures.none;
+      apart = subst (λ l. AreApart c.args.size (map (λ s. sealed_of s.first s.reader) l)) c.deref.ensures.value (c.in_default.ensures.none c.if-from-eq0.true);
     })
 
 -- what can be done
@@ -63,6 +81,9 @@ step_fits g c =
 
 pub overflow_add-step : goal.overflow_add-step
 overflow_add-step g c = omega (arith, step_fits g (goal.at.overflow_add-step g c).In-Some)
+
+pub overflow_add-result : goal.overflow_add-result
+overflow_add-result g c = omega (arith, step_fits g (goal.at.overflow_add-result g c).In-Some)
 
 pub overflow_add-step-2 : goal.overflow_add-step-2
 overflow_add-step-2 g c = omega (arith, step_fits g (goal.at.overflow_add-step-2 g c).In-Some)
@@ -152,14 +173,23 @@ returns-clause-joins g c = λ h.
     subst (λ l. Compacts c.args.size c.args.self.now.segments l) (sym c.in_ok-remove_covered-2.ensures.left)
     (remove_next (run_joined g here h) (first_covers can (c.in_ok-join.ensures.joined h can.run)))
 
+pub returns-in_default-clause-packed : goal.returns-in_default-clause-packed
+returns-in_default-clause-packed g c = λ h. none
+
+pub returns-then-step-eq0-clause-packed : goal.returns-then-step-eq0-clause-packed
+returns-then-step-eq0-clause-packed g c = λ h. next none (c.in_ok-remove_covered.ensures.packed h)
+
+pub returns-clause-packed : goal.returns-clause-packed
+returns-clause-packed g c = λ h. next (next none (c.in_ok-join.ensures.packed h)) (c.in_ok-remove_covered-2.ensures.packed h)
+
 -- one of them is gone
 pub returns-then-step-eq0-clause-fewer : goal.returns-then-step-eq0-clause-fewer
-returns-then-step-eq0-clause-fewer g c = λ more.
+returns-then-step-eq0-clause-fewer g c =
     let within = step_within _ _ _ _ (step_is g (goal.at.returns-then-step-eq0-clause-fewer g c).In-Some) in
     omega (arith, ap (λ l. length l) c.in_ok-remove_covered.ensures.left, length-remove c.args.self.now.segments (c.in-Some.step.first + 1) within)
 
 pub returns-clause-fewer : goal.returns-clause-fewer
-returns-clause-fewer g c = λ more.
+returns-clause-fewer g c =
     let within = step_within _ _ _ _ (step_is g (goal.at.returns-clause-fewer g c).In-Some) in
     let many = c.join.ensures.many in
     omega (arith, many, ap (λ l. length l) c.in_ok-remove_covered-2.ensures.left, length-remove c.join.new.self.segments (c.in-Some.step.first + 1) (omega (arith, within, many)))

@@ -16,7 +16,9 @@ use Rattle.segmented_log.specs.Log.{HasSegment, Holds, IsLog}
 use Rattle.segmented_log.specs.Settled.{AddsSegment, IsSettledFolder}
 use Rattle.segmented_log.specs.Compacting.{IsRun, one_of, IsOfStore, slots_in, ChangesSegments}
 use Rattle.segmented_log.specs.Opening.{HasSegments}
+use Rattle.segmented_log.specs.Joining.{JoinsSome}
 use Rattle.segmented_log.proofs.CompactLemmas.{changes_replaced, segment_there}
+use Rattle.segmented_log.proofs.PackLemmas.{joins_one}
 use Rattle.segmented_log.proofs.SlotLemmas.{in_part}
 use Rattle.segmented_log.proofs.StepLemmas.{run_taken, of_store}
 use Rattle.segmented_log.proofs.RunOfParts.{run_moved, moved_one, view_parts, run_within, parts_there, head_is, run_part, run_slots, run_set, run_log, run_same, run_folder}
@@ -196,6 +198,14 @@ returns-clause-any_moment g c = λ h. moments_now g (goal.at.returns-clause-any_
 
 pub returns-clause-files : goal.returns-clause-files
 returns-clause-files g c = λ h. files_now g (goal.at.returns-clause-files g c).After-join_segments h
+
+pub returns-clause-packed : goal.returns-clause-packed
+returns-clause-packed g c = λ h.
+    let here = (goal.at.returns-clause-packed g c).After-join_segments in
+    let F = g.F.Folder in
+    let log = c.self.inside in
+    subst (λ w. JoinsSome (F.seen w.folder) (F.seen c.join_segments.new.folder)) c.self.view_is
+    (joins_one c.index.result.now.first _ (F.seen log.folder) (F.seen c.join_segments.new.folder) (c.in_ok-joined.ensures.joined h) (c.join_segments.ensures.elsewhere h))
 
 pub returns-clause-joined : goal.returns-clause-joined
 returns-clause-joined g c = λ h run.

@@ -14,6 +14,8 @@ use Rattle.segmented_log.specs.Log.{Holds, IsLog}
 use Rattle.segmented_log.specs.Settled.{IsSettledFolder}
 use Rattle.segmented_log.specs.Dropping.{LosesSegment}
 use Rattle.segmented_log.specs.Compacting.{AreNext, IsCovered, ChangesSegments}
+use Rattle.segmented_log.specs.Joining.{JoinsSome}
+use Rattle.segmented_log.proofs.PackLemmas.{joins_gone}
 use Rattle.segmented_log.proofs.CompactLemmas.{changes_removed, segment_there}
 use Rattle.segmented_log.proofs.RunOfParts.{covered_moved, view_parts, covered_is, map_removed, covered_left, without, covered_same, covered_log, covered_folder}
 use Rattle.segmented_log.proofs.NameLemmas.{segment_no_tail}
@@ -137,3 +139,10 @@ invariant_of-self-2 g c = (
 
 pub returns-clause-failed : goal.returns-clause-failed
 returns-clause-failed g c = λ is. absurd (ok_alone Failed _ is)
+
+pub returns-clause-packed : goal.returns-clause-packed
+returns-clause-packed g c = λ h.
+    let F = g.F.Folder in
+    let log = c.self.inside in
+    subst (λ w. JoinsSome (F.seen w.folder) (F.seen c.remove_segment.new.folder)) c.self.view_is
+    (joins_gone c.index.result.now.first (F.seen log.folder) (F.seen c.remove_segment.new.folder) (c.in_ok-remove_segment.ensures.seen h) (c.remove_segment.ensures.elsewhere h))

@@ -4,7 +4,7 @@ use Rattle.log_tail.specs.Tail.{first_of, IsTail}
 use Rattle.segmented_log.specs.Names.{tail_name}
 use Rattle.segmented_log.specs.Opening.{HasDamage}
 use Rattle.segmented_log.proofs.OpeningLemmas.{some_is, none_some}
-use Rattle.segmented_log.proofs.removing.find_tail.Goals as goal
+use Rattle.segmented_log.proofs.found_tail.find_tail.Goals as goal
 
 pub returns-in-Some-clause-first : goal.returns-in-Some-clause-first
 returns-in-Some-clause-first g c = λ h.
