@@ -52,6 +52,8 @@ class Many(LogCase):
         self.assert_same(self.gives("cat", "events"), text[500 * 7:] + b"new\n", "other records after a compaction")
 
     def test_each_record_is_copied_once_by_each_round_of_joins(self):
+        # This syncs each segment, and writes to `lock` before and after it.
+        self.gives("append", "events", input=b"")
         segments = sum(len(content) for name, content in self.files().items() if name.endswith(".store"))
         before = written_bytes()
         self.gives("compact", "events")
