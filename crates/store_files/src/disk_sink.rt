@@ -42,44 +42,22 @@ where
     } };
 }
 
-/// An output of nothing yet in the folder of the file of this name, as `DiskSink::create` begins it.
-pub fn begin_publication<R: Files + Drop>(
-    alloc: Global,
-    rt: R,
-    path: &str,
-) -> Result<Publication<OsFolder<R>>, CreateError>
-where
-    R::File: LockFile,
-    ensures content { IfOk result (λ p. p.content ≡ []) }
-    ensures termination { IfOk result (λ p. p.termination ≡ never_terminated) }
-    ensures failures { IfOk result (λ p. p.failures ≡ 0) }
-{
-    let (folder, name) = OsFolder::of_file(alloc, rt, path)?;
-    publication_in(alloc, folder, name.as_str())
-}
-
-// An output of nothing yet for a file of this name in its folder.
-fn publication_in<R: Files + Drop>(
-    alloc: Global,
-    folder: OsFolder<R>,
-    name: &str,
-) -> Result<Publication<OsFolder<R>>, CreateError>
-where
-    R::File: LockFile,
-    ensures content { IfOk result (λ p. p.content ≡ []) }
-    ensures termination { IfOk result (λ p. p.termination ≡ never_terminated) }
-    ensures failures { IfOk result (λ p. p.failures ≡ 0) }
-{
-    match Publication::create(alloc, folder, name) {
-        Ok(output) => Ok(output),
-        Err((error, _)) => Err(CreateError::System(error)),
-    }
-}
-
 impl<R: Files + Drop> DiskSink<R>
 where
     R::File: LockFile,
 {
+    // An output of nothing yet for a file of this name in its folder.
+    fn begin(alloc: Global, folder: OsFolder<R>, name: &str) -> Result<DiskSink<R>, CreateError>
+        ensures content { IfOk result (λ s. s.content ≡ []) }
+        ensures termination { IfOk result (λ s. s.termination ≡ never_terminated) }
+        ensures failures { IfOk result (λ s. s.failures ≡ 0) }
+    {
+        match Publication::create(alloc, folder, name) {
+            Ok(output) => Ok(DiskSink { output }),
+            Err((error, _)) => Err(CreateError::System(error)),
+        }
+    }
+
     /// An output of nothing yet, for a file of this name; links are followed. The file beside has `.part` after the
     /// name: one that a crash left is taken over, and one that another writes is refused. Only a plain file is
     /// replaced; its mode is kept, and its owner where the system lets us. The folder is opened, and synced at the end.
@@ -88,8 +66,8 @@ where
         ensures termination { IfOk result (λ s. s.termination ≡ never_terminated) }
         ensures failures { IfOk result (λ s. s.failures ≡ 0) }
     {
-        let output = begin_publication(alloc, rt, path)?;
-        Ok(DiskSink { output })
+        let (folder, name) = OsFolder::of_file(alloc, rt, path)?;
+        DiskSink::begin(alloc, folder, name.as_str())
     }
 
     /// The same for a file that may not replace another: one that has the name is refused, and again if it came before
@@ -100,8 +78,7 @@ where
         ensures failures { IfOk result (λ s. s.failures ≡ 0) }
     {
         let (folder, name) = OsFolder::of_new_file(alloc, rt, path)?;
-        let output = publication_in(alloc, folder, name.as_str())?;
-        Ok(DiskSink { output })
+        DiskSink::begin(alloc, folder, name.as_str())
     }
 
     /// What the system said at the call that failed.

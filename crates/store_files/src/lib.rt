@@ -19,7 +19,7 @@ mod written_file;
 
 pub use create_error::CreateError;
 pub use disk_file::DiskFile;
-pub use disk_sink::{DiskSink, begin_publication};
+pub use disk_sink::DiskSink;
 pub use loading::{load, read_all};
 pub use lock_mark::is_left_synced;
 pub use locked_folder::LockedFolder;

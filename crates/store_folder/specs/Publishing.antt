@@ -1,5 +1,5 @@
 -- What a crash leaves while a file is published.
-use Rattle.std.specs.Prelude.{◌≡◌, ◌⊎◌, ℕ, List, Option, Some, codes}
+use Rattle.std.specs.Prelude.{◌≡◌, ◌⊎◌, ◌<◌, ℕ, List, ◌++◌, length, Option, Some, codes}
 use Rattle.store_base.specs.Outputs.{Termination, IsTerminated}
 use Rattle.store_folder.specs.Moments.{LeavesOnly}
 use Rattle.store_folder.specs.Folder.{Look, Elsewhere, ElsewhereOfBoth, Keeps}
@@ -36,6 +36,10 @@ pub record IsSameOutput {F : Type 0} (old new : Published F) : Type 0 where
   pub first : new.first ≡ old.first
   pub beside : new.beside ≡ old.beside
   pub name : new.name ≡ old.name
+
+-- All that was written is in the file beside, but for an end of fewer bytes than 64 KiB.
+abbrev pub HasPassedOn : {F : Type 0} → (F → Look) → Published F → Type 0
+HasPassedOn seen p = (sent : List ℕ) × (waiting : List ℕ) × (seen p.folder p.beside ≡ Some sent) × (p.content ≡ sent ++ waiting) × (length waiting < 65536)
 
 -- What holds of each output. A crash at any moment since it began leaves under the name what was there, or the whole
 -- content; before the first `terminate`, what was there. After its end each crash leaves the whole content.

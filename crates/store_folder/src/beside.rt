@@ -1,6 +1,6 @@
 //! The file beside a name, which a writer writes that knows of outputs alone, in a folder that may be lent.
 
-ghost use Rattle.std.specs.Prelude.{◌≡◌, ◌++◌, ◌≤◌, ℕ, List, [], None, Some, IsTrue, IfOk, IfErr, OnOk, OnErr};
+ghost use Rattle.std.specs.Prelude.{◌≡◌, ◌++◌, ◌≤◌, ◌<◌, ℕ, List, [], None, Some, IsTrue, IfOk, IfErr, OnOk, OnErr};
 ghost use Rattle.std.specs.Prelude.{IfSome, length, string_bytes};
 ghost use Rattle.store_base.specs.Counts.{HasRisen};
 ghost use Rattle.store_base.specs.Outputs.{never_terminated};
@@ -29,14 +29,14 @@ impl Origin for Brand {
     ghost name = { [] };
 }
 
-// The bytes that wait to be passed to a file.
+/// The bytes that wait to be passed to a file.
 #[derive(Drop)]
-struct Waiting {
-    buffer: Vec<u8>,
+pub(crate) struct Waiting {
+    pub(crate) buffer: Vec<u8>,
     // What was passed to it. It takes no memory: only clauses read it.
-    sent: Sent,
+    pub(crate) sent: Sent,
     // How many bytes were passed to it, or wait.
-    num_bytes: u64,
+    pub(crate) num_bytes: u64,
 }
 
 // Passes bytes to the file of this name.
@@ -58,8 +58,21 @@ fn pass_on<F: Folder>(folder: &mut F, name: &str, bytes: &[u8], sent: &mut Sent)
 }
 
 impl Waiting {
-    // Passes what waits to the file.
-    fn hand_over<F: Folder>(&mut self, folder: &mut F, name: &str) -> io::Result<()>
+    /// None yet.
+    pub(crate) fn new(alloc: Global) -> Waiting
+        ensures empty { result.buffer.items ≡ [] }
+        ensures sent { result.sent.bytes ≡ [] }
+        ensures count { result.num_bytes ≡ 0 }
+    {
+        Waiting {
+            buffer: Vec::new(alloc),
+            sent: Sent::new(),
+            num_bytes: 0,
+        }
+    }
+
+    /// Passes what waits to the file.
+    pub(crate) fn hand_over<F: Folder>(&mut self, folder: &mut F, name: &str) -> io::Result<()>
         requires { IsTrue F.honest → F.seen folder.old name.now ≡ Some self.old.sent.bytes }
         ensures empty { OnOk result (self.new.buffer.items ≡ []) }
         ensures count { self.new.num_bytes ≡ self.old.num_bytes }
@@ -79,9 +92,9 @@ impl Waiting {
         Ok(())
     }
 
-    // Passes bytes to the file, or holds them until there are enough of them.
+    /// Passes bytes to the file, or holds them until there are enough of them.
     #[inline]
-    fn take<F: Folder>(&mut self, folder: &mut F, name: &str, bytes: &[u8]) -> io::Result<()>
+    pub(crate) fn take<F: Folder>(&mut self, folder: &mut F, name: &str, bytes: &[u8]) -> io::Result<()>
         requires there { IsTrue F.honest → F.seen folder.old name.now ≡ Some self.old.sent.bytes }
         requires count { self.old.num_bytes ≡ length (self.old.sent.bytes ++ self.old.buffer.items) }
         ensures content { OnOk result (self.new.sent.bytes ++ self.new.buffer.items
@@ -94,6 +107,7 @@ impl Waiting {
             (standing F.seen F.may_hold F.may_leave F.moment F.left_since
             F.entry_kept F.trusted F.handle F.failures folder.new) }
         ensures trust { IsTrue F.honest → F.trusted folder.old name.now → F.trusted folder.new name.now }
+        ensures few { OnOk result (length self.new.buffer.items < 65536) }
         ensures fault { IfErr result (IsFault (F.failures folder.old) (F.failures folder.new)) }
     {
         // No file has as many bytes.
@@ -176,11 +190,7 @@ impl<F: Folder, K: Origin> Beside<F, K> {
         Ok(Beside {
             folder,
             name,
-            waiting: Waiting {
-                buffer: Vec::new(alloc),
-                sent: Sent::new(),
-                num_bytes: 0,
-            },
+            waiting: Waiting::new(alloc),
             ends: 0,
             end: None,
             failures: 0,

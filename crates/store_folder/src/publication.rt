@@ -4,22 +4,17 @@ ghost use Rattle.std.specs.Prelude.{◌≡◌, ◌≢◌, ◌++◌, ◌≤◌, �
 ghost use Rattle.std.specs.Prelude.{IsErr, is_ok, length, Some, string_bytes, unwrap_or};
 ghost use Rattle.store_base.specs.Counts.{HasRisen};
 ghost use Rattle.store_base.specs.Outputs.{never_terminated, terminated_once};
-ghost use Rattle.store_folder.specs.Moments.{ComesFrom, Elapses, LeavesOnly};
-ghost use Rattle.store_folder.specs.Folder.{Elsewhere, EntriesStay};
-ghost use Rattle.store_folder.specs.Publishing.{part, IsUntouched, IsSafe, IsSameOutput};
-ghost use Rattle.store_folder.specs.Stages.{IsBeside};
+ghost use Rattle.store_folder.specs.Moments.{LeavesOnly};
+ghost use Rattle.store_folder.specs.Publishing.{part, IsUntouched, IsSafe, IsSameOutput, HasPassedOn};
 
+use crate::beside::Waiting;
 use crate::folder::Folder;
 use crate::publishing::publish;
-use crate::sent::{Piece, Sent};
 use std::alloc::Global;
 use std::io;
 use std::marker::Model;
 use std::snapshot::Snapshot;
 use store_base::{TerminatingWrite, WriteFault};
-
-// How many bytes are held before they are passed to the folder. A write of as many is passed on as it is.
-const BUFFER_SIZE: usize = 1 << 16;
 
 /// How far an output has come.
 #[derive(Clone, Copy, PartialEq, Eq)]
@@ -38,7 +33,8 @@ pub(crate) enum Stage {
 pub struct Publication<F: Folder> {
     folder: F,
     name: String,
-    beside: FileBeside,
+    beside: String,
+    waiting: Waiting,
     // The folder as `create` got it. It takes no memory: only clauses read it.
     first: Snapshot<F>,
     stage: Stage,
@@ -47,47 +43,38 @@ pub struct Publication<F: Folder> {
     last_error: Option<io::Error>,
 }
 
-// The file beside the name, and the bytes that wait to be passed to it.
-#[derive(Drop)]
-struct FileBeside {
-    name: String,
-    buffer: Vec<u8>,
-    // What was passed to it. It takes no memory: only clauses read it.
-    sent: Sent,
-    // How many bytes were passed to it, or wait.
-    num_bytes: u64,
-}
-
 /// Clauses see what was written, its ends, how often a call failed, the two names, and the folder at first and now.
 impl<F: Folder> Model for Publication<F> {
     ghost use Rattle.store_folder.specs.Publishing.{Published};
     ghost use Rattle.std.specs.Prelude.{◌≡◌, ◌≢◌, ◌++◌, length, IsTrue, string_bytes};
     ghost use Rattle.store_folder.specs.Moments.{LeavesOnly};
     ghost use Rattle.store_folder.specs.Publishing.{IsUntouched};
+    ghost use Rattle.store_folder.specs.Beside.{standing};
     ghost use Rattle.store_folder.specs.Stages.{end_of, IsSound};
 
     ghost Value = { Published F };
 
     ghost view = { λ s. record {
-      content = s.beside.sent.bytes ++ s.beside.buffer.items;
+      content = s.waiting.sent.bytes ++ s.waiting.buffer.items;
       termination = record {
         calls = s.ends;
-        at = end_of s.stage (s.beside.sent.bytes ++ s.beside.buffer.items);
+        at = end_of s.stage (s.waiting.sent.bytes ++ s.waiting.buffer.items);
       };
       failures = s.failures;
-      beside = string_bytes s.beside.name;
+      beside = string_bytes s.beside;
       name = string_bytes s.name;
       first = s.first.value;
       folder = s.folder;
     } };
 
-    ghost invariant = { λ s. (string_bytes s.beside.name ≢ string_bytes s.name) × (IsTrue F.honest
-        → IsSound F.seen F.trusted F.may_leave F.moment F.left_since s.stage s.first.value s.folder
-        (string_bytes s.beside.name) (string_bytes s.name) s.beside.sent.bytes
-        (s.beside.sent.bytes ++ s.beside.buffer.items)) × (IsTrue F.honest → s.ends ≡ 0
+    ghost invariant = { λ s. (string_bytes s.beside ≢ string_bytes s.name) × (IsTrue F.honest
+        → IsSound (standing F.seen F.may_hold F.may_leave F.moment F.left_since
+        F.entry_kept F.trusted F.handle F.failures) s.stage s.first.value s.folder
+        (string_bytes s.beside) (string_bytes s.name) s.waiting.sent.bytes
+        (s.waiting.sent.bytes ++ s.waiting.buffer.items)) × (IsTrue F.honest → s.ends ≡ 0
         → LeavesOnly F.moment F.left_since s.first.value s.folder
-        (IsUntouched (F.may_leave s.first.value) (string_bytes s.beside.name)))
-        × (s.beside.num_bytes ≡ length (s.beside.sent.bytes ++ s.beside.buffer.items)) };
+        (IsUntouched (F.may_leave s.first.value) (string_bytes s.beside)))
+        × (s.waiting.num_bytes ≡ length (s.waiting.sent.bytes ++ s.waiting.buffer.items)) };
 }
 
 // The name, and the name of the file beside.
@@ -97,85 +84,6 @@ fn names(alloc: Global, name: &str) -> io::Result<(String, String)>
 {
     let beside = format!(in alloc; "{name}.part")?;
     Ok((String::from_str(alloc, name)?, beside))
-}
-
-// Passes bytes to the folder.
-fn pass_on<F: Folder>(folder: &mut F, beside: &str, bytes: &[u8], sent: &mut Sent) -> io::Result<()>
-    requires { IsTrue F.honest → IsSome (F.seen folder.old beside.now) }
-    ensures sent { OnOk result (sent.new.bytes ≡ sent.old.bytes ++ bytes.now) }
-    ensures kept { OnErr result (sent.new.bytes ≡ sent.old.bytes) }
-    ensures file { IsTrue F.honest → OnOk result
-        (F.seen folder.new beside.now ≡ Some (unwrap_or (F.seen folder.old beside.now) [] ++ bytes.now)) }
-    ensures crash { IsTrue F.honest
-        → ComesFrom (Elsewhere beside.now) (F.may_leave folder.old) (F.may_leave folder.new) }
-    ensures time { IsTrue F.honest → Elapses (F.moment folder.old) (F.moment folder.new)
-        (F.left_since folder.old) (F.left_since folder.new) (F.may_leave folder.new) }
-    ensures trust { IsTrue F.honest → EntriesStay (F.trusted folder.old) (F.trusted folder.new) }
-{
-    folder.append(beside, bytes)?;
-    *sent = sent.and(&Piece { bytes });
-    Ok(())
-}
-
-impl FileBeside {
-    // Passes what waits to the folder.
-    fn hand_over<F: Folder>(&mut self, folder: &mut F) -> io::Result<()>
-        requires { IsTrue F.honest → IsSome (F.seen folder.old (string_bytes self.old.name)) }
-        ensures sent { OnOk result (self.new.sent.bytes ≡ self.old.sent.bytes ++ self.old.buffer.items) }
-        ensures empty { OnOk result (self.new.buffer.items ≡ []) }
-        ensures name { self.new.name ≡ self.old.name }
-        ensures count { self.new.num_bytes ≡ self.old.num_bytes }
-        ensures content { self.new.sent.bytes ++ self.new.buffer.items
-            ≡ self.old.sent.bytes ++ self.old.buffer.items }
-        ensures file { IsTrue F.honest → OnOk result (F.seen folder.new (string_bytes self.old.name)
-            ≡ Some (unwrap_or (F.seen folder.old (string_bytes self.old.name)) [] ++ self.old.buffer.items)) }
-        ensures crash { IsTrue F.honest → ComesFrom (Elsewhere (string_bytes self.old.name))
-            (F.may_leave folder.old) (F.may_leave folder.new) }
-        ensures time { IsTrue F.honest → Elapses (F.moment folder.old) (F.moment folder.new)
-            (F.left_since folder.old) (F.left_since folder.new) (F.may_leave folder.new) }
-        ensures trust { IsTrue F.honest → EntriesStay (F.trusted folder.old) (F.trusted folder.new) }
-    {
-        pass_on(folder, self.name.as_str(), &self.buffer, &mut self.sent)?;
-        self.buffer.clear();
-        Ok(())
-    }
-
-    // Passes bytes to the folder, or holds them until there are enough of them.
-    #[inline]
-    fn take<F: Folder>(&mut self, folder: &mut F, bytes: &[u8]) -> io::Result<()>
-        requires there { IsTrue F.honest → IsSome (F.seen folder.old (string_bytes self.old.name)) }
-        requires count { self.old.num_bytes ≡ length (self.old.sent.bytes ++ self.old.buffer.items) }
-        ensures content { OnOk result (self.new.sent.bytes ++ self.new.buffer.items
-            ≡ (self.old.sent.bytes ++ self.old.buffer.items) ++ bytes.now) }
-        ensures name { self.new.name ≡ self.old.name }
-        ensures count { self.new.num_bytes ≡ length (self.new.sent.bytes ++ self.new.buffer.items) }
-        ensures beside { IsTrue F.honest → OnOk result
-            ((first : F) → IsBeside F.seen F.trusted F.may_leave F.moment F.left_since
-            first folder.old (string_bytes self.old.name) self.old.sent.bytes
-            → IsBeside F.seen F.trusted F.may_leave F.moment
-            F.left_since first folder.new (string_bytes self.old.name) self.new.sent.bytes) }
-        ensures any_moment { IsTrue F.honest → (first : F) → IsBeside F.seen F.trusted F.may_leave F.moment F.left_since
-            first folder.old (string_bytes self.old.name) self.old.sent.bytes → LeavesOnly F.moment F.left_since
-            first folder.new (IsUntouched (F.may_leave first) (string_bytes self.old.name)) }
-    {
-        let Some(num_bytes) = self.num_bytes.checked_add(bytes.len() as u64) else {
-            return Err(io::ErrorKind::FileTooLarge.into());
-        };
-        if bytes.len() >= BUFFER_SIZE {
-            if !self.buffer.is_empty() {
-                self.hand_over(folder)?;
-            }
-            pass_on(folder, self.name.as_str(), bytes, &mut self.sent)?;
-            self.num_bytes = num_bytes;
-            return Ok(());
-        }
-        self.buffer.extend_from_slice(bytes)?;
-        self.num_bytes = num_bytes;
-        if self.buffer.len() < BUFFER_SIZE {
-            return Ok(());
-        }
-        self.hand_over(folder)
-    }
 }
 
 impl<F: Folder> Publication<F> {
@@ -205,12 +113,8 @@ impl<F: Folder> Publication<F> {
         Ok(Publication {
             folder,
             name,
-            beside: FileBeside {
-                name: beside,
-                buffer: Vec::new(alloc),
-                sent: Sent::new(),
-                num_bytes: 0,
-            },
+            beside,
+            waiting: Waiting::new(alloc),
             first,
             stage: Stage::Open,
             ends: 0,
@@ -228,7 +132,7 @@ impl<F: Folder> Publication<F> {
     pub fn num_bytes(&self) -> u64
         ensures { result ≡ length self.now.content }
     {
-        self.beside.num_bytes
+        self.waiting.num_bytes
     }
 
     /// The folder.
@@ -293,14 +197,19 @@ impl<F: Folder> TerminatingWrite for Publication<F> {
         ensures count { self.old.failures ≤ self.new.failures }
         ensures fault { OnErr result (HasRisen self.old.failures self.new.failures) }
 
-        // Beside what every output promises: an Ok call leaves the count of failures, and it is the output of one file.
+        // Beside what every output promises: an Ok call leaves the count of failures, and it is the output of one file,
+        // to which all bytes but a short end were passed on.
         ensures steady { OnOk result (self.new.failures ≡ self.old.failures) }
         ensures same { IsSameOutput self.old self.new }
+        ensures passed_on { IsTrue F.honest → OnOk result (HasPassedOn F.seen self.new) }
     {
         if self.stage != Stage::Open {
             return self.refuse();
         }
-        if let Err(error) = self.beside.take(&mut self.folder, bytes) {
+        if let Err(error) = self
+            .waiting
+            .take(&mut self.folder, self.beside.as_str(), bytes)
+        {
             self.stage = Stage::Failed;
             return self.fail(error);
         }
@@ -323,15 +232,14 @@ impl<F: Folder> TerminatingWrite for Publication<F> {
         if self.stage != Stage::Open {
             return self.refuse();
         }
-        if let Err(error) = self.beside.hand_over(&mut self.folder) {
+        if let Err(error) = self
+            .waiting
+            .hand_over(&mut self.folder, self.beside.as_str())
+        {
             self.stage = Stage::Failed;
             return self.fail(error);
         }
-        let named = publish(
-            &mut self.folder,
-            self.beside.name.as_str(),
-            self.name.as_str(),
-        );
+        let named = publish(&mut self.folder, self.beside.as_str(), self.name.as_str());
         if let Err(error) = named {
             self.stage = Stage::Failed;
             return self.fail(error);

@@ -1,7 +1,7 @@
 //! Publishing a file: it is written beside its name, synced, renamed, and then the folder is synced.
 
 ghost use Rattle.std.specs.Prelude.{◌≡◌, ◌≢◌, ◌≤◌, ℕ, List, All, IsTrue, IsSome, OnOk, OnErr, Some, map};
-ghost use Rattle.store_folder.specs.Calls.{doing_of, publishing, IsApart};
+ghost use Rattle.store_folder.specs.Calls.{doing_of, publishing, replacing, IsApart};
 ghost use Rattle.store_base.specs.Counts.{HasRisen};
 ghost use Rattle.store_folder.specs.Moments.{ComesFrom, LeavesOnly};
 ghost use Rattle.store_folder.specs.Folder.{ElsewhereOfBoth, EntriesStayElsewhereOfBoth, FilesElsewhereOfBoth, Keeps};
@@ -66,6 +66,21 @@ pub fn publish<F: Folder>(folder: &mut F, beside: &str, name: &str) -> io::Resul
     carry_out(folder, &publish_calls(beside, name))
 }
 
+// The calls that make a file of these bytes beside the name, and give it the name. They lend the bytes.
+fn replace_calls<'a>(beside: &'a str, name: &'a str, bytes: &'a [u8]) -> [FolderCall<'a>; 5]
+    ensures calls { map doing_of result ≡ replacing beside.now name.now bytes.now }
+    ensures apart { beside.now ≢ name.now → All (λ call. IsApart (doing_of call)) result }
+{
+    let [sync, rename, sync_folder] = publish_calls(beside, name);
+    [
+        FolderCall::Create(beside),
+        FolderCall::Append(beside, bytes),
+        sync,
+        rename,
+        sync_folder,
+    ]
+}
+
 /// Replaces the file of this name, or makes it, with these bytes. They are written to the file beside, which is made or
 /// taken over, and then published.
 ///
@@ -98,7 +113,5 @@ pub fn replace<F: Folder>(folder: &mut F, beside: &str, name: &str, bytes: &[u8]
     ensures count { F.failures folder.old ≤ F.failures folder.new }
     ensures fault { OnErr result (HasRisen (F.failures folder.old) (F.failures folder.new)) }
 {
-    folder.create(beside)?;
-    folder.append(beside, bytes)?;
-    publish(folder, beside, name)
+    carry_out(folder, &replace_calls(beside, name, bytes))
 }

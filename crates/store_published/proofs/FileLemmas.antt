@@ -1,5 +1,5 @@
 -- Documents that are put after those of a writer.
-use Rattle.std.proofs.Common.{◌≡◌, List, ◌++◌, map, sym, ◌∙◌, ap, append_assoc, ℕ}
+use Rattle.std.proofs.Common.{List, ◌++◌, map, sym, ◌∙◌, ap, append_assoc, ℕ}
 use Rattle.std.proofs.lemmas.List.{map-append}
 use Rattle.std.proofs.lemmas.List.Sums.{fold-append}
 use Rattle.docstore.specs.Laws.{taken}

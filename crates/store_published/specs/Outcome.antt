@@ -23,13 +23,12 @@ IsRefusal refuses old new (Folder e) = IsFault old new e
 IsRefusal refuses old new (Store e) = Unit {0}
 
 -- Why an export was not published: the store is of version 1, and nothing was read; a read of its file failed; memory
--- ran out; or a call of the folder failed, or of the output.
-abbrev pub IsExportRefusal : Reading → Reading → FillError StoreError → Type 0
-IsExportRefusal reader read (Filling OldVersion) = (reader.version ≡ V1) × (read ≡ reader)
-IsExportRefusal reader read (Filling Read) = HasRisen reader.file.failures read.file.failures
-IsExportRefusal reader read (Filling Memory) = read.file.failures ≡ reader.file.failures
-IsExportRefusal reader read (Filling (Failed Write)) = Unit {0}
-IsExportRefusal reader read (Filling _) = ⊥
-IsExportRefusal reader read (Folder e) = Unit {0}
-IsExportRefusal reader read (Store (Failed Write)) = Unit {0}
-IsExportRefusal reader read (Store _) = ⊥
+-- ran out; the output failed; or a call of the folder did, or memory for one ran out.
+abbrev pub IsExportRefusal : Reading → Reading → ℕ → ℕ → FillError StoreError → Type 0
+IsExportRefusal reader read old new (Filling OldVersion) = (reader.version ≡ V1) × (read ≡ reader)
+IsExportRefusal reader read old new (Filling Read) = HasRisen reader.file.failures read.file.failures
+IsExportRefusal reader read old new (Filling Memory) = read.file.failures ≡ reader.file.failures
+IsExportRefusal reader read old new (Filling (Failed Write)) = Unit {0}
+IsExportRefusal reader read old new (Filling _) = ⊥
+IsExportRefusal reader read old new (Folder e) = IsFault old new e
+IsExportRefusal reader read old new (Store _) = ⊥

@@ -1,9 +1,9 @@
 //! Stores that are exported as files of version 2 and published in one call.
 
-ghost use Rattle.std.specs.Prelude.{◌≡◌, ◌≢◌, ◌++◌, ℕ, List, [], length, IsTrue, IfOk, IfErr, OnOk, IfSome};
+ghost use Rattle.std.specs.Prelude.{◌≡◌, ◌≢◌, ◌≤◌, ◌++◌, ℕ, List, [], length, IsTrue, IfOk, IfErr, OnOk, IfSome};
 ghost use Rattle.std.specs.Prelude.{IsNone, Some, string_bytes};
-ghost use Rattle.store_folder.specs.Moments.{LeavesOnly};
-ghost use Rattle.store_folder.specs.Folder.{Keeps};
+ghost use Rattle.store_folder.specs.Moments.{ComesFrom, LeavesOnly};
+ghost use Rattle.store_folder.specs.Folder.{Keeps, ElsewhereOfBoth, EntriesStayElsewhereOfBoth, FilesElsewhereOfBoth};
 ghost use Rattle.store_folder.specs.Publishing.{part};
 ghost use Rattle.store_reader.specs.Reading.{num_docs};
 ghost use Rattle.store_reader.specs.Parts.{number_of_parts};
@@ -63,10 +63,11 @@ fn export_beside<F: Folder, K: Origin, H: FileHandle>(
         × (IsTrue F.honest → F.seen r.folder K.name ≡ Some content)) }
     ensures trusted { IsTrue F.honest → IfOk result (λ r. F.trusted r.folder K.name) }
     ensures old_version { OnOk result (reader.old.version ≢ DocStoreVersion.V1) }
-    ensures refused { IfErr result (λ e. IsExportRefusal reader.old reader.new e.error) }
+    ensures refused { IfErr result (λ e. IsExportRefusal reader.old reader.new
+        K.first.failures (F.failures e.folder) e.error) }
     ensures read { OnOk result
         (IsReadInPieces (number_of_parts part_bytes reader.old.checkpoints) reader.old reader.new) }
-    ensures kept { IsReadAtMost (number_of_parts part_bytes reader.old.checkpoints) reader.old reader.new }
+    ensures reads { IsReadAtMost (number_of_parts part_bytes reader.old.checkpoints) reader.old reader.new }
     ensures follows { IfOk result (λ r. Follows (IsTrue F.honest) K.name K.first
         (standing F.seen F.may_hold F.may_leave F.moment F.left_since
         F.entry_kept F.trusted F.handle F.failures r.folder)) }
@@ -118,10 +119,12 @@ fn export_in<F: Folder, H: FileHandle>(
         × (IsTrue F.honest → F.seen folder.new (string_bytes beside) ≡ Some content)) }
     ensures trusted { IsTrue F.honest → OnOk result (F.trusted folder.new (string_bytes beside)) }
     ensures old_version { OnOk result (reader.old.version ≢ DocStoreVersion.V1) }
-    ensures refused { IfErr result (IsExportRefusal reader.old reader.new) }
+    ensures count { F.failures folder.old ≤ F.failures folder.new }
+    ensures refused { IfErr result (IsExportRefusal reader.old reader.new
+        (F.failures folder.old) (F.failures folder.new)) }
     ensures read { OnOk result
         (IsReadInPieces (number_of_parts part_bytes reader.old.checkpoints) reader.old reader.new) }
-    ensures kept { IsReadAtMost (number_of_parts part_bytes reader.old.checkpoints) reader.old reader.new }
+    ensures reads { IsReadAtMost (number_of_parts part_bytes reader.old.checkpoints) reader.old reader.new }
     ensures touched { IsTrue F.honest → TouchesOnly (string_bytes beside)
         (standing F.seen F.may_hold F.may_leave F.moment F.left_since
         F.entry_kept F.trusted F.handle F.failures folder.old)
@@ -159,18 +162,37 @@ pub fn publish_export<F: Folder, H: FileHandle>(
 ) -> Result<Written, FillError<StoreError>>
     ensures exported { IfOk result (λ written. (content : List ℕ) × ((export : IsExportOf reader.old content)
         × AreNumbersOf content export.blocks written)
-        × (IsTrue F.honest → Keeps name.now (Some content) (F.may_leave folder.new))) }
+        × (IsTrue F.honest → Keeps name.now (Some content) (F.may_leave folder.new))
+        × (IsTrue F.honest → F.seen folder.new name.now ≡ Some content)) }
 
     // A store of version 1 is refused, and each other refusal has its cause.
     ensures old_version { OnOk result (reader.old.version ≢ DocStoreVersion.V1) }
-    ensures refused { IfErr result (IsExportRefusal reader.old reader.new) }
+    ensures count { F.failures folder.old ≤ F.failures folder.new }
+    ensures refused { IfErr result (IsExportRefusal reader.old reader.new
+        (F.failures folder.old) (F.failures folder.new)) }
 
     // The data was read once, in parts; of a store that is not exported no more than that.
     ensures read { OnOk result
         (IsReadInPieces (number_of_parts part_bytes reader.old.checkpoints) reader.old reader.new) }
-    ensures kept { IsReadAtMost (number_of_parts part_bytes reader.old.checkpoints) reader.old reader.new }
+    ensures reads { IsReadAtMost (number_of_parts part_bytes reader.old.checkpoints) reader.old reader.new }
     ensures any_moment { IsTrue F.honest → LeavesOnly F.moment F.left_since folder.old folder.new
         (IsOldOrNew (F.may_leave folder.old) (name.now ++ part) name.now (IsExportOf reader.old)) }
+
+    // No other name was touched, and after an Ok the entry of every name is on the disk.
+    ensures elsewhere { IsTrue F.honest
+        → ElsewhereOfBoth (name.now ++ part) name.now (F.seen folder.old) (F.seen folder.new) }
+    ensures files { IsTrue F.honest
+        → FilesElsewhereOfBoth (name.now ++ part) name.now (F.may_hold folder.old) (F.may_hold folder.new) }
+    ensures crash { IsTrue F.honest → ComesFrom (ElsewhereOfBoth (name.now ++ part) name.now)
+        (F.may_leave folder.old) (F.may_leave folder.new) }
+    ensures entries { IsTrue F.honest → EntriesStayElsewhereOfBoth (name.now ++ part) name.now
+        (F.entry_kept folder.old) (F.entry_kept folder.new) }
+    ensures kept { IsTrue F.honest → OnOk result ((n : List ℕ) → F.entry_kept folder.new n) }
+
+    // After an Ok no sync of the file has failed, and of the others as before.
+    ensures moved { IsTrue F.honest → OnOk result (F.trusted folder.new name.now) }
+    ensures trust { IsTrue F.honest → EntriesStayElsewhereOfBoth (name.now ++ part) name.now
+        (F.trusted folder.old) (F.trusted folder.new) }
 {
     let beside = match format!(in alloc; "{name}.part") {
         Ok(beside) => beside,

@@ -12,4 +12,6 @@ mod marks;
 #[cfg(test)]
 mod outputs;
 #[cfg(test)]
+mod published;
+#[cfg(test)]
 mod reading;

@@ -1,70 +1,39 @@
-use Rattle.std.proofs.Common.{[], Some, sym, ◌∙◌}
+use Rattle.std.proofs.Common.{List, is_ok, subst}
 use Rattle.std.specs.Prelude.{IsTrue}
-use Rattle.std.proofs.lemmas.Result.{on_ok_weaker}
-use Rattle.store_base.specs.ReadingLemmas.{some_is}
-use Rattle.store_folder.specs.Stages.{IsBeside}
-use Rattle.store_folder.proofs.Steps.{weaker, written_elsewhere}
-use Rattle.store_folder.proofs.Runs.{again, of_both, then_both, begun, not_begun, untouched_old, appended, append_failed, named, named_kept}
-use Rattle.store_folder.proofs.publishing.replace.Goals.{In_ok-append}
+use Rattle.store_folder.specs.Calls.{Doing, Kind, kind, Carried, replacing}
+use Rattle.store_folder.proofs.PublishLemmas.{replace_run, replace_kept, replace_file, replace_seen, on_ok_from}
+use Rattle.store_folder.proofs.publishing.replace.Goals.{After-carry_out}
 use Rattle.store_folder.proofs.publishing.replace.Goals as goal
 
--- the bytes beside the name, after they were written
-whole : (g : _) (c : In_ok-append g) → IsTrue g.F.Folder.honest
-    → IsBeside g.F.Folder.seen g.F.Folder.trusted g.F.Folder.may_leave g.F.Folder.moment g.F.Folder.left_since c.args.folder.now c.append.new.self c.args.beside.now c.args.bytes.now
-whole g c h =
-    let F = g.F.Folder in
-    let old = c.args.folder.now in
-    let beside = c.args.beside.now in
-    let start = begun F.seen F.trusted F.may_leave F.moment F.left_since beside old c.create.new.self (g.met.F.Folder.only_now old)
-    (c.create.ensures.crash h) (c.create.ensures.time h) (c.in_ok-create.ensures.created h) (c.in_ok-create.ensures.fresh h) in
-    appended F.seen F.trusted F.may_leave F.moment F.left_since beside old c.create.new.self [] start c.append.new.self c.args.bytes.now
-    (written_elsewhere _ _ _ _ (c.append.ensures.crash h)) (c.append.ensures.time h) (c.in_ok-append.ensures.appended h) (c.append.ensures.trust h c.args.beside.now)
+abbrev kind_of : (g : _) → After-carry_out g → Kind g.row.F.Denot
+kind_of g c = kind g.F.Folder.seen g.F.Folder.may_hold g.F.Folder.may_leave g.F.Folder.moment g.F.Folder.left_since g.F.Folder.entry_kept g.F.Folder.trusted
 
-pub returns-in_err-create-clause-any_moment : goal.returns-in_err-create-clause-any_moment
-returns-in_err-create-clause-any_moment g c = λ h.
-    let F = g.F.Folder in
-    let old = c.args.folder.now in
-    let beside = c.args.beside.now in
-    weaker F.moment F.left_since old c.create.new.self _ _ (untouched_old beside c.args.name.now c.requires (F.may_leave old) (Some c.args.bytes.now))
-    (not_begun F.seen F.trusted F.may_leave F.moment F.left_since beside old c.create.new.self (g.met.F.Folder.only_now old)
-    (c.create.ensures.crash h) (c.create.ensures.time h))
-
-pub returns-in_err-append-clause-any_moment : goal.returns-in_err-append-clause-any_moment
-returns-in_err-append-clause-any_moment g c = λ h.
-    let F = g.F.Folder in
-    let old = c.args.folder.now in
-    let beside = c.args.beside.now in
-    let start = begun F.seen F.trusted F.may_leave F.moment F.left_since beside old c.create.new.self (g.met.F.Folder.only_now old)
-    (c.create.ensures.crash h) (c.create.ensures.time h) (c.in_ok-create.ensures.created h) (c.in_ok-create.ensures.fresh h) in
-    append_failed F.seen F.trusted F.may_leave F.moment F.left_since beside c.args.name.now c.requires old c.create.new.self [] start c.append.new.self (Some c.args.bytes.now)
-    (written_elsewhere _ _ _ _ (c.append.ensures.crash h)) (c.append.ensures.time h)
+-- the calls that were made
+made : (g : _) (c : After-carry_out g) → IsTrue g.F.Folder.honest
+    → Carried (kind_of g c) (replacing c.args.beside.now c.args.name.now c.args.bytes.now) (is_ok c.carry_out.result) c.args.folder.now c.carry_out.new.folder
+made g c h = subst (λ (calls : List Doing). Carried (kind_of g c) calls (is_ok c.carry_out.result) c.args.folder.now c.carry_out.new.folder) c.replace_calls.ensures.calls
+    (c.carry_out.ensures.carried h)
 
 pub returns-clause-any_moment : goal.returns-clause-any_moment
 returns-clause-any_moment g c = λ h.
-    let F = g.F.Folder in
-    let written = whole g (goal.at.returns-clause-any_moment g c).In_ok-append h in
-    named F.seen F.trusted F.may_leave F.moment F.left_since c.args.beside.now c.args.name.now c.requires c.args.folder.now c.append.new.self c.args.bytes.now written
-    c.publish.new.folder (c.publish.ensures.any_moment h)
+    let here = (goal.at.returns-clause-any_moment g c).After-carry_out in
+    replace_run (kind_of g here) c.args.beside.now c.args.name.now c.args.bytes.now c.args.folder.now (is_ok c.carry_out.result) c.carry_out.new.folder (made g here h) c.requires
+    (λ f. g.met.F.Folder.only_now f)
 
 pub returns-clause-published : goal.returns-clause-published
 returns-clause-published g c = λ h.
-    let F = g.F.Folder in
-    let written = whole g (goal.at.returns-clause-published g c).In_ok-append h in
-    on_ok_weaker c.publish.result
-    (named_kept F.seen F.trusted F.may_leave F.moment F.left_since c.args.beside.now c.args.name.now c.requires c.args.folder.now c.append.new.self c.args.bytes.now written c.publish.new.folder)
-    (c.publish.ensures.published h)
+    let here = (goal.at.returns-clause-published g c).After-carry_out in
+    on_ok_from c.carry_out.result
+    (replace_kept (kind_of g here) c.args.beside.now c.args.name.now c.args.bytes.now c.args.folder.now (is_ok c.carry_out.result) c.carry_out.new.folder (made g here h))
 
-pub returns-in_err-append-clause-crash : goal.returns-in_err-append-clause-crash
-returns-in_err-append-clause-crash g c = λ h.
-    of_both c.args.beside.now c.args.name.now _ _ (again c.args.beside.now _ _ _ (c.create.ensures.crash h) (written_elsewhere _ _ _ _ (c.append.ensures.crash h)))
-
-pub returns-clause-crash : goal.returns-clause-crash
-returns-clause-crash g c = λ h.
-    then_both c.args.beside.now c.args.name.now _ _ _
-    (again c.args.beside.now _ _ _ (c.create.ensures.crash h) (written_elsewhere _ _ _ _ (c.append.ensures.crash h))) (c.publish.ensures.crash h)
+pub returns-clause-seen : goal.returns-clause-seen
+returns-clause-seen g c = λ h.
+    let here = (goal.at.returns-clause-seen g c).After-carry_out in
+    on_ok_from c.carry_out.result
+    (replace_seen (kind_of g here) c.args.beside.now c.args.name.now c.args.bytes.now c.args.folder.now (is_ok c.carry_out.result) c.carry_out.new.folder (made g here h))
 
 pub returns-clause-file : goal.returns-clause-file
 returns-clause-file g c = λ h.
-    let written = whole g (goal.at.returns-clause-file g c).In_ok-append h in
-    on_ok_weaker c.publish.result (λ file all holds. some_is all c.args.bytes.now (sym (file all holds) ∙ written.file))
-    (c.publish.ensures.file h)
+    let here = (goal.at.returns-clause-file g c).After-carry_out in
+    on_ok_from c.carry_out.result
+    (replace_file (kind_of g here) c.args.beside.now c.args.name.now c.args.bytes.now c.args.folder.now (is_ok c.carry_out.result) c.carry_out.new.folder (made g here h))
