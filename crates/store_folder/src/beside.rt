@@ -94,7 +94,12 @@ impl Waiting {
 
     /// Passes bytes to the file, or holds them until there are enough of them.
     #[inline]
-    pub(crate) fn take<F: Folder>(&mut self, folder: &mut F, name: &str, bytes: &[u8]) -> io::Result<()>
+    pub(crate) fn take<F: Folder>(
+        &mut self,
+        folder: &mut F,
+        name: &str,
+        bytes: &[u8],
+    ) -> io::Result<()>
         requires there { IsTrue F.honest → F.seen folder.old name.now ≡ Some self.old.sent.bytes }
         requires count { self.old.num_bytes ≡ length (self.old.sent.bytes ++ self.old.buffer.items) }
         ensures content { OnOk result (self.new.sent.bytes ++ self.new.buffer.items

@@ -53,7 +53,14 @@ fn publish_failing(
     };
     let mut folder = Box::new(rt.alloc(), folder)?;
     let mut filling = DocumentList { documents };
-    match publish_store(rt.alloc(), &mut *folder, name.as_str(), 16384, 8, &mut filling) {
+    match publish_store(
+        rt.alloc(),
+        &mut *folder,
+        name.as_str(),
+        16384,
+        8,
+        &mut filling,
+    ) {
         Ok(_) => Ok(End::Published),
         Err(FillError::Folder(error)) if error.kind() == ErrorKind::StorageFull => {
             Ok(End::FailedByTheCall)
@@ -78,7 +85,11 @@ fn leaves_one(
         4..=8 => End::FailedByTheCall,
         _ => End::Published,
     };
-    let left = if failing_call <= 7 { OLD } else { whole.as_slice() };
+    let left = if failing_call <= 7 {
+        OLD
+    } else {
+        whole.as_slice()
+    };
     Ok(end == expected && calls.get() == failing_call.min(8) && holds(rt, path, left)?)
 }
 
@@ -88,7 +99,14 @@ fn each_failing_call_leaves_the_old_file_or_the_whole_store(rt: HostRuntime) -> 
     let documents = documents(rt.alloc())?;
     make(&rt, "test_files_published")?;
     for failing_call in 1..=9 {
-        assert!(rt; leaves_one(&rt, "test_files_published/a.store", &documents, failing_call)?);
+        assert!(rt;
+            leaves_one(
+                &rt,
+                "test_files_published/a.store",
+                &documents,
+                failing_call
+            )?
+        );
         assert!(rt; count(&rt, "test_files_published")? == 1);
     }
     Ok(remove(&rt, "test_files_published")?)

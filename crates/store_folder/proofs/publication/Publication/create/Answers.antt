@@ -30,10 +30,10 @@ invariant_of-result g c =
     let t : IsTrue F.honest → TouchesOnly beside (at g here c.args.folder) (at g here c.create.new.self) = made g here beside c.as_str.ensures.value in (
       λ e. part_apart c.args.name.now (sym c.in-Ok.ensures.beside ∙ e ∙ c.in-Ok.ensures.name),
       λ h. record {
-          file = ap (F.seen c.create.new.self) (sym c.as_str.ensures.value) ∙ c.in_default.ensures.created h ∙ ap Some (sym c.new.ensures.sent);
-          trust = subst (F.trusted c.create.new.self) c.as_str.ensures.value (c.in_default.ensures.fresh h);
-          touched = subst (λ f. TouchesOnly beside (at g here f) (at g here c.create.new.self)) (sym c.of-first.ensures) (t h);
-        },
+        file = ap (F.seen c.create.new.self) (sym c.as_str.ensures.value) ∙ c.in_default.ensures.created h ∙ ap Some (sym c.new.ensures.sent);
+        trust = subst (F.trusted c.create.new.self) c.as_str.ensures.value (c.in_default.ensures.fresh h);
+        touched = subst (λ f. TouchesOnly beside (at g here f) (at g here c.create.new.self)) (sym c.of-first.ensures) (t h);
+      },
       λ h none. subst (λ f. LeavesOnly F.moment F.left_since f c.create.new.self (IsUntouched (F.may_leave f) beside)) (sym c.of-first.ensures)
           (record { later = (t h).later; each = (t h).each; before = (t h).before }),
       search rules,
