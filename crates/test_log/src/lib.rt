@@ -6,6 +6,8 @@ mod bytes;
 #[cfg(test)]
 mod dice;
 #[cfg(test)]
+mod failed_calls;
+#[cfg(test)]
 mod folder_runs;
 #[cfg(test)]
 mod torn_files;

@@ -2,11 +2,11 @@
 
 use crate::dice::Dice;
 use crate::torn_files::{Disk, LeftFile};
-use segmented_log::SegmentedLog;
-use std::alloc::Global;
+use segmented_log::{Commit, LogError, SegmentedLog};
+use std::alloc::{AllocError, Global};
 use std::io;
 use std::test::Fail;
-use store_folder::{Folder, ReadableFolder};
+use store_folder::Folder;
 use torn_folder::{Event, TornFolder};
 
 pub type Log = SegmentedLog<TornFolder>;
@@ -35,39 +35,10 @@ pub fn crashed(
     Ok(restarted(alloc, &files)?)
 }
 
-// Makes a call again. No call of a log needs a file that is not there, and none of these failed.
-fn repeat(alloc: Global, folder: &mut TornFolder, event: &Event) -> io::Result<()> {
-    match event {
-        Event::Created(name) => folder.create(name.as_str()),
-        Event::Appended(name, bytes) => match folder.read(alloc, name.as_str()) {
-            Ok(Some(_)) => folder.append(name.as_str(), bytes),
-            _ => Err(io::ErrorKind::NotFound.into()),
-        },
-        Event::Moved(from, to) => match folder.read(alloc, from.as_str()) {
-            Ok(Some(_)) if from.as_str() != to.as_str() => folder.rename(
-                from.as_str(),
-                to.as_str(),
-            ),
-            _ => Err(io::ErrorKind::NotFound.into()),
-        },
-        Event::Removed(name) => folder.remove(name.as_str()),
-        Event::FileSynced(name) => match folder.read(alloc, name.as_str()) {
-            Ok(Some(_)) => folder.sync_file(name.as_str()),
-            _ => Err(io::ErrorKind::NotFound.into()),
-        },
-        Event::SyncFailed(_) => Err(io::ErrorKind::Other.into()),
-        Event::FolderSynced => folder.sync(),
-    }
-}
-
 /// The folder that a process leaves that is killed after the first of these calls, this many. What was not synced is
 /// not synced by that.
-pub fn killed(alloc: Global, events: &[Event], count: usize) -> io::Result<TornFolder> {
-    let mut folder = TornFolder::new(alloc);
-    for event in events.iter().take(count) {
-        repeat(alloc, &mut folder, event)?;
-    }
-    Ok(folder)
+pub fn killed(alloc: Global, events: &[Event], count: usize) -> Result<TornFolder, AllocError> {
+    TornFolder::of_events(alloc, events.get(..count).unwrap_or(events))
 }
 
 // Whether the record of this number is the one that is expected.
@@ -95,4 +66,36 @@ pub fn has_from(log: &mut Log, records: &[Vec<u8>], first: u64) -> bool {
         }
     }
     is_record(log, records.len(), None)
+}
+
+/// Opens a folder's log.
+pub fn opened(alloc: Global, folder: TornFolder) -> Result<Log, LogError> {
+    SegmentedLog::open(alloc, folder, 1000, Commit::OneSync).map_err(|refusal| refusal.0)
+}
+
+/// Opens a folder's log and appends a record.
+pub fn appended(alloc: Global, folder: TornFolder, record: &[u8]) -> Result<TornFolder, LogError> {
+    let mut log = opened(alloc, folder)?;
+    log.append(record)?;
+    log.sync()?;
+    Ok(log.into_folder())
+}
+
+/// The number of the first record of a folder's log, if it has the first of these records from there on: at least as
+/// many as are acknowledged.
+pub fn first_of(
+    alloc: Global,
+    folder: TornFolder,
+    records: &[Vec<u8>],
+    acknowledged: usize,
+) -> Result<Option<u64>, LogError> {
+    let mut log = opened(alloc, folder)?;
+    let first = log.first();
+    for end in acknowledged..=records.len() {
+        let all = records.get(..end).unwrap_or(&[]);
+        if has_from(&mut log, all, first) {
+            return Ok(Some(first));
+        }
+    }
+    Ok(None)
 }

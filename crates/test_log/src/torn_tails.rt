@@ -1,8 +1,8 @@
 //! Logs whose process was killed while it wrote a batch. What is done first with the torn tail may end early, too.
 
 use crate::dice::Dice;
-use crate::torn_logs::{Log, crashed, has_from, killed};
-use segmented_log::{Commit, LogError, SegmentedLog, TAIL, drop_segments, repair};
+use crate::torn_logs::{appended, crashed, first_of, killed, opened};
+use segmented_log::{LogError, TAIL, drop_segments, repair};
 use std::alloc::{AllocError, Global};
 use std::test::Fail;
 use store_folder::{Folder, ReadableFolder};
@@ -24,18 +24,6 @@ fn first_records(alloc: Global) -> Result<Vec<Vec<u8>>, AllocError> {
         records.push(b"old".get(..number.min(3)).unwrap_or(b"").to_vec(alloc)?)?;
     }
     Ok(records)
-}
-
-fn opened(alloc: Global, folder: TornFolder) -> Result<Log, LogError> {
-    SegmentedLog::open(alloc, folder, 1000, Commit::OneSync).map_err(|refusal| refusal.0)
-}
-
-// Opens a folder's log and appends a record.
-fn appended(alloc: Global, folder: TornFolder, record: &[u8]) -> Result<TornFolder, LogError> {
-    let mut log = opened(alloc, folder)?;
-    log.append(record)?;
-    log.sync()?;
-    Ok(log.into_folder())
 }
 
 // The folder of a log of these records.
@@ -66,25 +54,6 @@ fn torn(alloc: Global, records: &[Vec<u8>], count: usize) -> Result<TornFolder, 
         _ => return Err(LogError::NoLog),
     }
     Ok(folder)
-}
-
-// The number of the first record of a folder's log, if it has the first of these records from there on: at least as
-// many as are acknowledged.
-fn first_of(
-    alloc: Global,
-    folder: TornFolder,
-    records: &[Vec<u8>],
-    acknowledged: usize,
-) -> Result<Option<u64>, LogError> {
-    let mut log = opened(alloc, folder)?;
-    let first = log.first();
-    for end in acknowledged..=records.len() {
-        let all = records.get(..end).unwrap_or(&[]);
-        if has_from(&mut log, all, first) {
-            return Ok(Some(first));
-        }
-    }
-    Ok(None)
 }
 
 // Whether a process that is killed after this many calls of the folder or more leaves a log of these records.
