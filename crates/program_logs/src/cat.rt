@@ -1,7 +1,7 @@
 //! `log cat`: prints all records in order.
 
 use crate::log_files::LogFiles;
-use crate::places::{ReadLog, open_to_read};
+use crate::read_log::{ReadLog, open_to_read};
 use crate::{FOLDER, folder};
 use clap::{ArgMatches, Command};
 use program_base::arguments;

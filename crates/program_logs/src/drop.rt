@@ -2,7 +2,8 @@
 
 use crate::log_files::LogFiles;
 use crate::opened_log::explained;
-use crate::places::{folder_to_write, open_to_read};
+use crate::places::folder_to_write;
+use crate::read_log::open_to_read;
 use crate::record_span::RecordSpan;
 use crate::{FOLDER, folder, is_seen};
 use clap::{ArgMatches, Command};

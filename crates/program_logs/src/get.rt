@@ -2,7 +2,7 @@
 
 use crate::log_files::LogFiles;
 use crate::number_range::NumberRange;
-use crate::places::{ReadLog, open_to_read};
+use crate::read_log::{ReadLog, open_to_read};
 use crate::{FOLDER, folder};
 use clap::{ArgMatches, Command};
 use program_base::arguments;

@@ -13,6 +13,7 @@ mod log_refusal;
 mod number_range;
 mod opened_log;
 mod places;
+mod read_log;
 mod record_span;
 mod records;
 mod repair;

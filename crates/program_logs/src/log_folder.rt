@@ -5,79 +5,47 @@ ghost use Rattle.store_base.specs.Counts.{HasRisen};
 
 use crate::log_files::{LogFiles, SegmentFile};
 use crate::places::file_in;
-use crate::segments::segment_numbers;
-use log_tail::TailView;
-use program_base::failure::FailureCause;
-use segmented_log::{TAIL, segment_file};
-use std::alloc::{AllocError, Global};
-use std::cell::Cell;
+use std::alloc::Global;
 use std::fs::{File, Files};
 use std::io;
 use std::io::ErrorKind;
-use store_files::{DiskFile, LockedFolder, is_left_synced, read_all};
+use store_files::{DiskFile, LockedFolder, is_left_synced, listed_names, read_all};
 use store_folder::{Folder, ReadableFolder};
 
-// The names of the segments of these numbers.
-fn names_of(alloc: Global, numbers: &[u64]) -> Result<Vec<String>, AllocError> {
-    let mut names = Vec::new(alloc);
-    for number in numbers {
-        names.push(segment_file(alloc, *number)?)?;
-    }
-    Ok(names)
-}
-
-// The bytes of the tail in a log's folder, if there is one.
-fn tail_in(rt: &HostRuntime, path: &str) -> Result<Option<Vec<u8>>, FailureCause> {
-    let path = file_in(rt.alloc(), path, TAIL)?;
+// The bytes of a file of a log's folder, if it is there.
+fn bytes_in<R: Files<File = File>>(
+    rt: &R,
+    alloc: Global,
+    path: &str,
+    name: &str,
+) -> io::Result<Option<Vec<u8>>> {
+    let path = file_in(alloc, path, name)?;
     match File::open(rt, path.as_str()) {
-        Ok(mut file) => Ok(Some(read_all(rt.alloc(), &mut file)?)),
+        Ok(mut file) => Ok(Some(read_all(alloc, &mut file)?)),
         Err(error) if error.kind() == ErrorKind::NotFound => Ok(None),
-        Err(error) => Err(FailureCause::System(error)),
+        Err(error) => Err(error),
     }
 }
 
-// The numbers of the segments in a log's folder, and its tail, if there is one.
-type Found = (Vec<u64>, Option<Vec<u8>>);
-
-// What is in the folder at one moment, or none where a writer sealed the log meanwhile. The name of a segment is there
-// before the tail is replaced. So if the same segments are there before and after the tail is read, they are in line
-// with it.
-fn found_at_once(rt: &HostRuntime, path: &str) -> Result<Option<Found>, FailureCause> {
-    let before = segment_numbers(rt, path)?;
-    let tail = tail_in(rt, path)?;
-    let after = segment_numbers(rt, path)?;
-    let is_same = before == after;
-    drop(before);
-    Ok(is_same.then_some((after, tail)))
+// Why a reader's folder refuses to be written.
+fn unlocked() -> io::Result<()> {
+    Err(ErrorKind::PermissionDenied.into())
 }
 
-// How many bytes of a tail are whole; all of what is none.
-fn whole_len(alloc: Global, bytes: &[u8]) -> Result<usize, AllocError> {
-    match TailView::new(alloc, bytes)? {
-        Some(view) => Ok(view.whole_len()),
-        None => Ok(bytes.len()),
-    }
-}
-
-/// A log's folder. A reader has no lock, and what it is asked to write is dropped: as a log is opened, that is the tail
-/// without a torn end. It lists the segments and reads the tail at one moment, and an opening, which asks once for
-/// each, gets these.
+/// A log's folder. A reader has no lock, and writes nothing.
 #[derive(Drop)]
 pub struct LogFolder<'a, R: Files<File = File> + Drop> {
     rt: &'a R,
+    alloc: Global,
     path: &'a str,
     writer: Option<Box<LockedFolder<R>>>,
     files: &'a LogFiles,
     failures: u64,
-    // What a reader found, until it is asked for, and whether the last writer left the tail on the disk.
-    segments: Cell<Option<Vec<u64>>>,
-    tail: Cell<Option<Vec<u8>>>,
-    is_tail_synced: bool,
 }
 
 impl<'a> LogFolder<'a, HostRuntime> {
-    // The folder of this path.
-    fn new(
+    /// The folder of this path, through the writer's lock, or for a reader without one.
+    pub fn new(
         rt: &'a HostRuntime,
         path: &'a str,
         writer: Option<Box<LockedFolder<HostRuntime>>>,
@@ -85,54 +53,12 @@ impl<'a> LogFolder<'a, HostRuntime> {
     ) -> LogFolder<'a, HostRuntime> {
         LogFolder {
             rt,
+            alloc: rt.alloc(),
             path,
             writer,
             files,
             failures: 0,
-            segments: Cell::new(None),
-            tail: Cell::new(None),
-            is_tail_synced: false,
         }
-    }
-
-    /// The folder of this path, through the writer's lock.
-    pub fn of_writer(
-        rt: &'a HostRuntime,
-        path: &'a str,
-        writer: Box<LockedFolder<HostRuntime>>,
-        files: &'a LogFiles,
-    ) -> LogFolder<'a, HostRuntime> {
-        LogFolder::new(rt, path, Some(writer), files)
-    }
-
-    /// The folder of this path, without a lock: as it was at one moment, or none where a writer sealed the log
-    /// meanwhile.
-    pub fn of_reader(
-        rt: &'a HostRuntime,
-        path: &'a str,
-        files: &'a LogFiles,
-    ) -> Result<Option<LogFolder<'a, HostRuntime>>, FailureCause> {
-        let Some((segments, tail)) = found_at_once(rt, path)? else {
-            return Ok(None);
-        };
-        let mut folder = LogFolder::new(rt, path, None, files);
-        folder.segments.set(Some(segments));
-        folder.tail.set(tail);
-        // The mark is read after the tail: what it says was on the disk is what was read, or is a later tail.
-        folder.is_tail_synced = is_left_synced(rt, rt.alloc(), path, TAIL).unwrap_or(false);
-        Ok(Some(folder))
-    }
-
-    /// Cuts the tail that a reader found off where its whole batches end. Returns whether it had more.
-    pub fn cut_tail(&mut self) -> Result<bool, AllocError> {
-        let Some(mut bytes) = self.tail.take() else {
-            return Ok(false);
-        };
-        let whole = whole_len(self.rt.alloc(), &bytes)?;
-        let has_more = whole < bytes.len();
-        bytes.truncate(whole);
-        self.tail.set(Some(bytes));
-        Ok(has_more)
     }
 }
 
@@ -156,14 +82,6 @@ impl<'a, R: Files<File = File> + Drop> LogFolder<'a, R> {
         match outcome {
             Ok(value) => Ok(value),
             Err(error) => Err(self.files.note(error)),
-        }
-    }
-
-    // The names of the segments that a reader found.
-    fn found_names(&self, alloc: Global) -> io::Result<Vec<String>> {
-        match self.segments.take() {
-            Some(segments) => Ok(names_of(alloc, &segments)?),
-            None => Ok(Vec::new(alloc)),
         }
     }
 
@@ -212,7 +130,7 @@ impl<'a, R: Files<File = File> + Drop> Folder for LogFolder<'a, R> {
     fn create(&mut self, name: &str) -> io::Result<()> {
         let outcome = match &mut self.writer {
             Some(folder) => folder.create(name),
-            None => Ok(()),
+            None => unlocked(),
         };
         self.count(outcome)
     }
@@ -220,7 +138,7 @@ impl<'a, R: Files<File = File> + Drop> Folder for LogFolder<'a, R> {
     fn append(&mut self, name: &str, bytes: &[u8]) -> io::Result<()> {
         let outcome = match &mut self.writer {
             Some(folder) => folder.append(name, bytes),
-            None => Ok(()),
+            None => unlocked(),
         };
         self.count(outcome)
     }
@@ -228,7 +146,7 @@ impl<'a, R: Files<File = File> + Drop> Folder for LogFolder<'a, R> {
     fn sync_file(&mut self, name: &str) -> io::Result<()> {
         let outcome = match &mut self.writer {
             Some(folder) => folder.sync_file(name),
-            None => Ok(()),
+            None => unlocked(),
         };
         self.count(outcome)
     }
@@ -236,7 +154,7 @@ impl<'a, R: Files<File = File> + Drop> Folder for LogFolder<'a, R> {
     fn rename(&mut self, from: &str, to: &str) -> io::Result<()> {
         let outcome = match &mut self.writer {
             Some(folder) => folder.rename(from, to),
-            None => Ok(()),
+            None => unlocked(),
         };
         self.count(outcome)
     }
@@ -244,7 +162,7 @@ impl<'a, R: Files<File = File> + Drop> Folder for LogFolder<'a, R> {
     fn remove(&mut self, name: &str) -> io::Result<()> {
         let outcome = match &mut self.writer {
             Some(folder) => folder.remove(name),
-            None => Ok(()),
+            None => unlocked(),
         };
         self.count(outcome)
     }
@@ -252,7 +170,7 @@ impl<'a, R: Files<File = File> + Drop> Folder for LogFolder<'a, R> {
     fn sync(&mut self) -> io::Result<()> {
         let outcome = match &mut self.writer {
             Some(folder) => folder.sync(),
-            None => Ok(()),
+            None => unlocked(),
         };
         self.count(outcome)
     }
@@ -260,21 +178,21 @@ impl<'a, R: Files<File = File> + Drop> Folder for LogFolder<'a, R> {
     fn is_trusted(&self, name: &str) -> bool {
         match &self.writer {
             Some(folder) => folder.is_trusted(name),
-            None => true,
+            None => false,
         }
     }
 
     fn is_synced(&self, name: &str) -> bool {
         match &self.writer {
             Some(folder) => folder.is_synced(name),
-            None => name != TAIL || self.is_tail_synced,
+            None => is_left_synced(self.rt, self.alloc, self.path, name).unwrap_or(false),
         }
     }
 
     fn has_kept_entries(&self) -> bool {
         match &self.writer {
             Some(folder) => folder.has_kept_entries(),
-            None => true,
+            None => false,
         }
     }
 }
@@ -289,15 +207,15 @@ impl<'a, R: Files<File = File> + Drop> ReadableFolder for LogFolder<'a, R> {
     fn names(&self, alloc: Global) -> io::Result<Vec<String>> {
         self.noted(match &self.writer {
             Some(folder) => folder.names(alloc),
-            None => self.found_names(alloc),
+            None => listed_names(self.rt, alloc, self.path),
         })
     }
 
     fn read(&self, alloc: Global, name: &str) -> io::Result<Option<Vec<u8>>> {
-        match &self.writer {
-            Some(folder) => self.noted(folder.read(alloc, name)),
-            None => Ok(self.tail.take()),
-        }
+        self.noted(match &self.writer {
+            Some(folder) => folder.read(alloc, name),
+            None => bytes_in(self.rt, alloc, self.path, name),
+        })
     }
 
     fn open(&self, alloc: Global, name: &str) -> io::Result<DiskFile<SegmentFile<'a, R>>> {

@@ -30,6 +30,7 @@ pub fn refused(error: LogError) -> FailureCause {
         ),
         LogError::TooLong => ("the record is too long", "", Status::Broken),
         LogError::Broken => ("the log must be opened again", "", Status::System),
+        LogError::Changed => ("the log must be opened again", "", Status::System),
         LogError::NoLog => ("the log's files are broken", VERIFY, Status::Broken),
         LogError::Damaged => ("a record is damaged", VERIFY, Status::Broken),
         LogError::DamagedTail => ("the tail is damaged", REPAIR, Status::Broken),

@@ -137,15 +137,4 @@ impl<'a> OpenedLog<'a> {
         let mut folder = Box::into_inner(log).into_folder();
         let _ = remove_parts(rt, path, &mut folder);
     }
-
-    /// The record of a number that the log has.
-    pub fn get(&mut self, number: u64) -> Result<Vec<u8>, FailureCause> {
-        let (first, end) = (self.first(), self.end());
-        match self.log.get(number) {
-            Ok(Some(record)) => Ok(record),
-            Ok(None) => Err(FailureCause::NoRecord { number, first, end }),
-            Err(LogError::Damaged) => Err(FailureCause::DamagedRecord(number)),
-            Err(error) => Err(explained(self.files, error)),
-        }
-    }
 }

@@ -2,7 +2,8 @@
 
 use crate::FOLDER;
 use crate::log_files::LogFiles;
-use crate::places::{ReadLog, file_in, open_to_read, tail_bytes};
+use crate::places::{file_in, tail_bytes};
+use crate::read_log::{ReadLog, open_to_read};
 use crate::segments::segment_numbers;
 use clap::{ArgMatches, Command};
 use program_base::command_words::{Argument, command_of};

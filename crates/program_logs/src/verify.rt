@@ -2,7 +2,8 @@
 
 use crate::FOLDER;
 use crate::log_files::LogFiles;
-use crate::places::{check_log, file_in, open_to_read};
+use crate::places::{check_log, file_in};
+use crate::read_log::open_to_read;
 use crate::segments::segment_numbers;
 use clap::{ArgMatches, Command};
 use log_tail::TailView;

@@ -12,6 +12,7 @@ pub mod GrowLemmas
 pub mod HoldLemmas
 pub mod JoinLemmas
 pub mod JoinedParts
+pub mod ListingLemmas
 pub mod LoadLemmas
 pub mod NameLemmas
 pub mod NoLogLemmas

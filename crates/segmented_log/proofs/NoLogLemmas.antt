@@ -11,13 +11,13 @@ use Rattle.store_format.specs.Block.{Slot}
 use Rattle.store_format.specs.Laws.{StoresAreApart}
 use Rattle.log_tail.specs.Tail.{records_of, IsTail}
 use Rattle.segmented_log.specs.Names.{segment_name, tail_name}
-use Rattle.segmented_log.specs.Parts.{Part, tail_end, end_from, Ascend, AreParts}
+use Rattle.segmented_log.specs.Parts.{Part, tail_end, first_in, end_from, Ascend, AreParts}
 use Rattle.segmented_log.specs.Log.{HasSegment, IsLog, IsBlank}
 use Rattle.segmented_log.specs.Opening.{AreNumbersIn, IsNoLog, HasFullTail, HasSegments, IsNoSegment, IsNoTail, IsTailOf}
-use Rattle.segmented_log.specs.Dropping.{AreOfOneLog}
+use Rattle.segmented_log.specs.Dropping.{AreOfOneLog, HasOnly}
 use Rattle.segmented_log.proofs.HoldLemmas.{firsts}
 use Rattle.segmented_log.proofs.PartLemmas.{begin_before, more_parts, one_log}
-use Rattle.segmented_log.proofs.UniqueLemmas.{AreAmong, among_cons, same_parts, from_zero}
+use Rattle.segmented_log.proofs.UniqueLemmas.{AreAmong, among_cons, same_parts, from_zero, log_parts}
 
 some_none : (o : Option (List ℕ)) → IsSome o → o ≡ None → ⊥
 some_none None some is = cc some
@@ -43,6 +43,13 @@ segment_at c [] k has among = absurd (omega (arith, among.1))
 segment_at c (p ∷ parts) k has among =
     ⊎_elim (λ same. (p.slots, subst (λ (n : ℕ). HasSegment c (record { first = n; slots = p.slots })) same has.0)) (λ later. segment_at c parts k has.1 later) (among_cons p parts k among)
 
+-- a folder that has no file of a log has no segments
+no_parts : (seen : Look) (parts : List Part) → AllByRecursion (HasSegment seen) parts → ((p : Part) (ps : List Part) → parts ≡ p ∷ ps → p.first < 2 ^ 64) → IsBlank seen → parts ≡ []
+no_parts seen [] has low blank = refl
+no_parts seen (p ∷ ps) has low blank =
+    let name = segment_name p.first in
+    absurd (some_none (seen name) (is_some (seen name) has.0.0 has.0.2) (blank.no_segments p.first (low p ps refl)))
+
 module _ (seen : Look) (names : List (List ℕ)) (numbers : List ℕ) (all : AreNames seen names) (of : AreNumbersIn names numbers) where
   there : (k : ℕ) → Contains numbers k → IsSome (seen (segment_name k))
   there k among = all.only (segment_name k) (of.only k among)
@@ -65,15 +72,6 @@ module _ (seen : Look) (names : List (List ℕ)) (numbers : List ℕ) (all : Are
   module _ (parts : List Part) (firsts_are : firsts parts ≡ numbers) (has : AllByRecursion (HasSegment seen) parts) where
     among_numbers : (k : ℕ) → Contains (firsts parts) k → Contains numbers k
     among_numbers k among = subst (λ (l : List ℕ). Contains l k) firsts_are among
-
-    no_parts : IsBlank seen → parts ≡ []
-    no_parts blank = by parts (λ k among. among_numbers k among)
-      where
-        by : (ps : List Part) → ((k : ℕ) → Contains (firsts ps) k → Contains numbers k) → ps ≡ []
-        by [] known = refl
-        by (p ∷ ps) known =
-            let among = known p.first (0, omega arith, refl) in
-            absurd (some_none (seen (segment_name p.first)) (there p.first among) (blank.no_segments p.first (of.fits p.first among)))
 
     -- they are the segments of the log that the folder is
     parts_same : StoresAreApart → IsStrictlyIncreasing numbers → (first : ℕ) (slots : List Slot) (log : IsLog first slots seen) → parts ≡ log.segments
@@ -105,40 +103,53 @@ module _ (seen : Look) (names : List (List ℕ)) (numbers : List ℕ) (all : Are
     pub not_one_log : StoresAreApart → IsStrictlyIncreasing numbers → (AreOfOneLog parts → ⊥) → IsNoLog seen
     not_one_log apart up bad = record {
       not_log = λ first slots log. bad (subst AreOfOneLog (sym (parts_same apart up first slots log)) (one_log first log.segments log.tail log.parts));
-      not_blank = λ blank. bad (subst AreOfOneLog (sym (no_parts blank)) (record { in_line = tt; ascend = tt; fits = omega arith }));
+      not_blank = λ blank.
+          let low : (p : Part) (ps : List Part) → parts ≡ p ∷ ps → p.first < 2 ^ 64 =
+          λ p ps is. of.fits p.first (among_numbers p.first (subst (λ (l : List Part). Contains (firsts l) p.first) (sym is) (0, omega arith, refl))) in
+          bad (subst AreOfOneLog (sym (no_parts seen parts has low blank)) (record { in_line = tt; ascend = tt; fits = omega arith }));
     }
 
-    -- there is no tail, or it is none
-    pub no_tail : (is_blank : Bool) → (parts ≡ [] → is_blank ≡ true) → IsNoTail is_blank (seen tail_name) → IsNoLog seen
-    no_tail is_blank empty bad = record {
-      not_log = λ first slots log. subst (λ (o : Option (List ℕ)). IsNoTail is_blank o) log.holds.tail_is bad log.parts.is_tail;
-      not_blank = λ blank.
-          let not : is_blank ≡ false = subst (λ (o : Option (List ℕ)). IsNoTail is_blank o) blank.no_tail bad in
-          true_false (sym (empty (no_parts blank)) ∙ not);
-    }
-      where
-        true_false : true ≡ false → ⊥
-        true_false e = cc e
+-- segments that are those of one log
+module _ (seen : Look) (parts : List Part) (are : AreOfOneLog parts) (only : HasOnly parts seen) where
+  blank_parts : IsBlank seen → parts ≡ []
+  blank_parts =
+      let end = end_from (first_in parts 0) parts in
+      no_parts seen parts only.each
+      (λ p ps is.
+      let below : AllByRecursion (λ q. q.first < end) (p ∷ ps) = subst (λ (l : List Part). AllByRecursion (λ q. q.first < end) l) is (begin_before (first_in parts 0) parts are.in_line) in
+      omega (arith, below.0, are.fits))
 
-    -- the segments and the tail are not in line
-    pub not_in_line : StoresAreApart → IsStrictlyIncreasing numbers → (tail : List ℕ) → IsTail tail → IsTailOf (seen tail_name) tail → ((first : ℕ) → AreParts first parts tail → ⊥) → IsNoLog seen
-    not_in_line apart up tail is_tail same bad = record {
-      not_log = λ first slots log.
-          let t : IsTailOf (Some log.tail) tail = subst (λ (o : Option (List ℕ)). IsTailOf o tail) log.holds.tail_is same in
-          bad first (subst (λ (ps : List Part). AreParts first ps tail) (sym (parts_same apart up first slots log))
-          (more_parts first log.segments log.tail log.parts tail [] is_tail t.1 (t.2 ∙ sym (append-nil (records_of log.tail)))));
-      not_blank = λ blank.
-          let t : IsTailOf None tail = subst (λ (o : Option (List ℕ)). IsTailOf o tail) blank.no_tail same in
-          bad 0 (subst (λ (ps : List Part). AreParts 0 ps tail) (sym (no_parts blank)) (record {
-            first_is = sym t.0;
-            in_line = tt;
-            ascend = tt;
-            fits = omega arith;
-            is_tail = is_tail;
-            meets = omega (arith, t.0);
-            reaches = omega arith;
-          }));
-    }
+  -- there is no tail, or it is none
+  pub no_tail : (is_blank : Bool) → (parts ≡ [] → is_blank ≡ true) → IsNoTail is_blank (seen tail_name) → IsNoLog seen
+  no_tail is_blank empty bad = record {
+    not_log = λ first slots log. subst (λ (o : Option (List ℕ)). IsNoTail is_blank o) log.holds.tail_is bad log.parts.is_tail;
+    not_blank = λ blank.
+        let not : is_blank ≡ false = subst (λ (o : Option (List ℕ)). IsNoTail is_blank o) blank.no_tail bad in
+        true_false (sym (empty (blank_parts blank)) ∙ not);
+  }
+    where
+      true_false : true ≡ false → ⊥
+      true_false e = cc e
+
+  -- the segments and the tail are not in line
+  pub not_in_line : StoresAreApart → (tail : List ℕ) → IsTail tail → IsTailOf (seen tail_name) tail → ((first : ℕ) → AreParts first parts tail → ⊥) → IsNoLog seen
+  not_in_line apart tail is_tail same bad = record {
+    not_log = λ first slots log.
+        let t : IsTailOf (Some log.tail) tail = subst (λ (o : Option (List ℕ)). IsTailOf o tail) log.holds.tail_is same in
+        bad first (subst (λ (ps : List Part). AreParts first ps tail) (log_parts apart seen parts are only first slots log)
+        (more_parts first log.segments log.tail log.parts tail [] is_tail t.1 (t.2 ∙ sym (append-nil (records_of log.tail)))));
+    not_blank = λ blank.
+        let t : IsTailOf None tail = subst (λ (o : Option (List ℕ)). IsTailOf o tail) blank.no_tail same in
+        bad 0 (subst (λ (ps : List Part). AreParts 0 ps tail) (sym (blank_parts blank)) (record {
+          first_is = sym t.0;
+          in_line = tt;
+          ascend = tt;
+          fits = omega arith;
+          is_tail = is_tail;
+          meets = omega (arith, t.0);
+          reaches = omega arith;
+        }));
+  }
 
 -- the tail's numbers pass the greatest u64
 pub full_tail : (seen : Look) (tail : List ℕ) → IsTailOf (seen tail_name) tail → 2 ^ 64 ≤ tail_end tail → HasFullTail seen

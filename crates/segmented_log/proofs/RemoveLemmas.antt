@@ -14,8 +14,7 @@ use Rattle.segmented_log.specs.Log.{Holds, IsLog}
 use Rattle.segmented_log.specs.Opening.{IsSyncedButTail, HasSegments}
 use Rattle.segmented_log.specs.Dropping.{CanGo, DropsTo, LosesSegment, LosesOld, IsOldWithout, BeginsAt, TailBeginsAt, HasOnly, AreOfOneLog, HasNoOld}
 use Rattle.segmented_log.proofs.NameLemmas.{segment_no_tail}
-use Rattle.segmented_log.proofs.HoldLemmas.{each_stays, all_same_below}
-use Rattle.segmented_log.proofs.PartLemmas.{begin_before}
+use Rattle.segmented_log.proofs.LoadLemmas.{same_only}
 use Rattle.segmented_log.proofs.DropLemmas.{drops_none, drops_later, removes_more, dropped_log, others_apart, begins_low, others_stay, only_left}
 use Rattle.segmented_log.proofs.UniqueLemmas.{log_parts}
 
@@ -135,10 +134,7 @@ has_some c p parts only = (p.first, subst IsSome (sym only.each.0.2) refl)
 module _ (parts : List Part) (are : AreOfOneLog parts) (c : Look) (only : HasOnly parts c) where
   -- what a crash leaves of the segments is what a look sees of them
   pub only_outcomes : (may_leave : Look → Type 0) → IsSyncedButTail c may_leave → (d : Look) → may_leave d → HasOnly parts d
-  only_outcomes may_leave synced d left = record {
-    each = each_stays c d parts (all_same_below c d (end_from (first_in parts 0) parts) parts are.fits (begin_before (first_in parts 0) parts are.in_line) (synced.segments d left)) only.each;
-    no_others = λ k low. ⊎_elim (λ none. inl (synced.segments d left k low ∙ none)) (λ known. inr known) (only.no_others k low);
-  }
+  only_outcomes may_leave synced d left = same_only c d parts are only (synced.segments d left)
 
   pub begins_at : StoresAreApart → (n : ℕ) → ((tail : List ℕ) → c tail_name ≡ Some tail → IsTail tail → n ≡ first_of tail) → BeginsAt (first_in parts n) c
   begins_at apart n at f all log =

@@ -20,7 +20,7 @@ pub whole_all : (bytes : List ℕ) (end : ℕ) → end ≡ length bytes → IsWh
 whole_all bytes end is whole = subst (λ (n : ℕ). IsWholeTo n bytes) is whole
 
 module _ (bytes front : List ℕ) (end : ℕ) (whole : IsWholeTo end bytes) (front_is : front ≡ take end bytes) where
-  size : length front ≡ end
+  pub size : length front ≡ end
   size = ap length front_is ∙ length-take-le end bytes whole.within
 
   pub front_whole : IsWholeTo (length front) front
@@ -37,6 +37,9 @@ module _ (bytes front : List ℕ) (end : ℕ) (whole : IsWholeTo end bytes) (fro
     named = ap (λ (l : List ℕ). take 8 l) front_is ∙ take-take 8 end bytes (omega (arith, whole.header)) ∙ is.named;
     long = omega (arith, size, whole.header);
   }
+
+  pub front_within : (places : List Place) → All (EndsBy end) places → All (EndsBy (length front)) places
+  front_within places within = subst (λ (n : ℕ). All (EndsBy n) places) (sym size) within
 
   pub front_contents : (places : List Place) → contents bytes places ≡ records_of bytes → All (EndsBy end) places → contents front places ≡ records_of front
   front_contents places known within =

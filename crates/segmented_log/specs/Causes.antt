@@ -12,7 +12,7 @@ use Rattle.store_published.specs.declared.publishing.FillError.{FillError}
 use Rattle.store_published.specs.declared.publishing.FillError.TheVariants.{Filling, Folder}
 use Rattle.store_format.specs.Block.{Slot, doc}
 use Rattle.segmented_log.specs.declared.error.LogError.{LogError}
-use Rattle.segmented_log.specs.declared.error.LogError.TheVariants.{Memory, Failed, Full, BatchFull, TooLong, Broken, NoLog, Damaged, DamagedTail}
+use Rattle.segmented_log.specs.declared.error.LogError.TheVariants.{Memory, Failed, Full, BatchFull, TooLong, Broken, NoLog, Damaged, DamagedTail, Changed}
 use Rattle.store_folder.specs.Publishing.{part}
 use Rattle.segmented_log.specs.Names.{segment_name, tail_name}
 
@@ -34,6 +34,11 @@ IsOfOpenings Full = Unit {0}
 IsOfOpenings NoLog = Unit {0}
 IsOfOpenings DamagedTail = Unit {0}
 IsOfOpenings e = IsFault e
+
+-- those of an opening to read
+abbrev pub IsOfReaders : LogError → Type 0
+IsOfReaders Changed = Unit {0}
+IsOfReaders e = IsOfOpenings e
 
 -- those of an append
 abbrev pub IsOfAppends : LogError → Type 0

@@ -12,3 +12,4 @@ pub mod Compacting
 pub mod Joining
 pub mod TailBuffer
 pub mod Sealing
+pub mod Bounds

@@ -52,6 +52,15 @@ pub record IsOnDisk (may_hold : List ℕ → List ℕ → Type 0) (may_leave : L
   pub outcomes : (c : Look) → may_leave c → Holds segments tail c
   pub tail_kept : TailIsKept may_hold may_leave entry_kept trusted tail
 
+-- What is known of a tail that was read or made: it is whole batches, its first record has this number, and its records lie at
+-- these places.
+pub record IsReadTail (tail : List ℕ) (first : ℕ) (places : List Place) : Type 0 where
+  pub is_tail : IsTail tail
+  pub whole : IsWholeTo (length tail) tail
+  pub first_is : first ≡ first_of tail
+  pub records : contents tail places ≡ records_of tail
+  pub within : All (EndsBy (length tail)) places
+
 -- What a log in memory knows of its tail, whatever its folder does: its bytes, where its records lie, and what waits to be
 -- put after them.
 pub record IsSettledTail (sealed tail_first next : ℕ) (tail : List ℕ) (places : List Place) (pending : List ℕ) : Type 0 where

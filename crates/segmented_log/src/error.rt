@@ -4,42 +4,54 @@ ghost use Rattle.std.specs.Prelude.{◌≡◌};
 ghost use Rattle.segmented_log.specs.declared.error.LogError.TheVariants.{Memory};
 
 use std::alloc::{AllocError, AllocFailed};
-use std::io;
+use std::error::Error;
 use std::io::ErrorKind;
-use thiserror::Error;
+use std::{fmt, io};
 
 /// Why a call failed on a log or on its folder.
-#[derive(Clone, Copy, Debug, PartialEq, Eq, Error)]
+#[derive(Clone, Copy, Debug, PartialEq, Eq)]
 pub enum LogError {
     /// A growth was refused.
-    #[error("no memory")]
     Memory,
     /// A call of the folder failed, or a read of one of its files.
-    #[error("a read or a write failed")]
     Failed,
     /// The log's numbers are used up, its tail is as long as it can be, or a store takes no more of its records.
-    #[error("the log is full")]
     Full,
     /// The batch is as long as it can be: sync first.
-    #[error("the batch is full")]
     BatchFull,
     /// The record is longer than a record can be.
-    #[error("the record is too long")]
     TooLong,
     /// A call of the folder failed before: open the log again.
-    #[error("the log must be opened again")]
     Broken,
     /// The folder's files are no log.
-    #[error("there is no log")]
     NoLog,
     /// The block of a segment does not say where the record lies.
-    #[error("the record is damaged")]
     Damaged,
     /// The tail has bytes that are no whole batch, though they were written whole: another batch follows them, or the
     /// tail was on the disk. `repair` cuts them off.
-    #[error("the tail is damaged")]
     DamagedTail,
+    /// A writer changed the log's files while they were read: open the log once more.
+    Changed,
 }
+
+impl fmt::Display for LogError {
+    fn fmt<W: fmt::Write>(&self, f: &mut fmt::Formatter<W>) -> fmt::Result {
+        f.write_str(match self {
+            LogError::Memory => "no memory",
+            LogError::Failed => "a read or a write failed",
+            LogError::Full => "the log is full",
+            LogError::BatchFull => "the batch is full",
+            LogError::TooLong => "the record is too long",
+            LogError::Broken => "the log must be opened again",
+            LogError::NoLog => "there is no log",
+            LogError::Damaged => "the record is damaged",
+            LogError::DamagedTail => "the tail is damaged",
+            LogError::Changed => "the log was changed while it was read",
+        })
+    }
+}
+
+impl Error for LogError {}
 
 impl From<AllocError> for LogError {
     ghost from_gives = { λ _ e. e ≡ Memory };

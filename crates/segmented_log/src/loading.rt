@@ -7,24 +7,20 @@ ghost use Rattle.store_folder.specs.Moments.{ComesFrom, LeavesOnly};
 ghost use Rattle.store_folder.specs.Folder.{ElsewhereOfBoth, AreNames, bytes_of};
 ghost use Rattle.store_folder.specs.Publishing.{part};
 ghost use Rattle.store_format.specs.Block.{Slot};
-ghost use Rattle.log_tail.specs.Place.{contents, EndsBy};
-ghost use Rattle.log_tail.specs.Tail.{records_of, first_of, IsTail, IsWholeTo};
 ghost use Rattle.segmented_log.specs.Names.{tail_name};
 ghost use Rattle.segmented_log.specs.Parts.{part_of, tail_end, end_from, AreParts};
 ghost use Rattle.segmented_log.specs.Log.{IsLog, IsBlank, KeepsLog};
 ghost use Rattle.segmented_log.specs.Opening.{IsSyncedButTail, IsOldOrSeen, IsNoLog, HasFullTail};
 ghost use Rattle.segmented_log.specs.Opening.{HasSegments, IsTailOf, IsNoTail, HasDamagedTail, HasSoundTail};
 ghost use Rattle.segmented_log.specs.Opening.{KeepsButFailed};
-ghost use Rattle.segmented_log.specs.Settled.{TailIsKept, IsSettledTail, IsSettledFolder};
+ghost use Rattle.segmented_log.specs.Settled.{IsReadTail, TailIsKept, IsSettledTail, IsSettledFolder};
 ghost use Rattle.segmented_log.specs.Causes.{IsOfTails, IsOfOpenings};
 
 use crate::commit::Commit;
 use crate::error::LogError;
-use crate::found_files::sync_found_files;
-use crate::found_tail::can_sync_tail;
+use crate::found_log::{FoundLog, find_log};
 use crate::log::SegmentedLog;
-use crate::names::TAIL;
-use crate::opening::{end_of_segments, numbers_in, open_segments};
+use crate::opening::{end_of_segments, open_all};
 use crate::reading::may_overlap;
 use crate::segment::{Segment, first_number};
 use crate::tail::{Cut, Tail, begin_tail, repair_tail};
@@ -33,14 +29,14 @@ use docstore::{FileHandle, laws};
 use std::alloc::Global;
 use store_folder::{Folder, ReadableFolder};
 
-// The parts of a log in memory.
+/// The parts of a log in memory.
 #[derive(Drop)]
-struct Parts<H: FileHandle> {
-    first: u64,
-    sealed: u64,
-    next: u64,
-    segments: Vec<Segment<H>>,
-    tail: Tail,
+pub(crate) struct Parts<H: FileHandle> {
+    pub(crate) first: u64,
+    pub(crate) sealed: u64,
+    pub(crate) next: u64,
+    pub(crate) segments: Vec<Segment<H>>,
+    pub(crate) tail: Tail,
 }
 
 // The tail of a log's folder, in which this one was found, or a new one where there is none and no segment.
@@ -57,10 +53,7 @@ fn load_tail<F: Folder>(
         → TailIsKept (F.may_hold folder.old) (F.may_leave folder.old) (F.entry_kept folder.old) (F.trusted folder.old)
         bytes }
     requires found { IsTrue F.honest → bytes_of found ≡ F.seen folder.old tail_name }
-    ensures tail { IfOk result (λ t. IsTail t.bytes.items × IsWholeTo (length t.bytes.items) t.bytes.items
-        × (t.first ≡ first_of t.bytes.items)) }
-    ensures records { IfOk result (λ t. contents t.bytes.items t.places.items ≡ records_of t.bytes.items) }
-    ensures within { IfOk result (λ t. All (EndsBy (length t.bytes.items)) t.places.items) }
+    ensures tail { IfOk result (λ t. IsReadTail t.bytes.items t.first t.places.items) }
     ensures kept { IsTrue F.honest → IfOk result (λ t. TailIsKept (F.may_hold folder.new) (F.may_leave folder.new)
         (F.entry_kept folder.new) (F.trusted folder.new) t.bytes.items) }
     ensures crash { IsTrue F.honest → ComesFrom (ElsewhereOfBoth (tail_name ++ part) tail_name)
@@ -84,23 +77,12 @@ fn load_tail<F: Folder>(
     }
 }
 
-// What may be cut off the tail of a folder that is opened.
-fn found_cut<F: Folder>(folder: &F) -> Cut
-    ensures { result ≢ Cut.Damage }
-{
-    if folder.is_synced(TAIL) {
-        Cut::Nothing
-    } else {
-        Cut::Unfinished
-    }
-}
-
-// The log of these segments and this tail, if they are in line.
-fn assemble<H: FileHandle>(segments: Vec<Segment<H>>, tail: Tail) -> Result<Parts<H>, LogError>
-    requires tail { IsTail tail.bytes.items × IsWholeTo (length tail.bytes.items) tail.bytes.items
-        × (tail.first ≡ first_of tail.bytes.items) }
-    requires records { contents tail.bytes.items tail.places.items ≡ records_of tail.bytes.items }
-    requires within { All (EndsBy (length tail.bytes.items)) tail.places.items }
+/// The log of these segments and this tail, if they are in line.
+pub(crate) fn assemble<H: FileHandle>(
+    segments: Vec<Segment<H>>,
+    tail: Tail,
+) -> Result<Parts<H>, LogError>
+    requires { IsReadTail tail.bytes.items tail.first tail.places.items }
     ensures segments { IfOk result (λ p. p.segments ≡ segments) }
     ensures tail { IfOk result (λ p. p.tail ≡ tail) }
     ensures settled { IfOk result (λ p. IsSettledTail p.sealed p.tail.first p.next p.tail.bytes.items
@@ -175,8 +157,7 @@ fn load_synced<F: ReadableFolder>(
     ensures kind { IfErr result IsOfOpenings }
 {
     laws::stores_are_apart();
-    let numbers = numbers_in(alloc, names)?;
-    let segments = open_segments(alloc, folder, &numbers)?;
+    let segments = open_all(alloc, folder, names)?;
     let is_blank = segments.is_empty();
     let tail = load_tail(alloc, folder, found, is_blank, is_kept, cut)?;
     let parts = assemble(segments, tail)?;
@@ -210,12 +191,13 @@ fn load<F: ReadableFolder>(alloc: Global, folder: &mut F) -> Result<Parts<F::Fil
         → HasRisen (F.failures folder.old) (F.failures folder.new) ⊎ HasSegments (F.seen folder.old) }
     ensures kind { IfErr result IsOfOpenings }
 {
-    let names = folder.names(alloc)?;
-    let cut = found_cut(folder);
-    let found = folder.read(alloc, TAIL)?;
-    let syncs_tail = can_sync_tail(alloc, folder, &found)?;
-    let is_kept = sync_found_files(folder, &names, syncs_tail)?;
-    load_synced(alloc, folder, &names, found, is_kept, cut)
+    let FoundLog {
+        names,
+        tail,
+        is_kept,
+        cut,
+    } = find_log(alloc, folder)?;
+    load_synced(alloc, folder, &names, tail, is_kept, cut)
 }
 
 impl<F: ReadableFolder> SegmentedLog<F> {

@@ -10,7 +10,7 @@ ghost use Rattle.segmented_log.specs.Causes.{IsOfReads, IsOfAppends};
 
 use crate::commit::Commit;
 use crate::error::LogError;
-use crate::reading::{copy_record, get_from};
+use crate::reading::{Bounds, get_record};
 use crate::sealing::BLOCK_SIZE;
 use crate::segment::Segment;
 use crate::tail_buffer::TailBuffer;
@@ -190,18 +190,20 @@ impl<F: ReadableFolder> SegmentedLog<F> {
         if self.is_broken {
             return Err(LogError::Broken);
         }
-        if number < self.first {
-            return Ok(None);
-        }
-        if number < self.sealed {
-            return get_from(self.alloc, &mut self.segments, self.may_overlap, number);
-        }
-        let index = (number - self.tail_first) as usize;
-        if index >= self.places.len() {
-            return Ok(None);
-        }
-        let place = self.places[index];
-        Ok(Some(copy_record(self.alloc, self.tail.bytes(), place)?))
+        let bounds = Bounds {
+            first: self.first,
+            sealed: self.sealed,
+            tail_first: self.tail_first,
+            may_overlap: self.may_overlap,
+        };
+        get_record(
+            self.alloc,
+            &mut self.segments,
+            self.tail.bytes(),
+            &self.places,
+            bounds,
+            number,
+        )
     }
 
     /// Hands the folder back. What waits for a sync is lost.

@@ -6,13 +6,15 @@ ghost use Rattle.std.specs.List.{Contains};
 ghost use Rattle.std.specs.List.Sorted.{IsStrictlyIncreasing};
 ghost use Rattle.segmented_log.specs.Parts.{part_of, end_from, AreInLine, Ascend};
 ghost use Rattle.segmented_log.specs.Log.{HasSegment};
-ghost use Rattle.segmented_log.specs.Opening.{AreNumbersIn, IsNoSegment};
+ghost use Rattle.store_folder.specs.Folder.{AreNames};
+ghost use Rattle.segmented_log.specs.Opening.{AreNumbersIn, IsNoSegment, IsNoLog, HasSegments};
+ghost use Rattle.segmented_log.specs.Dropping.{AreOfOneLog, HasOnly};
 ghost use Rattle.segmented_log.specs.Causes.{IsOfFiles};
 
 use crate::error::LogError;
 use crate::numbers::segment_number;
-use crate::segment::{Segment, open_segment};
-use docstore::FileHandle;
+use crate::segment::{Segment, first_number, open_segment};
+use docstore::{FileHandle, laws};
 use std::alloc::{AllocError, Global};
 use store_folder::ReadableFolder;
 
@@ -39,8 +41,8 @@ fn numbers_among(alloc: Global, names: &[String]) -> Result<Vec<u64>, AllocError
     Ok(numbers)
 }
 
-/// The numbers of the segments among these names, each once, in ascending order.
-pub(crate) fn numbers_in(alloc: Global, names: &[String]) -> Result<Vec<u64>, AllocError>
+// The numbers of the segments among these names, each once, in ascending order.
+fn numbers_in(alloc: Global, names: &[String]) -> Result<Vec<u64>, AllocError>
     ensures numbers { IfOk result (λ numbers. AreNumbersIn (map string_bytes names.now) numbers.items) }
     ensures ascend { IfOk result (λ numbers. IsStrictlyIncreasing numbers.items) }
 {
@@ -50,8 +52,20 @@ pub(crate) fn numbers_in(alloc: Global, names: &[String]) -> Result<Vec<u64>, Al
     Ok(numbers)
 }
 
-/// Opens the segments of these numbers.
-pub(crate) fn open_segments<F: ReadableFolder>(
+/// Whether two listings have the same segments.
+pub(crate) fn have_same_segments(
+    alloc: Global,
+    names: &[String],
+    others: &[String],
+) -> Result<bool, AllocError>
+    ensures { IfOk result (λ same. (seen : _) → AreNames seen (map string_bytes names.now)
+        → AreNames seen (map string_bytes others.now) → IsTrue same) }
+{
+    Ok(numbers_in(alloc, names)? == numbers_in(alloc, others)?)
+}
+
+// Opens the segments of these numbers.
+fn open_segments<F: ReadableFolder>(
     alloc: Global,
     folder: &F,
     numbers: &[u64],
@@ -93,4 +107,29 @@ pub(crate) fn end_of_segments<H: FileHandle>(segments: &[Segment<H>], first: u64
         least = segment.first + 1;
     }
     Some(end)
+}
+
+/// Opens the segments of a folder that has these names, if they are those of one log.
+pub(crate) fn open_all<F: ReadableFolder>(
+    alloc: Global,
+    folder: &F,
+    names: &[String],
+) -> Result<Vec<Segment<F::File>>, LogError>
+    requires { IsTrue F.honest → AreNames (F.seen folder.now) (map string_bytes names.now) }
+    ensures are { IfOk result (λ s. AreOfOneLog (map (λ x. part_of x.first x.reader) s.items)) }
+    ensures only { IsTrue F.honest → IfOk result (λ s. HasOnly (map (λ x. part_of x.first x.reader) s.items)
+        (F.seen folder.now)) }
+    ensures honest { IsTrue F.honest → IfOk result (λ s. All (λ x. IsTrue x.reader.file.honest) s.items) }
+    ensures no_log { IsTrue F.honest → IsErrOf result LogError.NoLog → IsNoLog (F.seen folder.now) }
+    ensures failed { IsTrue F.honest → IsErrOf result LogError.Failed → HasSegments (F.seen folder.now) }
+    ensures kind { IfErr result IsOfFiles }
+{
+    laws::stores_are_apart();
+    let numbers = numbers_in(alloc, names)?;
+    let segments = open_segments(alloc, folder, &numbers)?;
+    let first = first_number(&segments, 0);
+    let Some(_) = end_of_segments(&segments, first) else {
+        return Err(LogError::NoLog);
+    };
+    Ok(segments)
 }

@@ -1,15 +1,17 @@
 //! Records that are read from segments.
 
-ghost use Rattle.std.specs.Prelude.{◌≡◌, ◌≢◌, ◌⊎◌, ◌≤◌, ◌<◌, ◌-◌, ◌↔◌, ℕ, length, map, take, All, IsTrue, IfErr, IfOk};
-ghost use Rattle.std.specs.Prelude.{HoldsAt, IsErrOf, slice_get};
+ghost use Rattle.std.specs.Prelude.{◌≡◌, ◌≢◌, ◌⊎◌, ◌≤◌, ◌<◌, ◌-◌, ◌↔◌, ℕ, List, length, map, take, All, IsTrue, IfErr};
+ghost use Rattle.std.specs.Prelude.{IfOk, HoldsAt, IsErrOf, slice_get};
 ghost use Rattle.std.specs.Bool.{OnFalse};
 ghost use Rattle.std.specs.List.{sum_by};
 ghost use Rattle.store_base.specs.Counts.{HasRisen};
 ghost use Rattle.store_format.specs.Slots.{slots};
 ghost use Rattle.store_reader.specs.GetAnswer.{AnswersTruly};
 ghost use Rattle.store_reader.specs.Reading.{IsSameStore, num_docs, store_of};
-ghost use Rattle.segmented_log.specs.Parts.{part_of, sealed_of, end_of, end_from, joined, AreInLine};
-ghost use Rattle.segmented_log.specs.Log.{Gives};
+ghost use Rattle.segmented_log.specs.Parts.{part_of, sealed_of, end_of, end_from, joined, log_slots, AreInLine};
+ghost use Rattle.segmented_log.specs.Log.{slot_at, Gives};
+ghost use Rattle.segmented_log.specs.Settled.{IsSettledTail};
+ghost use Rattle.segmented_log.specs.Bounds.{AreBounds};
 ghost use Rattle.segmented_log.specs.Compacting.{AreNext};
 ghost use Rattle.segmented_log.specs.Causes.{IsOfReads, IsDamaged};
 ghost use Rattle.log_tail.specs.Place.{content};
@@ -162,8 +164,8 @@ fn get_in<H: FileHandle>(
     }
 }
 
-/// The record of this number, of the first of these segments that has it.
-pub(crate) fn get_from<H: FileHandle>(
+// The record of this number, of the first of these segments that has it.
+fn get_from<H: FileHandle>(
     alloc: Global,
     segments: &mut Vec<Segment<H>>,
     may_overlap: bool,
@@ -200,11 +202,69 @@ pub(crate) fn get_from<H: FileHandle>(
     get_in(alloc, segment, number)
 }
 
-/// The record at a place of a tail.
-pub(crate) fn copy_record(alloc: Global, tail: &[u8], place: Place) -> Result<Vec<u8>, AllocError>
+// The record at a place of a tail.
+fn copy_record(alloc: Global, tail: &[u8], place: Place) -> Result<Vec<u8>, AllocError>
     requires order { place.start ≤ place.end }
     requires within { place.end ≤ length tail.now }
     ensures { IfOk result (λ bytes. bytes.items ≡ content tail.now place) }
 {
     tail[place.start..place.end].to_vec(alloc)
+}
+
+/// Where the records of a log lie.
+#[derive(Clone, Copy)]
+pub(crate) struct Bounds {
+    /// The numbers of the log's first record, of the first that no segment has, and of the tail's first.
+    pub(crate) first: u64,
+    pub(crate) sealed: u64,
+    pub(crate) tail_first: u64,
+    /// Whether some segment may not begin just where the one before it ends.
+    pub(crate) may_overlap: bool,
+}
+
+/// The record of this number of a log of these segments, and this tail, whose records lie at these places.
+pub(crate) fn get_record<H: FileHandle>(
+    alloc: Global,
+    segments: &mut Vec<Segment<H>>,
+    tail: &[u8],
+    places: &[Place],
+    bounds: Bounds,
+    number: u64,
+) -> Result<Option<Vec<u8>>, LogError>
+    requires { (next : ℕ) × (pending : List ℕ)
+        × IsSettledTail bounds.sealed bounds.tail_first next tail.now places.now pending }
+    ensures parts { map (λ s. part_of s.first s.reader) segments.new.items
+        ≡ map (λ s. part_of s.first s.reader) segments.old.items }
+    ensures sealed { map (λ s. sealed_of s.first s.reader) segments.new.items
+        ≡ map (λ s. sealed_of s.first s.reader) segments.old.items }
+    ensures honest { All (λ s. IsTrue s.reader.file.honest) segments.old.items
+        → All (λ s. IsTrue s.reader.file.honest) segments.new.items }
+    ensures found { All (λ s. IsTrue s.reader.file.honest) segments.old.items
+        → AreBounds bounds (map (λ s. part_of s.first s.reader) segments.old.items) tail.now
+        → Gives (slot_at bounds.first (log_slots bounds.first (map (λ s. part_of s.first s.reader) segments.old.items)
+        tail.now) number) result }
+    ensures count { sum_by (λ s. s.reader.file.failures) segments.old.items
+        ≤ sum_by (λ s. s.reader.file.failures) segments.new.items }
+
+    // A read of a segment failed, and the segments have the number.
+    ensures failed { All (λ s. IsTrue s.reader.file.honest) segments.old.items
+        → AreBounds bounds (map (λ s. part_of s.first s.reader) segments.old.items) tail.now
+        → IsErrOf result LogError.Failed → HasRisen (sum_by (λ s. s.reader.file.failures) segments.old.items)
+        (sum_by (λ s. s.reader.file.failures) segments.new.items) }
+    ensures below { IsErrOf result LogError.Failed → number < bounds.sealed }
+    ensures steady { IsErrOf result LogError.Failed ⊎ (sum_by (λ s. s.reader.file.failures) segments.new.items
+        ≡ sum_by (λ s. s.reader.file.failures) segments.old.items) }
+    ensures kind { IfErr result IsOfReads }
+{
+    if number < bounds.first {
+        return Ok(None);
+    }
+    if number < bounds.sealed {
+        return get_from(alloc, segments, bounds.may_overlap, number);
+    }
+    let index = (number - bounds.tail_first) as usize;
+    if index >= places.len() {
+        return Ok(None);
+    }
+    Ok(Some(copy_record(alloc, tail, places[index])?))
 }

@@ -19,36 +19,12 @@ use crate::dropping::{end_of_first, remove_segment};
 use crate::error::LogError;
 use crate::found_files::sync_found_files;
 use crate::found_tail::{FoundTail, find_tail};
-use crate::opening::{end_of_segments, numbers_in, open_segments};
+use crate::opening::open_all;
 use crate::segment::{Segment, first_number};
 use docstore::laws;
 use std::alloc::Global;
 use std::ops::Range;
 use store_folder::ReadableFolder;
-
-// Opens the segments of a folder that has these names, if they are those of one log.
-fn open_all<F: ReadableFolder>(
-    alloc: Global,
-    folder: &F,
-    names: &[String],
-) -> Result<Vec<Segment<F::File>>, LogError>
-    requires { IsTrue F.honest → AreNames (F.seen folder.now) (map string_bytes names.now) }
-    ensures are { IfOk result (λ s. AreOfOneLog (map (λ x. part_of x.first x.reader) s.items)) }
-    ensures only { IsTrue F.honest → IfOk result (λ s. HasOnly (map (λ x. part_of x.first x.reader) s.items)
-        (F.seen folder.now)) }
-    ensures no_log { IsTrue F.honest → IsErrOf result LogError.NoLog → IsNoLog (F.seen folder.now) }
-    ensures failed { IsTrue F.honest → IsErrOf result LogError.Failed → HasSegments (F.seen folder.now) }
-    ensures kind { IfErr result IsOfFiles }
-{
-    laws::stores_are_apart();
-    let numbers = numbers_in(alloc, names)?;
-    let segments = open_segments(alloc, folder, &numbers)?;
-    let first = first_number(&segments, 0);
-    let Some(_) = end_of_segments(&segments, first) else {
-        return Err(LogError::NoLog);
-    };
-    Ok(segments)
-}
 
 // Removes the first of these segments, each that can be removed, where the tail begins at this number or it is 0.
 // Returns the number of the first record that is left.

@@ -13,9 +13,8 @@ ghost use Rattle.segmented_log.specs.Opening.{IsOfLog, IsSyncedButTail, IsAsBefo
 ghost use Rattle.segmented_log.specs.Causes.{IsFault, IsOfTails};
 
 use crate::error::LogError;
-use crate::found_files::sync_found_files;
-use crate::found_tail::can_sync_tail;
-use crate::names::{TAIL, cut_file, name_beside};
+use crate::found_log::{FoundLog, find_log};
+use crate::names::{cut_file, name_beside};
 use crate::tail::{Cut, repair_tail};
 use log_tail::batches::find_records;
 use log_tail::heads::is_damaged;
@@ -102,18 +101,25 @@ fn cut_off<F: Folder>(
     Ok(name)
 }
 
-// Fails if a tail that ends at this place, where its whole batches end, has not the number that its first head names.
-fn check_number(bytes: &[u8], first: u64, end: usize) -> Result<(), LogError>
-    requires first { first ≡ first_of bytes.now }
-    requires within { end ≤ length bytes.now }
-    requires rest { drop end bytes.now ≡ rest_of bytes.now }
-    ensures sound { OnOk result (is_damaged bytes.now ≡ false) }
-    ensures kind { IfErr result (λ e. e ≡ LogError.DamagedTail) }
+// Where the whole batches of a tail end, if it has more bytes.
+fn whole_end(alloc: Global, bytes: &[u8]) -> Result<Option<usize>, LogError>
+    ensures within { IfOk result (λ cut. IfSome cut (λ end. end ≤ length bytes.now)) }
+    ensures rest { IfOk result (λ cut. IfSome cut (λ end. drop end bytes.now ≡ rest_of bytes.now)) }
+    ensures whole { IfOk result (λ cut. IfNone cut (length (rest_of bytes.now) ≡ 0)) }
+    ensures sound { IfOk result (λ cut. IfNone cut (is_damaged bytes.now ≡ false)) }
+    ensures kind { IfErr result IsOfTails }
 {
+    let Some(first) = first_number(bytes) else {
+        return Err(LogError::NoLog);
+    };
+    let end = find_records(alloc, bytes)?.end;
+    if end < bytes.len() {
+        return Ok(Some(end));
+    }
     if is_damaged(bytes, first, end) {
         return Err(LogError::DamagedTail);
     }
-    Ok(())
+    Ok(None)
 }
 
 /// Cuts off the end of the tail of a log's folder that is no whole batch, and keeps it in a file whose name it returns.
@@ -143,21 +149,13 @@ pub fn repair<F: ReadableFolder>(alloc: Global, folder: &mut F) -> Result<Option
         (IsOldOrSeen (F.may_leave folder.old) (F.seen folder.old)) }
     ensures kind { IfErr result IsOfTails }
 {
-    let names = folder.names(alloc)?;
-    let found = folder.read(alloc, TAIL)?;
-    let syncs_tail = can_sync_tail(alloc, folder, &found)?;
-    let _ = sync_found_files(folder, &names, syncs_tail)?;
-    let Some(bytes) = found else {
+    let FoundLog { names, tail, .. } = find_log(alloc, folder)?;
+    let Some(bytes) = tail else {
         return Err(LogError::NoLog);
     };
-    let Some(first) = first_number(&bytes) else {
-        return Err(LogError::NoLog);
-    };
-    let end = find_records(alloc, &bytes)?.end;
-    if end == bytes.len() {
-        check_number(&bytes, first, end)?;
+    let Some(end) = whole_end(alloc, &bytes)? else {
         return Ok(None);
-    }
+    };
     let name = cut_off(alloc, folder, &names, bytes, end)?;
     Ok(Some(name))
 }

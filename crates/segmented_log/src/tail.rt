@@ -1,17 +1,16 @@
 //! The tail of a log that is opened: its torn end is cut off, or it is made.
 
-ghost use Rattle.std.specs.Prelude.{◌≡◌, ◌≢◌, ◌≤◌, ◌++◌, false, ℕ, List, [], Some, None, length, drop, All, IsTrue};
-ghost use Rattle.std.specs.Prelude.{IfOk, IfErr, OnOk, IsErrOf};
+ghost use Rattle.std.specs.Prelude.{◌≡◌, ◌≢◌, ◌⊎◌, ◌≤◌, ◌++◌, false, ℕ, List, [], Some, None, length, take, drop};
+ghost use Rattle.std.specs.Prelude.{IsTrue, IfOk, IfErr, OnOk, IsErrOf};
 ghost use Rattle.store_base.specs.Counts.{HasRisen};
 ghost use Rattle.store_folder.specs.Moments.{ComesFrom, LeavesOnly};
 ghost use Rattle.store_folder.specs.Folder.{ElsewhereOfBoth};
 ghost use Rattle.store_folder.specs.Publishing.{part};
-ghost use Rattle.log_tail.specs.Place.{contents, EndsBy};
-ghost use Rattle.log_tail.specs.Tail.{records_of, first_of, IsTail, IsWholeTo};
+ghost use Rattle.log_tail.specs.Tail.{first_of, IsTail};
 ghost use Rattle.log_tail.specs.Heads.{is_damaged, rest_of};
 ghost use Rattle.segmented_log.specs.Names.{tail_name};
 ghost use Rattle.segmented_log.specs.Opening.{IsSyncedButTail, IsOldOrSeen, IsTailOf, HasDamage};
-ghost use Rattle.segmented_log.specs.Settled.{TailIsKept};
+ghost use Rattle.segmented_log.specs.Settled.{IsReadTail, TailIsKept};
 ghost use Rattle.segmented_log.specs.Causes.{IsOfTails, IsFault};
 
 use crate::error::LogError;
@@ -58,6 +57,41 @@ pub(crate) fn is_too_much(cut: Cut, bytes: &[u8], first: u64, end: usize) -> boo
     }
 }
 
+/// A tail without the bytes at its end that are no whole batch, and whether these are more than may be cut off.
+#[derive(Drop)]
+pub(crate) struct WholeTail {
+    pub(crate) tail: Tail,
+    pub(crate) is_damaged: bool,
+}
+
+/// The tail of these bytes, without those at its end that are no whole batch.
+pub(crate) fn whole_tail(alloc: Global, bytes: Vec<u8>, cut: Cut) -> Result<WholeTail, LogError>
+    ensures tail { IfOk result (λ w. IsReadTail w.tail.bytes.items w.tail.first w.tail.places.items) }
+    ensures same { IfOk result (λ w. IsTailOf (Some bytes.items) w.tail.bytes.items) }
+    ensures front { IfOk result (λ w. w.tail.bytes.items ≡ take (length w.tail.bytes.items) bytes.items) }
+    ensures damaged { IfOk result (λ w. IsTrue w.is_damaged → HasDamage bytes.items) }
+    ensures sound { cut ≢ Cut.Damage → IfOk result (λ w. w.is_damaged ≡ false → is_damaged bytes.items ≡ false) }
+    ensures whole { cut ≡ Cut.Nothing → IfOk result (λ w. w.is_damaged ≡ false → rest_of bytes.items ≡ []) }
+    ensures no_log { IsErrOf result LogError.NoLog → IsTail bytes.items → ⊥ }
+    ensures kind { IfErr result (λ e. (e ≡ LogError.NoLog) ⊎ (e ≡ LogError.Memory)) }
+{
+    let Some(first) = first_number(&bytes) else {
+        return Err(LogError::NoLog);
+    };
+    let found = find_records(alloc, &bytes)?;
+    let is_damaged = is_too_much(cut, &bytes, first, found.end);
+    let mut whole = bytes;
+    whole.truncate(found.end);
+    Ok(WholeTail {
+        tail: Tail {
+            bytes: whole,
+            first,
+            places: found.places,
+        },
+        is_damaged,
+    })
+}
+
 /// The tail of these bytes. What may be cut off at its end is, in memory and on the disk. A tail that is not kept on
 /// the disk is replaced.
 pub(crate) fn repair_tail<F: Folder>(
@@ -71,10 +105,7 @@ pub(crate) fn repair_tail<F: Folder>(
     requires file { IsTrue F.honest → F.seen folder.old tail_name ≡ Some bytes.items }
     requires kept { IsTrue F.honest → IsTrue is_kept → TailIsKept (F.may_hold folder.old) (F.may_leave folder.old)
         (F.entry_kept folder.old) (F.trusted folder.old) bytes.items }
-    ensures tail { IfOk result (λ t. IsTail t.bytes.items × IsWholeTo (length t.bytes.items) t.bytes.items
-        × (t.first ≡ first_of t.bytes.items)) }
-    ensures records { IfOk result (λ t. contents t.bytes.items t.places.items ≡ records_of t.bytes.items) }
-    ensures within { IfOk result (λ t. All (EndsBy (length t.bytes.items)) t.places.items) }
+    ensures tail { IfOk result (λ t. IsReadTail t.bytes.items t.first t.places.items) }
     ensures kept { IsTrue F.honest → IfOk result (λ t. TailIsKept (F.may_hold folder.new) (F.may_leave folder.new)
         (F.entry_kept folder.new) (F.trusted folder.new) t.bytes.items) }
     ensures crash { IsTrue F.honest → ComesFrom (ElsewhereOfBoth (tail_name ++ part) tail_name)
@@ -96,37 +127,23 @@ pub(crate) fn repair_tail<F: Folder>(
     ensures failed { IsErrOf result LogError.Failed → HasRisen (F.failures folder.old) (F.failures folder.new) }
     ensures kind { IfErr result IsOfTails }
 {
-    let Some(first) = first_number(&bytes) else {
-        return Err(LogError::NoLog);
-    };
-    let found = find_records(alloc, &bytes)?;
-    if is_too_much(cut, &bytes, first, found.end) {
+    let len = bytes.len();
+    let WholeTail { tail, is_damaged } = whole_tail(alloc, bytes, cut)?;
+    if is_damaged {
         return Err(LogError::DamagedTail);
     }
-    if is_kept && found.end == bytes.len() {
-        return Ok(Tail {
-            bytes,
-            first,
-            places: found.places,
-        });
+    if is_kept && tail.bytes.len() == len {
+        return Ok(tail);
     }
-    let whole = bytes[..found.end].to_vec(alloc)?;
-    replace_tail(folder, &whole)?;
-    Ok(Tail {
-        bytes: whole,
-        first,
-        places: found.places,
-    })
+    replace_tail(folder, &tail.bytes)?;
+    Ok(tail)
 }
 
 /// The tail of a new log, which is put into a folder that has no log.
 pub(crate) fn begin_tail<F: Folder>(alloc: Global, folder: &mut F) -> Result<Tail, LogError>
     requires synced { IsTrue F.honest → IsSyncedButTail (F.seen folder.old) (F.may_leave folder.old) }
     requires none { IsTrue F.honest → F.seen folder.old tail_name ≡ None }
-    ensures tail { IfOk result (λ t. IsTail t.bytes.items × IsWholeTo (length t.bytes.items) t.bytes.items
-        × (t.first ≡ first_of t.bytes.items)) }
-    ensures records { IfOk result (λ t. contents t.bytes.items t.places.items ≡ records_of t.bytes.items) }
-    ensures within { IfOk result (λ t. All (EndsBy (length t.bytes.items)) t.places.items) }
+    ensures tail { IfOk result (λ t. IsReadTail t.bytes.items t.first t.places.items) }
     ensures kept { IsTrue F.honest → IfOk result (λ t. TailIsKept (F.may_hold folder.new) (F.may_leave folder.new)
         (F.entry_kept folder.new) (F.trusted folder.new) t.bytes.items) }
     ensures crash { IsTrue F.honest → ComesFrom (ElsewhereOfBoth (tail_name ++ part) tail_name)

@@ -36,7 +36,7 @@ fn listed_name<R: Files>(alloc: Global, entry: &DirEntry<R>) -> io::Result<Optio
 }
 
 /// The name of each plain file of this folder, but for the lock and those that were not published.
-pub(crate) fn listed_names<R: Files>(rt: &R, alloc: Global, path: &str) -> io::Result<Vec<String>> {
+pub fn listed_names<R: Files>(rt: &R, alloc: Global, path: &str) -> io::Result<Vec<String>> {
     let mut names = Vec::new(alloc);
     for entry in fs::read_dir(&(rt, alloc), path)? {
         if let Some(name) = listed_name(alloc, &entry?)? {

@@ -49,4 +49,4 @@ returns-clause-log g c = λ h l left.
     keeps_seen (F.seen old) (F.seen mid) (c.keep_cut.ensures.seen h) l
     (keeps_loaded (F.seen mid) (F.may_leave mid)
     (still_synced (F.seen old) (F.seen mid) (c.keep_cut.ensures.seen h) (F.may_leave old) (F.may_leave mid) (c.keep_cut.ensures.crash h) (c.requires.synced h))
-    c.in_ok-repair_tail.field-0.bytes.items t.tail.0 of (F.may_leave c.repair_tail.new.folder) (c.repair_tail.ensures.crash h) (t.kept h).outcomes l left)
+    c.in_ok-repair_tail.field-0.bytes.items t.tail.is_tail of (F.may_leave c.repair_tail.new.folder) (c.repair_tail.ensures.crash h) (t.kept h).outcomes l left)

@@ -9,7 +9,7 @@ use Rattle.segmented_log.proofs.LoadLemmas.{no_others, firsts_of}
 use Rattle.segmented_log.proofs.NoLogLemmas.{no_store, some_segment, not_one_log}
 use Rattle.segmented_log.proofs.PartLemmas.{ascend_first}
 use Rattle.segmented_log.proofs.UniqueLemmas.{from_zero}
-use Rattle.segmented_log.proofs.removing.open_all.Goals as goal
+use Rattle.segmented_log.proofs.opening.open_all.Goals as goal
 
 pub returns-in_err-segments-clause-no_log : goal.returns-in_err-segments-clause-no_log
 returns-in_err-segments-clause-no_log g c = λ h is.

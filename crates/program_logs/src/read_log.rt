@@ -1,0 +1,120 @@
+//! A log that is open to be read.
+
+use crate::log_files::LogFiles;
+use crate::log_folder::LogFolder;
+use crate::opened_log::explained;
+use crate::places::check_log;
+use crate::segments::segment_numbers;
+use program_base::failure::FailureCause;
+use segmented_log::{LogError, LogReader};
+use std::io::ErrorKind;
+
+// How often an opening or a read is tried: a writer may change the log's segments meanwhile.
+const TRIES: usize = 1000;
+
+// The reader of a log on disk, in a box: a function that owns it moves and drops one value, and not all of its parts.
+type DiskReader<'a> = Box<LogReader<LogFolder<'a, HostRuntime>>>;
+
+/// A log that is open to be read, as it was when it was opened first.
+#[derive(Drop)]
+pub struct ReadLog<'a> {
+    files: &'a LogFiles,
+    folder: LogFolder<'a, HostRuntime>,
+    log: DiskReader<'a>,
+    end: u64,
+}
+
+// What a call gave; none where a writer changed the log meanwhile. A segment may be gone since it was listed: the
+// writer joined it with others, or removed it.
+fn unless_changed<T: Drop>(
+    files: &LogFiles,
+    outcome: Result<T, LogError>,
+) -> Result<Option<T>, FailureCause> {
+    match outcome {
+        Ok(value) => Ok(Some(value)),
+        Err(LogError::Changed) => Ok(None),
+        Err(error) => match explained(files, error) {
+            FailureCause::System(error) if error.kind() == ErrorKind::NotFound => Ok(None),
+            cause => Err(cause),
+        },
+    }
+}
+
+// Opens the log of a folder.
+fn open<'a>(
+    rt: &HostRuntime,
+    folder: &LogFolder<'a, HostRuntime>,
+    files: &LogFiles,
+) -> Result<DiskReader<'a>, FailureCause> {
+    for _ in 0..TRIES {
+        if let Some(log) = unless_changed(files, LogReader::open(rt.alloc(), folder))? {
+            return Ok(Box::new(rt.alloc(), log)?);
+        }
+    }
+    Err(FailureCause::BusyLog)
+}
+
+/// Opens a log that is there, to read it. Nothing is changed, and a writer may go on. Of a log whose tail is damaged it
+/// has the records before the damage.
+pub fn open_to_read<'a>(
+    rt: &'a HostRuntime,
+    path: &'a str,
+    files: &'a LogFiles,
+) -> Result<ReadLog<'a>, FailureCause> {
+    check_log(rt, path)?;
+    let _plain = segment_numbers(rt, path)?;
+    let folder = LogFolder::new(rt, path, None, files);
+    let log = open(rt, &folder, files)?;
+    let end = log.end();
+    Ok(ReadLog {
+        files,
+        folder,
+        log,
+        end,
+    })
+}
+
+impl<'a> ReadLog<'a> {
+    /// The number of the first record.
+    pub fn first(&self) -> u64 {
+        self.log.first()
+    }
+
+    /// The number after the last record.
+    pub fn end(&self) -> u64 {
+        self.end
+    }
+
+    // That the log has no record of this number.
+    fn no_record(&self, number: u64) -> FailureCause {
+        FailureCause::NoRecord {
+            number,
+            first: self.first(),
+            end: self.end,
+        }
+    }
+
+    /// The record of a number. Where a writer has joined its segment with others meanwhile, it is read from the joined
+    /// one; where it was removed, the error says from which number on records are left.
+    pub fn get(&mut self, number: u64) -> Result<Vec<u8>, FailureCause> {
+        for _ in 0..TRIES {
+            match self.log.get(number) {
+                Ok(Some(record)) => return Ok(record),
+                Ok(None) => return Err(self.no_record(number)),
+                Err(LogError::Damaged) => return Err(FailureCause::DamagedRecord(number)),
+                Err(error) => unless_changed::<()>(self.files, Err(error))?,
+            };
+            let refreshed = self.log.refresh(&self.folder);
+            unless_changed(self.files, refreshed)?;
+        }
+        Err(FailureCause::BusyLog)
+    }
+
+    /// Fails where the tail is damaged, once what is before the damage was given: the next record would be in it.
+    pub fn check_end(&self) -> Result<(), FailureCause> {
+        match self.log.is_damaged() {
+            true => Err(FailureCause::DamagedRecord(self.end)),
+            false => Ok(()),
+        }
+    }
+}
