@@ -28,8 +28,8 @@ fn append_two(
     Ok(())
 }
 
-// What the process calls. A sync seals, and the first two segments are joined and dropped.
-fn script(alloc: Global) -> Result<Vec<Call>, AllocError> {
+/// What a process calls. The first two segments are joined, and then dropped.
+pub fn script(alloc: Global) -> Result<Vec<Call>, AllocError> {
     let mut calls = Vec::new(alloc);
     append_two(alloc, &mut calls, b"one", false)?;
     calls.push(Call::Seal)?;

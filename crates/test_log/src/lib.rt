@@ -10,6 +10,8 @@ mod failed_calls;
 #[cfg(test)]
 mod folder_runs;
 #[cfg(test)]
+mod readers;
+#[cfg(test)]
 mod torn_files;
 #[cfg(test)]
 mod torn_logs;

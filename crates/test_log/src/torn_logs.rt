@@ -41,9 +41,9 @@ pub fn killed(alloc: Global, events: &[Event], count: usize) -> Result<TornFolde
     TornFolder::of_events(alloc, events.get(..count).unwrap_or(events))
 }
 
-// Whether the record of this number is the one that is expected.
-fn is_record(log: &mut Log, number: usize, expected: Option<&Vec<u8>>) -> bool {
-    match (log.get(number as u64), expected) {
+/// Whether what was read is the record that is expected, or none.
+pub fn is_record(read: Result<Option<Vec<u8>>, LogError>, expected: Option<&Vec<u8>>) -> bool {
+    match (read, expected) {
         (Ok(Some(found)), Some(record)) => found.as_slice() == record.as_slice(),
         (Ok(None), None) => true,
         _ => false,
@@ -61,11 +61,11 @@ pub fn has_from(log: &mut Log, records: &[Vec<u8>], first: u64) -> bool {
         } else {
             records.get(number)
         };
-        if !is_record(log, number, expected) {
+        if !is_record(log.get(number as u64), expected) {
             return false;
         }
     }
-    is_record(log, records.len(), None)
+    is_record(log.get(records.len() as u64), None)
 }
 
 /// Opens a folder's log.
