@@ -47,19 +47,22 @@ pub fn script(alloc: Global) -> Result<Vec<Call>, AllocError> {
     Ok(calls)
 }
 
-// A log that a process wrote: its records, how many of them it acknowledged, and before which number it dropped them.
+// A log that a process wrote: its records, how many of them it acknowledged, before which number it dropped them, and
+// whether a call of it failed.
 #[derive(Drop)]
 struct Written {
     alloc: Global,
     records: Vec<Vec<u8>>,
     acknowledged: usize,
     limit: u64,
+    has_failed: bool,
 }
 
 impl Written {
     // Makes a call, and notes what it acknowledges.
     fn make(&mut self, log: &mut Log, call: &[Call]) -> Result<(), Fail> {
         let is_made = call_all(log, call).is_ok();
+        self.has_failed = self.has_failed || !is_made;
         match call.first() {
             Some(Call::Append(record)) if is_made => {
                 self.records.push(record.to_vec(self.alloc)?)?;
@@ -80,7 +83,10 @@ impl Written {
     ) -> Result<TornFolder, Fail> {
         let mut log = match SegmentedLog::open(self.alloc, folder, SEAL_SIZE, commit) {
             Ok(log) => log,
-            Err((_, folder)) => return Ok(folder),
+            Err((_, folder)) => {
+                self.has_failed = true;
+                return Ok(folder);
+            }
         };
         for place in 0..calls.len() {
             self.make(
@@ -165,7 +171,7 @@ fn folder_of(alloc: Global, end: End, count: usize) -> TornFolder {
     folder
 }
 
-// Whether a log survives that a process ends so after this many calls of the folder: none where it makes fewer.
+// Whether a log survives that a process ends so after this many calls of the folder: none where no call failed.
 fn survives(
     alloc: Global,
     commit: Commit,
@@ -178,9 +184,10 @@ fn survives(
         records: Vec::new(alloc),
         acknowledged: 0,
         limit: 0,
+        has_failed: false,
     };
     let folder = written.make_all(folder_of(alloc, end, count), commit, &script(alloc)?)?;
-    if folder.events().len() < count {
+    if !written.has_failed {
         return Ok(None);
     }
     let left = TornFolder::of_events(alloc, folder.events())?;
