@@ -11,7 +11,7 @@ from harness import TOP
 
 ENDINGS = "rt|antt|edit|py|sh|c|h|rs|md|json|svg|toml|hex"
 # Names of tantivy, of the C library and of the kit, which the documents speak of.
-FOREIGN = set("split_from_end deserialize_u64 src/store src/store/reader.rs start_io start_lib".split())
+FOREIGN = set("split_from_end deserialize_u64 src/store src/store/reader.rs start_io start_lib HostRuntime".split())
 FOREIGN |= {f"MALLOC_{name}_" for name in ("TRIM_THRESHOLD", "MMAP_THRESHOLD", "TOP_PAD")}
 
 

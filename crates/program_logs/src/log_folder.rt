@@ -9,7 +9,7 @@ use std::alloc::Global;
 use std::fs::{File, Files};
 use std::io;
 use std::io::ErrorKind;
-use store_files::{DiskFile, LockedFolder, is_left_synced, listed_names, read_all};
+use store_files::{DiskFile, DiskFolder, SystemFiles, file_names, is_left_synced, read_all};
 use store_folder::{Folder, ReadableFolder};
 
 // The bytes of a file of a log's folder, if it is there.
@@ -34,11 +34,11 @@ fn unlocked() -> io::Result<()> {
 
 /// A log's folder. A reader has no lock, and writes nothing.
 #[derive(Drop)]
-pub struct LogFolder<'a, R: Files<File = File> + Drop> {
+pub struct LogFolder<'a, R: Files<File = File> + SystemFiles + Drop> {
     rt: &'a R,
     alloc: Global,
     path: &'a str,
-    writer: Option<Box<LockedFolder<R>>>,
+    writer: Option<Box<DiskFolder<R>>>,
     files: &'a LogFiles,
     failures: u64,
 }
@@ -48,7 +48,7 @@ impl<'a> LogFolder<'a, HostRuntime> {
     pub fn new(
         rt: &'a HostRuntime,
         path: &'a str,
-        writer: Option<Box<LockedFolder<HostRuntime>>>,
+        writer: Option<Box<DiskFolder<HostRuntime>>>,
         files: &'a LogFiles,
     ) -> LogFolder<'a, HostRuntime> {
         LogFolder {
@@ -62,7 +62,7 @@ impl<'a> LogFolder<'a, HostRuntime> {
     }
 }
 
-impl<'a, R: Files<File = File> + Drop> LogFolder<'a, R> {
+impl<'a, R: Files<File = File> + SystemFiles + Drop> LogFolder<'a, R> {
     // Counts a call that failed, and keeps why.
     fn count(&mut self, outcome: io::Result<()>) -> io::Result<()>
         ensures count { self.old.failures ≤ self.new.failures }
@@ -97,7 +97,7 @@ impl<'a, R: Files<File = File> + Drop> LogFolder<'a, R> {
 }
 
 /// It promises nothing of what the system does.
-impl<'a, R: Files<File = File> + Drop> Folder for LogFolder<'a, R> {
+impl<'a, R: Files<File = File> + SystemFiles + Drop> Folder for LogFolder<'a, R> {
     ghost use Rattle.std.specs.Prelude.{false, None};
     ghost use Rattle.std.proofs.Common.{rules};
 
@@ -197,7 +197,7 @@ impl<'a, R: Files<File = File> + Drop> Folder for LogFolder<'a, R> {
     }
 }
 
-impl<'a, R: Files<File = File> + Drop> ReadableFolder for LogFolder<'a, R> {
+impl<'a, R: Files<File = File> + SystemFiles + Drop> ReadableFolder for LogFolder<'a, R> {
     ghost use Rattle.std.specs.Prelude.{false};
 
     type File = DiskFile<SegmentFile<'a, R>>;
@@ -207,7 +207,7 @@ impl<'a, R: Files<File = File> + Drop> ReadableFolder for LogFolder<'a, R> {
     fn names(&self, alloc: Global) -> io::Result<Vec<String>> {
         self.noted(match &self.writer {
             Some(folder) => folder.names(alloc),
-            None => listed_names(self.rt, alloc, self.path),
+            None => file_names(self.rt, alloc, self.path),
         })
     }
 

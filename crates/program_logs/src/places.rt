@@ -10,7 +10,7 @@ use segmented_log::{Commit, TAIL};
 use std::alloc::{AllocError, Global};
 use std::io::ErrorKind;
 use std::{fs, io};
-use store_files::{CreateError, LockedFolder};
+use store_files::{CreateError, DiskFolder};
 
 // The tail of a log to which nothing is appended: it is not sealed for its size.
 const NOT_APPENDED: TailOptions = TailOptions {
@@ -92,8 +92,8 @@ fn check_place(rt: &HostRuntime, path: &str) -> Result<(), FailureCause> {
 // The folder that a writer locked, in a box, or why it is not to be had.
 fn locked(
     alloc: Global,
-    folder: Result<LockedFolder<HostRuntime>, CreateError>,
-) -> Result<Box<LockedFolder<HostRuntime>>, FailureCause> {
+    folder: Result<DiskFolder<HostRuntime>, CreateError>,
+) -> Result<Box<DiskFolder<HostRuntime>>, FailureCause> {
     match folder {
         Ok(folder) => Ok(Box::new(alloc, folder)?),
         Err(CreateError::Busy(_)) => Err(FailureCause::BusyLog),
@@ -132,7 +132,7 @@ pub fn open_or_begin<'a>(
     tail: TailOptions,
 ) -> Result<OpenedLog<'a>, FailureCause> {
     check_place(rt, path)?;
-    let writer = locked(rt.alloc(), LockedFolder::create(rt.alloc(), *rt, path))?;
+    let writer = locked(rt.alloc(), DiskFolder::create(rt.alloc(), *rt, path))?;
     let folder = LogFolder::new(rt, path, Some(writer), files);
     open_locked(rt, path, folder, files, tail)
 }
@@ -144,7 +144,7 @@ pub fn folder_to_write<'a>(
     files: &'a LogFiles,
 ) -> Result<LogFolder<'a, HostRuntime>, FailureCause> {
     check_log(rt, path)?;
-    let writer = locked(rt.alloc(), LockedFolder::open(rt.alloc(), *rt, path))?;
+    let writer = locked(rt.alloc(), DiskFolder::open(rt.alloc(), *rt, path))?;
     Ok(LogFolder::new(rt, path, Some(writer), files))
 }
 

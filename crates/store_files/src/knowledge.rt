@@ -208,7 +208,9 @@ impl Knowledge {
 
     /// Forgets that entries are on the disk, before a call that changes some.
     pub(crate) fn doubt_entries(&mut self)
-        ensures { (n : List ℕ) → said self.new n ≡ said self.old n }
+        ensures files { (n : List ℕ) → said self.new n ≡ said self.old n }
+        ensures others { self.new.others ≡ self.old.others }
+        ensures entries { self.new.has_kept_entries ≡ false }
     {
         self.has_kept_entries = false;
     }

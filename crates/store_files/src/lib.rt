@@ -4,26 +4,33 @@
 
 pub mod create_error;
 pub mod disk_file;
+pub mod disk_folder;
 pub mod disk_sink;
+mod host;
 pub mod knowledge;
 pub mod laws;
 pub mod loading;
 pub mod lock_mark;
-pub mod locked_folder;
+mod locking;
 pub mod mark;
 pub mod names;
+mod open_file;
 pub mod os_folder;
 pub mod output_file;
+mod paths;
 pub mod read_at;
-mod written_file;
+mod reading;
+pub mod system_files;
+mod writing;
 
 pub use create_error::CreateError;
 pub use disk_file::DiskFile;
+pub use disk_folder::DiskFolder;
 pub use disk_sink::DiskSink;
 pub use loading::{load, read_all};
 pub use lock_mark::is_left_synced;
-pub use locked_folder::LockedFolder;
-pub use names::listed_names;
+pub use names::file_names;
 pub use os_folder::OsFolder;
 pub use output_file::LockFile;
 pub use read_at::{OsFile, ReadAt};
+pub use system_files::{FoundMark, SystemFiles};

@@ -3,13 +3,16 @@
 //!
 //! It is never synced. After a restart of the machine it tells nothing, and in a copy of the folder neither.
 
-ghost use Rattle.std.specs.Prelude.{◌≡◌};
+ghost use Rattle.std.specs.Prelude.{◌≡◌, ℕ, List, IfOk, false};
+ghost use Rattle.store_files.specs.Knowledge.{said, after, entries_after, IsOf};
+ghost use Rattle.store_files.specs.Mark.{claimed, claims_entries};
 
 use crate::knowledge::{Doing, Knowledge, Standing};
 use crate::loading::read_all;
 use crate::mark::{Mark, end_mark, mark_before, read_mark};
-use crate::names::LOCK;
 use crate::output_file::check_plain;
+use crate::paths::LOCK;
+use crate::system_files::{FoundMark, SystemFiles};
 use std::alloc::Global;
 use std::fs::{File, Files, OpenFile};
 use std::io;
@@ -27,7 +30,7 @@ pub(crate) struct LockMark {
     inode: String,
     // None where a write of it failed.
     mark: Option<Mark>,
-    knowledge: Knowledge,
+    pub(crate) knowledge: Knowledge,
     has_changed: bool,
 }
 
@@ -44,19 +47,38 @@ fn boot_id<R: Files>(rt: &R, alloc: Global) -> io::Result<Vec<u8>> {
     }
 }
 
+/// The mark in the file of this path, which is open.
+pub(crate) fn found_mark<R: Files, F: OpenFile>(
+    rt: &R,
+    alloc: Global,
+    lock: &F,
+    path: &str,
+) -> io::Result<FoundMark> {
+    let boot = boot_id(rt, alloc)?;
+    let number = lock.metadata()?.ino();
+    let inode = format!(in alloc; "{number}")?;
+    let bytes = read_all(alloc, &mut File::open(rt, path)?)?;
+    let mark = read_mark(alloc, &bytes, &boot, inode.as_bytes())?;
+    Ok(FoundMark { mark, boot, inode })
+}
+
+/// Replaces the bytes of a file.
+pub(crate) fn replace_bytes<F: Write + Seek + OpenFile>(
+    file: &mut F,
+    bytes: &[u8],
+) -> io::Result<()> {
+    file.seek(SeekFrom::Start(0))?;
+    file.write_all(bytes)?;
+    file.set_len(bytes.len() as u64)
+}
+
 impl LockMark {
-    /// The mark in the file of this path, which is open.
-    pub(crate) fn read<R: Files>(
-        rt: &R,
-        alloc: Global,
-        lock: &R::File,
-        path: &str,
-    ) -> io::Result<LockMark> {
-        let boot = boot_id(rt, alloc)?;
-        let number = lock.metadata()?.ino();
-        let inode = format!(in alloc; "{number}")?;
-        let bytes = read_all(alloc, &mut File::open(rt, path)?)?;
-        let mark = read_mark(alloc, &bytes, &boot, inode.as_bytes())?;
+    /// The mark that was found in a folder.
+    pub(crate) fn of(alloc: Global, found: FoundMark) -> io::Result<LockMark>
+        ensures files { IfOk result (λ m. (n : List ℕ) → said m.knowledge n ≡ claimed found.mark n) }
+        ensures entries { IfOk result (λ m. m.knowledge.has_kept_entries ≡ claims_entries found.mark.kind) }
+    {
+        let FoundMark { mark, boot, inode } = found;
         let knowledge = Knowledge::after(alloc, &mark)?;
         Ok(LockMark {
             alloc,
@@ -68,31 +90,34 @@ impl LockMark {
         })
     }
 
-    /// What the writer knows.
-    pub(crate) fn knowledge(&self) -> &Knowledge
-        ensures { result.now ≡ self.now.knowledge }
-    {
-        &self.knowledge
-    }
-
     // Replaces the mark.
-    fn replace<F: Write + Seek + OpenFile>(&mut self, lock: &mut F, mark: Mark) -> io::Result<()> {
+    fn replace<S: SystemFiles>(
+        &mut self,
+        system: &S,
+        lock: &mut S::File,
+        mark: Mark,
+    ) -> io::Result<()>
+        ensures knowledge { self.new.knowledge ≡ self.old.knowledge }
+        ensures lock { S.is_locked lock.new ≡ S.is_locked lock.old }
+    {
         let bytes = mark.to_bytes(self.alloc, &self.boot, self.inode.as_bytes())?;
         self.mark = None;
-        lock.seek(SeekFrom::Start(0))?;
-        lock.write_all(&bytes)?;
-        lock.set_len(bytes.len() as u64)?;
+        system.write_mark(lock, &bytes)?;
         self.mark = Some(mark);
         Ok(())
     }
 
     /// Replaces the mark, unless this may be done under it, and returns whether it did. It is called before the system
     /// is.
-    pub(crate) fn begin<F: Write + Seek + OpenFile>(
+    pub(crate) fn begin<S: SystemFiles>(
         &mut self,
-        lock: &mut F,
+        system: &S,
+        lock: &mut S::File,
         doing: &Doing<'_>,
-    ) -> io::Result<bool> {
+    ) -> io::Result<bool>
+        ensures knowledge { self.new.knowledge ≡ self.old.knowledge }
+        ensures lock { S.is_locked lock.new ≡ S.is_locked lock.old }
+    {
         self.has_changed = true;
         if let Some(mark) = &self.mark {
             if mark.is_enough(&self.knowledge, doing) {
@@ -103,27 +128,40 @@ impl LockMark {
             return Err(ErrorKind::OutOfMemory.into());
         }
         let mark = mark_before(self.alloc, &self.knowledge, doing)?;
-        self.replace(lock, mark)?;
+        self.replace(system, lock, mark)?;
         Ok(true)
     }
 
     /// Replaces the mark by one of what is known now: a file that was synced is not named any more, or the next writer
     /// would refuse it if this one is killed.
-    pub(crate) fn renew<F: Write + Seek + OpenFile>(&mut self, lock: &mut F) -> io::Result<()> {
+    pub(crate) fn renew<S: SystemFiles>(&mut self, system: &S, lock: &mut S::File) -> io::Result<()>
+        ensures knowledge { self.new.knowledge ≡ self.old.knowledge }
+        ensures lock { S.is_locked lock.new ≡ S.is_locked lock.old }
+    {
         if self.knowledge.others() == Standing::Failed {
             return Ok(());
         }
         let mark = mark_before(self.alloc, &self.knowledge, &Doing::FolderSynced)?;
-        self.replace(lock, mark)
+        self.replace(system, lock, mark)
     }
 
     /// Keeps what was done.
-    pub(crate) fn note(&mut self, doing: &Doing<'_>) {
+    pub(crate) fn note(&mut self, doing: &Doing<'_>)
+        ensures files { IsOf self.old.knowledge.others
+            (after doing.now self.old.knowledge.others (said self.old.knowledge)) self.new.knowledge.others
+            (said self.new.knowledge) }
+        ensures entries { self.new.knowledge.has_kept_entries
+            ≡ entries_after doing.now self.old.knowledge.has_kept_entries }
+    {
         self.knowledge.note(self.alloc, doing);
     }
 
     /// Forgets that entries are on the disk, before the system changes some.
-    pub(crate) fn doubt_entries(&mut self) {
+    pub(crate) fn doubt_entries(&mut self)
+        ensures files { (n : List ℕ) → said self.new.knowledge n ≡ said self.old.knowledge n }
+        ensures others { self.new.knowledge.others ≡ self.old.knowledge.others }
+        ensures entries { self.new.knowledge.has_kept_entries ≡ false }
+    {
         self.knowledge.doubt_entries();
     }
 
@@ -133,13 +171,14 @@ impl LockMark {
     }
 
     /// Leaves the mark for the next writer, in a folder of these files.
-    pub(crate) fn end<F: Write + Seek + OpenFile>(
+    pub(crate) fn end<S: SystemFiles>(
         &mut self,
-        lock: &mut F,
+        system: &S,
+        lock: &mut S::File,
         names: &[String],
     ) -> io::Result<()> {
         let mark = end_mark(self.alloc, &self.knowledge, names)?;
-        self.replace(lock, mark)
+        self.replace(system, lock, mark)
     }
 }
 
@@ -154,7 +193,6 @@ pub fn is_left_synced<R: Files>(
     let path = format!(in alloc; "{folder}/{LOCK}")?;
     check_plain(rt, path.as_str())?;
     let lock = File::open(rt, path.as_str())?;
-    let mark = LockMark::read(rt, alloc, &lock, path.as_str())?;
-    let knowledge = mark.knowledge();
-    Ok(knowledge.has_kept_entries() && knowledge.is_synced(name))
+    let mark = LockMark::of(alloc, found_mark(rt, alloc, &lock, path.as_str())?)?;
+    Ok(mark.knowledge.has_kept_entries() && mark.knowledge.is_synced(name))
 }

@@ -84,8 +84,8 @@ pub(crate) fn replaced_file<R: Files>(
     }
 }
 
-// Whether the open file is still the one of this name.
-fn has_name<R: Files>(rt: &R, file: &R::File, path: &str) -> io::Result<bool> {
+/// Whether the open file is still the one of this name.
+pub(crate) fn has_name<R: Files, F: OpenFile>(rt: &R, file: &F, path: &str) -> io::Result<bool> {
     let opened = file.metadata()?;
     Ok(match found_at(rt, path)? {
         Some(named) => named.dev() == opened.dev() && named.ino() == opened.ino(),

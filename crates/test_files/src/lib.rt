@@ -2,11 +2,13 @@
 #![tactic(auto)]
 
 #[cfg(test)]
+mod disk_folder;
+#[cfg(test)]
 mod failing_files;
 #[cfg(test)]
-mod folder;
+mod failing_system;
 #[cfg(test)]
-mod locked_folder;
+mod folder;
 #[cfg(test)]
 mod marks;
 #[cfg(test)]

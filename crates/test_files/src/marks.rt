@@ -1,17 +1,17 @@
 //! What the mark in a folder's file `lock` tells the next writer, and what one tells that is not of this folder.
 
-use crate::failing_files::FailingFiles;
+use crate::failing_system::FailingSystem;
 use crate::folder::{make, remove};
 use std::cell::Cell;
 use std::fs;
 use std::test::Fail;
-use store_files::LockedFolder;
+use store_files::DiskFolder;
 use store_folder::{Folder, replace};
 
-type Locked = LockedFolder<HostRuntime>;
+type Locked = DiskFolder<HostRuntime>;
 
 fn opened(rt: &HostRuntime, path: &str) -> Result<Box<Locked>, Fail> {
-    let folder = LockedFolder::open(rt.alloc(), rt.clone()?, path)?;
+    let folder = DiskFolder::open(rt.alloc(), rt.clone()?, path)?;
     Ok(Box::new(rt.alloc(), folder)?)
 }
 
@@ -168,8 +168,8 @@ fn fail_sync(
     calls: &Cell<u32>,
     failing_call: u32,
 ) -> Result<Vec<u8>, Fail> {
-    let files = FailingFiles::new(rt, calls, failing_call)?;
-    let folder = LockedFolder::open(rt.alloc(), files, path)?;
+    let files = FailingSystem::new(rt, calls, failing_call)?;
+    let folder = DiskFolder::open(rt.alloc(), files, path)?;
     let mut folder = Box::new(rt.alloc(), folder)?;
     folder.create("b")?;
     folder.append("b", b"lost")?;
@@ -181,13 +181,13 @@ fn fail_sync(
     Ok(Vec::new(rt.alloc()))
 }
 
-// The calls are: open the folder, open and lock its lock, open the machine's number and the mark; write the mark and
-// cut it; make the file and write it; sync it.
+// The calls are: open the folder, open and lock its lock, find its mark; write the mark, and make the file; open and
+// write it; sync it.
 #[test]
 fn a_sync_that_failed_is_known_to_each_later_writer(rt: HostRuntime) -> Result<(), Fail> {
     let path = "test_files_unsynced";
     begin(&rt, path)?;
-    let left = fail_sync(&rt, path, &Cell::new(0), 10)?;
+    let left = fail_sync(&rt, path, &Cell::new(0), 9)?;
     assert!(rt; !left.is_empty() && is_known(&rt, path, Known::Synced, Known::Nothing, false)?);
     // Also if it is killed right after the sync.
     set_mark(&rt, path, &left)?;

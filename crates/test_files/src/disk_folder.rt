@@ -1,26 +1,26 @@
 //! A folder on disk that has one writer.
 
-use crate::failing_files::FailingFiles;
+use crate::failing_system::FailingSystem;
 use crate::folder::{count, holds, make, remove};
 use std::alloc::Global;
 use std::cell::Cell;
 use std::io::ErrorKind;
 use std::test::Fail;
 use std::{fs, io};
-use store_files::{CreateError, LockedFolder};
+use store_files::{CreateError, DiskFolder};
 use store_folder::{Folder, ReadableFolder, replace};
 
-type Locked = LockedFolder<HostRuntime>;
+type Locked = DiskFolder<HostRuntime>;
 
 // Makes a folder of this name, or opens it.
 fn created(rt: &HostRuntime, path: &str) -> Result<Box<Locked>, Fail> {
-    let folder = LockedFolder::create(rt.alloc(), rt.clone()?, path)?;
+    let folder = DiskFolder::create(rt.alloc(), rt.clone()?, path)?;
     Ok(Box::new(rt.alloc(), folder)?)
 }
 
 // Whether a folder can be opened, or is being written by another.
 fn is_free(rt: &HostRuntime, path: &str) -> Result<bool, Fail> {
-    match LockedFolder::open(rt.alloc(), rt.clone()?, path) {
+    match DiskFolder::open(rt.alloc(), rt.clone()?, path) {
         Ok(_) => Ok(true),
         Err(CreateError::Busy(file)) => Ok(file.as_str() != "test_files_locked/log/lock"),
         Err(error) => Err(Fail::from(error)),
@@ -98,20 +98,20 @@ fn has(alloc: Global, folder: &Locked, name: &str, bytes: &[u8]) -> io::Result<b
     }
 }
 
-// Whether these are the names `a` and `b`, of two files.
-fn are_published(names: &[String]) -> bool {
+// Whether these are the names of the two files, and of the one that was not published, without the lock.
+fn are_left(names: &[String]) -> bool {
     for name in names {
-        if name.as_str() != "a" && name.as_str() != "b" {
+        if !["a", "b", "d.part"].contains(&name.as_str()) {
             return false;
         }
     }
-    names.len() == 2
+    names.len() == 3
 }
 
 // Whether a folder lists and has what it was filled with, and no other.
 fn is_as_filled(alloc: Global, folder: &Locked) -> io::Result<bool> {
     Ok(
-        are_published(&folder.names(alloc)?)
+        are_left(&folder.names(alloc)?)
             && has(alloc, folder, "a", b"xyz!")?
             && has(alloc, folder, "b", b"whole")?
             && folder.read(alloc, "c")?.is_none(),
@@ -236,8 +236,8 @@ fn names_that_lead_elsewhere_are_refused(rt: HostRuntime) -> Result<(), Fail> {
 
 // Replaces a file where the call of the system of this number fails. Returns how it ended.
 fn replaced(rt: &HostRuntime, calls: &Cell<u32>, failing_call: u32) -> Result<bool, Fail> {
-    let files = FailingFiles::new(rt, calls, failing_call)?;
-    match LockedFolder::open(rt.alloc(), files, "test_files_fails") {
+    let files = FailingSystem::new(rt, calls, failing_call)?;
+    match DiskFolder::open(rt.alloc(), files, "test_files_fails") {
         Ok(mut folder) => Ok(replace(&mut folder, "a.part", "a", b"new").is_ok()),
         Err(_) => Ok(false),
     }
@@ -252,12 +252,12 @@ fn leaves_one(rt: &HostRuntime, failing_call: u32) -> Result<bool, Fail> {
     Ok(is_replaced == (failing_call >= 11) && holds(rt, "test_files_fails/a", left)?)
 }
 
-// The calls are: open the folder, open and lock its lock, open the number of the machine's start and the mark, open the
-// file beside, write it, sync it, rename it, and sync the folder; then the mark is written, and cut.
+// The calls are: open the folder, open and lock its lock, and find its mark; make the file beside, open, write and sync
+// it, rename it, and sync the folder. Then the mark is written.
 #[test]
 fn each_failing_call_leaves_the_old_file_or_the_new_one(rt: HostRuntime) -> Result<(), Fail> {
     make(&rt, "test_files_fails")?;
-    for failing_call in 1..14 {
+    for failing_call in 1..13 {
         assert!(rt; leaves_one(&rt, failing_call)?);
     }
     Ok(remove(&rt, "test_files_fails")?)
@@ -265,19 +265,19 @@ fn each_failing_call_leaves_the_old_file_or_the_new_one(rt: HostRuntime) -> Resu
 
 // Makes a folder where the call of the system of this number fails. Returns whether it was opened.
 fn is_made(rt: &HostRuntime, calls: &Cell<u32>, failing_call: u32) -> Result<bool, Fail> {
-    let files = FailingFiles::new(rt, calls, failing_call)?;
-    Ok(LockedFolder::create(rt.alloc(), files, "test_files_made/log").is_ok())
+    let files = FailingSystem::new(rt, calls, failing_call)?;
+    Ok(DiskFolder::create(rt.alloc(), files, "test_files_made/log").is_ok())
 }
 
-// The calls are: open the folder that it is in, and sync it; open the new folder, open and lock its lock, and open the
-// number of the machine's start and the mark.
+// The calls are: open the folder that it is in, and sync it; open the new folder, open and lock its lock, and find its
+// mark.
 #[test]
 fn a_new_folder_is_synced_in_the_one_that_it_is_in(rt: HostRuntime) -> Result<(), Fail> {
     make(&rt, "test_files_made")?;
-    for failing_call in 1..9 {
+    for failing_call in 1..8 {
         let calls = Cell::new(0);
         let is_made = is_made(&rt, &calls, failing_call)?;
-        assert!(rt; is_made == (failing_call == 8) && calls.get() == failing_call.min(7));
+        assert!(rt; is_made == (failing_call == 7) && calls.get() == failing_call.min(6));
     }
     Ok(remove(&rt, "test_files_made")?)
 }

@@ -1,0 +1,44 @@
+//! A file of a folder that is open, and the bytes that are written at its end.
+
+ghost use Rattle.std.specs.Prelude.{◌≡◌, ℕ, List, IsTrue, is_ok, string_bytes};
+ghost use Rattle.store_files.specs.Disk.{replay};
+ghost use Rattle.store_files.specs.Steps.{Appends};
+ghost use Rattle.store_files.specs.Opened.{IsTracked};
+
+use crate::system_files::SystemFiles;
+use std::io;
+
+/// A file that is open.
+#[derive(Drop)]
+pub(crate) struct OpenFile<F> {
+    pub(crate) name: String,
+    pub(crate) file: F,
+    /// Whether a write goes to its end. Otherwise it is open to be synced alone.
+    pub(crate) can_append: bool,
+    /// Whether a write failed, and what it wrote was cut off.
+    pub(crate) is_cut: bool,
+}
+
+/// Writes bytes at the end. What was written of them is cut off where a write fails: on a full device a torn end would
+/// take room, and the next opening of a log would need more, to write the whole tail without it.
+pub(crate) fn append<S: SystemFiles>(
+    system: &mut S,
+    open: &mut OpenFile<S::File>,
+    bytes: &[u8],
+) -> io::Result<()>
+    ensures appended { IsTrue S.honest → (d n : List ℕ) → IsTracked (replay (S.changes system.old d) (S.start d)) d n
+        (S.opened_as open.old.file) (S.number open.old.file) → Appends n bytes.now (is_ok result)
+        (replay (S.changes system.old d) (S.start d)) (replay (S.changes system.new d) (S.start d)) }
+    ensures name { string_bytes open.new.name ≡ string_bytes open.old.name }
+    ensures opened { S.opened_as open.new.file ≡ S.opened_as open.old.file }
+    ensures number { S.number open.new.file ≡ S.number open.old.file }
+{
+    let len = system.len(&open.file)?;
+    match system.write(&mut open.file, bytes) {
+        Ok(()) => Ok(()),
+        Err(error) => {
+            open.is_cut = system.cut(&open.file, len).is_ok();
+            Err(error)
+        }
+    }
+}

@@ -1,0 +1,165 @@
+//! The calls of the system, of which one fails.
+
+use std::alloc::Global;
+use std::cell::Cell;
+use std::fs::{File, TryLockError};
+use std::io;
+use std::test::Fail;
+use store_files::{FoundMark, OsFile, SystemFiles};
+
+/// The system. Of the calls that open, make, lock, write, cut, sync or rename the one of this number fails, also of
+/// those of a mark; the first is number 1. A call that fails is not made.
+#[derive(Drop)]
+pub struct FailingSystem<'a> {
+    rt: HostRuntime,
+    calls: &'a Cell<u32>,
+    failing_call: u32,
+}
+
+impl<'a> FailingSystem<'a> {
+    /// The system. Its calls are counted in `calls`, and the call of this number fails. With number 0 none does.
+    pub fn new(
+        rt: &HostRuntime,
+        calls: &'a Cell<u32>,
+        failing_call: u32,
+    ) -> Result<FailingSystem<'a>, Fail> {
+        Ok(FailingSystem {
+            rt: rt.clone()?,
+            calls,
+            failing_call,
+        })
+    }
+
+    // Counts a call, and fails where it is the one.
+    fn count(&self) -> io::Result<()> {
+        self.calls.set(self.calls.get().saturating_add(1));
+        if self.calls.get() == self.failing_call {
+            return Err(io::ErrorKind::StorageFull.into());
+        }
+        Ok(())
+    }
+}
+
+impl<'a> SystemFiles for FailingSystem<'a> {
+    ghost use Rattle.std.specs.Prelude.{[], true, false};
+    ghost use Rattle.store_files.specs.Disk.{unknown, unknown_is_sound};
+
+    type File = File;
+
+    type Reader = OsFile;
+
+    ghost honest = { false };
+
+    ghost start = { λ _. unknown };
+
+    ghost changes = { λ _ _. [] };
+
+    ghost opened_as = { λ _. [] };
+
+    ghost number = { λ _. 0 };
+
+    ghost is_locked = { λ _. true };
+
+    ghost sound = { λ _ _. unknown_is_sound };
+
+    fn make_folder(&self, path: &str) -> io::Result<()> {
+        self.rt.make_folder(path)
+    }
+
+    fn is_blocked(&self, path: &str) -> bool {
+        self.rt.is_blocked(path)
+    }
+
+    fn is_blocked_itself(&self, path: &str) -> io::Result<bool> {
+        self.rt.is_blocked_itself(path)
+    }
+
+    fn open(&self, path: &str) -> io::Result<File> {
+        self.count()?;
+        SystemFiles::open(&self.rt, path)
+    }
+
+    fn open_to_append(&self, path: &str) -> io::Result<File> {
+        self.count()?;
+        self.rt.open_to_append(path)
+    }
+
+    fn create(&mut self, path: &str) -> io::Result<()> {
+        self.count()?;
+        SystemFiles::create(&mut self.rt, path)
+    }
+
+    fn len(&self, file: &File) -> io::Result<u64> {
+        SystemFiles::len(&self.rt, file)
+    }
+
+    fn write(&mut self, file: &mut File, bytes: &[u8]) -> io::Result<()> {
+        self.count()?;
+        SystemFiles::write(&mut self.rt, file, bytes)
+    }
+
+    fn cut(&mut self, file: &File, len: u64) -> io::Result<()> {
+        self.count()?;
+        self.rt.cut(file, len)
+    }
+
+    fn sync_file(&mut self, file: &File) -> io::Result<()> {
+        self.count()?;
+        self.rt.sync_file(file)
+    }
+
+    fn rename(&mut self, from: &str, to: &str) -> io::Result<()> {
+        self.count()?;
+        SystemFiles::rename(&mut self.rt, from, to)
+    }
+
+    fn remove(&mut self, path: &str) -> io::Result<()> {
+        SystemFiles::remove(&mut self.rt, path)
+    }
+
+    fn sync_folder(&mut self, folder: &File) -> io::Result<()> {
+        self.count()?;
+        self.rt.sync_folder(folder)
+    }
+
+    fn open_lock(&self, path: &str) -> io::Result<File> {
+        self.count()?;
+        self.rt.open_lock(path)
+    }
+
+    fn try_lock(&self, file: &File) -> Result<(), TryLockError> {
+        match self.count() {
+            Ok(()) => SystemFiles::try_lock(&self.rt, file),
+            Err(error) => Err(TryLockError::Error(error)),
+        }
+    }
+
+    fn has_path(&self, file: &File, path: &str) -> io::Result<bool> {
+        self.rt.has_path(file, path)
+    }
+
+    fn find_mark(
+        &self,
+        alloc: Global,
+        lock: &File,
+        lock_path: &str,
+        folder: &str,
+    ) -> io::Result<FoundMark> {
+        self.count()?;
+        self.rt.find_mark(alloc, lock, lock_path, folder)
+    }
+
+    fn write_mark(&self, lock: &mut File, bytes: &[u8]) -> io::Result<()> {
+        self.count()?;
+        self.rt.write_mark(lock, bytes)
+    }
+
+    fn names(&self, alloc: Global, path: &str) -> io::Result<Vec<String>> {
+        self.rt.names(alloc, path)
+    }
+
+    fn open_to_read(&self, path: &str) -> io::Result<OsFile> {
+        self.count()?;
+        self.rt.open_to_read(path)
+    }
+}
