@@ -1,0 +1,12 @@
+//! What calls of a system can make of an empty folder.
+#![tactic(auto)]
+
+ghost use Rattle.std.specs.Prelude.{List, true};
+ghost use Rattle.store_files.specs.Disk.{Change, replay, IsSound};
+ghost use Rattle.system_model.specs.Made.{empty, AreMade};
+
+/// What holds of a folder at every moment, by `SystemFiles`, holds of an empty one whatever calls make of it. So it is
+/// no more than a premise on the folder that was there at first.
+pub fn changes_are_possible()
+    ensures { (changes : List Change) → AreMade changes → IsSound true (replay changes empty) }
+{}
