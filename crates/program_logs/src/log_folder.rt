@@ -6,15 +6,15 @@ ghost use Rattle.store_base.specs.Counts.{HasRisen};
 use crate::log_files::{LogFiles, SegmentFile};
 use crate::places::file_in;
 use std::alloc::Global;
-use std::fs::{File, Files};
+use std::fs::File;
 use std::io;
 use std::io::ErrorKind;
-use store_files::{DiskFile, DiskFolder, SystemFiles, file_names, is_left_synced, read_all};
+use store_files::{DiskFile, DiskFolder, file_names, is_left_synced, read_all};
 use store_folder::{Folder, ReadableFolder};
 
 // The bytes of a file of a log's folder, if it is there.
-fn bytes_in<R: Files<File = File>>(
-    rt: &R,
+fn bytes_in(
+    rt: &HostRuntime,
     alloc: Global,
     path: &str,
     name: &str,
@@ -34,23 +34,23 @@ fn unlocked() -> io::Result<()> {
 
 /// A log's folder. A reader has no lock, and writes nothing.
 #[derive(Drop)]
-pub struct LogFolder<'a, R: Files<File = File> + SystemFiles + Drop> {
-    rt: &'a R,
+pub struct LogFolder<'a> {
+    rt: &'a HostRuntime,
     alloc: Global,
     path: &'a str,
-    writer: Option<Box<DiskFolder<R>>>,
+    writer: Option<Box<DiskFolder<HostRuntime>>>,
     files: &'a LogFiles,
     failures: u64,
 }
 
-impl<'a> LogFolder<'a, HostRuntime> {
+impl<'a> LogFolder<'a> {
     /// The folder of this path, through the writer's lock, or for a reader without one.
     pub fn new(
         rt: &'a HostRuntime,
         path: &'a str,
         writer: Option<Box<DiskFolder<HostRuntime>>>,
         files: &'a LogFiles,
-    ) -> LogFolder<'a, HostRuntime> {
+    ) -> LogFolder<'a> {
         LogFolder {
             rt,
             alloc: rt.alloc(),
@@ -60,9 +60,7 @@ impl<'a> LogFolder<'a, HostRuntime> {
             failures: 0,
         }
     }
-}
 
-impl<'a, R: Files<File = File> + SystemFiles + Drop> LogFolder<'a, R> {
     // Counts a call that failed, and keeps why.
     fn count(&mut self, outcome: io::Result<()>) -> io::Result<()>
         ensures count { self.old.failures ≤ self.new.failures }
@@ -86,7 +84,11 @@ impl<'a, R: Files<File = File> + SystemFiles + Drop> LogFolder<'a, R> {
     }
 
     // A segment's file.
-    fn open_file(&self, alloc: Global, name: &str) -> io::Result<DiskFile<SegmentFile<'a, R>>>
+    fn open_file(
+        &self,
+        alloc: Global,
+        name: &str,
+    ) -> io::Result<DiskFile<SegmentFile<'a, HostRuntime>>>
         ensures failures { IfOk result (λ f. f.failures ≡ 0) }
         ensures reads { IfOk result (λ f. f.reads ≡ 0) }
         ensures asked { IfOk result (λ f. f.asked ≡ 0) }
@@ -97,7 +99,7 @@ impl<'a, R: Files<File = File> + SystemFiles + Drop> LogFolder<'a, R> {
 }
 
 /// It promises nothing of what the system does.
-impl<'a, R: Files<File = File> + SystemFiles + Drop> Folder for LogFolder<'a, R> {
+impl<'a> Folder for LogFolder<'a> {
     ghost use Rattle.std.specs.Prelude.{false, None};
     ghost use Rattle.std.proofs.Common.{rules};
 
@@ -197,10 +199,10 @@ impl<'a, R: Files<File = File> + SystemFiles + Drop> Folder for LogFolder<'a, R>
     }
 }
 
-impl<'a, R: Files<File = File> + SystemFiles + Drop> ReadableFolder for LogFolder<'a, R> {
+impl<'a> ReadableFolder for LogFolder<'a> {
     ghost use Rattle.std.specs.Prelude.{false};
 
-    type File = DiskFile<SegmentFile<'a, R>>;
+    type File = DiskFile<SegmentFile<'a, HostRuntime>>;
 
     ghost is_readable = { false };
 
@@ -218,7 +220,11 @@ impl<'a, R: Files<File = File> + SystemFiles + Drop> ReadableFolder for LogFolde
         })
     }
 
-    fn open(&self, alloc: Global, name: &str) -> io::Result<DiskFile<SegmentFile<'a, R>>> {
+    fn open(
+        &self,
+        alloc: Global,
+        name: &str,
+    ) -> io::Result<DiskFile<SegmentFile<'a, HostRuntime>>> {
         match self.open_file(alloc, name) {
             Ok(file) => Ok(file),
             Err(error) => Err(self.files.note(error)),

@@ -18,7 +18,7 @@ pub struct TailOptions {
 }
 
 // A log on disk, in a box: a function that owns it moves and drops one value, and not all of its parts.
-type DiskLog<'a> = Box<SegmentedLog<LogFolder<'a, HostRuntime>>>;
+type DiskLog<'a> = Box<SegmentedLog<LogFolder<'a>>>;
 
 /// A log that is open.
 #[derive(Drop)]
@@ -41,11 +41,7 @@ fn is_part(name: &str) -> bool {
 }
 
 // Removes what a call that failed left unpublished.
-fn remove_parts<'a>(
-    rt: &HostRuntime,
-    path: &str,
-    folder: &mut LogFolder<'a, HostRuntime>,
-) -> io::Result<()> {
+fn remove_parts<'a>(rt: &HostRuntime, path: &str, folder: &mut LogFolder<'a>) -> io::Result<()> {
     for entry in fs::read_dir(rt, path)? {
         let entry = entry?;
         if is_part(entry.file_name()) {
@@ -59,7 +55,7 @@ impl<'a> OpenedLog<'a> {
     /// Opens the log in a folder.
     pub fn open(
         alloc: Global,
-        folder: LogFolder<'a, HostRuntime>,
+        folder: LogFolder<'a>,
         files: &'a LogFiles,
         tail: TailOptions,
     ) -> Result<OpenedLog<'a>, LogError> {

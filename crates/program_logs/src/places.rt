@@ -105,7 +105,7 @@ fn locked(
 fn open_locked<'a>(
     rt: &'a HostRuntime,
     path: &'a str,
-    folder: LogFolder<'a, HostRuntime>,
+    folder: LogFolder<'a>,
     files: &'a LogFiles,
     tail: TailOptions,
 ) -> Result<OpenedLog<'a>, FailureCause> {
@@ -142,7 +142,7 @@ pub fn folder_to_write<'a>(
     rt: &'a HostRuntime,
     path: &'a str,
     files: &'a LogFiles,
-) -> Result<LogFolder<'a, HostRuntime>, FailureCause> {
+) -> Result<LogFolder<'a>, FailureCause> {
     check_log(rt, path)?;
     let writer = locked(rt.alloc(), DiskFolder::open(rt.alloc(), *rt, path))?;
     Ok(LogFolder::new(rt, path, Some(writer), files))

@@ -13,13 +13,13 @@ use std::io::ErrorKind;
 const TRIES: usize = 1000;
 
 // The reader of a log on disk, in a box: a function that owns it moves and drops one value, and not all of its parts.
-type DiskReader<'a> = Box<LogReader<LogFolder<'a, HostRuntime>>>;
+type DiskReader<'a> = Box<LogReader<LogFolder<'a>>>;
 
 /// A log that is open to be read, as it was when it was opened first.
 #[derive(Drop)]
 pub struct ReadLog<'a> {
     files: &'a LogFiles,
-    folder: LogFolder<'a, HostRuntime>,
+    folder: LogFolder<'a>,
     log: DiskReader<'a>,
     end: u64,
 }
@@ -43,7 +43,7 @@ fn unless_changed<T: Drop>(
 // Opens the log of a folder.
 fn open<'a>(
     rt: &HostRuntime,
-    folder: &LogFolder<'a, HostRuntime>,
+    folder: &LogFolder<'a>,
     files: &LogFiles,
 ) -> Result<DiskReader<'a>, FailureCause> {
     for _ in 0..TRIES {
