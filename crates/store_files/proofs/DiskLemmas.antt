@@ -1,15 +1,13 @@
 -- What a change of a folder is in the words of `Folder`.
-use Rattle.std.proofs.Common.{◌≡◌, ◌≢◌, ◌⊎◌, inl, inr, ℕ, ◌+◌, ◌<◌, ◌≤◌, Bool, true, false, List, [], ◌∷◌, ◌++◌, Option, Some, None, refl, sym, ◌∙◌, ap, subst, nat_eq, arith, length}
+use Rattle.std.proofs.Common.{◌≡◌, ◌≢◌, inl, inr, ℕ, ◌<◌, ◌≤◌, Bool, true, false, List, [], ◌∷◌, ◌++◌, Option, Some, None, refl, sym, ◌∙◌, ap, subst, nat_eq, arith, length}
 use Rattle.std.proofs.Common.{Result, Ok, Err, OnOk, is_ok}
 use Rattle.std.specs.Prelude.{if◌then◌else◌, IsTrue, IsSome, unwrap_or, option_map, take}
 use Rattle.std.proofs.lemmas.List.{append-nil}
-use lib.Pointwise.{pointwise}
-use Rattle.store_folder.specs.Folder.{Look, Elsewhere, ElsewhereOfBoth, Extends, Written, Renamed, LosesFile}
-use Rattle.store_folder.specs.Moments.{ComesFrom, Elapses}
-use Rattle.store_files.specs.Disk.{Change, Created, Appended, Cut, FileSynced, SyncFailed, Moved, Removed, FolderSynced}
-use Rattle.store_files.specs.Disk.{Disk, seen, held, trusts, made, put, put_at, after, replay, Adds, Writes, Syncs, IsPossible, Cuts, holds_after, file_after, bytes_after, leaves_after}
-use Rattle.store_files.specs.Steps.{Passes, Creates, Appends, SyncsFile, Renames, Removes, SyncsEntries}
-use Rattle.store_files.proofs.KnowledgeLemmas.{equal, unequal, decided}
+use Rattle.store_folder.specs.Folder.{Look, Extends, Written}
+use Rattle.store_files.specs.Disk.{Change, Created, Appended, Cut}
+use Rattle.store_files.specs.Disk.{Disk, held, made, put, put_at, after, replay, Adds, Writes, IsPossible, Cuts, holds_after, bytes_after, leaves_after}
+use Rattle.store_files.specs.Steps.{Passes, Creates, Appends}
+use Rattle.store_files.proofs.KnowledgeLemmas.{equal, unequal}
 
 -- ---- another value at one place
 

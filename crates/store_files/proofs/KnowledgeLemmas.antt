@@ -6,7 +6,7 @@ use Rattle.std.specs.Cmp.Lexicographic.{same_text, other_text}
 use Rattle.std.proofs.lemmas.Cmp.{nat_list_eq_equiv}
 use Rattle.std.proofs.lemmas.List.{append-nil, take_more, drop_more, reverse-append}
 use lib.Pointwise.{pointwise}
-use Rattle.store_files.specs.Knowledge.{is_part, rank, untouched, standing_in, unless_failed, with_standing, passed_to, after, known_by, entries_after, entries_by, IsOf}
+use Rattle.store_files.specs.Knowledge.{is_part, rank, untouched, standing_in, unless_failed, with_standing, after, known_by, entries_after, entries_by, IsOf}
 use Rattle.store_files.specs.declared.knowledge.Standing.{Standing}
 use Rattle.store_files.specs.declared.knowledge.Standing.TheVariants.{Failed, Unsynced, Synced}
 use Rattle.store_files.specs.declared.knowledge.Doing.{Doing}

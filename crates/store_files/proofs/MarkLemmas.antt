@@ -1,5 +1,5 @@
 -- What a mark claims, and what is known.
-use Rattle.std.proofs.Common.{◌≡◌, ◌≢◌, ◌⊎◌, inl, inr, ℕ, ◌+◌, ◌<◌, ◌≤◌, Bool, true, false, List, [], ◌∷◌, ◌++◌, ◌||◌, refl, sym, ◌∙◌, ap, subst, nat_eq, arith}
+use Rattle.std.proofs.Common.{◌≡◌, ◌≢◌, inl, inr, ℕ, ◌≤◌, Bool, true, false, List, [], ◌∷◌, ◌++◌, ◌||◌, refl, sym, ◌∙◌, ap, subst, nat_eq, arith}
 use Rattle.std.specs.Prelude.{if◌then◌else◌, IsTrue, Vec}
 use Rattle.std.specs.declared.alloc.Global.{Global}
 use lib.Pointwise.{pointwise}

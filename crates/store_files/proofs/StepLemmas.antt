@@ -1,9 +1,8 @@
 -- What a sync, a renaming and a removal are in the words of `Folder`.
-use Rattle.std.proofs.Common.{◌≡◌, ◌≢◌, ◌⊎◌, inl, inr, ℕ, Bool, true, false, List, [], ◌∷◌, Option, Some, None, refl, sym, ◌∙◌, ap, subst, arith}
-use Rattle.std.specs.Prelude.{IsTrue, option_map}
-use Rattle.store_folder.specs.Folder.{Look, LeadsTo}
+use Rattle.std.proofs.Common.{◌≡◌, ◌≢◌, inl, inr, ℕ, Bool, true, false, List, Option, Some, None, refl, sym, ◌∙◌, ap, subst}
+use Rattle.std.specs.Prelude.{option_map}
 use Rattle.store_files.specs.Disk.{Change, FileSynced, SyncFailed, Moved, Removed, FolderSynced}
-use Rattle.store_files.specs.Disk.{Disk, seen, held, trusts, put, put_at, after, replay, Adds, Syncs, IsPossible}
+use Rattle.store_files.specs.Disk.{Disk, put, put_at, after, replay, Adds, Syncs, IsPossible}
 use Rattle.store_files.specs.Steps.{SyncsFile, Renames, Removes, SyncsEntries}
 use Rattle.store_files.proofs.DiskLemmas.{put_there, put_elsewhere, set_elsewhere, same_file, read_same, read_at, passes, stands, of_either, other_file}
 

@@ -29,7 +29,7 @@ pub record Disk : Type 1 where
   pub bytes : ℕ → List ℕ
   -- which bytes a crash may leave in a file
   pub holds : ℕ → List ℕ → Type 0
-  -- whether no sync of a file has failed since it was made
+  -- whether no sync of a file has failed since it was made, or emptied
   pub trusted : ℕ → Type 0
   -- whether the entry of a name is on the disk
   pub kept : List ℕ → Type 0

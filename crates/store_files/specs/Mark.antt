@@ -1,9 +1,9 @@
 -- The mark that a writer leaves for the next one: what it claims of the files, and its bytes.
-use Rattle.std.specs.Prelude.{◌≡◌, ◌≢◌, ◌≤◌, ◌⊎◌, ℕ, Bool, true, false, List, [], ◌∷◌, ◌++◌, IsTrue, if◌then◌else◌, nat_eq, codes, map, Vec}
-use Rattle.std.specs.List.{list_any, flat_map}
+use Rattle.std.specs.Prelude.{◌≡◌, ◌≢◌, ◌≤◌, ℕ, Bool, true, false, List, [], ◌∷◌, ◌++◌, IsTrue, if◌then◌else◌, nat_eq, codes, map, Vec}
+use Rattle.std.specs.List.{list_any}
 use Rattle.std.specs.declared.alloc.Global.{Global}
 use lib.Pointwise.{pointwise}
-use Rattle.store_files.specs.Knowledge.{is_part, rank, after, entries_after, known_by, entries_by}
+use Rattle.store_files.specs.Knowledge.{is_part, rank, known_by}
 use Rattle.store_files.specs.declared.knowledge.Standing.{Standing}
 use Rattle.store_files.specs.declared.knowledge.Standing.TheVariants.{Failed, Unsynced, Synced}
 use Rattle.store_files.specs.declared.knowledge.Doing.{Doing}

@@ -1,7 +1,7 @@
 -- What each call of a folder does to it, in the words of `Folder`.
-use Rattle.std.specs.Prelude.{◌≡◌, ◌≢◌, ℕ, ◌≤◌, ◌++◌, Bool, IsTrue, List, length, Some, None, [], unwrap_or}
+use Rattle.std.specs.Prelude.{◌≡◌, ◌≢◌, ℕ, ◌++◌, Bool, IsTrue, List, length, Some, None, [], unwrap_or}
 use Rattle.store_folder.specs.Moments.{ComesFrom, NoMore, Elapses}
-use Rattle.store_folder.specs.Folder.{Look, Elsewhere, ElsewhereOfBoth, FilesElsewhere, FilesElsewhereOfBoth, Extends, Written, Renamed, LosesFile}
+use Rattle.store_folder.specs.Folder.{Elsewhere, ElsewhereOfBoth, FilesElsewhere, FilesElsewhereOfBoth, Extends, Written, Renamed, LosesFile}
 use Rattle.store_folder.specs.Folder.{EntriesAreKept, Keeps, EntriesStay, EntriesStayElsewhere, EntriesStayElsewhereOfBoth}
 use Rattle.store_files.specs.Disk.{Disk, seen, held, trusts}
 

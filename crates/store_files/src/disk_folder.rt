@@ -6,10 +6,9 @@ ghost use Rattle.store_base.specs.Counts.{HasRisen};
 ghost use Rattle.store_files.specs.Paths.{IsPath};
 
 use crate::create_error::CreateError;
-use crate::knowledge::{Doing, Standing};
 use crate::lock_mark::LockMark;
 use crate::locking::{folder_of, locked};
-use crate::open_file::OpenFile;
+use crate::open_file::{OpenFile, sync_cut};
 use crate::paths::{lock_path_of, path_of};
 use crate::system_files::SystemFiles;
 use std::alloc::Global;
@@ -237,10 +236,7 @@ impl<S: SystemFiles> Drop for DiskFolder<S> {
             failures: _,
         } = self;
         if let Some(open) = open_file {
-            let is_unsynced = mark.knowledge.standing(open.name.as_str()) == Standing::Unsynced;
-            if open.is_cut && is_unsynced && system.sync_file(&open.file).is_ok() {
-                mark.note(&Doing::FileSynced(open.name.as_str()));
-            }
+            let _ = sync_cut(&mut system, &mut lock, &mut mark, &open);
         }
         if mark.has_end() {
             if let Ok(mut names) = system.names(alloc, path.as_str()) {

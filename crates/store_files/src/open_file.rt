@@ -4,7 +4,11 @@ ghost use Rattle.std.specs.Prelude.{◌≡◌, ℕ, List, IsTrue, is_ok, string_
 ghost use Rattle.store_files.specs.Disk.{replay};
 ghost use Rattle.store_files.specs.Steps.{Appends};
 ghost use Rattle.store_files.specs.Opened.{IsTracked};
+ghost use Rattle.store_files.specs.Known.{Knows};
+ghost use Rattle.store_files.specs.Knowledge.{said};
 
+use crate::knowledge::{Doing, Standing};
+use crate::lock_mark::LockMark;
 use crate::system_files::SystemFiles;
 use std::io;
 
@@ -38,6 +42,37 @@ pub(crate) fn append<S: SystemFiles>(
         Ok(()) => Ok(()),
         Err(error) => {
             open.is_cut = system.cut(&open.file, len).is_ok();
+            Err(error)
+        }
+    }
+}
+
+/// Syncs a file of which what a failed write wrote was cut off, and that was not synced since.
+pub(crate) fn sync_cut<S: SystemFiles>(
+    system: &mut S,
+    lock: &mut S::File,
+    mark: &mut LockMark,
+    open: &OpenFile<S::File>,
+) -> io::Result<()>
+    ensures { IsTrue S.honest → (d : List ℕ) → IsTracked (replay (S.changes system.old d) (S.start d)) d
+        (string_bytes open.now.name) (S.opened_as open.now.file) (S.number open.now.file)
+        → Knows (said mark.old.knowledge) mark.old.knowledge.has_kept_entries
+        (replay (S.changes system.old d) (S.start d))
+        → Knows (said mark.new.knowledge) mark.new.knowledge.has_kept_entries
+        (replay (S.changes system.new d) (S.start d)) }
+{
+    let name = open.name.as_str();
+    if !open.is_cut || mark.knowledge.standing(name) != Standing::Unsynced {
+        return Ok(());
+    }
+    mark.begin(&*system, lock, &Doing::SyncFailed(name))?;
+    match system.sync_file(&open.file) {
+        Ok(()) => {
+            mark.note(&Doing::FileSynced(name));
+            Ok(())
+        }
+        Err(error) => {
+            mark.note(&Doing::SyncFailed(name));
             Err(error)
         }
     }
