@@ -236,7 +236,7 @@ impl<S: SystemFiles> Drop for DiskFolder<S> {
             failures: _,
         } = self;
         if let Some(open) = open_file {
-            let _ = sync_cut(&mut system, &mut lock, &mut mark, &open);
+            sync_cut(&mut system, &mut lock, &mut mark, &open);
         }
         if mark.has_end() {
             if let Ok(mut names) = system.names(alloc, path.as_str()) {

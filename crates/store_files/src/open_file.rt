@@ -53,7 +53,7 @@ pub(crate) fn sync_cut<S: SystemFiles>(
     lock: &mut S::File,
     mark: &mut LockMark,
     open: &OpenFile<S::File>,
-) -> io::Result<()>
+)
     ensures { IsTrue S.honest → (d : List ℕ) → IsTracked (replay (S.changes system.old d) (S.start d)) d
         (string_bytes open.now.name) (S.opened_as open.now.file) (S.number open.now.file)
         → Knows (said mark.old.knowledge) mark.old.knowledge.has_kept_entries
@@ -63,17 +63,16 @@ pub(crate) fn sync_cut<S: SystemFiles>(
 {
     let name = open.name.as_str();
     if !open.is_cut || mark.knowledge.standing(name) != Standing::Unsynced {
-        return Ok(());
+        return;
     }
-    mark.begin(&*system, lock, &Doing::SyncFailed(name))?;
+    if mark
+        .begin(&*system, lock, &Doing::SyncFailed(name))
+        .is_err()
+    {
+        return;
+    }
     match system.sync_file(&open.file) {
-        Ok(()) => {
-            mark.note(&Doing::FileSynced(name));
-            Ok(())
-        }
-        Err(error) => {
-            mark.note(&Doing::SyncFailed(name));
-            Err(error)
-        }
+        Ok(()) => mark.note(&Doing::FileSynced(name)),
+        Err(_) => mark.note(&Doing::SyncFailed(name)),
     }
 }

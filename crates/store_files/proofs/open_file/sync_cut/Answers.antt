@@ -17,7 +17,7 @@ returns-in-Ok g c = λ h d tracked known.
     let knows = said c.note.new.self.knowledge in
     let at : IsTracked (replay old start) d name (g.S.SystemFiles.opened_as c.args.open.now.file) number = search rules in
     let did = syncs name true number start old new ((g.met.S.SystemFiles.sound c.args.system.now d).possible h) at.there (c.in-Ok.ensures h d at.inside) in
-    let before = subst (λ k. Knows (said k) k.has_kept_entries (replay old start)) (sym c.in_ok-begin.ensures.knowledge) known in
+    let before = subst (λ k. Knows (said k) k.has_kept_entries (replay old start)) (sym c.begin.ensures.knowledge) known in
     let now = synced name _ knows _ _ _ c.note.ensures.files.no_more before did in
     less_known _ knows _ _ _ (λ n. le_refl _) c.note.ensures.entries now
 
@@ -31,6 +31,6 @@ returns-in-Err g c = λ h d tracked known.
     let knows = said c.note-in-Err.new.self.knowledge in
     let at : IsTracked (replay old start) d name (g.S.SystemFiles.opened_as c.args.open.now.file) number = search rules in
     let did = syncs name false number start old new ((g.met.S.SystemFiles.sound c.args.system.now d).possible h) at.there (c.in-Err.ensures h d at.inside) in
-    let before = subst (λ k. Knows (said k) k.has_kept_entries (replay old start)) (sym c.in_ok-begin.ensures.knowledge) known in
+    let before = subst (λ k. Knows (said k) k.has_kept_entries (replay old start)) (sym c.begin.ensures.knowledge) known in
     let now = sync_failed name _ knows _ _ _ c.note-in-Err.ensures.files.no_more before did in
     less_known _ knows _ _ _ (λ n. le_refl _) c.note-in-Err.ensures.entries now
