@@ -6,7 +6,7 @@ use clap::ArgMatches;
 use std::alloc::Global;
 use std::fs;
 use std::os::unix::fs::MetadataExt;
-use store_files::{CreateError, DiskSink, OsFolder};
+use store_files::{CreateError, DiskFolder, DiskSink};
 
 // The file that is open as the standard input.
 const STANDARD_INPUT: &str = "/dev/stdin";
@@ -73,11 +73,14 @@ impl<'a> OutputPath<'a> {
     }
 
     /// The folder in which it is written, and the name that links lead to.
-    pub fn folder(self, rt: &HostRuntime) -> Result<(OsFolder<HostRuntime>, String), CreateError> {
+    pub fn folder(
+        self,
+        rt: &HostRuntime,
+    ) -> Result<(DiskFolder<HostRuntime>, String), CreateError> {
         if self.replaces {
-            return OsFolder::of_file(rt.alloc(), *rt, self.path);
+            return DiskFolder::of_file(rt.alloc(), *rt, self.path);
         }
-        OsFolder::of_new_file(rt.alloc(), *rt, self.path)
+        DiskFolder::of_new_file(rt.alloc(), *rt, self.path)
     }
 
     /// The output itself, of nothing yet.

@@ -5,16 +5,13 @@ use crate::output_path::OutputPath;
 use crate::progress::Progress;
 use std::alloc::Global;
 use store_commands::StoreShape;
-use store_files::OsFolder;
+use store_files::DiskFolder;
 use store_published::{FillError, Filling, Written, publish_store};
-
-/// The folder in which a file on disk is written.
-type DiskFolder = OsFolder<HostRuntime>;
 
 /// The folder of a file that is to be written, and the name of the file in it.
 #[derive(Drop)]
 pub struct OutputPlace {
-    pub folder: DiskFolder,
+    pub folder: DiskFolder<HostRuntime>,
     pub name: String,
 }
 

@@ -7,8 +7,9 @@ ghost use Rattle.store_files.specs.Paths.{IsPath};
 
 use crate::create_error::CreateError;
 use crate::lock_mark::LockMark;
-use crate::locking::{folder_of, locked};
+use crate::locking::{folder_of, locked, open_folder};
 use crate::open_file::{OpenFile, sync_cut};
+use crate::output_folder::Output;
 use crate::paths::{lock_path_of, path_of};
 use crate::system_files::SystemFiles;
 use std::alloc::Global;
@@ -24,6 +25,8 @@ use store_folder::Folder;
 /// A mark in `lock` tells the next writer of this start of the machine whether this one ended well. If it did, no file
 /// needs a sync. If it did not, the files are known of which a sync may have failed.
 ///
+/// One that was opened for an output has no file `lock` and no mark: its lock is the file beside.
+///
 /// It keeps the promises of `Folder` if the system keeps those of `SystemFiles`.
 pub struct DiskFolder<S: SystemFiles> {
     pub(crate) system: S,
@@ -33,7 +36,9 @@ pub struct DiskFolder<S: SystemFiles> {
     pub(crate) lock: S::File,
     pub(crate) open_file: Option<OpenFile<S::File>>,
     pub(crate) mark: LockMark,
-    failures: u64,
+    /// None, unless it was opened for an output.
+    pub(crate) output: Option<Output>,
+    pub(crate) failures: u64,
 }
 
 /// Clauses see the system, the path, whether it is locked, and how often a call failed.
@@ -89,13 +94,7 @@ impl<S: SystemFiles> DiskFolder<S> {
             Err(error) => return Err(CreateError::System(error)),
         }
         let mut system = system;
-        let above = match system.open(folder_of(path.trim_end_matches('/'))) {
-            Ok(above) => above,
-            Err(error) if error.kind() == ErrorKind::NotFound => return Err(CreateError::System(
-                error,
-            )),
-            Err(error) => return Err(CreateError::Folder(error)),
-        };
+        let above = open_folder(&system, folder_of(path.trim_end_matches('/')))?;
         system.sync_folder(&above)?;
         DiskFolder::open(alloc, system, path)
     }
@@ -125,6 +124,7 @@ impl<S: SystemFiles> DiskFolder<S> {
             lock,
             open_file: None,
             mark,
+            output: None,
             failures: 0,
         })
     }
@@ -233,8 +233,12 @@ impl<S: SystemFiles> Drop for DiskFolder<S> {
             mut lock,
             open_file,
             mut mark,
+            output,
             failures: _,
         } = self;
+        if let Some(output) = output {
+            return output.remove_beside(&mut system, &lock);
+        }
         if let Some(open) = open_file {
             sync_cut(&mut system, &mut lock, &mut mark, &open);
         }

@@ -4,10 +4,9 @@ ghost use Rattle.std.specs.Prelude.{◌≡◌, [], length, IfOk};
 ghost use Rattle.store_base.specs.Outputs.{never_terminated};
 
 use crate::create_error::CreateError;
-use crate::os_folder::OsFolder;
-use crate::output_file::LockFile;
+use crate::disk_folder::DiskFolder;
+use crate::system_files::SystemFiles;
 use std::alloc::Global;
-use std::fs::Files;
 use std::io;
 use std::marker::Model;
 use store_base::{TerminatingWrite, WriteFault};
@@ -16,21 +15,15 @@ use store_folder::Publication;
 /// An output on disk. Its bytes go to a file beside the one of its name. A `terminate` that returns Ok has synced them
 /// and renamed the file beside to the name: so a crash leaves the file of that name as it was, or whole. After its
 /// end, and after a failed call of the system, it refuses every call. If it is dropped before it has the name, it
-/// removes the file beside. The order of its calls is that of `Publication`, which is proved; what the system does at
-/// each of them is tested (`test_files`).
+/// removes the file beside. The order of its calls is that of `Publication`, and what a call of its folder does that of
+/// `DiskFolder`.
 #[derive(Drop)]
-pub struct DiskSink<R: Files + Drop>
-where
-    R::File: LockFile,
-{
-    output: Publication<OsFolder<R>>,
+pub struct DiskSink<S: SystemFiles> {
+    output: Publication<DiskFolder<S>>,
 }
 
 /// Clauses see what was written, its ends, and how often a call failed.
-impl<R: Files + Drop> Model for DiskSink<R>
-where
-    R::File: LockFile,
-{
+impl<S: SystemFiles> Model for DiskSink<S> {
     ghost use Rattle.store_base.specs.Outputs.{Output};
 
     ghost Value = { Output };
@@ -42,12 +35,9 @@ where
     } };
 }
 
-impl<R: Files + Drop> DiskSink<R>
-where
-    R::File: LockFile,
-{
+impl<S: SystemFiles> DiskSink<S> {
     // An output of nothing yet for a file of this name in its folder.
-    fn begin(alloc: Global, folder: OsFolder<R>, name: &str) -> Result<DiskSink<R>, CreateError>
+    fn begin(alloc: Global, folder: DiskFolder<S>, name: &str) -> Result<DiskSink<S>, CreateError>
         ensures content { IfOk result (λ s. s.content ≡ []) }
         ensures termination { IfOk result (λ s. s.termination ≡ never_terminated) }
         ensures failures { IfOk result (λ s. s.failures ≡ 0) }
@@ -61,23 +51,23 @@ where
     /// An output of nothing yet, for a file of this name; links are followed. The file beside has `.part` after the
     /// name: one that a crash left is taken over, and one that another writes is refused. Only a plain file is
     /// replaced; its mode is kept, and its owner where the system lets us. The folder is opened, and synced at the end.
-    pub fn create(alloc: Global, rt: R, path: &str) -> Result<DiskSink<R>, CreateError>
+    pub fn create(alloc: Global, system: S, path: &str) -> Result<DiskSink<S>, CreateError>
         ensures content { IfOk result (λ s. s.content ≡ []) }
         ensures termination { IfOk result (λ s. s.termination ≡ never_terminated) }
         ensures failures { IfOk result (λ s. s.failures ≡ 0) }
     {
-        let (folder, name) = OsFolder::of_file(alloc, rt, path)?;
+        let (folder, name) = DiskFolder::of_file(alloc, system, path)?;
         DiskSink::begin(alloc, folder, name.as_str())
     }
 
     /// The same for a file that may not replace another: one that has the name is refused, and again if it came before
     /// the output's end.
-    pub fn create_new(alloc: Global, rt: R, path: &str) -> Result<DiskSink<R>, CreateError>
+    pub fn create_new(alloc: Global, system: S, path: &str) -> Result<DiskSink<S>, CreateError>
         ensures content { IfOk result (λ s. s.content ≡ []) }
         ensures termination { IfOk result (λ s. s.termination ≡ never_terminated) }
         ensures failures { IfOk result (λ s. s.failures ≡ 0) }
     {
-        let (folder, name) = OsFolder::of_new_file(alloc, rt, path)?;
+        let (folder, name) = DiskFolder::of_new_file(alloc, system, path)?;
         DiskSink::begin(alloc, folder, name.as_str())
     }
 
@@ -94,10 +84,7 @@ where
     }
 }
 
-impl<R: Files + Drop> TerminatingWrite for DiskSink<R>
-where
-    R::File: LockFile,
-{
+impl<S: SystemFiles> TerminatingWrite for DiskSink<S> {
     ghost content = { λ s. s.content };
 
     ghost termination = { λ s. s.termination };

@@ -2,13 +2,37 @@
 
 use crate::lock_mark::{found_mark, replace_bytes};
 use crate::names::file_names;
-use crate::output_file::{found_at, has_name};
 use crate::read_at::OsFile;
-use crate::system_files::{FoundMark, SystemFiles};
+use crate::system_files::{FileKind, FoundFile, FoundMark, SystemFiles};
 use std::alloc::Global;
-use std::fs::{File, OpenOptions, TryLockError};
-use std::io::Write;
+use std::fs::{File, Metadata, OpenFile, OpenOptions, Permissions, TryLockError};
+use std::io::{ErrorKind, Write};
+use std::os::unix::fs::{MetadataExt, OpenOptionsExt, PermissionsExt};
 use std::{fs, io};
+
+// What is at a path. Links are not followed.
+fn found_at(rt: &HostRuntime, path: &str) -> io::Result<Option<Metadata>> {
+    match fs::symlink_metadata(rt, path) {
+        Ok(found) => Ok(Some(found)),
+        Err(error) if error.kind() == ErrorKind::NotFound => Ok(None),
+        Err(error) => Err(error),
+    }
+}
+
+// Its kind, permissions and owner.
+fn described(found: &Metadata) -> FoundFile {
+    let kind = match (found.is_file(), found.file_type().is_symlink()) {
+        (true, _) => FileKind::Plain,
+        (false, true) => FileKind::Link,
+        (false, false) => FileKind::Other,
+    };
+    FoundFile {
+        kind,
+        mode: found.mode() & 0o777,
+        owner: found.uid(),
+        group: found.gid(),
+    }
+}
 
 /// Each call is the one of its name. Nothing is claimed of what the system does.
 impl SystemFiles for HostRuntime {
@@ -41,8 +65,23 @@ impl SystemFiles for HostRuntime {
         fs::metadata(self, path).is_ok_and(|found| !found.is_file())
     }
 
-    fn is_blocked_itself(&self, path: &str) -> io::Result<bool> {
-        Ok(found_at(self, path)?.is_some_and(|found| !found.is_file()))
+    fn find(&self, path: &str) -> io::Result<Option<FoundFile>> {
+        match found_at(self, path)? {
+            Some(found) => Ok(Some(described(&found))),
+            None => Ok(None),
+        }
+    }
+
+    fn real_path(&self, alloc: Global, path: &str) -> io::Result<String> {
+        Ok(String::from_str(alloc, fs::canonicalize(&(self, alloc), path)?.as_str())?)
+    }
+
+    fn set_owner(&self, path: &str, owner: Option<u32>, group: Option<u32>) -> io::Result<()> {
+        std::os::unix::fs::chown(self, path, owner, group)
+    }
+
+    fn set_mode(&self, path: &str, mode: u32) -> io::Result<()> {
+        fs::set_permissions(self, path, Permissions::from_mode(mode))
     }
 
     fn open(&self, path: &str) -> io::Result<File> {
@@ -60,6 +99,14 @@ impl SystemFiles for HostRuntime {
             .truncate(true)
             .open(self, path)
             .map(drop)
+    }
+
+    fn create_new(&mut self, path: &str, mode: u32) -> io::Result<File> {
+        OpenOptions::new()
+            .append(true)
+            .create_new(true)
+            .mode(mode)
+            .open(self, path)
     }
 
     fn len(&self, file: &File) -> io::Result<u64> {
@@ -99,7 +146,9 @@ impl SystemFiles for HostRuntime {
     }
 
     fn has_path(&self, file: &File, path: &str) -> io::Result<bool> {
-        has_name(self, file, path)
+        let opened = file.metadata()?;
+        Ok(found_at(self, path)?.is_some_and(|found| found.dev() == opened.dev()
+            && found.ino() == opened.ino()))
     }
 
     fn find_mark(

@@ -178,6 +178,18 @@ fn names_of_less(
 }
 
 impl Knowledge {
+    /// Nothing.
+    pub(crate) fn none(alloc: Global) -> Knowledge
+        ensures files { (n : List ℕ) → said result n ≡ Standing.Failed }
+        ensures entries { result.has_kept_entries ≡ false }
+    {
+        Knowledge {
+            others: Standing::Failed,
+            touched: Vec::new(alloc),
+            has_kept_entries: false,
+        }
+    }
+
     /// What a writer knows that finds this mark.
     pub fn after(alloc: Global, mark: &Mark) -> Result<Knowledge, AllocError>
         ensures files { IfOk result (λ k. (n : List ℕ) → said k n ≡ claimed mark.now n) }

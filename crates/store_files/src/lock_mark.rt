@@ -10,7 +10,6 @@ ghost use Rattle.store_files.specs.Mark.{claimed, claims_entries};
 use crate::knowledge::{Doing, Knowledge, Standing};
 use crate::loading::read_all;
 use crate::mark::{Mark, end_mark, mark_before, read_mark};
-use crate::output_file::check_plain;
 use crate::paths::LOCK;
 use crate::system_files::{FoundMark, SystemFiles};
 use std::alloc::Global;
@@ -31,6 +30,8 @@ pub(crate) struct LockMark {
     // None where a write of it failed.
     mark: Option<Mark>,
     pub(crate) knowledge: Knowledge,
+    // Whether there is a file for it.
+    is_kept: bool,
     has_changed: bool,
 }
 
@@ -86,8 +87,25 @@ impl LockMark {
             inode,
             mark: Some(mark),
             knowledge,
+            is_kept: true,
             has_changed: false,
         })
+    }
+
+    /// None: nothing is known of the files that are there, and nothing is left for the next writer.
+    pub(crate) fn none(alloc: Global) -> LockMark
+        ensures files { (n : List ℕ) → said result.knowledge n ≡ Standing.Failed }
+        ensures entries { result.knowledge.has_kept_entries ≡ false }
+    {
+        LockMark {
+            alloc,
+            boot: Vec::new(alloc),
+            inode: String::new(alloc),
+            mark: None,
+            knowledge: Knowledge::none(alloc),
+            is_kept: false,
+            has_changed: false,
+        }
     }
 
     // Replaces the mark.
@@ -118,6 +136,9 @@ impl LockMark {
         ensures knowledge { self.new.knowledge ≡ self.old.knowledge }
         ensures lock { S.is_locked lock.new ≡ S.is_locked lock.old }
     {
+        if !self.is_kept {
+            return Ok(false);
+        }
         self.has_changed = true;
         if let Some(mark) = &self.mark {
             if mark.is_enough(&self.knowledge, doing) {
@@ -184,15 +205,20 @@ impl LockMark {
 
 /// Whether the writer that had the folder of this path last has ended well, and left the file of this name on the disk.
 /// This takes no lock: a writer may begin right after.
-pub fn is_left_synced<R: Files>(
-    rt: &R,
+pub fn is_left_synced<S: SystemFiles>(
+    system: &S,
     alloc: Global,
     folder: &str,
     name: &str,
 ) -> io::Result<bool> {
     let path = format!(in alloc; "{folder}/{LOCK}")?;
-    check_plain(rt, path.as_str())?;
-    let lock = File::open(rt, path.as_str())?;
-    let mark = LockMark::of(alloc, found_mark(rt, alloc, &lock, path.as_str())?)?;
+    if system.is_blocked(path.as_str()) {
+        return Err(ErrorKind::InvalidInput.into());
+    }
+    let lock = system.open(path.as_str())?;
+    let mark = LockMark::of(
+        alloc,
+        system.find_mark(alloc, &lock, path.as_str(), folder)?,
+    )?;
     Ok(mark.knowledge.has_kept_entries() && mark.knowledge.is_synced(name))
 }

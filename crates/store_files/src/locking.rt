@@ -1,11 +1,12 @@
 //! The lock by which a writer keeps others out.
 
-ghost use Rattle.std.specs.Prelude.{IsTrue, IfOk};
+ghost use Rattle.std.specs.Prelude.{◌≡◌, IsTrue, IfOk, OnOk};
 
 use crate::create_error::CreateError;
-use crate::system_files::SystemFiles;
+use crate::system_files::{FileKind, SystemFiles};
 use std::alloc::Global;
 use std::fs::TryLockError;
+use std::io::ErrorKind;
 
 /// The folder that a file of this path is in.
 pub(crate) fn folder_of(path: &str) -> &str {
@@ -13,6 +14,17 @@ pub(crate) fn folder_of(path: &str) -> &str {
         Some(("", _)) => "/",
         Some((folder, _)) => folder,
         None => ".",
+    }
+}
+
+/// Opens the folder of this path, in which an entry will be made.
+pub(crate) fn open_folder<S: SystemFiles>(system: &S, path: &str) -> Result<S::File, CreateError>
+    ensures { IsTrue S.honest → IfOk result (λ folder. S.opened_as folder ≡ path.now) }
+{
+    match system.open(path) {
+        Ok(folder) => Ok(folder),
+        Err(error) if error.kind() == ErrorKind::NotFound => Err(CreateError::System(error)),
+        Err(error) => Err(CreateError::Folder(error)),
     }
 }
 
@@ -32,8 +44,28 @@ pub(crate) fn blocked(alloc: Global, path: &str) -> CreateError {
     }
 }
 
-/// Opens the lock of this path, which is made unless it is there, and locks it. One that another holds, or that took
-/// its name in the meantime, is busy. What is no plain file is refused before it is opened: a pipe would be waited for.
+/// Locks a file that was opened by this path. One that another holds, or that lost its path in the meantime, is busy.
+pub(crate) fn lock<S: SystemFiles>(
+    alloc: Global,
+    system: &S,
+    file: &S::File,
+    path: &str,
+) -> Result<(), CreateError>
+    ensures { OnOk result (IsTrue (S.is_locked file.now)) }
+{
+    match system.try_lock(file) {
+        Ok(()) => {}
+        Err(TryLockError::WouldBlock) => return Err(busy(alloc, path)),
+        Err(TryLockError::Error(error)) => return Err(CreateError::System(error)),
+    }
+    if system.has_path(file, path)? {
+        return Ok(());
+    }
+    Err(busy(alloc, path))
+}
+
+/// Opens the lock of this path, which is made unless it is there, and locks it. What is no plain file is refused before
+/// it is opened: a pipe would be waited for.
 pub(crate) fn locked<S: SystemFiles>(
     alloc: Global,
     system: &S,
@@ -41,17 +73,13 @@ pub(crate) fn locked<S: SystemFiles>(
 ) -> Result<S::File, CreateError>
     ensures { IfOk result (λ file. IsTrue (S.is_locked file)) }
 {
-    if system.is_blocked_itself(path)? {
+    if system
+        .find(path)?
+        .is_some_and(|found| found.kind != FileKind::Plain)
+    {
         return Err(blocked(alloc, path));
     }
     let file = system.open_lock(path)?;
-    match system.try_lock(&file) {
-        Ok(()) => {}
-        Err(TryLockError::WouldBlock) => return Err(busy(alloc, path)),
-        Err(TryLockError::Error(error)) => return Err(CreateError::System(error)),
-    }
-    if system.has_path(&file, path)? {
-        return Ok(file);
-    }
-    Err(busy(alloc, path))
+    lock(alloc, system, &file, path)?;
+    Ok(file)
 }

@@ -25,6 +25,25 @@ pub struct FoundMark {
     pub(crate) inode: String,
 }
 
+/// What kind of file has a path, where a link at the path is not followed.
+#[derive(Clone, Copy, PartialEq, Eq)]
+pub enum FileKind {
+    Plain,
+    Link,
+    /// A folder, a pipe, a device or another thing.
+    Other,
+}
+
+/// What the system says of the file at a path.
+#[derive(Clone, Copy)]
+pub struct FoundFile {
+    pub kind: FileKind,
+    /// Its permissions.
+    pub mode: u32,
+    pub owner: u32,
+    pub group: u32,
+}
+
 /// The calls of a system by which files are kept. Each is one call of the system, and its clauses say what the system
 /// and its disk promise of that call: which change it makes to the folder of a path. What is read of a folder after
 /// changes, and what a crash may leave of it, is their definition (`specs/Disk.antt`).
@@ -62,8 +81,17 @@ pub trait SystemFiles: Drop {
     /// Whether something is there that is no plain file, where links lead: `stat`.
     fn is_blocked(&self, path: &str) -> bool;
 
-    /// Whether something is there that is no plain file, or a link: `lstat`.
-    fn is_blocked_itself(&self, path: &str) -> io::Result<bool>;
+    /// What is at a path, where a link is not followed: `lstat`. None where nothing is.
+    fn find(&self, path: &str) -> io::Result<Option<FoundFile>>;
+
+    /// The path without links: `realpath`.
+    fn real_path(&self, alloc: Global, path: &str) -> io::Result<String>;
+
+    /// Gives a file another owner, or another group: `chown`.
+    fn set_owner(&self, path: &str, owner: Option<u32>, group: Option<u32>) -> io::Result<()>;
+
+    /// Gives a file other permissions: `chmod`.
+    fn set_mode(&self, path: &str, mode: u32) -> io::Result<()>;
 
     /// Opens a file or a folder that is there, to sync it: `open`.
     fn open(&self, path: &str) -> io::Result<Self::File>
@@ -79,6 +107,12 @@ pub trait SystemFiles: Drop {
 
     /// Makes an empty file, or empties the one that is there: `open` with `O_CREAT` and `O_TRUNC`.
     fn create(&mut self, path: &str) -> io::Result<()>
+        ensures { IsTrue honest → (d n : List ℕ) → IsPath d n path.now
+            → Adds (is_ok result) (Created n) (changes self.old d) (changes self.new d) };
+
+    /// Makes an empty file with these permissions, where nothing has the path, and opens it as `open_to_append` does:
+    /// `open` with `O_CREAT` and `O_EXCL`.
+    fn create_new(&mut self, path: &str, mode: u32) -> io::Result<Self::File>
         ensures { IsTrue honest → (d n : List ℕ) → IsPath d n path.now
             → Adds (is_ok result) (Created n) (changes self.old d) (changes self.new d) };
 

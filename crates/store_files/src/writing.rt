@@ -10,6 +10,7 @@ use crate::knowledge::Doing;
 use crate::open_file::{OpenFile, append};
 use crate::system_files::SystemFiles;
 use std::io;
+use std::io::ErrorKind;
 
 // The file that is open, under its new name, if it was renamed. One that was replaced is not open any more.
 fn renamed<F: Drop>(
@@ -166,6 +167,16 @@ impl<S: SystemFiles> DiskFolder<S> {
         }
     }
 
+    // Fails where a file has the path that an output is to take, and may not be replaced.
+    fn check_free(&self, path: &str) -> io::Result<()> {
+        if self.output.as_ref().is_some_and(|output| !output.replaces)
+            && self.system.find(path)?.is_some()
+        {
+            return Err(ErrorKind::AlreadyExists.into());
+        }
+        Ok(())
+    }
+
     /// Gives a file another name.
     pub(crate) fn move_file(&mut self, from: &str, to: &str) -> io::Result<()>
         requires { from.now ≢ to.now }
@@ -177,6 +188,7 @@ impl<S: SystemFiles> DiskFolder<S> {
     {
         let (old_path, new_path) = (self.path_at(from)?, self.path_at(to)?);
         let name = String::from_str(self.alloc, to)?;
+        self.check_free(new_path.as_str())?;
         self.begin(&Doing::Moved(from, to))?;
         let open_file = self.open_file.take();
         self.mark.doubt_entries();

@@ -5,10 +5,10 @@ use std::cell::Cell;
 use std::fs::{File, TryLockError};
 use std::io;
 use std::test::Fail;
-use store_files::{FoundMark, OsFile, SystemFiles};
+use store_files::{FoundFile, FoundMark, OsFile, SystemFiles};
 
-/// The system. Of the calls that open, make, lock, write, cut, sync or rename the one of this number fails, also of
-/// those of a mark; the first is number 1. A call that fails is not made.
+/// The system. Of the calls that open, make, lock, write, cut, sync or rename, or that give permissions, the one of
+/// this number fails, also of those of a mark; the first is number 1. A call that fails is not made.
 #[derive(Drop)]
 pub struct FailingSystem<'a> {
     rt: HostRuntime,
@@ -70,8 +70,21 @@ impl<'a> SystemFiles for FailingSystem<'a> {
         self.rt.is_blocked(path)
     }
 
-    fn is_blocked_itself(&self, path: &str) -> io::Result<bool> {
-        self.rt.is_blocked_itself(path)
+    fn find(&self, path: &str) -> io::Result<Option<FoundFile>> {
+        self.rt.find(path)
+    }
+
+    fn real_path(&self, alloc: Global, path: &str) -> io::Result<String> {
+        self.rt.real_path(alloc, path)
+    }
+
+    fn set_owner(&self, path: &str, owner: Option<u32>, group: Option<u32>) -> io::Result<()> {
+        self.rt.set_owner(path, owner, group)
+    }
+
+    fn set_mode(&self, path: &str, mode: u32) -> io::Result<()> {
+        self.count()?;
+        self.rt.set_mode(path, mode)
     }
 
     fn open(&self, path: &str) -> io::Result<File> {
@@ -87,6 +100,11 @@ impl<'a> SystemFiles for FailingSystem<'a> {
     fn create(&mut self, path: &str) -> io::Result<()> {
         self.count()?;
         SystemFiles::create(&mut self.rt, path)
+    }
+
+    fn create_new(&mut self, path: &str, mode: u32) -> io::Result<File> {
+        self.count()?;
+        self.rt.create_new(path, mode)
     }
 
     fn len(&self, file: &File) -> io::Result<u64> {

@@ -4,8 +4,6 @@
 #[cfg(test)]
 mod disk_folder;
 #[cfg(test)]
-mod failing_files;
-#[cfg(test)]
 mod failing_system;
 #[cfg(test)]
 mod folder;

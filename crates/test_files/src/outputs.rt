@@ -1,13 +1,12 @@
 //! Outputs on disk: when they take their names, and what is left where a call of the system fails.
 
-use crate::failing_files::FailingFiles;
+use crate::failing_system::FailingSystem;
 use crate::folder::{count, holds, make, remove};
 use docstore::TerminatingWrite;
 use std::cell::Cell;
 use std::fs;
-use std::fs::Files;
 use std::test::Fail;
-use store_files::{CreateError, DiskSink, LockFile};
+use store_files::{CreateError, DiskSink, SystemFiles};
 
 const OLD: &[u8] = b"old";
 
@@ -131,10 +130,7 @@ enum End {
 }
 
 // Writes to an output and ends it. One that failed takes no more.
-fn ended<R: Files + Drop>(sink: &mut DiskSink<R>) -> End
-where
-    R::File: LockFile,
-{
+fn ended<S: SystemFiles>(sink: &mut DiskSink<S>) -> End {
     if sink.write_all(WHOLE).is_ok() && sink.terminate().is_ok() {
         return End::Ended;
     }
@@ -150,41 +146,43 @@ fn write_failing(
     calls: &Cell<u32>,
     failing_call: u32,
 ) -> Result<End, Fail> {
-    let files = FailingFiles::new(rt, calls, failing_call)?;
-    match DiskSink::create(rt.alloc(), files, path) {
+    let system = FailingSystem::new(rt, calls, failing_call)?;
+    match DiskSink::create(rt.alloc(), system, path) {
         Ok(mut sink) => Ok(ended(&mut sink)),
         Err(_) => Ok(End::NotBegun),
     }
 }
 
 #[test]
-fn eight_calls_of_the_system_write_a_small_file(rt: HostRuntime) -> Result<(), Fail> {
+fn nine_calls_of_the_system_write_a_small_file(rt: HostRuntime) -> Result<(), Fail> {
     make(&rt, "test_files_calls")?;
     let calls = Cell::new(0);
-    // Its folder is opened; it is opened, locked, cut, written, synced and renamed; its folder is synced.
+    // Its folder is opened; it is made, locked, emptied, opened, written, synced and renamed; its folder is synced.
     let end = write_failing(&rt, "test_files_calls/a.store", &calls, 0)?;
-    assert!(rt; end == End::Ended && calls.get() == 8);
+    assert!(rt; end == End::Ended && calls.get() == 9);
     Ok(remove(&rt, "test_files_calls")?)
 }
 
-// Whether a call that fails leaves the old file or the whole one, and nothing beside it, and no call is made after it.
+// Whether a call that fails leaves the old file or the whole one, and nothing beside it, and no call is made after it,
+// but that a write that failed, call 7, is cut off. The file beside gets the permissions of the old one at call 4.
 fn leaves_one(rt: &HostRuntime, path: &str, failing_call: u32) -> Result<bool, Fail> {
     fs::write(rt, path, OLD)?;
     let calls = Cell::new(0);
     let end = write_failing(rt, path, &calls, failing_call)?;
-    let expected = if failing_call <= 4 {
+    let expected = if failing_call <= 5 {
         End::NotBegun
     } else {
         End::NotWritten
     };
-    let left = if failing_call <= 7 { OLD } else { WHOLE };
-    Ok(end == expected && calls.get() == failing_call && holds(rt, path, left)?)
+    let left = if failing_call <= 9 { OLD } else { WHOLE };
+    let made = if failing_call == 7 { 8 } else { failing_call };
+    Ok(end == expected && calls.get() == made && holds(rt, path, left)?)
 }
 
 #[test]
 fn each_failing_call_leaves_the_old_file_or_the_whole_one(rt: HostRuntime) -> Result<(), Fail> {
     make(&rt, "test_files_failing")?;
-    for failing_call in 1..=8 {
+    for failing_call in 1..=10 {
         assert!(rt; leaves_one(&rt, "test_files_failing/a.store", failing_call)?);
         assert!(rt; count(&rt, "test_files_failing")? == 1);
     }

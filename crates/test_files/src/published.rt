@@ -1,6 +1,6 @@
 //! Stores that are published on disk, where a call of the system fails.
 
-use crate::failing_files::FailingFiles;
+use crate::failing_system::FailingSystem;
 use crate::folder::{count, holds, make, remove};
 use docstore::{Compressor, MemSink, StoreError, StoreWriter};
 use std::alloc::Global;
@@ -8,7 +8,7 @@ use std::cell::Cell;
 use std::fs;
 use std::io::ErrorKind;
 use std::test::Fail;
-use store_files::OsFolder;
+use store_files::DiskFolder;
 use store_published::{DocumentList, FillError, publish_store};
 
 const OLD: &[u8] = b"old";
@@ -47,8 +47,8 @@ fn publish_failing(
     calls: &Cell<u32>,
     failing_call: u32,
 ) -> Result<End, Fail> {
-    let files = FailingFiles::new(rt, calls, failing_call)?;
-    let Ok((folder, name)) = OsFolder::of_file(rt.alloc(), files, path) else {
+    let system = FailingSystem::new(rt, calls, failing_call)?;
+    let Ok((folder, name)) = DiskFolder::of_file(rt.alloc(), system, path) else {
         return Ok(End::NotBegun);
     };
     let mut folder = Box::new(rt.alloc(), folder)?;
@@ -69,7 +69,8 @@ fn publish_failing(
     }
 }
 
-// Whether a call that fails leaves the old file or the whole store, is named, and is the last one.
+// Whether a call that fails leaves the old file or the whole store, is named, and is the last one, but that a write
+// that failed, call 7, is cut off.
 fn leaves_one(
     rt: &HostRuntime,
     path: &str,
@@ -81,24 +82,30 @@ fn leaves_one(
     let calls = Cell::new(0);
     let end = publish_failing(rt, path, documents, &calls, failing_call)?;
     let expected = match failing_call {
-        1..=3 => End::NotBegun,
-        4..=8 => End::FailedByTheCall,
+        1..=4 => End::NotBegun,
+        5..=10 => End::FailedByTheCall,
         _ => End::Published,
     };
-    let left = if failing_call <= 7 {
+    let left = if failing_call <= 9 {
         OLD
     } else {
         whole.as_slice()
     };
-    Ok(end == expected && calls.get() == failing_call.min(8) && holds(rt, path, left)?)
+    let made = if failing_call == 7 {
+        8
+    } else {
+        failing_call.min(10)
+    };
+    Ok(end == expected && calls.get() == made && holds(rt, path, left)?)
 }
 
-// The folder is opened; the file beside is opened, locked, cut, written, synced and renamed; the folder is synced.
+// The folder is opened; the file beside is made, locked, given the old one's permissions, emptied, opened, written,
+// synced and renamed; the folder is synced.
 #[test]
 fn each_failing_call_leaves_the_old_file_or_the_whole_store(rt: HostRuntime) -> Result<(), Fail> {
     let documents = documents(rt.alloc())?;
     make(&rt, "test_files_published")?;
-    for failing_call in 1..=9 {
+    for failing_call in 1..=11 {
         assert!(rt;
             leaves_one(
                 &rt,
