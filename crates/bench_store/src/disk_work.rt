@@ -7,7 +7,7 @@ use anyhow::Result;
 use docstore::{DocId, StoreReader};
 use std::rt::Clock;
 use std::time::Instant;
-use store_files::{DiskFile, DiskSink, OsFile, load};
+use store_files::{DiskFile, DiskSink, HostFiles, OsFile, load};
 
 /// The file that is written and read.
 pub const PATH: &str = "bench.store";
@@ -42,7 +42,7 @@ pub struct WriteDisk<'a> {
 
 /// Writes the file.
 pub fn write_disk(rt: &HostRuntime, plan: &StorePlan) -> Result<()> {
-    let output = DiskSink::create(rt.alloc(), rt.clone()?, PATH)?;
+    let output = DiskSink::create(rt.alloc(), HostFiles::new(rt)?, PATH)?;
     plan.write(rt.alloc(), output)?;
     Ok(())
 }

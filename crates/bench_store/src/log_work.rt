@@ -8,7 +8,7 @@ use segmented_log::{Commit, SegmentedLog};
 use std::fs;
 use std::rt::Clock;
 use std::time::Instant;
-use store_files::DiskFolder;
+use store_files::{DiskFolder, HostFiles};
 
 // The log's folder.
 const PATH: &str = "bench.log";
@@ -19,11 +19,11 @@ const SEAL_SIZE: usize = 64 << 20;
 // How many records of a log that is only read were on the disk at once.
 const MADE_BATCH: u64 = 10_000;
 
-type Log = SegmentedLog<DiskFolder<HostRuntime>>;
+type Log = SegmentedLog<DiskFolder<HostFiles>>;
 
 // Opens the log of the folder, or begins one.
 fn open(rt: &HostRuntime) -> Result<Log> {
-    let folder = DiskFolder::create(rt.alloc(), rt.clone()?, PATH)?;
+    let folder = DiskFolder::create(rt.alloc(), HostFiles::new(rt)?, PATH)?;
     match SegmentedLog::open(rt.alloc(), folder, SEAL_SIZE, Commit::OneSync) {
         Ok(log) => Ok(log),
         Err((error, _)) => Err(error.into()),

@@ -3,13 +3,13 @@
 use crate::in_memory::print_text;
 use docstore::{Compressor, DocId, FileSlice, OwnedBytes, StoreReader, StoreWriter};
 use std::fs;
-use store_files::{DiskFile, DiskSink, OsFile};
+use store_files::{DiskFile, DiskSink, HostFiles, OsFile};
 
 type Reader = StoreReader<DiskFile<OsFile>>;
 
 // The file has its name only once it is whole, and after the system was asked to keep it.
 fn write(rt: &HostRuntime, path: &str, documents: &[&str]) -> anyhow::Result<()> {
-    let output = DiskSink::create(rt.alloc(), rt.clone()?, path)?;
+    let output = DiskSink::create(rt.alloc(), HostFiles::new(rt)?, path)?;
     let mut writer = StoreWriter::new(rt.alloc(), output, Compressor::None, 16384);
     for document in documents {
         writer.store_bytes(document.as_bytes())?;

@@ -140,7 +140,10 @@ impl FailureCause {
 // The status where an output can't be begun.
 fn status_of_output(error: &CreateError) -> Status {
     match error {
-        CreateError::Exists | CreateError::NotPlainFile | CreateError::Blocked(_) => Status::Broken,
+        CreateError::Exists
+        | CreateError::NotPlainFile
+        | CreateError::Reserved
+        | CreateError::Blocked(_) => Status::Broken,
         CreateError::Busy(_) | CreateError::Folder(_) | CreateError::System(_) => Status::System,
     }
 }

@@ -4,9 +4,9 @@ use crate::arguments::{output_path, wrong_words};
 use crate::failure::{Failure, FailureCause, with_file};
 use clap::ArgMatches;
 use std::alloc::Global;
-use std::fs;
 use std::os::unix::fs::MetadataExt;
-use store_files::{CreateError, DiskFolder, DiskSink};
+use std::{fs, io};
+use store_files::{CreateError, DiskFolder, DiskSink, HostFiles};
 
 // The file that is open as the standard input.
 const STANDARD_INPUT: &str = "/dev/stdin";
@@ -73,21 +73,20 @@ impl<'a> OutputPath<'a> {
     }
 
     /// The folder in which it is written, and the name that links lead to.
-    pub fn folder(
-        self,
-        rt: &HostRuntime,
-    ) -> Result<(DiskFolder<HostRuntime>, String), CreateError> {
+    pub fn folder(self, rt: &HostRuntime) -> Result<(DiskFolder<HostFiles>, String), CreateError> {
+        let system = HostFiles::new(rt).map_err(io::Error::from)?;
         if self.replaces {
-            return DiskFolder::of_file(rt.alloc(), *rt, self.path);
+            return DiskFolder::of_file(rt.alloc(), system, self.path);
         }
-        DiskFolder::of_new_file(rt.alloc(), *rt, self.path)
+        DiskFolder::of_new_file(rt.alloc(), system, self.path)
     }
 
     /// The output itself, of nothing yet.
-    pub fn sink(self, rt: &HostRuntime) -> Result<DiskSink<HostRuntime>, CreateError> {
+    pub fn sink(self, rt: &HostRuntime) -> Result<DiskSink<HostFiles>, CreateError> {
+        let system = HostFiles::new(rt).map_err(io::Error::from)?;
         if self.replaces {
-            return DiskSink::create(rt.alloc(), *rt, self.path);
+            return DiskSink::create(rt.alloc(), system, self.path);
         }
-        DiskSink::create_new(rt.alloc(), *rt, self.path)
+        DiskSink::create_new(rt.alloc(), system, self.path)
     }
 }

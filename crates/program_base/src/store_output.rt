@@ -5,13 +5,13 @@ use crate::output_path::OutputPath;
 use crate::progress::Progress;
 use std::alloc::Global;
 use store_commands::StoreShape;
-use store_files::DiskFolder;
+use store_files::{DiskFolder, HostFiles};
 use store_published::{FillError, Filling, Written, publish_store};
 
 /// The folder of a file that is to be written, and the name of the file in it.
 #[derive(Drop)]
 pub struct OutputPlace {
-    pub folder: DiskFolder<HostRuntime>,
+    pub folder: DiskFolder<HostFiles>,
     pub name: String,
 }
 

@@ -1,7 +1,6 @@
 //! `log append`: puts records after those of a log.
 
 use crate::FOLDER;
-use crate::log_files::LogFiles;
 use crate::opened_log::{OpenedLog, TailOptions};
 use crate::places::{open_or_begin, tail_bytes};
 use crate::record_span::RecordSpan;
@@ -134,7 +133,6 @@ fn appending_of<'a>(
     rt: &'a HostRuntime,
     path: &'a str,
     options: AppendOptions,
-    files: &'a LogFiles,
     total: Option<u64>,
 ) -> Result<Appending<'a>, Failure> {
     let alloc = rt.alloc();
@@ -142,7 +140,7 @@ fn appending_of<'a>(
         true => Some(with_file(alloc, path, standard_output(rt))?),
         false => None,
     };
-    let opened = open_or_begin(rt, path, files, options.tail);
+    let opened = open_or_begin(rt, path, options.tail);
     let log = with_file(alloc, path, opened)?;
     let end = log.end();
     Ok(Appending {
@@ -204,7 +202,7 @@ fn append_all(appending: &mut Appending<'_>, paths: Option<&[&str]>) -> Result<(
 
 // Seals a large tail. Its records are on the disk already, so where that fails they are there all the same, and a later
 // writer seals them.
-fn seal_large(rt: &HostRuntime, path: &str, log: &mut OpenedLog<'_>) {
+fn seal_large(rt: &HostRuntime, path: &str, log: &mut OpenedLog) {
     if let Ok(Some(bytes)) = tail_bytes(rt, path) {
         if bytes >= LARGE_TAIL {
             let _ = log.seal();
@@ -213,15 +211,14 @@ fn seal_large(rt: &HostRuntime, path: &str, log: &mut OpenedLog<'_>) {
 }
 
 // Appends them to the log at a path.
-fn append<'a>(
-    rt: &'a HostRuntime,
-    path: &'a str,
+fn append(
+    rt: &HostRuntime,
+    path: &str,
     options: AppendOptions,
-    files: &'a LogFiles,
     paths: Option<&[&str]>,
 ) -> Result<(), Failure> {
     let total = paths.and_then(|paths| total_bytes(rt, paths));
-    let mut appending = appending_of(rt, path, options, files, total)?;
+    let mut appending = appending_of(rt, path, options, total)?;
     let appended = append_all(&mut appending, paths);
     let Appending { mut log, .. } = appending;
     if appended.is_ok() {
@@ -236,17 +233,10 @@ pub fn run(rt: &HostRuntime, matches: &ArgMatches<'_>) -> Result<(), Failure> {
     let alloc = rt.alloc();
     let path = word(alloc, matches, FOLDER)?;
     let options = options_of(alloc, matches)?;
-    let files = LogFiles::new();
     let list = list_of(rt, matches)?;
     let words = words_of(matches);
     let names = names_of(alloc, words.unwrap_or(&[]), list.as_deref());
     let names = with_file(alloc, path, names)?;
     let are_named = words.is_some() || list.is_some();
-    append(
-        rt,
-        path,
-        options,
-        &files,
-        are_named.then_some(names.as_slice()),
-    )
+    append(rt, path, options, are_named.then_some(names.as_slice()))
 }

@@ -1,6 +1,5 @@
 //! `log cat`: prints all records in order.
 
-use crate::log_files::LogFiles;
 use crate::read_log::{ReadLog, open_to_read};
 use crate::{FOLDER, folder};
 use clap::{ArgMatches, Command};
@@ -42,7 +41,7 @@ pub fn command<'a>(alloc: Global) -> Result<Command<'a>, AllocError> {
 // Prints the records of an opened log from a number on.
 fn print_records(
     alloc: Global,
-    read: &mut ReadLog<'_>,
+    read: &mut ReadLog,
     output: &mut DocumentOutput<'_>,
     form: DocumentForm,
     from: u64,
@@ -56,8 +55,7 @@ fn print_records(
 
 // Prints the records of the log at a path from a number on.
 fn print(rt: &HostRuntime, path: &str, form: DocumentForm, from: u64) -> Result<(), FailureCause> {
-    let files = LogFiles::new();
-    let mut read = open_to_read(rt, path, &files)?;
+    let mut read = open_to_read(rt, path)?;
     let mut output = standard_output(rt)?;
     print_records(rt.alloc(), &mut read, &mut output, form, from)?;
     read.check_end()

@@ -1,6 +1,5 @@
 //! `log compact`: joins segments.
 
-use crate::log_files::LogFiles;
 use crate::places::open_to_write;
 use crate::segments::segment_numbers;
 use crate::{FOLDER, folder, is_seen};
@@ -52,8 +51,7 @@ fn size_of(alloc: Global, matches: &ArgMatches<'_>) -> Result<u64, Failure> {
 
 // Joins segments of the log at a path, and says what it did if that is seen.
 fn compact(rt: &HostRuntime, path: &str, size: u64, is_seen: bool) -> Result<(), FailureCause> {
-    let files = LogFiles::new();
-    let mut log = open_to_write(rt, path, &files)?;
+    let mut log = open_to_write(rt, path)?;
     let before = segment_numbers(rt, path)?.len();
     let compacted = log.compact(size);
     log.close(rt, path);

@@ -1,6 +1,5 @@
 //! `log drop`: removes the oldest records.
 
-use crate::log_files::LogFiles;
 use crate::opened_log::explained;
 use crate::places::folder_to_write;
 use crate::read_log::open_to_read;
@@ -56,8 +55,7 @@ const STAYING: &str = "a segment goes whole, and records of the tail go once the
 
 // How many records before a number a log has; none where it can't be read.
 fn count_before(rt: &HostRuntime, path: &str, number: u64) -> u64 {
-    let files = LogFiles::new();
-    match open_to_read(rt, path, &files) {
+    match open_to_read(rt, path) {
         Ok(log) => number.min(log.end()).saturating_sub(log.first()),
         Err(_) => 0,
     }
@@ -87,9 +85,8 @@ fn drop_before(
     number: u64,
     is_seen: bool,
 ) -> Result<(), FailureCause> {
-    let files = LogFiles::new();
-    let mut folder = folder_to_write(rt, path, &files)?;
-    let dropped = segmented_log::drop_segments(rt.alloc(), &mut folder, number);
+    let (mut folder, system) = folder_to_write(rt, path)?;
+    let dropped = segmented_log::drop_segments(rt.alloc(), &mut *folder, number);
     drop(folder);
     match dropped {
         Ok(gone) if is_seen => {
@@ -100,7 +97,7 @@ fn drop_before(
             tell(rt, path, dropped, number)
         }
         Ok(_) => Ok(()),
-        Err(error) => Err(explained(&files, error)),
+        Err(error) => Err(explained(&system, error)),
     }
 }
 

@@ -1,6 +1,5 @@
 //! `log get`: prints records by their numbers.
 
-use crate::log_files::LogFiles;
 use crate::number_range::NumberRange;
 use crate::read_log::{ReadLog, open_to_read};
 use crate::{FOLDER, folder};
@@ -45,7 +44,7 @@ pub fn command<'a>(alloc: Global) -> Result<Command<'a>, AllocError> {
 #[derive(Drop)]
 struct Printer<'a> {
     alloc: Global,
-    read: ReadLog<'a>,
+    read: ReadLog,
     output: DocumentOutput<'a>,
     form: DocumentForm,
 }
@@ -109,10 +108,9 @@ fn print(
 ) -> Result<(), FailureCause> {
     let alloc = rt.alloc();
     check_words(alloc, words)?;
-    let files = LogFiles::new();
     let mut printer = Printer {
         alloc,
-        read: open_to_read(rt, path, &files)?,
+        read: open_to_read(rt, path)?,
         output: standard_output(rt)?,
         form,
     };

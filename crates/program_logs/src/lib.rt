@@ -7,8 +7,6 @@ mod compact;
 mod drop;
 mod get;
 mod inputs;
-mod log_files;
-mod log_folder;
 mod log_refusal;
 mod number_range;
 mod opened_log;

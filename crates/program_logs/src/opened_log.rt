@@ -1,12 +1,11 @@
 //! A log that is open, with errors that say why.
 
-use crate::log_files::LogFiles;
-use crate::log_folder::LogFolder;
 use crate::log_refusal::refused;
 use program_base::failure::FailureCause;
 use segmented_log::{Commit, LogError, SegmentedLog};
 use std::alloc::Global;
 use std::{fs, io};
+use store_files::{DiskFolder, HostFiles};
 use store_folder::Folder;
 
 /// How the tail of a log is written: how a sync puts records on the disk, and the size in bytes past which it is
@@ -18,18 +17,18 @@ pub struct TailOptions {
 }
 
 // A log on disk, in a box: a function that owns it moves and drops one value, and not all of its parts.
-type DiskLog<'a> = Box<SegmentedLog<LogFolder<'a>>>;
+type DiskLog = Box<SegmentedLog<DiskFolder<HostFiles>>>;
 
 /// A log that is open.
 #[derive(Drop)]
-pub struct OpenedLog<'a> {
-    log: DiskLog<'a>,
-    files: &'a LogFiles,
+pub struct OpenedLog {
+    log: DiskLog,
+    system: HostFiles,
 }
 
 /// Why a call on a log failed: what the system said, if it refused a call on the folder.
-pub fn explained(files: &LogFiles, error: LogError) -> FailureCause {
-    match (error, files.take_cause()) {
+pub fn explained(system: &HostFiles, error: LogError) -> FailureCause {
+    match (error, system.take_cause()) {
         (LogError::Failed, Some(error)) => FailureCause::System(error),
         _ => refused(error),
     }
@@ -41,7 +40,11 @@ fn is_part(name: &str) -> bool {
 }
 
 // Removes what a call that failed left unpublished.
-fn remove_parts<'a>(rt: &HostRuntime, path: &str, folder: &mut LogFolder<'a>) -> io::Result<()> {
+fn remove_parts(
+    rt: &HostRuntime,
+    path: &str,
+    folder: &mut DiskFolder<HostFiles>,
+) -> io::Result<()> {
     for entry in fs::read_dir(rt, path)? {
         let entry = entry?;
         if is_part(entry.file_name()) {
@@ -51,22 +54,22 @@ fn remove_parts<'a>(rt: &HostRuntime, path: &str, folder: &mut LogFolder<'a>) ->
     Ok(())
 }
 
-impl<'a> OpenedLog<'a> {
-    /// Opens the log in a folder.
+impl OpenedLog {
+    /// Opens the log in a folder of this system.
     pub fn open(
         alloc: Global,
-        folder: LogFolder<'a>,
-        files: &'a LogFiles,
+        folder: DiskFolder<HostFiles>,
+        system: HostFiles,
         tail: TailOptions,
-    ) -> Result<OpenedLog<'a>, LogError> {
+    ) -> Result<OpenedLog, FailureCause> {
         match SegmentedLog::open(alloc, folder, tail.seal_size, tail.commit) {
             Ok(log) => Ok(OpenedLog {
                 log: Box::new(alloc, log)?,
-                files,
+                system,
             }),
             Err((error, folder)) => {
                 drop(folder);
-                Err(error)
+                Err(explained(&system, error))
             }
         }
     }
@@ -75,7 +78,7 @@ impl<'a> OpenedLog<'a> {
     fn result_of<T: Drop>(&self, given: Result<T, LogError>) -> Result<T, FailureCause> {
         match given {
             Ok(value) => Ok(value),
-            Err(error) => Err(explained(self.files, error)),
+            Err(error) => Err(explained(&self.system, error)),
         }
     }
 

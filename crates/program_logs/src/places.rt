@@ -1,16 +1,14 @@
 //! What is at the path of a log, and how it is opened.
 
-use crate::log_files::LogFiles;
-use crate::log_folder::LogFolder;
 use crate::log_refusal::NO_TAIL;
-use crate::opened_log::{OpenedLog, TailOptions, explained};
+use crate::opened_log::{OpenedLog, TailOptions};
 use crate::segments::segment_numbers;
 use program_base::failure::FailureCause;
 use segmented_log::{Commit, TAIL};
 use std::alloc::{AllocError, Global};
 use std::io::ErrorKind;
 use std::{fs, io};
-use store_files::{CreateError, DiskFolder};
+use store_files::{CreateError, DiskFolder, HostFiles};
 
 // The tail of a log to which nothing is appended: it is not sealed for its size.
 const NOT_APPENDED: TailOptions = TailOptions {
@@ -92,8 +90,8 @@ fn check_place(rt: &HostRuntime, path: &str) -> Result<(), FailureCause> {
 // The folder that a writer locked, in a box, or why it is not to be had.
 fn locked(
     alloc: Global,
-    folder: Result<DiskFolder<HostRuntime>, CreateError>,
-) -> Result<Box<DiskFolder<HostRuntime>>, FailureCause> {
+    folder: Result<DiskFolder<HostFiles>, CreateError>,
+) -> Result<Box<DiskFolder<HostFiles>>, FailureCause> {
     match folder {
         Ok(folder) => Ok(Box::new(alloc, folder)?),
         Err(CreateError::Busy(_)) => Err(FailureCause::BusyLog),
@@ -102,18 +100,15 @@ fn locked(
 }
 
 // Opens a log through its lock. A batch at the end of its tail that was not finished, which is cut off, is reported.
-fn open_locked<'a>(
-    rt: &'a HostRuntime,
-    path: &'a str,
-    folder: LogFolder<'a>,
-    files: &'a LogFiles,
+fn open_locked(
+    rt: &HostRuntime,
+    path: &str,
+    folder: Box<DiskFolder<HostFiles>>,
+    system: HostFiles,
     tail: TailOptions,
-) -> Result<OpenedLog<'a>, FailureCause> {
+) -> Result<OpenedLog, FailureCause> {
     let before = tail_bytes(rt, path)?.unwrap_or(0);
-    let log = match OpenedLog::open(rt.alloc(), folder, files, tail) {
-        Ok(log) => log,
-        Err(error) => return Err(explained(files, error)),
-    };
+    let log = OpenedLog::open(rt.alloc(), Box::into_inner(folder), system, tail)?;
     let cut = before.saturating_sub(tail_bytes(rt, path)?.unwrap_or(0));
     if cut > 0 {
         let _ = eprintln!(rt;
@@ -125,35 +120,36 @@ fn open_locked<'a>(
 }
 
 /// Opens the log at a path to write it, or begins one there.
-pub fn open_or_begin<'a>(
-    rt: &'a HostRuntime,
-    path: &'a str,
-    files: &'a LogFiles,
+pub fn open_or_begin(
+    rt: &HostRuntime,
+    path: &str,
     tail: TailOptions,
-) -> Result<OpenedLog<'a>, FailureCause> {
+) -> Result<OpenedLog, FailureCause> {
     check_place(rt, path)?;
-    let writer = locked(rt.alloc(), DiskFolder::create(rt.alloc(), *rt, path))?;
-    let folder = LogFolder::new(rt, path, Some(writer), files);
-    open_locked(rt, path, folder, files, tail)
+    let system = HostFiles::new(rt)?;
+    let folder = locked(
+        rt.alloc(),
+        DiskFolder::create(rt.alloc(), system.clone()?, path),
+    )?;
+    open_locked(rt, path, folder, system, tail)
 }
 
-/// The folder of a log that is there, locked to write it.
-pub fn folder_to_write<'a>(
-    rt: &'a HostRuntime,
-    path: &'a str,
-    files: &'a LogFiles,
-) -> Result<LogFolder<'a>, FailureCause> {
+/// The folder of a log that is there, locked to write it, and its system.
+pub fn folder_to_write(
+    rt: &HostRuntime,
+    path: &str,
+) -> Result<(Box<DiskFolder<HostFiles>>, HostFiles), FailureCause> {
     check_log(rt, path)?;
-    let writer = locked(rt.alloc(), DiskFolder::open(rt.alloc(), *rt, path))?;
-    Ok(LogFolder::new(rt, path, Some(writer), files))
+    let system = HostFiles::new(rt)?;
+    let folder = locked(
+        rt.alloc(),
+        DiskFolder::open(rt.alloc(), system.clone()?, path),
+    )?;
+    Ok((folder, system))
 }
 
 /// Opens a log that is there, to write it.
-pub fn open_to_write<'a>(
-    rt: &'a HostRuntime,
-    path: &'a str,
-    files: &'a LogFiles,
-) -> Result<OpenedLog<'a>, FailureCause> {
-    let folder = folder_to_write(rt, path, files)?;
-    open_locked(rt, path, folder, files, NOT_APPENDED)
+pub fn open_to_write(rt: &HostRuntime, path: &str) -> Result<OpenedLog, FailureCause> {
+    let (folder, system) = folder_to_write(rt, path)?;
+    open_locked(rt, path, folder, system, NOT_APPENDED)
 }

@@ -1,39 +1,39 @@
 //! A log that is open to be read.
 
-use crate::log_files::LogFiles;
-use crate::log_folder::LogFolder;
 use crate::opened_log::explained;
 use crate::places::check_log;
 use crate::segments::segment_numbers;
 use program_base::failure::FailureCause;
 use segmented_log::{LogError, LogReader};
+use std::alloc::Global;
 use std::io::ErrorKind;
+use store_files::{DiskFolder, HostFiles};
 
 // How often an opening or a read is tried: a writer may change the log's segments meanwhile.
 const TRIES: usize = 1000;
 
 // The reader of a log on disk, in a box: a function that owns it moves and drops one value, and not all of its parts.
-type DiskReader<'a> = Box<LogReader<LogFolder<'a>>>;
+type DiskReader = Box<LogReader<DiskFolder<HostFiles>>>;
 
 /// A log that is open to be read, as it was when it was opened first.
 #[derive(Drop)]
-pub struct ReadLog<'a> {
-    files: &'a LogFiles,
-    folder: LogFolder<'a>,
-    log: DiskReader<'a>,
+pub struct ReadLog {
+    system: HostFiles,
+    folder: Box<DiskFolder<HostFiles>>,
+    log: DiskReader,
     end: u64,
 }
 
 // What a call gave; none where a writer changed the log meanwhile. A segment may be gone since it was listed: the
 // writer joined it with others, or removed it.
 fn unless_changed<T: Drop>(
-    files: &LogFiles,
+    system: &HostFiles,
     outcome: Result<T, LogError>,
 ) -> Result<Option<T>, FailureCause> {
     match outcome {
         Ok(value) => Ok(Some(value)),
         Err(LogError::Changed) => Ok(None),
-        Err(error) => match explained(files, error) {
+        Err(error) => match explained(system, error) {
             FailureCause::System(error) if error.kind() == ErrorKind::NotFound => Ok(None),
             cause => Err(cause),
         },
@@ -41,14 +41,14 @@ fn unless_changed<T: Drop>(
 }
 
 // Opens the log of a folder.
-fn open<'a>(
-    rt: &HostRuntime,
-    folder: &LogFolder<'a>,
-    files: &LogFiles,
-) -> Result<DiskReader<'a>, FailureCause> {
+fn open(
+    alloc: Global,
+    folder: &DiskFolder<HostFiles>,
+    system: &HostFiles,
+) -> Result<DiskReader, FailureCause> {
     for _ in 0..TRIES {
-        if let Some(log) = unless_changed(files, LogReader::open(rt.alloc(), folder))? {
-            return Ok(Box::new(rt.alloc(), log)?);
+        if let Some(log) = unless_changed(system, LogReader::open(alloc, folder))? {
+            return Ok(Box::new(alloc, log)?);
         }
     }
     Err(FailureCause::BusyLog)
@@ -56,25 +56,23 @@ fn open<'a>(
 
 /// Opens a log that is there, to read it. Nothing is changed, and a writer may go on. Of a log whose tail is damaged it
 /// has the records before the damage.
-pub fn open_to_read<'a>(
-    rt: &'a HostRuntime,
-    path: &'a str,
-    files: &'a LogFiles,
-) -> Result<ReadLog<'a>, FailureCause> {
+pub fn open_to_read(rt: &HostRuntime, path: &str) -> Result<ReadLog, FailureCause> {
     check_log(rt, path)?;
     let _plain = segment_numbers(rt, path)?;
-    let folder = LogFolder::new(rt, path, None, files);
-    let log = open(rt, &folder, files)?;
+    let (alloc, system) = (rt.alloc(), HostFiles::new(rt)?);
+    let folder = DiskFolder::open_to_read(alloc, system.clone()?, path)?;
+    let folder = Box::new(alloc, folder)?;
+    let log = open(alloc, &folder, &system)?;
     let end = log.end();
     Ok(ReadLog {
-        files,
+        system,
         folder,
         log,
         end,
     })
 }
 
-impl<'a> ReadLog<'a> {
+impl ReadLog {
     /// The number of the first record.
     pub fn first(&self) -> u64 {
         self.log.first()
@@ -102,10 +100,10 @@ impl<'a> ReadLog<'a> {
                 Ok(Some(record)) => return Ok(record),
                 Ok(None) => return Err(self.no_record(number)),
                 Err(LogError::Damaged) => return Err(FailureCause::DamagedRecord(number)),
-                Err(error) => unless_changed::<()>(self.files, Err(error))?,
+                Err(error) => unless_changed::<()>(&self.system, Err(error))?,
             };
             let refreshed = self.log.refresh(&self.folder);
-            unless_changed(self.files, refreshed)?;
+            unless_changed(&self.system, refreshed)?;
         }
         Err(FailureCause::BusyLog)
     }

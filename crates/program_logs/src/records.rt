@@ -19,7 +19,7 @@ const BATCH_BYTES: u64 = 1 << 20;
 pub struct Appending<'a> {
     pub rt: &'a HostRuntime,
     pub path: &'a str,
-    pub log: OpenedLog<'a>,
+    pub log: OpenedLog,
     pub policy: SyncPolicy,
     pub framing: Framing,
     pub expected: ExpectedCount,

@@ -1,6 +1,5 @@
 //! `log repair`: cuts off the end of a damaged tail, and keeps it.
 
-use crate::log_files::LogFiles;
 use crate::opened_log::explained;
 use crate::places::{file_in, folder_to_write};
 use crate::{FOLDER, folder};
@@ -42,14 +41,13 @@ fn tell(rt: &HostRuntime, path: &str, name: &str) -> Result<(), FailureCause> {
 
 // Repairs the log at a path.
 fn repair(rt: &HostRuntime, path: &str) -> Result<(), FailureCause> {
-    let files = LogFiles::new();
-    let mut folder = folder_to_write(rt, path, &files)?;
-    let cut = segmented_log::repair(rt.alloc(), &mut folder);
+    let (mut folder, system) = folder_to_write(rt, path)?;
+    let cut = segmented_log::repair(rt.alloc(), &mut *folder);
     drop(folder);
     match cut {
         Ok(Some(name)) => tell(rt, path, name.as_str()),
         Ok(None) => to_output(println!(rt; "{path}: the tail is whole; nothing was cut off")),
-        Err(error) => Err(explained(&files, error)),
+        Err(error) => Err(explained(&system, error)),
     }
 }
 

@@ -1,6 +1,5 @@
 //! `log seal`: puts the tail's records into a segment.
 
-use crate::log_files::LogFiles;
 use crate::places::open_to_write;
 use crate::record_span::RecordSpan;
 use crate::segments::segment_numbers;
@@ -48,8 +47,7 @@ fn tell(rt: &HostRuntime, path: &str, before: usize, end: u64) -> Result<(), Fai
 
 // Seals the log at a path, and says what it did if that is seen.
 fn seal(rt: &HostRuntime, path: &str, is_seen: bool) -> Result<(), FailureCause> {
-    let files = LogFiles::new();
-    let mut log = open_to_write(rt, path, &files)?;
+    let mut log = open_to_write(rt, path)?;
     let before = segment_numbers(rt, path)?.len();
     let sealed = log.seal();
     let end = log.end();

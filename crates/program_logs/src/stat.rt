@@ -1,7 +1,6 @@
 //! `log stat`: prints counts and sizes of logs.
 
 use crate::FOLDER;
-use crate::log_files::LogFiles;
 use crate::places::{file_in, tail_bytes};
 use crate::read_log::{ReadLog, open_to_read};
 use crate::segments::segment_numbers;
@@ -62,7 +61,7 @@ fn bytes_of_segments(rt: &HostRuntime, path: &str, segments: &[u64]) -> Result<u
 
 impl LogNumbers {
     // Of the log at a path, which is open.
-    fn of(rt: &HostRuntime, path: &str, log: &ReadLog<'_>) -> Result<LogNumbers, FailureCause> {
+    fn of(rt: &HostRuntime, path: &str, log: &ReadLog) -> Result<LogNumbers, FailureCause> {
         let segments = segment_numbers(rt, path)?;
         Ok(LogNumbers {
             first: log.first(),
@@ -93,8 +92,7 @@ impl LogNumbers {
 
 // Prints the numbers of a log, in lines or as JSON.
 fn print(rt: &HostRuntime, path: &str, is_json: bool) -> Result<(), FailureCause> {
-    let files = LogFiles::new();
-    let read = open_to_read(rt, path, &files)?;
+    let read = open_to_read(rt, path)?;
     let numbers = LogNumbers::of(rt, path, &read)?.named();
     if is_json {
         print_object(rt, "folder", path, &numbers)?;

@@ -1,7 +1,6 @@
 //! `log verify`: reads logs whole, and reports what is broken.
 
 use crate::FOLDER;
-use crate::log_files::LogFiles;
 use crate::places::{check_log, file_in};
 use crate::read_log::open_to_read;
 use crate::segments::segment_numbers;
@@ -18,7 +17,7 @@ use segmented_log::{TAIL, segment_file};
 use std::alloc::{AllocError, Global};
 use std::fmt::Display;
 use std::{fmt, fs};
-use store_files::is_left_synced;
+use store_files::{HostFiles, is_left_synced};
 
 const EXAMPLE: &str = "\
 Checks each segment as a store, the batches of the tail by their sums, and that no number is missing between them. Bytes
@@ -165,7 +164,7 @@ fn fault_in(alloc: Global, bytes: &[u8], is_synced: bool) -> Result<Option<TailF
 fn check_tail(rt: &HostRuntime, folder: &str) -> Result<bool, FailureCause> {
     let path = file_in(rt.alloc(), folder, TAIL)?;
     let bytes = fs::read(rt, path.as_str())?;
-    let is_synced = is_left_synced(rt, rt.alloc(), folder, TAIL).unwrap_or(false);
+    let is_synced = is_left_synced(&HostFiles::new(rt)?, rt.alloc(), folder, TAIL).unwrap_or(false);
     let fault = fault_in(rt.alloc(), &bytes, is_synced)?;
     drop(bytes);
     let Some(fault) = fault else {
@@ -182,8 +181,7 @@ fn print_whole(
     segments: usize,
     is_quiet: bool,
 ) -> Result<(), FailureCause> {
-    let files = LogFiles::new();
-    let read = open_to_read(rt, path, &files)?;
+    let read = open_to_read(rt, path)?;
     if is_quiet {
         return Ok(());
     }

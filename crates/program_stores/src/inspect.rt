@@ -12,7 +12,7 @@ use std::alloc::{AllocError, Global};
 use std::fs;
 use store_commands::block_documents::documents_with_room;
 use store_commands::store_numbers::{StoreNumbers, block_sizes, numbers_of};
-use store_files::DiskSink;
+use store_files::{DiskSink, HostFiles};
 use store_page::{Beginning, BlockStarts, Excerpt, Histogram, MOST_EXCERPTS, Page, excerpt_bytes};
 
 const EXAMPLE: &str = "\
@@ -195,7 +195,7 @@ fn page_of(rt: &HostRuntime, store: StorePath<'_>) -> Result<String, FailureCaus
 }
 
 // Writes the page.
-fn write_page(sink: &mut DiskSink<HostRuntime>, page: &str) -> Result<(), FailureCause> {
+fn write_page(sink: &mut DiskSink<HostFiles>, page: &str) -> Result<(), FailureCause> {
     if sink.write_all(page.as_bytes()).is_ok() && sink.terminate().is_ok() {
         return Ok(());
     }

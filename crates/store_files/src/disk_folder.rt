@@ -1,12 +1,13 @@
 //! A folder on disk that has one writer.
 
-ghost use Rattle.std.specs.Prelude.{◌≡◌, ◌≢◌, ◌≤◌, IsTrue, IfOk, IfErr, OnErr, string_bytes};
+ghost use Rattle.std.specs.Prelude.{◌≡◌, ◌≢◌, ◌≤◌, ℕ, List, Some, IsTrue, IfOk, IfErr, OnErr, string_bytes};
 ghost use Rattle.std.specs.IoError.{error_kind};
 ghost use Rattle.store_base.specs.Counts.{HasRisen};
+ghost use Rattle.store_files.specs.Disk.{replay, seen, held, trusts};
 ghost use Rattle.store_files.specs.Paths.{IsPath};
 
 use crate::create_error::CreateError;
-use crate::lock_mark::LockMark;
+use crate::lock_mark::{LockMark, is_left_synced};
 use crate::locking::{folder_of, locked, open_folder};
 use crate::open_file::{OpenFile, sync_cut};
 use crate::output_folder::Output;
@@ -25,7 +26,8 @@ use store_folder::Folder;
 /// A mark in `lock` tells the next writer of this start of the machine whether this one ended well. If it did, no file
 /// needs a sync. If it did not, the files are known of which a sync may have failed.
 ///
-/// One that was opened for an output has no file `lock` and no mark: its lock is the file beside.
+/// One that was opened for an output has no file `lock` and no mark: its lock is the file beside. One that was opened
+/// to be read has no lock, and refuses each change.
 ///
 /// It keeps the promises of `Folder` if the system keeps those of `SystemFiles`.
 pub struct DiskFolder<S: SystemFiles> {
@@ -33,9 +35,8 @@ pub struct DiskFolder<S: SystemFiles> {
     pub(crate) alloc: Global,
     pub(crate) path: String,
     pub(crate) folder: S::File,
-    pub(crate) lock: S::File,
     pub(crate) open_file: Option<OpenFile<S::File>>,
-    pub(crate) mark: LockMark,
+    pub(crate) mark: LockMark<S>,
     /// None, unless it was opened for an output.
     pub(crate) output: Option<Output>,
     pub(crate) failures: u64,
@@ -43,7 +44,7 @@ pub struct DiskFolder<S: SystemFiles> {
 
 /// Clauses see the system, the path, whether it is locked, and how often a call failed.
 impl<S: SystemFiles> Model for DiskFolder<S> {
-    ghost use Rattle.std.specs.Prelude.{IsTrue, IfSome, string_bytes};
+    ghost use Rattle.std.specs.Prelude.{IsTrue, IfSome, false, option_map, string_bytes, unwrap_or};
     ghost use Rattle.store_files.specs.Disk.{replay};
     ghost use Rattle.store_files.specs.Knowledge.{said};
     ghost use Rattle.store_files.specs.Opened.{Opened, IsReady, IsTracked};
@@ -53,7 +54,7 @@ impl<S: SystemFiles> Model for DiskFolder<S> {
     ghost view = { λ f. record {
       system = f.system;
       path = string_bytes f.path;
-      is_locked = S.is_locked f.lock;
+      is_locked = unwrap_or (option_map S.is_locked f.mark.lock) false;
       failures = f.failures;
     } };
 
@@ -114,16 +115,40 @@ impl<S: SystemFiles> DiskFolder<S> {
         let lock_path = lock_path_of(alloc, path)?;
         let lock = locked(alloc, &system, lock_path.as_str())?;
         let found = system.find_mark(alloc, &lock, lock_path.as_str(), path)?;
-        let mark = LockMark::of(alloc, found)?;
+        let mark = LockMark::of(alloc, Some(lock), found)?;
         let path = String::from_str(alloc, path).map_err(io::Error::from)?;
         Ok(DiskFolder {
             system,
             alloc,
             path,
             folder,
-            lock,
             open_file: None,
             mark,
+            output: None,
+            failures: 0,
+        })
+    }
+
+    /// Opens the folder of this path to read it alone: without a lock, beside a writer. Each call that would change
+    /// something is refused, as `PermissionDenied`.
+    ///
+    /// # Errors
+    ///
+    /// Those of the system.
+    pub fn open_to_read(alloc: Global, system: S, path: &str) -> io::Result<DiskFolder<S>>
+        ensures system { IfOk result (λ f. f.system ≡ system) }
+        ensures path { IfOk result (λ f. f.path ≡ path.now) }
+        ensures failures { IfOk result (λ f. f.failures ≡ 0) }
+    {
+        let folder = system.open(path)?;
+        let path = String::from_str(alloc, path)?;
+        Ok(DiskFolder {
+            system,
+            alloc,
+            path,
+            folder,
+            open_file: None,
+            mark: LockMark::none(alloc, None),
             output: None,
             failures: 0,
         })
@@ -147,6 +172,20 @@ impl<S: SystemFiles> DiskFolder<S> {
             return Err(ErrorKind::InvalidInput.into());
         }
         Ok(path)
+    }
+
+    // Whether the last writer left this file on the disk. Where that can't be read it is not known.
+    fn is_left_synced(&self, name: &str) -> bool
+        ensures trusted { IsTrue S.honest → IsTrue result
+            → trusts (replay (S.changes self.now.system self.now.path) (S.start self.now.path)) name.now }
+        ensures durable { IsTrue S.honest → IsTrue result → (bytes : List ℕ)
+            → held (replay (S.changes self.now.system self.now.path) (S.start self.now.path)) name.now bytes
+            → seen (replay (S.changes self.now.system self.now.path) (S.start self.now.path)) name.now ≡ Some bytes }
+    {
+        match is_left_synced(&self.system, self.alloc, self.path.as_str(), name) {
+            Ok(is) => is,
+            Err(_) => false,
+        }
     }
 }
 
@@ -214,7 +253,11 @@ impl<S: SystemFiles> Folder for DiskFolder<S> {
     }
 
     fn is_synced(&self, name: &str) -> bool {
-        self.mark.knowledge.is_synced(name)
+        match &self.mark.lock {
+            Some(_) => self.mark.knowledge.is_synced(name),
+            // What is known is asked for now: a writer may be at work beside.
+            None => self.is_left_synced(name),
+        }
     }
 
     fn has_kept_entries(&self) -> bool {
@@ -230,22 +273,21 @@ impl<S: SystemFiles> Drop for DiskFolder<S> {
             alloc,
             path,
             folder: _folder,
-            mut lock,
             open_file,
             mut mark,
             output,
             failures: _,
         } = self;
         if let Some(output) = output {
-            return output.remove_beside(&mut system, &lock);
+            return output.remove_beside(&mut system, &mark);
         }
         if let Some(open) = open_file {
-            sync_cut(&mut system, &mut lock, &mut mark, &open);
+            sync_cut(&mut system, &mut mark, &open);
         }
         if mark.has_end() {
             if let Ok(mut names) = system.names(alloc, path.as_str()) {
                 names.retain(|name| !name.ends_with(".part"));
-                let _ = mark.end(&system, &mut lock, &names);
+                let _ = mark.end(&system, &names);
             }
         }
     }

@@ -1,14 +1,51 @@
 //! The files of the operating system: the one place where it is asked to keep bytes, or for those that it keeps.
 
+use crate::file_pool::{FilePool, PooledFile};
 use crate::lock_mark::{found_mark, replace_bytes};
 use crate::names::file_names;
-use crate::read_at::OsFile;
 use crate::system_files::{FileKind, FoundFile, FoundMark, SystemFiles};
-use std::alloc::Global;
+use std::alloc::{AllocError, Global};
 use std::fs::{File, Metadata, OpenFile, OpenOptions, Permissions, TryLockError};
 use std::io::{ErrorKind, Write};
-use std::os::unix::fs::{MetadataExt, OpenOptionsExt, PermissionsExt};
+use std::os::unix::fs::{MetadataExt, OpenOptionsExt, PermissionsExt, chown};
+use std::rc::Rc;
 use std::{fs, io};
+
+/// The files of the operating system. Of those that are read at most 64 are open at once, together with its clones.
+#[derive(Drop)]
+pub struct HostFiles {
+    rt: HostRuntime,
+    pool: Rc<FilePool, Global>,
+}
+
+impl HostFiles {
+    /// None is open.
+    pub fn new(rt: &HostRuntime) -> Result<HostFiles, AllocError> {
+        Ok(HostFiles {
+            rt: *rt,
+            pool: Rc::new(rt.alloc(), FilePool::new())?,
+        })
+    }
+
+    /// Why the last call that failed did so, once.
+    pub fn take_cause(&self) -> Option<io::Error> {
+        self.pool.cause.take()
+    }
+
+    // Keeps why a call failed.
+    fn noted<T: Drop>(&self, outcome: io::Result<T>) -> io::Result<T> {
+        self.pool.noted(outcome)
+    }
+}
+
+impl Clone for HostFiles {
+    fn clone(&self) -> Result<HostFiles, AllocError> {
+        Ok(HostFiles {
+            rt: self.rt,
+            pool: self.pool.clone()?,
+        })
+    }
+}
 
 // What is at a path. Links are not followed.
 fn found_at(rt: &HostRuntime, path: &str) -> io::Result<Option<Metadata>> {
@@ -35,13 +72,13 @@ fn described(found: &Metadata) -> FoundFile {
 }
 
 /// Each call is the one of its name. Nothing is claimed of what the system does.
-impl SystemFiles for HostRuntime {
+impl SystemFiles for HostFiles {
     ghost use Rattle.std.specs.Prelude.{[], true, false};
     ghost use Rattle.store_files.specs.Disk.{unknown, unknown_is_sound};
 
     type File = File;
 
-    type Reader = OsFile;
+    type Reader = PooledFile;
 
     ghost honest = { false };
 
@@ -58,47 +95,53 @@ impl SystemFiles for HostRuntime {
     ghost sound = { λ _ _. unknown_is_sound };
 
     fn make_folder(&self, path: &str) -> io::Result<()> {
-        fs::create_dir(self, path)
+        fs::create_dir(&self.rt, path)
     }
 
     fn is_blocked(&self, path: &str) -> bool {
-        fs::metadata(self, path).is_ok_and(|found| !found.is_file())
+        let is_blocked = fs::metadata(&self.rt, path).is_ok_and(|found| !found.is_file());
+        if is_blocked {
+            self.pool.cause.set(Some(ErrorKind::InvalidInput.into()));
+        }
+        is_blocked
     }
 
     fn find(&self, path: &str) -> io::Result<Option<FoundFile>> {
-        match found_at(self, path)? {
+        match found_at(&self.rt, path)? {
             Some(found) => Ok(Some(described(&found))),
             None => Ok(None),
         }
     }
 
     fn real_path(&self, alloc: Global, path: &str) -> io::Result<String> {
-        Ok(String::from_str(alloc, fs::canonicalize(&(self, alloc), path)?.as_str())?)
+        let path = fs::canonicalize(&(&self.rt, alloc), path)?;
+        Ok(String::from_str(alloc, path.as_str())?)
     }
 
     fn set_owner(&self, path: &str, owner: Option<u32>, group: Option<u32>) -> io::Result<()> {
-        std::os::unix::fs::chown(self, path, owner, group)
+        chown(&self.rt, path, owner, group)
     }
 
     fn set_mode(&self, path: &str, mode: u32) -> io::Result<()> {
-        fs::set_permissions(self, path, Permissions::from_mode(mode))
+        fs::set_permissions(&self.rt, path, Permissions::from_mode(mode))
     }
 
     fn open(&self, path: &str) -> io::Result<File> {
-        File::open(self, path)
+        self.noted(File::open(&self.rt, path))
     }
 
     fn open_to_append(&self, path: &str) -> io::Result<File> {
-        OpenOptions::new().append(true).open(self, path)
+        self.noted(OpenOptions::new().append(true).open(&self.rt, path))
     }
 
     fn create(&mut self, path: &str) -> io::Result<()> {
-        OpenOptions::new()
+        let made = OpenOptions::new()
             .write(true)
             .create(true)
             .truncate(true)
-            .open(self, path)
-            .map(drop)
+            .open(&self.rt, path)
+            .map(drop);
+        self.noted(made)
     }
 
     fn create_new(&mut self, path: &str, mode: u32) -> io::Result<File> {
@@ -106,15 +149,15 @@ impl SystemFiles for HostRuntime {
             .append(true)
             .create_new(true)
             .mode(mode)
-            .open(self, path)
+            .open(&self.rt, path)
     }
 
     fn len(&self, file: &File) -> io::Result<u64> {
-        Ok(file.metadata()?.len())
+        Ok(self.noted(file.metadata())?.len())
     }
 
     fn write(&mut self, file: &mut File, bytes: &[u8]) -> io::Result<()> {
-        file.write_all(bytes)
+        self.noted(file.write_all(bytes))
     }
 
     fn cut(&mut self, file: &File, len: u64) -> io::Result<()> {
@@ -122,23 +165,26 @@ impl SystemFiles for HostRuntime {
     }
 
     fn sync_file(&mut self, file: &File) -> io::Result<()> {
-        file.sync_data()
+        self.noted(file.sync_data())
     }
 
     fn rename(&mut self, from: &str, to: &str) -> io::Result<()> {
-        fs::rename(self, from, to)
+        self.noted(fs::rename(&self.rt, from, to))
     }
 
     fn remove(&mut self, path: &str) -> io::Result<()> {
-        fs::remove_file(self, path)
+        self.noted(fs::remove_file(&self.rt, path))
     }
 
     fn sync_folder(&mut self, folder: &File) -> io::Result<()> {
-        folder.sync_all()
+        self.noted(folder.sync_all())
     }
 
     fn open_lock(&self, path: &str) -> io::Result<File> {
-        OpenOptions::new().write(true).create(true).open(self, path)
+        OpenOptions::new()
+            .write(true)
+            .create(true)
+            .open(&self.rt, path)
     }
 
     fn try_lock(&self, file: &File) -> Result<(), TryLockError> {
@@ -147,8 +193,10 @@ impl SystemFiles for HostRuntime {
 
     fn has_path(&self, file: &File, path: &str) -> io::Result<bool> {
         let opened = file.metadata()?;
-        Ok(found_at(self, path)?.is_some_and(|found| found.dev() == opened.dev()
-            && found.ino() == opened.ino()))
+        Ok(match found_at(&self.rt, path)? {
+            Some(found) => found.dev() == opened.dev() && found.ino() == opened.ino(),
+            None => false,
+        })
     }
 
     fn find_mark(
@@ -158,18 +206,18 @@ impl SystemFiles for HostRuntime {
         lock_path: &str,
         _folder: &str,
     ) -> io::Result<FoundMark> {
-        found_mark(self, alloc, lock, lock_path)
+        found_mark(&self.rt, alloc, lock, lock_path)
     }
 
     fn write_mark(&self, lock: &mut File, bytes: &[u8]) -> io::Result<()> {
-        replace_bytes(lock, bytes)
+        self.noted(replace_bytes(lock, bytes))
     }
 
     fn names(&self, alloc: Global, path: &str) -> io::Result<Vec<String>> {
-        file_names(self, alloc, path)
+        self.noted(file_names(&self.rt, alloc, path))
     }
 
-    fn open_to_read(&self, path: &str) -> io::Result<OsFile> {
-        OsFile::open(self, path)
+    fn open_to_read(&self, path: &str) -> io::Result<PooledFile> {
+        self.noted(PooledFile::open(&self.rt, &self.pool, path))
     }
 }

@@ -3,14 +3,15 @@
 //!
 //! It is never synced. After a restart of the machine it tells nothing, and in a copy of the folder neither.
 
-ghost use Rattle.std.specs.Prelude.{◌≡◌, ℕ, List, IfOk, false};
+ghost use Rattle.std.specs.Prelude.{◌≡◌, ℕ, List, Some, IsTrue, IfOk, false, option_map, unwrap_or};
+ghost use Rattle.store_files.specs.Disk.{replay, seen, held, trusts};
 ghost use Rattle.store_files.specs.Knowledge.{said, after, entries_after, IsOf};
 ghost use Rattle.store_files.specs.Mark.{claimed, claims_entries};
 
 use crate::knowledge::{Doing, Knowledge, Standing};
 use crate::loading::read_all;
 use crate::mark::{Mark, end_mark, mark_before, read_mark};
-use crate::paths::LOCK;
+use crate::paths::lock_path_of;
 use crate::system_files::{FoundMark, SystemFiles};
 use std::alloc::Global;
 use std::fs::{File, Files, OpenFile};
@@ -21,10 +22,12 @@ use std::os::unix::fs::MetadataExt;
 // Where Linux has the number of its start: it is another after each restart.
 const BOOT_ID: &str = "/proc/sys/kernel/random/boot_id";
 
-/// The mark of a folder, and what the folder's writer knows.
+/// The lock of a folder with its mark, and what the folder's writer knows.
 #[derive(Drop)]
-pub(crate) struct LockMark {
+pub(crate) struct LockMark<S: SystemFiles> {
     alloc: Global,
+    /// The lock. None where the folder is only read.
+    pub(crate) lock: Option<S::File>,
     boot: Vec<u8>,
     inode: String,
     // None where a write of it failed.
@@ -73,9 +76,14 @@ pub(crate) fn replace_bytes<F: Write + Seek + OpenFile>(
     file.set_len(bytes.len() as u64)
 }
 
-impl LockMark {
+impl<S: SystemFiles> LockMark<S> {
     /// The mark that was found in a folder.
-    pub(crate) fn of(alloc: Global, found: FoundMark) -> io::Result<LockMark>
+    pub(crate) fn of(
+        alloc: Global,
+        lock: Option<S::File>,
+        found: FoundMark,
+    ) -> io::Result<LockMark<S>>
+        ensures lock { IfOk result (λ m. m.lock ≡ lock) }
         ensures files { IfOk result (λ m. (n : List ℕ) → said m.knowledge n ≡ claimed found.mark n) }
         ensures entries { IfOk result (λ m. m.knowledge.has_kept_entries ≡ claims_entries found.mark.kind) }
     {
@@ -83,6 +91,7 @@ impl LockMark {
         let knowledge = Knowledge::after(alloc, &mark)?;
         Ok(LockMark {
             alloc,
+            lock,
             boot,
             inode,
             mark: Some(mark),
@@ -93,12 +102,14 @@ impl LockMark {
     }
 
     /// None: nothing is known of the files that are there, and nothing is left for the next writer.
-    pub(crate) fn none(alloc: Global) -> LockMark
+    pub(crate) fn none(alloc: Global, lock: Option<S::File>) -> LockMark<S>
+        ensures lock { result.lock ≡ lock }
         ensures files { (n : List ℕ) → said result.knowledge n ≡ Standing.Failed }
         ensures entries { result.knowledge.has_kept_entries ≡ false }
     {
         LockMark {
             alloc,
+            lock,
             boot: Vec::new(alloc),
             inode: String::new(alloc),
             mark: None,
@@ -109,33 +120,37 @@ impl LockMark {
     }
 
     // Replaces the mark.
-    fn replace<S: SystemFiles>(
-        &mut self,
-        system: &S,
-        lock: &mut S::File,
-        mark: Mark,
-    ) -> io::Result<()>
+    fn replace(&mut self, system: &S, mark: Mark) -> io::Result<()>
         ensures knowledge { self.new.knowledge ≡ self.old.knowledge }
-        ensures lock { S.is_locked lock.new ≡ S.is_locked lock.old }
+        ensures lock { unwrap_or (option_map S.is_locked self.new.lock) false
+            ≡ unwrap_or (option_map S.is_locked self.old.lock) false }
     {
         let bytes = mark.to_bytes(self.alloc, &self.boot, self.inode.as_bytes())?;
+        let Some(lock) = &mut self.lock else {
+            return Err(ErrorKind::PermissionDenied.into());
+        };
         self.mark = None;
         system.write_mark(lock, &bytes)?;
         self.mark = Some(mark);
         Ok(())
     }
 
+    /// Fails where the folder is only read.
+    pub(crate) fn check_lock(&self) -> io::Result<()> {
+        match &self.lock {
+            Some(_) => Ok(()),
+            None => Err(ErrorKind::PermissionDenied.into()),
+        }
+    }
+
     /// Replaces the mark, unless this may be done under it, and returns whether it did. It is called before the system
     /// is.
-    pub(crate) fn begin<S: SystemFiles>(
-        &mut self,
-        system: &S,
-        lock: &mut S::File,
-        doing: &Doing<'_>,
-    ) -> io::Result<bool>
+    pub(crate) fn begin(&mut self, system: &S, doing: &Doing<'_>) -> io::Result<bool>
         ensures knowledge { self.new.knowledge ≡ self.old.knowledge }
-        ensures lock { S.is_locked lock.new ≡ S.is_locked lock.old }
+        ensures lock { unwrap_or (option_map S.is_locked self.new.lock) false
+            ≡ unwrap_or (option_map S.is_locked self.old.lock) false }
     {
+        self.check_lock()?;
         if !self.is_kept {
             return Ok(false);
         }
@@ -149,21 +164,22 @@ impl LockMark {
             return Err(ErrorKind::OutOfMemory.into());
         }
         let mark = mark_before(self.alloc, &self.knowledge, doing)?;
-        self.replace(system, lock, mark)?;
+        self.replace(system, mark)?;
         Ok(true)
     }
 
     /// Replaces the mark by one of what is known now: a file that was synced is not named any more, or the next writer
     /// would refuse it if this one is killed.
-    pub(crate) fn renew<S: SystemFiles>(&mut self, system: &S, lock: &mut S::File) -> io::Result<()>
+    pub(crate) fn renew(&mut self, system: &S) -> io::Result<()>
         ensures knowledge { self.new.knowledge ≡ self.old.knowledge }
-        ensures lock { S.is_locked lock.new ≡ S.is_locked lock.old }
+        ensures lock { unwrap_or (option_map S.is_locked self.new.lock) false
+            ≡ unwrap_or (option_map S.is_locked self.old.lock) false }
     {
         if self.knowledge.others() == Standing::Failed {
             return Ok(());
         }
         let mark = mark_before(self.alloc, &self.knowledge, &Doing::FolderSynced)?;
-        self.replace(system, lock, mark)
+        self.replace(system, mark)
     }
 
     /// Keeps what was done.
@@ -192,14 +208,9 @@ impl LockMark {
     }
 
     /// Leaves the mark for the next writer, in a folder of these files.
-    pub(crate) fn end<S: SystemFiles>(
-        &mut self,
-        system: &S,
-        lock: &mut S::File,
-        names: &[String],
-    ) -> io::Result<()> {
+    pub(crate) fn end(&mut self, system: &S, names: &[String]) -> io::Result<()> {
         let mark = end_mark(self.alloc, &self.knowledge, names)?;
-        self.replace(system, lock, mark)
+        self.replace(system, mark)
     }
 }
 
@@ -210,15 +221,22 @@ pub fn is_left_synced<S: SystemFiles>(
     alloc: Global,
     folder: &str,
     name: &str,
-) -> io::Result<bool> {
-    let path = format!(in alloc; "{folder}/{LOCK}")?;
+) -> io::Result<bool>
+    ensures trusted { IsTrue S.honest → IfOk result (λ is. IsTrue is
+        → trusts (replay (S.changes system.now folder.now) (S.start folder.now)) name.now) }
+    ensures durable { IsTrue S.honest → IfOk result (λ is. IsTrue is → (bytes : List ℕ)
+        → held (replay (S.changes system.now folder.now) (S.start folder.now)) name.now bytes
+        → seen (replay (S.changes system.now folder.now) (S.start folder.now)) name.now ≡ Some bytes) }
+{
+    let path = lock_path_of(alloc, folder)?;
     if system.is_blocked(path.as_str()) {
         return Err(ErrorKind::InvalidInput.into());
     }
     let lock = system.open(path.as_str())?;
-    let mark = LockMark::of(
-        alloc,
-        system.find_mark(alloc, &lock, path.as_str(), folder)?,
-    )?;
-    Ok(mark.knowledge.has_kept_entries() && mark.knowledge.is_synced(name))
+    let found = system.find_mark(alloc, &lock, path.as_str(), folder)?;
+    let mark = LockMark::<S>::of(alloc, None, found)?;
+    if !mark.knowledge.has_kept_entries() {
+        return Ok(false);
+    }
+    Ok(mark.knowledge.is_synced(name))
 }

@@ -15,7 +15,7 @@ fn file_name<R: Files>(alloc: Global, entry: &DirEntry<R>) -> io::Result<Option<
 }
 
 /// The name of each plain file of this folder, but for the lock.
-pub fn file_names<R: Files>(rt: &R, alloc: Global, path: &str) -> io::Result<Vec<String>> {
+pub(crate) fn file_names<R: Files>(rt: &R, alloc: Global, path: &str) -> io::Result<Vec<String>> {
     let mut names = Vec::new(alloc);
     for entry in fs::read_dir(&(rt, alloc), path)? {
         if let Some(name) = file_name(alloc, &entry?)? {

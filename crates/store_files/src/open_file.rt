@@ -50,8 +50,7 @@ pub(crate) fn append<S: SystemFiles>(
 /// Syncs a file of which what a failed write wrote was cut off, and that was not synced since.
 pub(crate) fn sync_cut<S: SystemFiles>(
     system: &mut S,
-    lock: &mut S::File,
-    mark: &mut LockMark,
+    mark: &mut LockMark<S>,
     open: &OpenFile<S::File>,
 )
     ensures { IsTrue S.honest → (d : List ℕ) → IsTracked (replay (S.changes system.old d) (S.start d)) d
@@ -65,10 +64,7 @@ pub(crate) fn sync_cut<S: SystemFiles>(
     if !open.is_cut || mark.knowledge.standing(name) != Standing::Unsynced {
         return;
     }
-    if mark
-        .begin(&*system, lock, &Doing::SyncFailed(name))
-        .is_err()
-    {
+    if mark.begin(&*system, &Doing::SyncFailed(name)).is_err() {
         return;
     }
     match system.sync_file(&open.file) {

@@ -6,6 +6,7 @@ use crate::create_error::CreateError;
 use crate::disk_folder::DiskFolder;
 use crate::lock_mark::LockMark;
 use crate::locking::{blocked, busy, folder_of, lock, open_folder};
+use crate::paths::LOCK;
 use crate::system_files::{FileKind, FoundFile, SystemFiles};
 use std::alloc::Global;
 use std::io;
@@ -28,9 +29,13 @@ pub(crate) struct Output {
 
 impl Output {
     /// Removes the file beside, unless it was renamed.
-    pub(crate) fn remove_beside<S: SystemFiles>(&self, system: &mut S, lock: &S::File) {
-        if system.has_path(lock, self.beside.as_str()).unwrap_or(false) {
-            let _ = system.remove(self.beside.as_str());
+    pub(crate) fn remove_beside<S: SystemFiles>(&self, system: &mut S, mark: &LockMark<S>) {
+        let Some(lock) = &mark.lock else {
+            return;
+        };
+        let beside = self.beside.as_str();
+        if system.has_path(lock, beside).unwrap_or(false) {
+            let _ = system.remove(beside);
         }
     }
 }
@@ -179,6 +184,9 @@ impl<S: SystemFiles> DiskFolder<S> {
         ensures failures { IfOk result (λ r. r.0.failures ≡ 0) }
     {
         let (target, replaced) = target_of(alloc, &system, path)?;
+        if name_of(target.as_str()) == LOCK {
+            return Err(CreateError::Reserved);
+        }
         if replaced.is_some() && !replaces {
             return Err(CreateError::Exists);
         }
@@ -193,9 +201,8 @@ impl<S: SystemFiles> DiskFolder<S> {
             alloc,
             path,
             folder,
-            lock,
             open_file: None,
-            mark: LockMark::none(alloc),
+            mark: LockMark::none(alloc, Some(lock)),
             output: Some(Output { beside, replaces }),
             failures: 0,
         };

@@ -80,7 +80,7 @@ impl<S: SystemFiles> DiskFolder<S> {
     fn begin(&mut self, doing: &Doing<'_>) -> io::Result<bool>
         ensures { self.new ≡ self.old }
     {
-        self.mark.begin(&self.system, &mut self.lock, doing)
+        self.mark.begin(&self.system, doing)
     }
 
     /// Makes an empty file of this name, or empties the one that is there.
@@ -147,7 +147,7 @@ impl<S: SystemFiles> DiskFolder<S> {
     fn renew(&mut self) -> io::Result<()>
         ensures { self.new ≡ self.old }
     {
-        self.mark.renew(&self.system, &mut self.lock)
+        self.mark.renew(&self.system)
     }
 
     /// Syncs a file.
@@ -238,6 +238,7 @@ impl<S: SystemFiles> DiskFolder<S> {
         ensures path { self.new.path ≡ self.old.path }
         ensures failures { self.new.failures ≡ self.old.failures }
     {
+        self.mark.check_lock()?;
         match self.system.sync_folder(&self.folder) {
             Ok(()) => {
                 self.mark.note(&Doing::FolderSynced);

@@ -7,20 +7,20 @@ use std::cell::Cell;
 use std::io::ErrorKind;
 use std::test::Fail;
 use std::{fs, io};
-use store_files::{CreateError, DiskFolder};
+use store_files::{CreateError, DiskFolder, HostFiles};
 use store_folder::{Folder, ReadableFolder, replace};
 
-type Locked = DiskFolder<HostRuntime>;
+type Locked = DiskFolder<HostFiles>;
 
 // Makes a folder of this name, or opens it.
 fn created(rt: &HostRuntime, path: &str) -> Result<Box<Locked>, Fail> {
-    let folder = DiskFolder::create(rt.alloc(), rt.clone()?, path)?;
+    let folder = DiskFolder::create(rt.alloc(), HostFiles::new(rt)?, path)?;
     Ok(Box::new(rt.alloc(), folder)?)
 }
 
 // Whether a folder can be opened, or is being written by another.
 fn is_free(rt: &HostRuntime, path: &str) -> Result<bool, Fail> {
-    match DiskFolder::open(rt.alloc(), rt.clone()?, path) {
+    match DiskFolder::open(rt.alloc(), HostFiles::new(rt)?, path) {
         Ok(_) => Ok(true),
         Err(CreateError::Busy(file)) => Ok(file.as_str() != "test_files_locked/log/lock"),
         Err(error) => Err(Fail::from(error)),
@@ -280,4 +280,52 @@ fn a_new_folder_is_synced_in_the_one_that_it_is_in(rt: HostRuntime) -> Result<()
         assert!(rt; is_made == (failing_call == 7) && calls.get() == failing_call.min(6));
     }
     Ok(remove(&rt, "test_files_made")?)
+}
+
+// Opens a folder to read it.
+fn opened_to_read(rt: &HostRuntime, path: &str) -> Result<Box<Locked>, Fail> {
+    let folder = DiskFolder::open_to_read(rt.alloc(), HostFiles::new(rt)?, path)?;
+    Ok(Box::new(rt.alloc(), folder)?)
+}
+
+// Whether a call was refused, as a reader's.
+fn is_reading(outcome: io::Result<()>) -> bool {
+    outcome.is_err_and(|error| error.kind() == ErrorKind::PermissionDenied)
+}
+
+// Whether each call that would change something is refused.
+fn refuses_changes(folder: &mut Locked) -> bool {
+    let changes = [
+        Step::Create("e"),
+        Step::Append("a", b"x"),
+        Step::SyncFile("a"),
+        Step::Rename("a", "e"),
+        Step::Remove("a"),
+    ];
+    changes
+        .iter()
+        .all(|change| is_reading(play(folder, &[*change])))
+        && is_reading(folder.sync())
+}
+
+// Whether a folder that has a writer is read beside it, and then without one, and not changed.
+fn is_read_alone(rt: &HostRuntime, path: &str) -> Result<bool, Fail> {
+    let mut writer = created(rt, path)?;
+    fill(&mut writer)?;
+    let mut reader = opened_to_read(rt, path)?;
+    let is_read = is_as_filled(rt.alloc(), &reader)? && !reader.is_synced("a");
+    drop(writer);
+    Ok(
+        is_read
+            && reader.is_synced("a")
+            && refuses_changes(&mut reader)
+            && is_as_filled(rt.alloc(), &reader)?,
+    )
+}
+
+#[test]
+fn a_folder_that_is_read_has_no_lock_and_is_not_changed(rt: HostRuntime) -> Result<(), Fail> {
+    make(&rt, "test_files_read")?;
+    assert!(rt; is_read_alone(&rt, "test_files_read/log")?);
+    Ok(remove(&rt, "test_files_read")?)
 }

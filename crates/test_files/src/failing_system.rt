@@ -5,13 +5,13 @@ use std::cell::Cell;
 use std::fs::{File, TryLockError};
 use std::io;
 use std::test::Fail;
-use store_files::{FoundFile, FoundMark, OsFile, SystemFiles};
+use store_files::{FoundFile, FoundMark, HostFiles, PooledFile, SystemFiles};
 
 /// The system. Of the calls that open, make, lock, write, cut, sync or rename, or that give permissions, the one of
 /// this number fails, also of those of a mark; the first is number 1. A call that fails is not made.
 #[derive(Drop)]
 pub struct FailingSystem<'a> {
-    rt: HostRuntime,
+    files: HostFiles,
     calls: &'a Cell<u32>,
     failing_call: u32,
 }
@@ -24,7 +24,7 @@ impl<'a> FailingSystem<'a> {
         failing_call: u32,
     ) -> Result<FailingSystem<'a>, Fail> {
         Ok(FailingSystem {
-            rt: rt.clone()?,
+            files: HostFiles::new(rt)?,
             calls,
             failing_call,
         })
@@ -46,7 +46,7 @@ impl<'a> SystemFiles for FailingSystem<'a> {
 
     type File = File;
 
-    type Reader = OsFile;
+    type Reader = PooledFile;
 
     ghost honest = { false };
 
@@ -63,97 +63,97 @@ impl<'a> SystemFiles for FailingSystem<'a> {
     ghost sound = { λ _ _. unknown_is_sound };
 
     fn make_folder(&self, path: &str) -> io::Result<()> {
-        self.rt.make_folder(path)
+        self.files.make_folder(path)
     }
 
     fn is_blocked(&self, path: &str) -> bool {
-        self.rt.is_blocked(path)
+        self.files.is_blocked(path)
     }
 
     fn find(&self, path: &str) -> io::Result<Option<FoundFile>> {
-        self.rt.find(path)
+        self.files.find(path)
     }
 
     fn real_path(&self, alloc: Global, path: &str) -> io::Result<String> {
-        self.rt.real_path(alloc, path)
+        self.files.real_path(alloc, path)
     }
 
     fn set_owner(&self, path: &str, owner: Option<u32>, group: Option<u32>) -> io::Result<()> {
-        self.rt.set_owner(path, owner, group)
+        self.files.set_owner(path, owner, group)
     }
 
     fn set_mode(&self, path: &str, mode: u32) -> io::Result<()> {
         self.count()?;
-        self.rt.set_mode(path, mode)
+        self.files.set_mode(path, mode)
     }
 
     fn open(&self, path: &str) -> io::Result<File> {
         self.count()?;
-        SystemFiles::open(&self.rt, path)
+        SystemFiles::open(&self.files, path)
     }
 
     fn open_to_append(&self, path: &str) -> io::Result<File> {
         self.count()?;
-        self.rt.open_to_append(path)
+        self.files.open_to_append(path)
     }
 
     fn create(&mut self, path: &str) -> io::Result<()> {
         self.count()?;
-        SystemFiles::create(&mut self.rt, path)
+        SystemFiles::create(&mut self.files, path)
     }
 
     fn create_new(&mut self, path: &str, mode: u32) -> io::Result<File> {
         self.count()?;
-        self.rt.create_new(path, mode)
+        self.files.create_new(path, mode)
     }
 
     fn len(&self, file: &File) -> io::Result<u64> {
-        SystemFiles::len(&self.rt, file)
+        SystemFiles::len(&self.files, file)
     }
 
     fn write(&mut self, file: &mut File, bytes: &[u8]) -> io::Result<()> {
         self.count()?;
-        SystemFiles::write(&mut self.rt, file, bytes)
+        SystemFiles::write(&mut self.files, file, bytes)
     }
 
     fn cut(&mut self, file: &File, len: u64) -> io::Result<()> {
         self.count()?;
-        self.rt.cut(file, len)
+        self.files.cut(file, len)
     }
 
     fn sync_file(&mut self, file: &File) -> io::Result<()> {
         self.count()?;
-        self.rt.sync_file(file)
+        self.files.sync_file(file)
     }
 
     fn rename(&mut self, from: &str, to: &str) -> io::Result<()> {
         self.count()?;
-        SystemFiles::rename(&mut self.rt, from, to)
+        SystemFiles::rename(&mut self.files, from, to)
     }
 
     fn remove(&mut self, path: &str) -> io::Result<()> {
-        SystemFiles::remove(&mut self.rt, path)
+        SystemFiles::remove(&mut self.files, path)
     }
 
     fn sync_folder(&mut self, folder: &File) -> io::Result<()> {
         self.count()?;
-        self.rt.sync_folder(folder)
+        self.files.sync_folder(folder)
     }
 
     fn open_lock(&self, path: &str) -> io::Result<File> {
         self.count()?;
-        self.rt.open_lock(path)
+        self.files.open_lock(path)
     }
 
     fn try_lock(&self, file: &File) -> Result<(), TryLockError> {
         match self.count() {
-            Ok(()) => SystemFiles::try_lock(&self.rt, file),
+            Ok(()) => SystemFiles::try_lock(&self.files, file),
             Err(error) => Err(TryLockError::Error(error)),
         }
     }
 
     fn has_path(&self, file: &File, path: &str) -> io::Result<bool> {
-        self.rt.has_path(file, path)
+        self.files.has_path(file, path)
     }
 
     fn find_mark(
@@ -164,20 +164,20 @@ impl<'a> SystemFiles for FailingSystem<'a> {
         folder: &str,
     ) -> io::Result<FoundMark> {
         self.count()?;
-        self.rt.find_mark(alloc, lock, lock_path, folder)
+        self.files.find_mark(alloc, lock, lock_path, folder)
     }
 
     fn write_mark(&self, lock: &mut File, bytes: &[u8]) -> io::Result<()> {
         self.count()?;
-        self.rt.write_mark(lock, bytes)
+        self.files.write_mark(lock, bytes)
     }
 
     fn names(&self, alloc: Global, path: &str) -> io::Result<Vec<String>> {
-        self.rt.names(alloc, path)
+        self.files.names(alloc, path)
     }
 
-    fn open_to_read(&self, path: &str) -> io::Result<OsFile> {
+    fn open_to_read(&self, path: &str) -> io::Result<PooledFile> {
         self.count()?;
-        self.rt.open_to_read(path)
+        self.files.open_to_read(path)
     }
 }

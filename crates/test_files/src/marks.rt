@@ -5,13 +5,13 @@ use crate::folder::{make, remove};
 use std::cell::Cell;
 use std::fs;
 use std::test::Fail;
-use store_files::DiskFolder;
+use store_files::{DiskFolder, HostFiles};
 use store_folder::{Folder, replace};
 
-type Locked = DiskFolder<HostRuntime>;
+type Locked = DiskFolder<HostFiles>;
 
 fn opened(rt: &HostRuntime, path: &str) -> Result<Box<Locked>, Fail> {
-    let folder = DiskFolder::open(rt.alloc(), rt.clone()?, path)?;
+    let folder = DiskFolder::open(rt.alloc(), HostFiles::new(rt)?, path)?;
     Ok(Box::new(rt.alloc(), folder)?)
 }
 

@@ -6,17 +6,20 @@ use docstore::TerminatingWrite;
 use std::cell::Cell;
 use std::fs;
 use std::test::Fail;
-use store_files::{CreateError, DiskSink, SystemFiles};
+use store_files::{CreateError, DiskSink, HostFiles, SystemFiles};
 
 const OLD: &[u8] = b"old";
 
 const WHOLE: &[u8] = b"0123456789";
 
-type Sink = Box<DiskSink<HostRuntime>>;
+type Sink = Box<DiskSink<HostFiles>>;
 
 // Begins an output.
 fn begun(rt: &HostRuntime, path: &str) -> Result<Sink, Fail> {
-    Ok(Box::new(rt.alloc(), DiskSink::create(rt.alloc(), rt.clone()?, path)?)?)
+    Ok(Box::new(
+        rt.alloc(),
+        DiskSink::create(rt.alloc(), HostFiles::new(rt)?, path)?,
+    )?)
 }
 
 // Whether an output leaves the old file until its end, and takes its name then.
@@ -58,7 +61,7 @@ fn an_output_that_has_its_name_leaves_the_next_one_alone(rt: HostRuntime) -> Res
 
 // Whether an output of this name can't be begun, for this reason.
 fn is_refused(rt: &HostRuntime, path: &str, reason: &str) -> Result<bool, Fail> {
-    match DiskSink::create(rt.alloc(), rt.clone()?, path) {
+    match DiskSink::create(rt.alloc(), HostFiles::new(rt)?, path) {
         Ok(_) => Ok(false),
         Err(error) => Ok(format!(in rt.alloc(); "{error}")?.as_str() == reason),
     }
@@ -75,6 +78,15 @@ fn second_is_refused(rt: &HostRuntime, path: &str) -> Result<bool, Fail> {
 }
 
 #[test]
+fn an_output_is_no_lock_of_a_folder(rt: HostRuntime) -> Result<(), Fail> {
+    make(&rt, "test_files_reserved")?;
+    let reason = "the name is kept for the lock of a folder";
+    assert!(rt; is_refused(&rt, "test_files_reserved/lock", reason)?);
+    assert!(rt; count(&rt, "test_files_reserved")? == 0);
+    Ok(remove(&rt, "test_files_reserved")?)
+}
+
+#[test]
 fn a_second_output_of_a_name_is_refused(rt: HostRuntime) -> Result<(), Fail> {
     make(&rt, "test_files_second")?;
     assert!(rt; second_is_refused(&rt, "test_files_second/a.store")?);
@@ -85,14 +97,14 @@ fn a_second_output_of_a_name_is_refused(rt: HostRuntime) -> Result<(), Fail> {
 fn begun_new(rt: &HostRuntime, path: &str) -> Result<Sink, Fail> {
     Ok(Box::new(
         rt.alloc(),
-        DiskSink::create_new(rt.alloc(), rt.clone()?, path)?,
+        DiskSink::create_new(rt.alloc(), HostFiles::new(rt)?, path)?,
     )?)
 }
 
 // Whether a new output is refused where a file has the name, and leaves the file.
 fn new_is_refused(rt: &HostRuntime, path: &str) -> Result<bool, Fail> {
     fs::write(rt, path, OLD)?;
-    let is_refused = match DiskSink::create_new(rt.alloc(), rt.clone()?, path) {
+    let is_refused = match DiskSink::create_new(rt.alloc(), HostFiles::new(rt)?, path) {
         Err(CreateError::Exists) => true,
         _ => false,
     };

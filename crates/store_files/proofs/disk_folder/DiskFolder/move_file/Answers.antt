@@ -14,8 +14,8 @@ invariant_of-self g c = λ h.
     let d = string_bytes c.self-2.inside.path in
     let from = c.args.from.now in
     let to = c.args.to.now in
-    let from_at : IsPath d from c.as_str.result.now = search rules in
-    let to_at : IsPath d to c.as_str-2.result.now = search rules in
+    let from_at : IsPath d from c.as_str-2.result.now = search rules in
+    let to_at : IsPath d to c.as_str-3.result.now = search rules in
     let did = renames from to true (g.S.SystemFiles.start d) (g.S.SystemFiles.changes c.self-2.inside.system d) (g.S.SystemFiles.changes c.rename.new.self d) c.requires
     (c.in-Ok.ensures h d from to from_at to_at) in
     let before = c.self-2.invariant h in
@@ -33,8 +33,8 @@ invariant_of-self-in-Err g c = λ h.
     let d = string_bytes c.self-2.inside.path in
     let from = c.args.from.now in
     let to = c.args.to.now in
-    let from_at : IsPath d from c.as_str.result.now = search rules in
-    let to_at : IsPath d to c.as_str-2.result.now = search rules in
+    let from_at : IsPath d from c.as_str-2.result.now = search rules in
+    let to_at : IsPath d to c.as_str-3.result.now = search rules in
     let did = renames from to false (g.S.SystemFiles.start d) (g.S.SystemFiles.changes c.self-2.inside.system d) (g.S.SystemFiles.changes c.rename.new.self d) c.requires
     (c.in-Err.ensures h d from to from_at to_at) in
     let before = c.self-2.invariant h in
@@ -54,8 +54,8 @@ returns-in-Ok-clause-moved g c = λ h.
     let d = c.args.self.now.path in
     let from = c.args.from.now in
     let to = c.args.to.now in
-    let from_at : IsPath d from c.as_str.result.now = search rules in
-    let to_at : IsPath d to c.as_str-2.result.now = search rules in
+    let from_at : IsPath d from c.as_str-2.result.now = search rules in
+    let to_at : IsPath d to c.as_str-3.result.now = search rules in
     let system : c.self-2.inside.system ≡ c.args.self.now.system = search rules in
     subst (λ s. Renames from to true (replay (g.S.SystemFiles.changes s d) (g.S.SystemFiles.start d)) (replay (g.S.SystemFiles.changes c.rename.new.self d) (g.S.SystemFiles.start d))) system
     (renames from to true (g.S.SystemFiles.start d) (g.S.SystemFiles.changes c.self-2.inside.system d) (g.S.SystemFiles.changes c.rename.new.self d) c.requires
@@ -66,8 +66,8 @@ returns-clause-moved g c = λ h.
     let d = c.args.self.now.path in
     let from = c.args.from.now in
     let to = c.args.to.now in
-    let from_at : IsPath d from c.as_str.result.now = search rules in
-    let to_at : IsPath d to c.as_str-2.result.now = search rules in
+    let from_at : IsPath d from c.as_str-2.result.now = search rules in
+    let to_at : IsPath d to c.as_str-3.result.now = search rules in
     let system : c.self-2.inside.system ≡ c.args.self.now.system = search rules in
     subst (λ s. Renames from to false (replay (g.S.SystemFiles.changes s d) (g.S.SystemFiles.start d)) (replay (g.S.SystemFiles.changes c.rename.new.self d) (g.S.SystemFiles.start d))) system
     (renames from to false (g.S.SystemFiles.start d) (g.S.SystemFiles.changes c.self-2.inside.system d) (g.S.SystemFiles.changes c.rename.new.self d) c.requires

@@ -1,14 +1,15 @@
-//! The files of a log's segments, which are opened when they are read, few at a time.
+//! Files that are opened when they are read, few at a time.
 
 ghost use Rattle.std.specs.Prelude.{[], false};
 
+use crate::read_at::ReadAt;
 use std::alloc::{AllocError, Global};
 use std::cell::Cell;
-use std::fs::{File, Files, Metadata};
+use std::fs::{File, Metadata, OpenFile};
 use std::io;
 use std::io::ErrorKind;
 use std::os::unix::fs::{FileExt, MetadataExt};
-use store_files::ReadAt;
+use std::rc::Rc;
 
 // How many files are open at most.
 const MOST_OPEN: usize = 64;
@@ -45,40 +46,36 @@ struct Opened {
 
 impl Opened {
     // Opens the file of a path.
-    fn open<R: Files<File = File> + Drop>(rt: &R, path: &str) -> io::Result<Opened> {
+    fn open(rt: &HostRuntime, path: &str) -> io::Result<Opened> {
         let file = File::open(rt, path)?;
         let id = FileId::of(&file.metadata()?);
         Ok(Opened { id, file })
     }
 }
 
-/// The segments' files that are open, the one that was read last at the end, and why the last call on a log's folder
-/// that failed did so. A log reports only that one failed.
+/// The files that are open, the one that was read last at the end, and why the last call of the system that failed did
+/// so. A log reports only that one failed.
 #[derive(Drop)]
-pub struct LogFiles {
+pub(crate) struct FilePool {
     opened: Cell<Option<Vec<Opened>>>,
-    cause: Cell<Option<io::Error>>,
+    pub(crate) cause: Cell<Option<io::Error>>,
 }
 
-impl LogFiles {
+impl FilePool {
     /// None is open, and none has failed.
-    pub fn new() -> LogFiles {
-        LogFiles {
+    pub(crate) fn new() -> FilePool {
+        FilePool {
             opened: Cell::new(None),
             cause: Cell::new(None),
         }
     }
 
-    /// Keeps why a call failed, and returns an error of its kind.
-    pub fn note(&self, error: io::Error) -> io::Error {
-        let kind = error.kind();
-        self.cause.set(Some(error));
-        kind.into()
-    }
-
-    /// Why the last one failed, once.
-    pub fn take_cause(&self) -> Option<io::Error> {
-        self.cause.take()
+    /// Keeps why a call failed.
+    pub(crate) fn noted<T: Drop>(&self, outcome: io::Result<T>) -> io::Result<T> {
+        if let Err(error) = &outcome {
+            self.cause.set(Some(*error));
+        }
+        outcome
     }
 
     // Takes the open file out.
@@ -102,43 +99,41 @@ impl LogFiles {
     }
 }
 
-/// The file of a segment. It is the one that was there first: where another took its name, or none has it, and it is
-/// not open any more, its reads fail as if there were no file.
+/// A file that is read. It is the one that was there first: where another took its path, or none has it, and it is not
+/// open any more, its reads fail as if there were no file.
 #[derive(Drop)]
-pub struct SegmentFile<'a, R: Files<File = File> + Drop> {
-    rt: &'a R,
-    alloc: Global,
+pub struct PooledFile {
+    rt: HostRuntime,
     path: String,
     id: FileId,
-    files: &'a LogFiles,
+    pool: Rc<FilePool, Global>,
 }
 
-impl<'a, R: Files<File = File> + Drop> SegmentFile<'a, R> {
+impl PooledFile {
     /// Opens the file of a path.
-    pub fn open(
-        rt: &'a R,
-        alloc: Global,
-        path: String,
-        files: &'a LogFiles,
-    ) -> io::Result<SegmentFile<'a, R>> {
-        let opened = Opened::open(rt, path.as_str())?;
+    pub(crate) fn open(
+        rt: &HostRuntime,
+        pool: &Rc<FilePool, Global>,
+        path: &str,
+    ) -> io::Result<PooledFile> {
+        let opened = Opened::open(rt, path)?;
         let id = opened.id;
-        files.keep(alloc, opened)?;
-        Ok(SegmentFile {
-            rt,
-            alloc,
+        let path = String::from_str(rt.alloc(), path)?;
+        pool.keep(rt.alloc(), opened)?;
+        Ok(PooledFile {
+            rt: *rt,
             path,
             id,
-            files,
+            pool: pool.clone()?,
         })
     }
 
     // The file, which is opened again if it is not open.
     fn opened(&self) -> io::Result<File> {
-        if let Some(file) = self.files.take(self.id) {
+        if let Some(file) = self.pool.take(self.id) {
             return Ok(file);
         }
-        let Opened { id, file } = Opened::open(self.rt, self.path.as_str())?;
+        let Opened { id, file } = Opened::open(&self.rt, self.path.as_str())?;
         match id == self.id {
             true => Ok(file),
             false => Err(ErrorKind::NotFound.into()),
@@ -150,13 +145,13 @@ impl<'a, R: Files<File = File> + Drop> SegmentFile<'a, R> {
         let file = self.opened()?;
         let filled = file.read_exact_at(buffer, offset);
         let id = self.id;
-        self.files.keep(self.alloc, Opened { id, file })?;
+        self.pool.keep(self.rt.alloc(), Opened { id, file })?;
         filled
     }
 }
 
 /// Nothing is claimed of what it gives.
-impl<'a, R: Files<File = File> + Drop> ReadAt for SegmentFile<'a, R> {
+impl ReadAt for PooledFile {
     ghost content = { λ _. [] };
 
     ghost honest = { λ _. false };
@@ -166,9 +161,7 @@ impl<'a, R: Files<File = File> + Drop> ReadAt for SegmentFile<'a, R> {
     }
 
     fn fill_at(&self, buffer: &mut [u8], offset: u64) -> io::Result<()> {
-        match self.fill(buffer, offset) {
-            Ok(()) => Ok(()),
-            Err(error) => Err(self.files.note(error)),
-        }
+        let filled = self.fill(buffer, offset);
+        self.pool.noted(filled)
     }
 }
