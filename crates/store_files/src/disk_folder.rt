@@ -111,7 +111,7 @@ impl<S: SystemFiles> DiskFolder<S> {
         ensures locked { IfOk result (λ f. IsTrue f.is_locked) }
         ensures failures { IfOk result (λ f. f.failures ≡ 0) }
     {
-        let folder = system.open(path)?;
+        let folder = system.open_folder(path)?;
         let lock_path = lock_path_of(alloc, path)?;
         let lock = locked(alloc, &system, lock_path.as_str())?;
         let found = system.find_mark(alloc, &lock, lock_path.as_str(), path)?;
@@ -140,7 +140,7 @@ impl<S: SystemFiles> DiskFolder<S> {
         ensures path { IfOk result (λ f. f.path ≡ path.now) }
         ensures failures { IfOk result (λ f. f.failures ≡ 0) }
     {
-        let folder = system.open(path)?;
+        let folder = system.open_folder(path)?;
         let path = String::from_str(alloc, path)?;
         Ok(DiskFolder {
             system,

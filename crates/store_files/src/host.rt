@@ -126,6 +126,10 @@ impl SystemFiles for HostFiles {
         fs::set_permissions(&self.rt, path, Permissions::from_mode(mode))
     }
 
+    fn open_folder(&self, path: &str) -> io::Result<File> {
+        self.noted(File::open(&self.rt, path))
+    }
+
     fn open(&self, path: &str) -> io::Result<File> {
         self.noted(File::open(&self.rt, path))
     }

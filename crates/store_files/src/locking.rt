@@ -21,7 +21,7 @@ pub(crate) fn folder_of(path: &str) -> &str {
 pub(crate) fn open_folder<S: SystemFiles>(system: &S, path: &str) -> Result<S::File, CreateError>
     ensures { IsTrue S.honest → IfOk result (λ folder. S.opened_as folder ≡ path.now) }
 {
-    match system.open(path) {
+    match system.open_folder(path) {
         Ok(folder) => Ok(folder),
         Err(error) if error.kind() == ErrorKind::NotFound => Err(CreateError::System(error)),
         Err(error) => Err(CreateError::Folder(error)),

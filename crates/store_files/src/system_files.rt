@@ -48,7 +48,8 @@ pub struct FoundFile {
 /// and its disk promise of that call: which change it makes to the folder of a path. What is read of a folder after
 /// changes, and what a crash may leave of it, is their definition (`specs/Disk.antt`).
 ///
-/// Not in the model: hard links, other processes that change the folder, modes and owners, the file `lock`.
+/// Not in the model: hard links, other processes that change the folder, modes and owners, the file `lock`, and what is
+/// no plain file.
 pub trait SystemFiles: Drop {
     /// A file or a folder that is open.
     type File: Drop;
@@ -93,7 +94,11 @@ pub trait SystemFiles: Drop {
     /// Gives a file other permissions: `chmod`.
     fn set_mode(&self, path: &str, mode: u32) -> io::Result<()>;
 
-    /// Opens a file or a folder that is there, to sync it: `open`.
+    /// Opens a folder that is there, to sync it: `open`.
+    fn open_folder(&self, path: &str) -> io::Result<Self::File>
+        ensures opened { IsTrue honest → IfOk result (λ file. opened_as file ≡ path.now) };
+
+    /// Opens a file that is there, to sync it: `open`.
     fn open(&self, path: &str) -> io::Result<Self::File>
         ensures opened { IsTrue honest → IfOk result (λ file. opened_as file ≡ path.now) }
         ensures number { IsTrue honest → (d n : List ℕ) → IsPath d n path.now

@@ -87,6 +87,11 @@ impl<'a> SystemFiles for FailingSystem<'a> {
         self.files.set_mode(path, mode)
     }
 
+    fn open_folder(&self, path: &str) -> io::Result<File> {
+        self.count()?;
+        self.files.open_folder(path)
+    }
+
     fn open(&self, path: &str) -> io::Result<File> {
         self.count()?;
         SystemFiles::open(&self.files, path)
