@@ -20,9 +20,9 @@ use std::io::ErrorKind;
 /// A mark that was found in a file `lock`, the number of the machine's start, and that file's inode.
 #[derive(Drop)]
 pub struct FoundMark {
-    pub(crate) mark: Mark,
-    pub(crate) boot: Vec<u8>,
-    pub(crate) inode: String,
+    pub mark: Mark,
+    pub boot: Vec<u8>,
+    pub inode: String,
 }
 
 /// What kind of file has a path, where a link at the path is not followed.
