@@ -1,2 +1,1 @@
-pub mod Possible
-pub mod Lists
+pub mod System

@@ -1,4 +1,4 @@
-use Rattle.system_model.proofs.Lists.{possible}
+use Rattle.system_model.specs.Lists.{possible}
 use Rattle.system_model.proofs.changes_are_possible.Goals as goal
 
 pub returns : goal.returns

@@ -5,7 +5,7 @@ use Rattle.store_folder.specs.Folder.{Look}
 use Rattle.store_files.specs.Disk.{Change, Created, Appended, Cut, FileSynced, SyncFailed, Moved, Removed, FolderSynced}
 use Rattle.store_files.specs.Disk.{Disk, after, replay, IsSound}
 use Rattle.system_model.specs.Made.{empty, AreMade}
-use Rattle.system_model.proofs.Possible.{Stands, empty_stands, created_stands, appended_stands, cut_stands, synced_stands, failed_stands, moved_stands, removed_stands, entries_stand}
+use Rattle.system_model.specs.Possible.{Stands, empty_stands, created_stands, appended_stands, cut_stands, synced_stands, failed_stands, moved_stands, removed_stands, entries_stand}
 
 there : (x : Option ℕ) → IsSome x → (f : ℕ) × (x ≡ Some f)
 there None is = let no : ⊥ = cc in absurd no

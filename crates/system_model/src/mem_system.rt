@@ -1,0 +1,362 @@
+//! A system in memory, which keeps every promise of a system.
+
+ghost use Rattle.std.specs.Prelude.{◌≡◌, ◌≢◌, ◌∷◌, ℕ, List, [], Some, None, true, false, length, option_map, string_bytes};
+ghost use Rattle.std.specs.Prelude.{IsTrue, IfOk, IfErr, OnOk, OnErr, IfSome};
+ghost use Rattle.std.specs.IoError.{error_kind};
+ghost use Rattle.store_folder.specs.Folder.{bytes_of};
+ghost use Rattle.store_files.specs.Disk.{replay, seen};
+ghost use Rattle.store_files.specs.Paths.{IsPath, IsIn};
+ghost use Rattle.system_model.specs.Made.{empty};
+ghost use Rattle.system_model.specs.System.{changes_in, change_of, are_made};
+
+use crate::content::{Content, Step, name_of, number_of};
+use std::alloc::{AllocError, Global};
+use std::cell::Cell;
+use std::fs::TryLockError;
+use std::io;
+use std::io::ErrorKind;
+use std::marker::Model;
+use store_files::mark::Mark;
+use store_files::{FileKind, FoundFile, FoundMark, SystemFiles};
+use store_folder::ReadableFolder;
+
+/// A system in memory that has one folder. What a crash may leave of it is what the model allows at worst. A call fails
+/// for lack of memory, and then each later call does.
+#[derive(Drop)]
+pub struct MemSystem {
+    alloc: Global,
+    folder: String,
+    content: Content,
+    steps: Vec<Step>,
+    is_broken: bool,
+    is_locked: Cell<bool>,
+}
+
+/// Clauses see the folder, and the changes that were made in it.
+impl Model for MemSystem {
+    ghost use Rattle.std.specs.Prelude.{◌≡◌, true, false, string_bytes};
+    ghost use Rattle.store_files.specs.Disk.{replay};
+    ghost use Rattle.system_model.specs.Made.{empty};
+    ghost use Rattle.system_model.specs.System.{MemDisk, Holds, are_made, made_by};
+
+    ghost Value = { MemDisk };
+
+    ghost view = { λ s. record {
+      folder = string_bytes s.folder;
+      changes = made_by s.steps.items;
+    } };
+
+    ghost invariant = { λ s. (are_made (made_by s.steps.items) ≡ true)
+        × (s.is_broken ≡ false → Holds s.content (replay (made_by s.steps.items) empty)) };
+}
+
+/// A file of a system in memory that is open, or its folder.
+#[derive(Drop)]
+pub struct MemSystemFile {
+    path: String,
+    number: u64,
+}
+
+// The name of the file of a path in a folder.
+fn name_in<'a>(folder: &str, path: &'a str) -> io::Result<&'a str>
+    ensures name { IfOk result (λ name. IsPath folder.now name.now path.now) }
+    ensures kind { IfErr result (λ e. error_kind e ≢ ErrorKind.NotFound) }
+{
+    let Some(rest) = path.strip_prefix(folder) else {
+        return Err(ErrorKind::InvalidInput.into());
+    };
+    let Some(name) = rest.strip_prefix('/') else {
+        return Err(ErrorKind::InvalidInput.into());
+    };
+    if name.is_empty() || name == "." || name == ".." || name == "lock" {
+        return Err(ErrorKind::InvalidInput.into());
+    }
+    if name.as_bytes().contains(&b'/') {
+        return Err(ErrorKind::InvalidInput.into());
+    }
+    Ok(name)
+}
+
+// Fails after a call for which there was no memory.
+fn check(is_broken: bool) -> io::Result<()>
+    ensures whole { OnOk result (is_broken ≡ false) }
+    ensures kind { IfErr result (λ e. error_kind e ≢ ErrorKind.NotFound) }
+{
+    match is_broken {
+        true => Err(ErrorKind::OutOfMemory.into()),
+        false => Ok(()),
+    }
+}
+
+impl MemSystem {
+    /// A system with an empty folder of this path.
+    pub fn new(alloc: Global, folder: &str) -> Result<MemSystem, AllocError>
+        ensures folder { IfOk result (λ s. s.folder ≡ folder.now) }
+        ensures changes { IfOk result (λ s. s.changes ≡ []) }
+    {
+        Ok(MemSystem {
+            alloc,
+            folder: String::from_str(alloc, folder)?,
+            content: Content::new(alloc),
+            steps: Vec::new(alloc),
+            is_broken: false,
+            is_locked: Cell::new(false),
+        })
+    }
+
+    // The name of the file of a path.
+    fn name_at(&self, path: &str) -> io::Result<String>
+        ensures name { IfOk result (λ name. IsPath self.now.folder (string_bytes name) path.now) }
+        ensures kind { IfErr result (λ e. error_kind e ≢ ErrorKind.NotFound) }
+    {
+        let name = name_in(self.folder.as_str(), path)?;
+        Ok(String::from_str(self.alloc, name)?)
+    }
+
+    // Makes a change.
+    fn make(&mut self, step: Step) -> io::Result<()>
+        ensures made { OnOk result (self.new.changes ≡ change_of step ∷ self.old.changes) }
+        ensures possible { OnOk result (are_made self.new.changes ≡ true) }
+        ensures kept { OnErr result (self.new.changes ≡ self.old.changes) }
+        ensures folder { self.new.folder ≡ self.old.folder }
+    {
+        check(self.is_broken)?;
+        self.is_broken = true;
+        self.content.apply(self.alloc, &step)?;
+        self.steps.push(step)?;
+        self.is_broken = false;
+        Ok(())
+    }
+
+    // The number of the file of a path, if there is one.
+    fn number_at(&self, path: &str) -> io::Result<Option<u64>>
+        ensures found { IfOk result (λ found. (d n : List ℕ) → IsPath d n path.now
+            → (replay (changes_in self.now d) empty).file_of n ≡ found) }
+        ensures kind { IfErr result (λ e. error_kind e ≢ ErrorKind.NotFound) }
+    {
+        let name = name_in(self.folder.as_str(), path)?;
+        check(self.is_broken)?;
+        Ok(number_of(&self.content.names, name))
+    }
+
+    // The file of a path, open.
+    fn file_at(&self, path: &str) -> io::Result<MemSystemFile>
+        ensures opened { IfOk result (λ file. string_bytes file.path ≡ path.now) }
+        ensures number { IfOk result (λ file. (d n : List ℕ) → IsPath d n path.now
+            → (replay (changes_in self.now d) empty).file_of n ≡ Some file.number) }
+    {
+        let Some(number) = self.number_at(path)? else {
+            return Err(ErrorKind::NotFound.into());
+        };
+        let path = String::from_str(self.alloc, path)?;
+        Ok(MemSystemFile { path, number })
+    }
+
+    // The bytes of the file of a path, if there is one.
+    fn bytes_at(&self, path: &str) -> io::Result<Option<Vec<u8>>>
+        ensures found { IfOk result (λ found. (d n : List ℕ) → IsPath d n path.now
+            → seen (replay (changes_in self.now d) empty) n ≡ bytes_of found) }
+        ensures kind { IfErr result (λ e. error_kind e ≢ ErrorKind.NotFound) }
+    {
+        let name = name_in(self.folder.as_str(), path)?;
+        check(self.is_broken)?;
+        match self.content.files.read(self.alloc, name) {
+            Ok(found) => Ok(found),
+            Err(_) => Err(ErrorKind::OutOfMemory.into()),
+        }
+    }
+
+    // The bytes of a file that is open and has a name.
+    fn bytes_of_open(&self, file: &MemSystemFile) -> io::Result<Vec<u8>>
+        ensures { IfOk result (λ found. (d : List ℕ) → IsIn d (string_bytes file.now.path)
+            → (replay (changes_in self.now d) empty).bytes file.now.number ≡ found.items) }
+    {
+        let _name = self.name_at(file.path.as_str())?;
+        check(self.is_broken)?;
+        let Some(name) = name_of(self.alloc, &self.content.names, file.number)? else {
+            return Err(ErrorKind::NotFound.into());
+        };
+        match self.content.files.read(self.alloc, name.as_str())? {
+            Some(bytes) => Ok(bytes),
+            None => Err(ErrorKind::NotFound.into()),
+        }
+    }
+}
+
+impl SystemFiles for MemSystem {
+    ghost use Rattle.std.specs.Prelude.{true, string_bytes};
+    ghost use Rattle.system_model.specs.Made.{empty};
+    ghost use Rattle.system_model.specs.System.{changes_in};
+    ghost use Rattle.system_model.specs.Sound.{changes_are_sound};
+
+    type File = MemSystemFile;
+
+    type Reader = Vec<u8>;
+
+    ghost honest = { true };
+
+    ghost start = { λ _. empty };
+
+    ghost changes = { changes_in };
+
+    ghost opened_as = { λ f. string_bytes f.path };
+
+    ghost number = { λ f. f.number };
+
+    ghost is_locked = { λ _. true };
+
+    ghost sound = { changes_are_sound };
+
+    fn make_folder(&self, path: &str) -> io::Result<()> {
+        match path == self.folder.as_str() {
+            true => Err(ErrorKind::AlreadyExists.into()),
+            false => Ok(()),
+        }
+    }
+
+    fn is_blocked(&self, _path: &str) -> bool {
+        false
+    }
+
+    fn find(&self, path: &str) -> io::Result<Option<FoundFile>> {
+        let found = FoundFile {
+            kind: FileKind::Plain,
+            mode: 0o644,
+            owner: 0,
+            group: 0,
+        };
+        match self.number_at(path) {
+            Ok(Some(_)) => Ok(Some(found)),
+            _ => Ok(None),
+        }
+    }
+
+    fn real_path(&self, alloc: Global, path: &str) -> io::Result<String> {
+        Ok(String::from_str(alloc, path)?)
+    }
+
+    fn set_owner(&self, _path: &str, _owner: Option<u32>, _group: Option<u32>) -> io::Result<()> {
+        Ok(())
+    }
+
+    fn set_mode(&self, _path: &str, _mode: u32) -> io::Result<()> {
+        Ok(())
+    }
+
+    fn open_folder(&self, path: &str) -> io::Result<MemSystemFile> {
+        let path = String::from_str(self.alloc, path)?;
+        Ok(MemSystemFile { path, number: 0 })
+    }
+
+    fn open(&self, path: &str) -> io::Result<MemSystemFile> {
+        self.file_at(path)
+    }
+
+    fn open_to_append(&self, path: &str) -> io::Result<MemSystemFile> {
+        self.file_at(path)
+    }
+
+    fn create(&mut self, path: &str) -> io::Result<()> {
+        let name = self.name_at(path)?;
+        self.make(Step::Created(name))
+    }
+
+    fn create_new(&mut self, path: &str, _mode: u32) -> io::Result<MemSystemFile> {
+        if self.number_at(path)?.is_some() {
+            return Err(ErrorKind::AlreadyExists.into());
+        }
+        SystemFiles::create(self, path)?;
+        self.file_at(path)
+    }
+
+    fn len(&self, file: &MemSystemFile) -> io::Result<u64> {
+        Ok(self.bytes_of_open(file)?.len() as u64)
+    }
+
+    fn write(&mut self, file: &mut MemSystemFile, bytes: &[u8]) -> io::Result<()> {
+        let _name = self.name_at(file.path.as_str())?;
+        let bytes = bytes.to_vec(self.alloc)?;
+        self.make(Step::Appended(file.number, bytes))
+    }
+
+    fn cut(&mut self, _file: &MemSystemFile, _len: u64) -> io::Result<()> {
+        Ok(())
+    }
+
+    fn sync_file(&mut self, file: &MemSystemFile) -> io::Result<()> {
+        let _name = self.name_at(file.path.as_str())?;
+        self.make(Step::FileSynced(file.number))
+    }
+
+    fn rename(&mut self, from: &str, to: &str) -> io::Result<()> {
+        let (from, to) = (self.name_at(from)?, self.name_at(to)?);
+        self.make(Step::Moved(from, to))
+    }
+
+    fn remove(&mut self, path: &str) -> io::Result<()> {
+        if self.number_at(path)?.is_none() {
+            return Err(ErrorKind::NotFound.into());
+        }
+        let name = self.name_at(path)?;
+        self.make(Step::Removed(name))
+    }
+
+    fn sync_folder(&mut self, folder: &MemSystemFile) -> io::Result<()> {
+        if folder.path.as_str() != self.folder.as_str() {
+            return Err(ErrorKind::NotFound.into());
+        }
+        self.make(Step::FolderSynced)
+    }
+
+    fn open_lock(&self, path: &str) -> io::Result<MemSystemFile> {
+        let path = String::from_str(self.alloc, path)?;
+        Ok(MemSystemFile { path, number: 0 })
+    }
+
+    fn try_lock(&self, _file: &MemSystemFile) -> Result<(), TryLockError> {
+        match self.is_locked.replace(true) {
+            true => Err(TryLockError::WouldBlock),
+            false => Ok(()),
+        }
+    }
+
+    fn has_path(&self, file: &MemSystemFile, path: &str) -> io::Result<bool> {
+        Ok(match self.number_at(path) {
+            Ok(Some(number)) => number == file.number,
+            _ => file.path.as_str() == path,
+        })
+    }
+
+    fn find_mark(
+        &self,
+        alloc: Global,
+        _lock: &MemSystemFile,
+        _lock_path: &str,
+        _folder: &str,
+    ) -> io::Result<FoundMark> {
+        Ok(FoundMark {
+            mark: Mark::blank(alloc),
+            boot: Vec::new(alloc),
+            inode: String::new(alloc),
+        })
+    }
+
+    fn write_mark(&self, _lock: &mut MemSystemFile, _bytes: &[u8]) -> io::Result<()> {
+        Ok(())
+    }
+
+    fn names(&self, alloc: Global, path: &str) -> io::Result<Vec<String>> {
+        if path != self.folder.as_str() {
+            return Err(ErrorKind::NotFound.into());
+        }
+        check(self.is_broken)?;
+        self.content.files.names(alloc)
+    }
+
+    fn open_to_read(&self, path: &str) -> io::Result<Vec<u8>> {
+        match self.bytes_at(path)? {
+            Some(bytes) => Ok(bytes),
+            None => Err(ErrorKind::NotFound.into()),
+        }
+    }
+}
