@@ -1,6 +1,7 @@
 -- What the content of a system in memory is after each change.
-use Rattle.std.proofs.Common.{◌≡◌, ◌≢◌, ◌⊎◌, inl, inr, ℕ, ◌+◌, ◌<◌, Bool, true, false, List, [], ◌∷◌, ◌++◌, Option, Some, None, refl, sym, ◌∙◌, ap, subst, nat_eq, arith, length, rules, Vec, Global, Result, Ok, Err, OnOk, OnErr, is_ok}
-use Rattle.std.specs.Prelude.{if◌then◌else◌, ◌&&◌, not, is_some, IsSome, unwrap_or, option_map, string_bytes, map, reverse}
+use Rattle.std.proofs.Common.{◌≡◌, ◌≢◌, inl, inr, ℕ, ◌+◌, Bool, true, false, List, [], ◌∷◌, ◌++◌, Option, Some, None, refl, sym, ◌∙◌, ap, subst, nat_eq, arith, Vec, Global, Result, Ok, Err, OnOk}
+use Rattle.std.proofs.Common.{OnErr, is_ok}
+use Rattle.std.specs.Prelude.{if◌then◌else◌, IsSome, unwrap_or, string_bytes, map, reverse}
 use lib.Pointwise.{pointwise}
 use Rattle.std.specs.List.{Contains}
 use Rattle.std.proofs.lemmas.List.Elements.{Contains-append_right}
@@ -8,7 +9,7 @@ use Rattle.std.proofs.lemmas.List.{map-append, reverse-append}
 use Rattle.store_folder.specs.Folder.{Look, Elsewhere, ElsewhereOfBoth, AreNames}
 use Rattle.store_folder.specs.Changes.{look_of}
 use Rattle.store_files.specs.Disk.{Change, Created, Appended, Cut, FileSynced, SyncFailed, Moved, Removed, FolderSynced}
-use Rattle.store_files.specs.Disk.{Disk, seen, made, put, replay, Adds, Writes, Syncs, IsPossible}
+use Rattle.store_files.specs.Disk.{seen, made, put, replay, Adds, Writes, Syncs, IsPossible}
 use Rattle.store_files.specs.Paths.{IsPath, IsIn, slash}
 use Rattle.store_files.specs.Known.{Knows}
 use Rattle.store_files.specs.Knowledge.{is_part}
@@ -19,7 +20,7 @@ use Rattle.store_files.specs.declared.knowledge.Standing.TheVariants.{Failed, Un
 use Rattle.store_files.proofs.KnowledgeLemmas.{equal, decided}
 use Rattle.store_files.proofs.DiskLemmas.{read_at, creates, appends}
 use Rattle.store_files.proofs.StepLemmas.{renames, removes}
-use Rattle.system_model.specs.Made.{empty, AreMade}
+use Rattle.system_model.specs.Made.{empty}
 use Rattle.system_model.specs.System.{MemDisk, Holds, number_in, can_be_made, are_made, changes_in, made_by, change_of}
 use Rattle.system_model.specs.Sound.{both}
 use Rattle.system_model.specs.declared.content.Step.{Step}

@@ -1,5 +1,5 @@
 -- A system in memory that has one folder.
-use Rattle.std.specs.Prelude.{◌≡◌, ℕ, ◌&&◌, not, Bool, true, false, List, [], ◌∷◌, Option, Some, None, is_some, map, reverse, if◌then◌else◌, nat_eq, string_bytes}
+use Rattle.std.specs.Prelude.{◌≡◌, ℕ, ◌&&◌, not, Bool, true, false, List, [], ◌∷◌, Option, None, is_some, map, reverse, if◌then◌else◌, nat_eq, string_bytes}
 use lib.Pointwise.{pointwise}
 use Rattle.store_files.specs.Disk.{Change, Created, Appended, Cut, FileSynced, SyncFailed, Moved, Removed, FolderSynced, Disk, replay, seen}
 use Rattle.store_folder.specs.Changes.{look_of}

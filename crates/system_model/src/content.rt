@@ -1,6 +1,7 @@
 //! What a system in memory has: the names of files, and their bytes.
 
-ghost use Rattle.std.specs.Prelude.{◌≡◌, ◌≢◌, ◌++◌, ◌∷◌, ◌+◌, ℕ, List, [], Some, None, IsSome, IfOk, IfSome, OnOk, true};
+ghost use Rattle.std.specs.Prelude.{◌≡◌, ◌≢◌, ◌++◌, ◌∷◌, ◌+◌, ℕ, List, [], Some, None, IsSome, IfOk, IfSome, OnOk};
+ghost use Rattle.std.specs.Prelude.{true};
 ghost use Rattle.std.specs.Prelude.{string_bytes, unwrap_or};
 ghost use Rattle.store_folder.specs.Changes.{look_of};
 ghost use Rattle.store_folder.specs.Folder.{Elsewhere, ElsewhereOfBoth};
@@ -13,7 +14,7 @@ use std::io;
 use std::io::ErrorKind;
 use store_folder::{Folder, MemFolder, ReadableFolder};
 
-/// A change that is made in the folder. A file is told by its number.
+/// A change that is made in the folder. A file is named by its number.
 #[derive(Drop)]
 pub enum Step {
     Created(String),

@@ -1,7 +1,7 @@
 //! A system in memory, which keeps every promise of a system.
 
-ghost use Rattle.std.specs.Prelude.{◌≡◌, ◌≢◌, ◌∷◌, ℕ, List, [], Some, None, true, false, length, option_map, string_bytes};
-ghost use Rattle.std.specs.Prelude.{IsTrue, IfOk, IfErr, OnOk, OnErr, IfSome};
+ghost use Rattle.std.specs.Prelude.{◌≡◌, ◌≢◌, ◌∷◌, ℕ, List, [], Some, None, true, false, string_bytes};
+ghost use Rattle.std.specs.Prelude.{IfOk, IfErr, OnOk, OnErr};
 ghost use Rattle.std.specs.IoError.{error_kind};
 ghost use Rattle.store_folder.specs.Folder.{bytes_of};
 ghost use Rattle.store_files.specs.Disk.{replay, seen};
@@ -321,10 +321,10 @@ impl SystemFiles for MemSystem {
     }
 
     fn has_path(&self, file: &MemSystemFile, path: &str) -> io::Result<bool> {
-        Ok(match self.number_at(path) {
-            Ok(Some(number)) => number == file.number,
-            _ => file.path.as_str() == path,
-        })
+        match self.number_at(path) {
+            Ok(found) => Ok(found == Some(file.number)),
+            Err(_) => Ok(file.path.as_str() == path),
+        }
     }
 
     fn find_mark(

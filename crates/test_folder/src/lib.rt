@@ -7,3 +7,5 @@ mod outputs;
 mod publishing;
 #[cfg(test)]
 mod reading;
+#[cfg(test)]
+mod system;

@@ -1,4 +1,4 @@
-use Rattle.std.proofs.Common.{rules, ◌≡◌, ◌∙◌, ◌++◌, ◌∷◌, [], List, None, ap}
+use Rattle.std.proofs.Common.{rules, ◌≡◌, ◌∙◌, ◌++◌, ◌∷◌, [], None, ap}
 use Rattle.std.specs.Prelude.{string_bytes, if◌then◌else◌, nat_eq}
 use lib.Pointwise.{pointwise}
 use Rattle.system_model.specs.System.{number_in}

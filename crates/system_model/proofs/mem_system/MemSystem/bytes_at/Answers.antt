@@ -1,11 +1,9 @@
-use Rattle.std.proofs.Common.{rules, ◌≡◌, ◌∙◌, true, sym, subst, refl, List, Some}
-use Rattle.std.specs.Prelude.{string_bytes}
+use Rattle.std.proofs.Common.{rules, ◌≡◌, ◌∙◌, true, subst, List}
 use Rattle.store_files.specs.Disk.{Change, replay}
 use Rattle.store_files.specs.Paths.{IsPath}
 use Rattle.store_folder.specs.Changes.{look_of}
 use Rattle.system_model.specs.Made.{empty}
-use Rattle.system_model.specs.System.{Holds, are_made, made_by, number_in}
-use Rattle.std.specs.Prelude.{Option, ℕ}
+use Rattle.system_model.specs.System.{Holds, are_made, made_by}
 use Rattle.store_folder.specs.Folder.{bytes_of}
 use Rattle.system_model.proofs.System.{found}
 use Rattle.system_model.proofs.mem_system.MemSystem.bytes_at.Goals as goal

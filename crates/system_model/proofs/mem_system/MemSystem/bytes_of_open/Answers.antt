@@ -1,4 +1,4 @@
-use Rattle.std.proofs.Common.{rules, ◌≡◌, ◌∙◌, true, sym, subst, refl, List, Some, None}
+use Rattle.std.proofs.Common.{rules, ◌≡◌, true, subst, List, Some, None}
 use Rattle.std.specs.Prelude.{string_bytes}
 use Rattle.store_files.specs.Disk.{Change, replay}
 use Rattle.store_files.specs.Paths.{IsPath}

@@ -1,8 +1,6 @@
-use Rattle.std.proofs.Common.{rules, ◌≡◌, ◌∙◌, true, sym, subst, refl, List, Some, None}
-use Rattle.std.specs.Prelude.{string_bytes}
+use Rattle.std.proofs.Common.{rules, ◌≡◌, ◌∙◌, true, sym, subst, List, None}
 use Rattle.store_files.specs.Disk.{Change, replay}
 use Rattle.store_files.specs.Paths.{IsPath}
-use Rattle.store_folder.specs.Changes.{look_of}
 use Rattle.system_model.specs.Made.{empty}
 use Rattle.system_model.specs.System.{Holds, are_made, made_by, number_in}
 use Rattle.system_model.proofs.System.{found}

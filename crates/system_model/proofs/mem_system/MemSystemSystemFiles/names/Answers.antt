@@ -1,10 +1,7 @@
-use Rattle.std.proofs.Common.{rules, ◌≡◌, ◌∙◌, true, sym, subst, refl, List, Some}
-use Rattle.std.specs.Prelude.{string_bytes}
+use Rattle.std.proofs.Common.{rules, ◌≡◌, true, subst, refl, List}
 use Rattle.store_files.specs.Disk.{Change, replay}
-use Rattle.store_files.specs.Paths.{IsPath}
-use Rattle.store_folder.specs.Changes.{look_of}
 use Rattle.system_model.specs.Made.{empty}
-use Rattle.system_model.specs.System.{Holds, are_made, made_by, number_in}
+use Rattle.system_model.specs.System.{Holds, are_made, made_by}
 use Rattle.std.proofs.lemmas.Result.{IfOk-weaker}
 use Rattle.system_model.proofs.System.{same_names, seen_here}
 use Rattle.system_model.proofs.mem_system.MemSystemSystemFiles.names.Goals as goal

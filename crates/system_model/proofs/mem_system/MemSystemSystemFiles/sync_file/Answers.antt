@@ -1,4 +1,4 @@
-use Rattle.std.proofs.Common.{rules, sym, ◌≡◌}
+use Rattle.std.proofs.Common.{rules}
 use Rattle.std.specs.Prelude.{string_bytes}
 use Rattle.store_files.specs.Paths.{IsPath}
 use Rattle.system_model.proofs.System.{one_path, syncs_one}
