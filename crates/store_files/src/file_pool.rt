@@ -101,7 +101,6 @@ impl FilePool {
 
 /// A file that is read. It is the one that was there first: where another took its path, or none has it, and it is not
 /// open any more, its reads fail as if there were no file.
-#[derive(Drop)]
 pub struct PooledFile {
     rt: HostRuntime,
     path: String,
@@ -147,6 +146,19 @@ impl PooledFile {
         let id = self.id;
         self.pool.keep(self.rt.alloc(), Opened { id, file })?;
         filled
+    }
+}
+
+/// It is closed: a file that has no name any more would take room.
+impl Drop for PooledFile {
+    fn drop(self) {
+        let PooledFile {
+            rt: _,
+            path: _path,
+            id,
+            pool,
+        } = self;
+        drop(pool.take(id));
     }
 }
 

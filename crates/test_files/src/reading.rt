@@ -1,11 +1,11 @@
 //! A file on disk that is read in parts and as a whole, and a source that is read to its end.
 
-use crate::folder::{make, remove};
+use crate::folder::{count, make, remove};
 use docstore::FileHandle;
 use std::io::Read;
 use std::test::Fail;
 use std::{fs, io};
-use store_files::{DiskFile, OsFile, load, read_all};
+use store_files::{DiskFile, HostFiles, OsFile, SystemFiles, load, read_all};
 
 const BYTES: &[u8] = b"0123456789";
 
@@ -83,4 +83,26 @@ fn a_source_is_read_by_one_call_for_eight_kibibytes(rt: HostRuntime) {
     for len in [0usize, 1, 8191, 8192, 8193, 30000, 1048576] {
         assert!(rt; is_read_quickly(&rt, len));
     }
+}
+
+// How many files this process has open before a file is read a hundred times at once, during that, and after it.
+fn open_counts(rt: &HostRuntime, path: &str) -> Result<[usize; 3], Fail> {
+    let system = HostFiles::new(rt)?;
+    let before = count(rt, "/proc/self/fd")?;
+    let mut files = Vec::new(rt.alloc());
+    for _ in 0..100 {
+        files.push(system.open_to_read(path)?)?;
+    }
+    let during = count(rt, "/proc/self/fd")?;
+    drop(files);
+    Ok([before, during, count(rt, "/proc/self/fd")?])
+}
+
+#[test]
+fn few_files_that_are_read_are_open_and_none_after_it(rt: HostRuntime) -> Result<(), Fail> {
+    make(&rt, "test_files_few")?;
+    fs::write(&rt, "test_files_few/a", BYTES)?;
+    let [before, during, after] = open_counts(&rt, "test_files_few/a")?;
+    assert!(rt; during == before + 64 && after == before);
+    Ok(remove(&rt, "test_files_few")?)
 }

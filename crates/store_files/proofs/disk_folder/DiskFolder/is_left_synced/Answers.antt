@@ -1,5 +1,5 @@
 use Rattle.std.proofs.Common.{rules, ◌≡◌, ℕ, List, Some, subst}
-use Rattle.store_files.specs.Disk.{Disk, replay, seen, held}
+use Rattle.store_files.specs.Disk.{replay, seen, held}
 use Rattle.store_files.proofs.disk_folder.DiskFolder.is_left_synced.Goals as goal
 
 pub returns-in-Ok-clause-durable : goal.returns-in-Ok-clause-durable
