@@ -45,7 +45,7 @@ def written_in_its_place(calls: list[tuple], name: str) -> None:
 
 def bytes_after_the_sync(calls: list[tuple], name: str) -> None:
     """The last bytes are written after the sync."""
-    last = max(i for i, c in enumerate(calls) if c[0] == "write")
+    last = max(i for i, c in enumerate(calls) if c[0] in ("write", "append"))
     calls.insert(number_of(calls, "sync", name + ".part"), calls.pop(last))
 
 
