@@ -60,10 +60,22 @@ BY_HAND = ("bindings/c/src", "bindings/python/src/core")
 
 @dataclass(frozen=True)
 class Body:
-    """A function that makes a call of the system, or of a device, and whose contract says nothing of the contents."""
+    """A function that makes a call of the system, or of a device, and whose contract says nothing of the contents. The
+    call is the one that the comment of its trait names."""
 
     place: str
     name: str
+    call: str
+
+
+def calls() -> dict[str, str]:
+    """The call of the system that the comment of each method of `SystemFiles` names."""
+    text = (TOP / "crates/store_files/src/system_files.rt").read_text()
+    found = {}
+    for comment, name in re.findall(r"((?:^    ///[^\n]*\n)+)    fn (\w+)", text, re.M):
+        named = re.sub(r"\n? *///", "", comment).partition(": ")[2]
+        found[name] = ", ".join(dict.fromkeys(re.findall(r"`([a-z]+)`", named)))
+    return found
 
 
 def bodies() -> list[Body]:
@@ -72,13 +84,15 @@ def bodies() -> list[Body]:
     texts = {path: path.read_text() for path in sorted((TOP / "crates").glob("store_*/src/**/*.rt"))}
     impls = [(path, impl) for path, text in texts.items() for impl in IMPL.finditer(text)]
     types = {impl[2] for _, impl in impls if NOT_HONEST.search(impl[0])}
+    of_system = calls()
     for path, impl in impls:
         text = texts[path]
         if NOT_HONEST.search(impl[0]) or (impl[1] in RESTS_ON_OTHERS and impl[2] in types):
             for method in re.finditer(r"^    fn (\w+)", impl[0], re.M):
                 line = text[:impl.start() + method.start()].count("\n") + 1
                 place = f"{path.relative_to(TOP)}:{line}"
-                found.append(Body(place, f"{impl[2]}::{method[1]}, of {impl[1]}"))
+                call = of_system[method[1]] if impl[1] == "SystemFiles" else ""
+                found.append(Body(place, f"{impl[2]}::{method[1]}, of {impl[1]}", call))
     return found
 
 
@@ -114,7 +128,7 @@ def sources() -> list[str]:
         lines.append(f"    {theorem.name} ({theorem.crate}: {names})")
         lines.append(f"        {', '.join(theorem.premises)}")
     lines.append("bodies on which 'honest file' and 'honest folder' rest for files of the system:")
-    lines += [f"    {body.name} ({body.place})" for body in bodies()]
+    lines += [f"    {body.name} ({body.place}){body.call and ': '}{body.call}" for body in bodies()]
     lines.append("C that is written by hand, beside the proved calls:")
     for folder in BY_HAND:
         lines += [f"    {path.relative_to(TOP)}" for path in sorted((TOP / folder).glob("*.c"))]

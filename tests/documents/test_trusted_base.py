@@ -117,9 +117,12 @@ class TrustedBase(Rules):
                 self.assertRegex(sources, rf'pub (?:extern "C" )?fn {name}\b')
 
     def test_each_body_is_on_the_page(self):
-        bodies = sorted(body.name for body in tool.bodies())
-        shown = sorted(f"{name}, of {trait}" for name, trait, _ in rows("method | trait | what has to hold"))
-        self.assertEqual(shown, bodies)
+        bodies = sorted((body.name, body.call) for body in tool.bodies())
+        lines = rows("method | trait | call | what has to hold | shown by")
+        self.assertEqual(sorted((f"{name}, of {trait}", call) for name, trait, call, _, _ in lines), bodies)
+        tests = "".join(text_of(path) for path in (*TOP.glob("tests/**/*.py"), *TOP.glob("crates/test_*/src/**/*.rt")))
+        for *_, test in lines:
+            self.assertRegex(tests, rf"\b(?:fn|def) {test}\b")
         self.assert_looked_at(len(bodies), 8, "bodies")
 
     def test_no_crate_declares_a_function_of_c(self):
