@@ -47,14 +47,13 @@ class Strangers(LogCase):
             shutil.copy(self.sound / place.name, place)
 
     def check(self, place: Path, words: tuple[str, ...]) -> None:
-        """A command ends, and where it fails it names the log, and has changed nothing."""
+        """A command ends. Where it fails it names the log; and once the file is back, all records are there."""
         done = self.program.run("log", *words, input=b"four\n", timeout=20)
-        self.assertIn(done.returncode, (0, 1, 3), done.stderr)
-        if done.returncode == 0:
-            return self.assertNotIn(place.name, ("tail.log", FIRST))
-        self.assertIn(b"events", done.stderr + done.stdout)
+        self.assertIn(done.returncode, (1, 3) if place.name == "tail.log" else (0, 1, 3), done.stderr)
+        if done.returncode != 0:
+            self.assertIn(b"events", done.stderr + done.stdout)
         self.put_back(place)
-        self.assertEqual(self.records(), TEXT)
+        self.assertIn(self.records(), (TEXT, TEXT + b"four\n") if done.returncode == 0 else (TEXT,))
 
     def test_nothing_is_waited_for_or_lost(self):
         for name in PLACES:

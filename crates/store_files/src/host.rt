@@ -99,7 +99,10 @@ impl SystemFiles for HostFiles {
     }
 
     fn is_blocked(&self, path: &str) -> bool {
-        let is_blocked = fs::metadata(&self.rt, path).is_ok_and(|found| !found.is_file());
+        let is_blocked = match found_at(&self.rt, path) {
+            Ok(Some(found)) => !found.is_file(),
+            _ => false,
+        };
         if is_blocked {
             self.pool.cause.set(Some(ErrorKind::InvalidInput.into()));
         }

@@ -79,7 +79,7 @@ pub trait SystemFiles: Drop {
     /// Makes a folder: `mkdir`.
     fn make_folder(&self, path: &str) -> io::Result<()>;
 
-    /// Whether something is there that is no plain file, where links lead: `stat`.
+    /// Whether something is there that is no plain file, or a link: `lstat`.
     fn is_blocked(&self, path: &str) -> bool;
 
     /// What is at a path, where a link is not followed: `lstat`. None where nothing is.
