@@ -162,8 +162,8 @@ impl<S: SystemFiles> DiskFolder<S> {
         path_of(self.alloc, self.path.as_str(), name)
     }
 
-    /// The path of the file of this name. What is there and is no plain file is refused: a pipe would be waited for, and
-    /// what a link leads to is no file of the folder.
+    /// The path of the file of this name. What is there and is no plain file is refused: a pipe would be waited for,
+    /// and what a link leads to is no file of the folder.
     pub(crate) fn path_of(&self, name: &str) -> io::Result<String>
         ensures kind { IfErr result (λ e. error_kind e ≢ ErrorKind.NotFound) }
         ensures path { IfOk result (λ path. IsPath self.now.path name.now (string_bytes path)) }
