@@ -9,8 +9,10 @@ import time
 
 from program.log_case import LogCase
 
-# For how long, and how many readers of each kind there are.
+# For how long at least, and how many readers of each kind there are.
 SECONDS = float(os.environ.get("ZEVKHADUN_READER_SECONDS", "12"))
+# By then a slow machine has dropped records and read some.
+MOST_SECONDS = SECONDS + 300
 READERS = 2
 # How many records an append brings, and how many a drop leaves at least.
 BATCH = 200
@@ -74,6 +76,11 @@ class Beside(LogCase):
                 self.faults.append(repr(fault))
                 return
 
+    def is_enough(self, seconds: float) -> bool:
+        """Whether readers have read some records after so many seconds, and some were dropped."""
+        has_read = min(self.reads["got"], self.reads["printed"]) > 10
+        return seconds > MOST_SECONDS or (seconds > SECONDS and has_read and self.dropped > 0)
+
     def write_some(self, turn: int) -> None:
         """Appends records, and changes the files that have them."""
         more = b"".join(b"%d\n" % number for number in range(self.acknowledged, self.acknowledged + BATCH))
@@ -93,8 +100,8 @@ class Beside(LogCase):
                    for call in (self.get_one, self.print_all) for _ in range(READERS)]
         for reader in readers:
             reader.start()
-        turn, end = 1, time.monotonic() + SECONDS
-        while time.monotonic() < end and not self.faults:
+        turn, begin = 1, time.monotonic()
+        while not self.faults and not self.is_enough(time.monotonic() - begin):
             turn += 1
             self.write_some(turn)
         self.is_over = True
