@@ -77,7 +77,7 @@ class Beside(LogCase):
                 return
 
     def is_enough(self, seconds: float) -> bool:
-        """Whether readers have read some records after so many seconds, and some were dropped."""
+        """Whether, after these seconds, readers have read some records, and some were dropped."""
         has_read = min(self.reads["got"], self.reads["printed"]) > 10
         return seconds > MOST_SECONDS or (seconds > SECONDS and has_read and self.dropped > 0)
 
