@@ -13,6 +13,7 @@ STRANGERS = {
     "a folder": os.mkdir,
     "a link to nothing": lambda path: os.symlink("nowhere", path),
     "a link to a device": lambda path: os.symlink("/dev/zero", path),
+    "a link to the file that was there": lambda path: os.symlink(path.parent.parent / "sound" / path.name, path),
 }
 PLACES = ("tail.log", FIRST, "lock", "tail.log.part", "%020d.store.part" % 2)
 COMMANDS = (
@@ -53,6 +54,8 @@ class Strangers(LogCase):
         if done.returncode != 0:
             self.assertIn(b"events", done.stderr + done.stdout)
         self.put_back(place)
+        if done.returncode == 0 and words[0] == "cat":
+            self.assertEqual(done.stdout, TEXT)
         self.assertIn(self.records(), (TEXT, TEXT + b"four\n") if done.returncode == 0 else (TEXT,))
 
     def test_nothing_is_waited_for_or_lost(self):

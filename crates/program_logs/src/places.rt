@@ -2,7 +2,7 @@
 
 use crate::log_refusal::NO_TAIL;
 use crate::opened_log::{OpenedLog, TailOptions};
-use crate::segments::segment_numbers;
+use crate::segments::{reported, segment_numbers};
 use program_base::failure::FailureCause;
 use segmented_log::{Commit, TAIL};
 use std::alloc::{AllocError, Global};
@@ -22,12 +22,13 @@ pub fn file_in(alloc: Global, folder: &str, name: &str) -> Result<String, AllocE
     format!(in alloc; "{folder}/{name}")
 }
 
-/// How many bytes the tail of a log has; none where there is no tail.
+/// How many bytes the tail of a log has; none where there is no tail. One that is no plain file is reported, and an
+/// error.
 pub fn tail_bytes(rt: &HostRuntime, folder: &str) -> Result<Option<u64>, FailureCause> {
     let path = file_in(rt.alloc(), folder, TAIL)?;
-    match fs::metadata(rt, path.as_str()) {
+    match fs::symlink_metadata(rt, path.as_str()) {
         Ok(found) if found.is_file() => Ok(Some(found.len())),
-        Ok(_) => Ok(None),
+        Ok(_) => Err(reported(rt, path.as_str())),
         Err(error) if error.kind() == ErrorKind::NotFound => Ok(None),
         Err(error) => Err(FailureCause::System(error)),
     }

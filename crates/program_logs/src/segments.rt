@@ -8,8 +8,8 @@ use std::path::AsPath;
 use std::{fs, io};
 use store_files::CreateError;
 
-// Reports that a file is no plain one.
-fn reported(rt: &HostRuntime, path: &str) -> FailureCause {
+/// Reports that a file is no plain one.
+pub fn reported(rt: &HostRuntime, path: &str) -> FailureCause {
     let cause = FailureCause::Create(CreateError::NotPlainFile);
     let status = Failure::at_file(rt.alloc(), path, cause).report(rt);
     FailureCause::Reported(status.unwrap_or(Status::Broken))
@@ -25,10 +25,9 @@ fn add_segment(
     let Some(number) = segment_number(entry.file_name()) else {
         return Ok(());
     };
-    match fs::metadata(rt, entry.path()) {
-        Ok(found) if !found.is_file() => Err(reported(rt, entry.path().path_text())),
-        // A writer may have removed it meanwhile.
-        _ => Ok(numbers.push(number)?),
+    match entry.file_type()?.is_file() {
+        true => Ok(numbers.push(number)?),
+        false => Err(reported(rt, entry.path().path_text())),
     }
 }
 

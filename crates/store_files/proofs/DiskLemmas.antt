@@ -238,6 +238,10 @@ appends_undone name bytes f len start old mid new was at long writes cuts = elim
   ]
 ]
 
+pub ok_map : {T E : Type 0} (r : Result T E) (P Q : Type 0) → (P → Q) → OnOk r P → OnOk r Q
+ok_map (Ok x) P Q f p = f p
+ok_map (Err e) P Q f p = tt
+
 -- what holds of a call that is Ok
 pub when_ok : {T E P : Type 0} (r : Result T E) → (IsTrue (is_ok r) → P) → OnOk r P
 when_ok (Ok x) holds = holds refl

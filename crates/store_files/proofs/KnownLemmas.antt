@@ -1,8 +1,8 @@
 -- What is known of the files stays so.
-use Rattle.std.proofs.Common.{le_of_eq, ◌≡◌, ◌≢◌, ◌⊎◌, inl, inr, ℕ, ◌≤◌, Bool, true, false, List, Option, Some, None, refl, sym, ◌∙◌, ap, subst, nat_eq, arith, IsTrue}
-use Rattle.std.specs.Prelude.{if◌then◌else◌, option_map}
+use Rattle.std.proofs.Common.{le_of_eq, ◌≡◌, ◌≢◌, ◌⊎◌, inl, inr, ℕ, ◌≤◌, Bool, true, false, List, [], Option, Some, None, refl, sym, ◌∙◌, ap, subst, nat_eq, arith, IsTrue}
+use Rattle.std.specs.Prelude.{if◌then◌else◌, option_map, is_some, not}
 use lib.Pointwise.{pointwise}
-use Rattle.store_files.specs.Disk.{Disk, seen, held, trusts}
+use Rattle.store_files.specs.Disk.{Change, Disk, replay, seen, held, trusts}
 use Rattle.store_files.specs.Steps.{Creates, Appends, SyncsFile, Renames, Removes, SyncsEntries}
 use Rattle.store_files.specs.Known.{Knows}
 use Rattle.std.specs.Prelude.{IfSome, IsSomeAnd, String, string_bytes}
@@ -17,7 +17,7 @@ use Rattle.store_files.specs.declared.knowledge.Standing.TheVariants.{Failed, Un
 
 -- ---- ranks
 
-not_failed : (a b : Standing) → rank a ≤ rank b → a ≢ Failed → b ≢ Failed
+pub not_failed : (a b : Standing) → rank a ≤ rank b → a ≢ Failed → b ≢ Failed
 not_failed Failed b le ne = absurd (ne refl)
 not_failed Unsynced Failed le ne = let no : ⊥ = omega (arith, le) in absurd no
 not_failed Unsynced Unsynced le ne = λ e. let no : ⊥ = cc in no
@@ -26,7 +26,7 @@ not_failed Synced Failed le ne = let no : ⊥ = omega (arith, le) in absurd no
 not_failed Synced Unsynced le ne = λ e. let no : ⊥ = cc in no
 not_failed Synced Synced le ne = λ e. let no : ⊥ = cc in no
 
-is_synced : (a b : Standing) → rank a ≤ rank b → a ≡ Synced → b ≡ Synced
+pub is_synced : (a b : Standing) → rank a ≤ rank b → a ≡ Synced → b ≡ Synced
 is_synced a Failed le e = let no : ⊥ = omega (arith, le, ap rank e) in absurd no
 is_synced a Unsynced le e = let no : ⊥ = omega (arith, le, ap rank e) in absurd no
 is_synced a Synced le e = refl
@@ -46,7 +46,7 @@ less known now was is d no_more fewer knows = record {
 }
 
 -- entries are not known to be on the disk
-not_kept : {P : Type 0} (entries : Bool) → entries ≡ false → IsTrue entries → P
+pub not_kept : {P : Type 0} (entries : Bool) → entries ≡ false → IsTrue entries → P
 not_kept entries none all = let no : ⊥ = cc in absurd no
 
 pub doubted : (known now : List ℕ → Standing) (was is : Bool) (d : Disk) → ((n : List ℕ) → now n ≡ known n) → is ≡ false → Knows known was d → Knows now is d
@@ -84,14 +84,14 @@ moved_is : (from to : List ℕ) (others : Standing) (known : List ℕ → Standi
 moved_is from to others known n = ap (λ (s : Standing). if pointwise nat_eq to n then known from else s) (forgets_is from others known n)
 
 -- nothing is under a name that is not read
-gone : (d : Disk) (n : List ℕ) → seen d n ≡ None → trusts d n
+pub gone : (d : Disk) (n : List ℕ) → seen d n ≡ None → trusts d n
 gone d n none f is = let no : ⊥ = of (d.file_of n) is none in absurd no
   where
     of : (x : Option ℕ) → x ≡ Some f → option_map d.bytes x ≡ None → ⊥
     of None e q = cc
     of (Some g) e q = cc
 
-gone_holds : (d : Disk) (n bytes : List ℕ) → seen d n ≡ None → held d n bytes → seen d n ≡ Some bytes
+pub gone_holds : (d : Disk) (n bytes : List ℕ) → seen d n ≡ None → held d n bytes → seen d n ≡ Some bytes
 gone_holds d n bytes none holds = let no : ⊥ = of (d.file_of n) holds.1 none in absurd no
   where
     of : (x : Option ℕ) → x ≡ Some holds.0 → option_map d.bytes x ≡ None → ⊥
@@ -245,6 +245,10 @@ entries_same ok known entries old new knows syncs = record {
 
 -- ---- a folder that is open
 
+-- of a folder that was not changed
+pub first : (known : List ℕ → Standing) (entries : Bool) (made : List Change) (start : Disk) → made ≡ [] → Knows known entries start → Knows known entries (replay made start)
+first known entries made start none so = subst (λ (list : List Change). Knows known entries (replay list start)) (sym none) so
+
 -- what holds of a system and a path holds of equal ones
 pub as_equal : {S : Type 0} (P : S → List ℕ → Type 0) (s t : S) (p q : List ℕ) → s ≡ t → p ≡ q → P s p → P t q
 as_equal P s t p q es ep holds = subst (λ (x : List ℕ). P t x) ep (subst (λ (y : _). P y p) es holds)
@@ -319,6 +323,15 @@ renamed_tracked old new folder from to opened_as number name (Some f) (Some o) n
         ∙ ap (λ (x : _). Some (number x)) (sym is.0)
   ];
 }
+
+-- a folder that may be changed is not only read
+pub not_read : {F P : Type 0} (lock : Option F) → not (is_some lock) ≡ false → not (is_some lock) ≡ true → P
+not_read None writable read = let no : ⊥ = cc in absurd no
+not_read (Some f) writable read = let no : ⊥ = cc in absurd no
+
+pub held_not_read : {F P : Type 0} (lock : Option F) → IsTrue (is_some lock) → not (is_some lock) ≡ true → P
+held_not_read None held read = let no : ⊥ = cc in absurd no
+held_not_read (Some f) held read = let no : ⊥ = cc in absurd no
 
 pub none_open : {T : Type 0} (P : T → Type 0) (o : Option T) → o ≡ None → IfSome o P
 none_open P o e = subst (λ (x : Option _). IfSome x P) (sym e) tt

@@ -4,3 +4,4 @@ pub mod ByteLemmas
 pub mod DiskLemmas
 pub mod StepLemmas
 pub mod KnownLemmas
+pub mod MarkedLemmas

@@ -5,6 +5,7 @@ use Rattle.store_files.specs.Disk.{Change, FileSynced, SyncFailed, Moved, Remove
 use Rattle.store_files.specs.Disk.{Disk, put, put_at, after, replay, Adds, Syncs, IsPossible}
 use Rattle.store_files.specs.Steps.{SyncsFile, Renames, Removes, SyncsEntries}
 use Rattle.store_files.proofs.DiskLemmas.{put_there, put_elsewhere, set_elsewhere, same_file, read_same, read_at, passes, stands, of_either, other_file}
+use Rattle.store_files.proofs.KnowledgeLemmas.{decided}
 
 -- ---- a file that is synced
 
@@ -176,6 +177,18 @@ synced_entries ok d = record {
 pub syncs_entries : (ok : Bool) (start : Disk) (old new : List Change) → Adds ok FolderSynced old new → SyncsEntries ok (replay old start) (replay new start)
 syncs_entries ok start old new adds =
     of_either ok FolderSynced start old new (λ done d. SyncsEntries done (replay old start) d) adds (λ done. synced_entries done (replay old start)) (same_entries (replay old start))
+
+-- the sync of a folder, which may be this one
+pub syncs_beside : (ok : Bool) (start : Disk) (above d : List ℕ) (old new : List Change) → (above ≡ d → Adds ok FolderSynced old new) → (above ≢ d → new ≡ old)
+    → SyncsEntries false (replay old start) (replay new start)
+syncs_beside ok start above d old new here elsewhere = syncs_entries false start old new (elim (decided above d) [
+  | inl e ↦ made_or_not ok (here e)
+  | inr ne ↦ inl (elsewhere ne)
+])
+  where
+    made_or_not : (ok : Bool) → Adds ok FolderSynced old new → Adds false FolderSynced old new
+    made_or_not true made = inr made
+    made_or_not false made = made
 
 -- a sync is no less of one that is reported as failed
 syncs_less : (name : List ℕ) (old new : Disk) → SyncsFile name true old new → SyncsFile name false old new

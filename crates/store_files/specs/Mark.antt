@@ -1,8 +1,10 @@
 -- The mark that a writer leaves for the next one: what it claims of the files, and its bytes.
-use Rattle.std.specs.Prelude.{◌≡◌, ◌≢◌, ◌≤◌, ℕ, Bool, true, false, List, [], ◌∷◌, ◌++◌, IsTrue, if◌then◌else◌, nat_eq, codes, map, Vec}
+use Rattle.std.specs.Prelude.{◌≡◌, ◌≢◌, ◌≤◌, ℕ, Bool, true, false, List, [], ◌∷◌, ◌++◌, Some, IsTrue, if◌then◌else◌, nat_eq, codes, map, Vec}
 use Rattle.std.specs.List.{list_any}
 use Rattle.std.specs.declared.alloc.Global.{Global}
 use lib.Pointwise.{pointwise}
+use Rattle.store_files.specs.Disk.{Disk, seen, held, trusts}
+use Rattle.store_files.specs.Known.{Claims}
 use Rattle.store_files.specs.Knowledge.{is_part, rank, known_by}
 use Rattle.store_files.specs.declared.knowledge.Standing.{Standing}
 use Rattle.store_files.specs.declared.knowledge.Standing.TheVariants.{Failed, Unsynced, Synced}
@@ -31,6 +33,9 @@ named names n = list_any (λ (name : Vec ℕ Global). pointwise nat_eq name.item
 abbrev pub claimed : Mark → List ℕ → Standing
 claimed mark n = if is_part n then Failed else (if named mark.names.items n then Failed else others_of mark.kind)
 
+abbrev pub claims_of : Mark → Claims
+claims_of mark = record { files = claimed mark; entries = claims_entries mark.kind }
+
 -- A mark claims no more than this, which is known.
 pub record ClaimsNoMore (mark : Mark) (others : Standing) (known : List ℕ → Standing) (entries : Bool) : Type 0 where
   pub files : (n : List ℕ) → rank (claimed mark n) ≤ rank (known n)
@@ -46,6 +51,16 @@ Covers mark known (Moved from to) = (mark.kind ≢ Ended) × (rank (claimed mark
 Covers mark known (Removed name) = mark.kind ≢ Ended
 Covers mark known (FileSynced name) = Unit {0}
 Covers mark known FolderSynced = Unit {0}
+
+-- What may be done in a folder, so that what is claimed of it stays so.
+abbrev pub Permits : Claims → Disk → Doing → Type 0
+Permits c d (Created name) = (c.entries ≡ false) × (c.files name.now ≡ Failed)
+Permits c d (Appended name) = c.files name.now ≡ Failed
+Permits c d (SyncFailed name) = c.files name.now ≡ Failed
+Permits c d (Moved from to) = (c.entries ≡ false) × (c.files to.now ≢ Failed → trusts d from.now) × ((bytes : List ℕ) → c.files to.now ≡ Synced → held d from.now bytes → seen d from.now ≡ Some bytes)
+Permits c d (Removed name) = c.entries ≡ false
+Permits c d (FileSynced name) = Unit {0}
+Permits c d FolderSynced = Unit {0}
 
 -- Each of these doings may be done under the mark. They are the last of them first.
 abbrev pub CoversAll : Mark → Standing → (List ℕ → Standing) → List Doing → Type 0

@@ -19,6 +19,10 @@ pub record IsPath (folder name path : List ℕ) : Type 0 where
   pub is_name : IsFileName name
   pub joined : path ≡ folder ++ slash ∷ name
 
+-- the path of the file by which a writer keeps others out
+abbrev pub lock_of : List ℕ → List ℕ
+lock_of folder = folder ++ codes "/lock"
+
 -- It is the path of a file in this folder.
 abbrev pub IsIn : List ℕ → List ℕ → Type 0
 IsIn folder path = (name : List ℕ) × IsPath folder name path

@@ -1,6 +1,6 @@
 //! A folder on disk that has one writer.
 
-ghost use Rattle.std.specs.Prelude.{◌≡◌, ◌≢◌, ◌≤◌, ℕ, List, Some, IsTrue, IfOk, IfErr, OnErr, string_bytes};
+ghost use Rattle.std.specs.Prelude.{◌≡◌, ◌≢◌, ◌≤◌, ℕ, List, [], Some, IsTrue, false, IfOk, IfErr, OnErr, string_bytes};
 ghost use Rattle.std.specs.IoError.{error_kind};
 ghost use Rattle.store_base.specs.Counts.{HasRisen};
 ghost use Rattle.store_files.specs.Disk.{replay, seen, held, trusts};
@@ -42,12 +42,14 @@ pub struct DiskFolder<S: SystemFiles> {
     pub(crate) failures: u64,
 }
 
-/// Clauses see the system, the path, whether it is locked, and how often a call failed.
+/// Clauses see the system, the path, whether it is locked, open to be read alone and keeps a mark, and how often a call
+/// failed.
 impl<S: SystemFiles> Model for DiskFolder<S> {
-    ghost use Rattle.std.specs.Prelude.{IsTrue, IfSome, false, option_map, string_bytes, unwrap_or};
+    ghost use Rattle.std.specs.Prelude.{◌≡◌, [], IsTrue, IfSome, true, false, is_some, not, option_map, string_bytes};
+    ghost use Rattle.std.specs.Prelude.{unwrap_or};
     ghost use Rattle.store_files.specs.Disk.{replay};
     ghost use Rattle.store_files.specs.Knowledge.{said};
-    ghost use Rattle.store_files.specs.Opened.{Opened, IsReady, IsTracked};
+    ghost use Rattle.store_files.specs.Opened.{Opened, IsReady, IsTracked, IsMarked};
 
     ghost Value = { Opened S };
 
@@ -55,6 +57,8 @@ impl<S: SystemFiles> Model for DiskFolder<S> {
       system = f.system;
       path = string_bytes f.path;
       is_locked = unwrap_or (option_map S.is_locked f.mark.lock) false;
+      is_read_only = not (is_some f.mark.lock);
+      keeps_mark = f.mark.is_kept;
       failures = f.failures;
     } };
 
@@ -63,7 +67,12 @@ impl<S: SystemFiles> Model for DiskFolder<S> {
         (string_bytes f.path) (S.opened_as f.folder) (said f.mark.knowledge) f.mark.knowledge.has_kept_entries)
         × IfSome f.open_file (λ o. IsTracked
         (replay (S.changes f.system (string_bytes f.path)) (S.start (string_bytes f.path))) (string_bytes f.path)
-        (string_bytes o.name) (S.opened_as o.file) (S.number o.file)) };
+        (string_bytes o.name) (S.opened_as o.file) (S.number o.file))
+        × (not (is_some f.mark.lock) ≡ true → S.changes f.system (string_bytes f.path) ≡ [])
+        × (f.mark.is_kept ≡ true → IsMarked (option_map S.locks f.mark.lock) (option_map S.place f.mark.lock)
+        (S.was_so f.system (string_bytes f.path)) (S.claims f.system (string_bytes f.path))
+        (replay (S.changes f.system (string_bytes f.path)) (S.start (string_bytes f.path))) (string_bytes f.path)
+        f.mark.boot.items (string_bytes f.mark.inode) f.mark.mark) };
 }
 
 // Counts a call that failed.
@@ -85,8 +94,11 @@ impl<S: SystemFiles> DiskFolder<S> {
     ///
     /// `Busy` where another has it open, and those of the system.
     pub fn create(alloc: Global, system: S, path: &str) -> Result<DiskFolder<S>, CreateError>
+        requires unchanged { IsTrue S.honest → S.changes system path.now ≡ [] }
         ensures path { IfOk result (λ f. f.path ≡ path.now) }
         ensures locked { IfOk result (λ f. IsTrue f.is_locked) }
+        ensures writable { IfOk result (λ f. f.is_read_only ≡ false) }
+        ensures marked { IfOk result (λ f. IsTrue f.keeps_mark) }
         ensures failures { IfOk result (λ f. f.failures ≡ 0) }
     {
         match system.make_folder(path) {
@@ -94,10 +106,22 @@ impl<S: SystemFiles> DiskFolder<S> {
             Err(error) if error.kind() == ErrorKind::AlreadyExists => {}
             Err(error) => return Err(CreateError::System(error)),
         }
-        let mut system = system;
-        let above = open_folder(&system, folder_of(path.trim_end_matches('/')))?;
-        system.sync_folder(&above)?;
-        DiskFolder::open(alloc, system, path)
+        let mut folder = DiskFolder::open(alloc, system, path)?;
+        folder.sync_above()?;
+        Ok(folder)
+    }
+
+    // Syncs the folder that this one is in.
+    fn sync_above(&mut self) -> Result<(), CreateError>
+        ensures path { self.new.path ≡ self.old.path }
+        ensures locked { self.new.is_locked ≡ self.old.is_locked }
+        ensures writable { self.new.is_read_only ≡ self.old.is_read_only }
+        ensures marked { self.new.keeps_mark ≡ self.old.keeps_mark }
+        ensures failures { self.new.failures ≡ self.old.failures }
+    {
+        let above = open_folder(&self.system, folder_of(self.path.trim_end_matches('/')))?;
+        self.mark.check_lock()?;
+        self.system.sync_folder(&above).map_err(CreateError::from)
     }
 
     /// Opens the folder of this path.
@@ -106,9 +130,12 @@ impl<S: SystemFiles> DiskFolder<S> {
     ///
     /// `Busy` where another has it open, `Blocked` where `lock` is no plain file, and those of the system.
     pub fn open(alloc: Global, system: S, path: &str) -> Result<DiskFolder<S>, CreateError>
+        requires unchanged { IsTrue S.honest → S.changes system path.now ≡ [] }
         ensures system { IfOk result (λ f. f.system ≡ system) }
         ensures path { IfOk result (λ f. f.path ≡ path.now) }
         ensures locked { IfOk result (λ f. IsTrue f.is_locked) }
+        ensures writable { IfOk result (λ f. f.is_read_only ≡ false) }
+        ensures marked { IfOk result (λ f. IsTrue f.keeps_mark) }
         ensures failures { IfOk result (λ f. f.failures ≡ 0) }
     {
         let folder = system.open_folder(path)?;
@@ -136,8 +163,10 @@ impl<S: SystemFiles> DiskFolder<S> {
     ///
     /// Those of the system.
     pub fn open_to_read(alloc: Global, system: S, path: &str) -> io::Result<DiskFolder<S>>
+        requires unchanged { IsTrue S.honest → S.changes system path.now ≡ [] }
         ensures system { IfOk result (λ f. f.system ≡ system) }
         ensures path { IfOk result (λ f. f.path ≡ path.now) }
+        ensures read_only { IfOk result (λ f. IsTrue f.is_read_only) }
         ensures failures { IfOk result (λ f. f.failures ≡ 0) }
     {
         let folder = system.open_folder(path)?;
@@ -152,6 +181,22 @@ impl<S: SystemFiles> DiskFolder<S> {
             output: None,
             failures: 0,
         })
+    }
+
+    /// Whether it is open to be read alone. Then no call has changed it.
+    pub fn is_read_only(&self) -> bool
+        ensures answer { result ≡ self.now.is_read_only }
+        ensures unchanged { IsTrue S.honest → IsTrue result → S.changes self.now.system self.now.path ≡ [] }
+    {
+        self.mark.lock.is_none()
+    }
+
+    /// Whether it leaves a mark for the next writer. What the mark claims was so at each moment since it was opened.
+    pub fn keeps_mark(&self) -> bool
+        ensures answer { result ≡ self.now.keeps_mark }
+        ensures so { IsTrue S.honest → IsTrue result → S.was_so self.now.system self.now.path }
+    {
+        self.mark.is_kept
     }
 
     /// The path of the file of this name.
@@ -177,6 +222,7 @@ impl<S: SystemFiles> DiskFolder<S> {
 
     // Whether the last writer left this file on the disk. Where that can't be read it is not known.
     fn is_left_synced(&self, name: &str) -> bool
+        requires unchanged { IsTrue S.honest → S.changes self.now.system self.now.path ≡ [] }
         ensures trusted { IsTrue S.honest → IsTrue result
             → trusts (replay (S.changes self.now.system self.now.path) (S.start self.now.path)) name.now }
         ensures durable { IsTrue S.honest → IsTrue result → (bytes : List ℕ)
@@ -254,11 +300,11 @@ impl<S: SystemFiles> Folder for DiskFolder<S> {
     }
 
     fn is_synced(&self, name: &str) -> bool {
-        match &self.mark.lock {
-            Some(_) => self.mark.knowledge.is_synced(name),
-            // What is known is asked for now: a writer may be at work beside.
-            None => self.is_left_synced(name),
+        // What is known is asked for now, where a writer may be at work beside.
+        if self.is_read_only() {
+            return self.is_left_synced(name);
         }
+        self.mark.knowledge.is_synced(name)
     }
 
     fn has_kept_entries(&self) -> bool {
@@ -283,12 +329,11 @@ impl<S: SystemFiles> Drop for DiskFolder<S> {
             return output.remove_beside(&mut system, &mark);
         }
         if let Some(open) = open_file {
-            sync_cut(&mut system, &mut mark, &open);
+            sync_cut(alloc, &mut system, &mut mark, &open);
         }
         if mark.has_end() {
-            if let Ok(mut names) = system.names(alloc, path.as_str()) {
-                names.retain(|name| !name.ends_with(".part"));
-                let _ = mark.end(&system, &names);
+            if let Ok(names) = system.names(alloc, path.as_str()) {
+                let _ = mark.end(&mut system, &names);
             }
         }
     }

@@ -2,6 +2,7 @@
 
 use crate::file_pool::{FilePool, PooledFile};
 use crate::lock_mark::{found_mark, replace_bytes};
+use crate::mark::Mark;
 use crate::names::file_names;
 use crate::system_files::{FileKind, FoundFile, FoundMark, SystemFiles};
 use std::alloc::{AllocError, Global};
@@ -73,8 +74,9 @@ fn described(found: &Metadata) -> FoundFile {
 
 /// Each call is the one of its name. Nothing is claimed of what the system does.
 impl SystemFiles for HostFiles {
-    ghost use Rattle.std.specs.Prelude.{[], true, false};
+    ghost use Rattle.std.specs.Prelude.{[], None, true, false};
     ghost use Rattle.store_files.specs.Disk.{unknown, unknown_is_sound};
+    ghost use Rattle.store_files.specs.declared.knowledge.Standing.TheVariants.{Failed};
 
     type File = File;
 
@@ -91,6 +93,14 @@ impl SystemFiles for HostFiles {
     ghost number = { λ _. 0 };
 
     ghost is_locked = { λ _. true };
+
+    ghost locks = { λ _. None };
+
+    ghost place = { λ _. ([], []) };
+
+    ghost claims = { λ _ _. record { files = λ _. Failed; entries = false } };
+
+    ghost was_so = { λ _ _. Unit {0} };
 
     ghost sound = { λ _ _. unknown_is_sound };
 
@@ -216,8 +226,15 @@ impl SystemFiles for HostFiles {
         found_mark(&self.rt, alloc, lock, lock_path)
     }
 
-    fn write_mark(&self, lock: &mut File, bytes: &[u8]) -> io::Result<()> {
-        self.noted(replace_bytes(lock, bytes))
+    fn write_mark(
+        &mut self,
+        lock: &mut File,
+        boot: &[u8],
+        inode: &str,
+        mark: &Mark,
+    ) -> io::Result<()> {
+        let bytes = mark.to_bytes(self.rt.alloc(), boot, inode.as_bytes())?;
+        self.noted(replace_bytes(lock, &bytes))
     }
 
     fn names(&self, alloc: Global, path: &str) -> io::Result<Vec<String>> {

@@ -3,10 +3,14 @@
 //!
 //! It is never synced. After a restart of the machine it tells nothing, and in a copy of the folder neither.
 
-ghost use Rattle.std.specs.Prelude.{◌≡◌, ℕ, List, Some, IsTrue, IfOk, false, option_map, unwrap_or};
+ghost use Rattle.std.specs.Prelude.{◌≡◌, ◌≢◌, ℕ, List, [], Some, IsTrue, IsSomeAnd, IfOk, OnOk, true, false, is_some};
+ghost use Rattle.std.specs.Prelude.{map, option_map, string_bytes, unwrap_or};
+ghost use Rattle.store_folder.specs.Folder.{AreNames};
 ghost use Rattle.store_files.specs.Disk.{replay, seen, held, trusts};
-ghost use Rattle.store_files.specs.Knowledge.{said, after, entries_after, IsOf};
-ghost use Rattle.store_files.specs.Mark.{claimed, claims_entries};
+ghost use Rattle.store_files.specs.Knowledge.{said};
+ghost use Rattle.store_files.specs.Known.{Knows, AreSo};
+ghost use Rattle.store_files.specs.Mark.{claimed, claims_entries, claims_of, Covers};
+ghost use Rattle.store_files.specs.Opened.{IsMarked};
 
 use crate::knowledge::{Doing, Knowledge, Standing};
 use crate::loading::read_all;
@@ -28,13 +32,13 @@ pub(crate) struct LockMark<S: SystemFiles> {
     alloc: Global,
     /// The lock. None where the folder is only read.
     pub(crate) lock: Option<S::File>,
-    boot: Vec<u8>,
-    inode: String,
-    // None where a write of it failed.
-    mark: Option<Mark>,
+    pub(crate) boot: Vec<u8>,
+    pub(crate) inode: String,
+    /// None where a write of it failed.
+    pub(crate) mark: Option<Mark>,
     pub(crate) knowledge: Knowledge,
-    // Whether there is a file for it.
-    is_kept: bool,
+    /// Whether there is a file for it.
+    pub(crate) is_kept: bool,
     has_changed: bool,
 }
 
@@ -86,6 +90,9 @@ impl<S: SystemFiles> LockMark<S> {
         ensures lock { IfOk result (λ m. m.lock ≡ lock) }
         ensures files { IfOk result (λ m. (n : List ℕ) → said m.knowledge n ≡ claimed found.mark n) }
         ensures entries { IfOk result (λ m. m.knowledge.has_kept_entries ≡ claims_entries found.mark.kind) }
+        ensures mark { IfOk result (λ m. m.mark ≡ Some found.mark) }
+        ensures place { IfOk result (λ m. (m.boot ≡ found.boot) × (m.inode ≡ found.inode)) }
+        ensures kept { IfOk result (λ m. IsTrue m.is_kept) }
     {
         let FoundMark { mark, boot, inode } = found;
         let knowledge = Knowledge::after(alloc, &mark)?;
@@ -106,6 +113,7 @@ impl<S: SystemFiles> LockMark<S> {
         ensures lock { result.lock ≡ lock }
         ensures files { (n : List ℕ) → said result.knowledge n ≡ Standing.Failed }
         ensures entries { result.knowledge.has_kept_entries ≡ false }
+        ensures unkept { result.is_kept ≡ false }
     {
         LockMark {
             alloc,
@@ -120,45 +128,84 @@ impl<S: SystemFiles> LockMark<S> {
     }
 
     // Replaces the mark.
-    fn replace(&mut self, system: &S, mark: Mark) -> io::Result<()>
+    fn replace(&mut self, system: &mut S, mark: Mark) -> io::Result<()>
+        requires { IsTrue S.honest → (d : List ℕ) → option_map S.locks self.old.lock ≡ Some (Some d)
+            → AreSo (claims_of mark) (replay (S.changes system.old d) (S.start d)) }
+        ensures marked { IsTrue S.honest → (d : List ℕ) → IsMarked
+            (option_map S.locks self.old.lock) (option_map S.place self.old.lock) (S.was_so system.old d)
+            (S.claims system.old d) (replay (S.changes system.old d) (S.start d)) d self.old.boot.items
+            (string_bytes self.old.inode) self.old.mark
+            → IsMarked (option_map S.locks self.new.lock) (option_map S.place self.new.lock) (S.was_so system.new d)
+            (S.claims system.new d) (replay (S.changes system.new d) (S.start d)) d self.new.boot.items
+            (string_bytes self.new.inode) self.new.mark }
+        ensures written { OnOk result (self.new.mark ≡ Some mark) }
         ensures knowledge { self.new.knowledge ≡ self.old.knowledge }
+        ensures kept { self.new.is_kept ≡ self.old.is_kept }
+        ensures held { is_some self.new.lock ≡ is_some self.old.lock }
         ensures lock { unwrap_or (option_map S.is_locked self.new.lock) false
             ≡ unwrap_or (option_map S.is_locked self.old.lock) false }
+        ensures changes { S.changes system.new ≡ S.changes system.old }
     {
-        let bytes = mark.to_bytes(self.alloc, &self.boot, self.inode.as_bytes())?;
         let Some(lock) = &mut self.lock else {
             return Err(ErrorKind::PermissionDenied.into());
         };
         self.mark = None;
-        system.write_mark(lock, &bytes)?;
+        system.write_mark(lock, &self.boot, self.inode.as_str(), &mark)?;
         self.mark = Some(mark);
         Ok(())
     }
 
     /// Fails where the folder is only read.
-    pub(crate) fn check_lock(&self) -> io::Result<()> {
+    pub(crate) fn check_lock(&self) -> io::Result<()>
+        ensures { OnOk result (IsTrue (is_some self.now.lock)) }
+    {
         match &self.lock {
             Some(_) => Ok(()),
             None => Err(ErrorKind::PermissionDenied.into()),
         }
     }
 
+    // Whether this may be done under the mark.
+    fn is_enough(&self, doing: &Doing<'_>) -> bool
+        ensures { IsTrue result → IsSomeAnd self.now.mark (λ m. Covers m (said self.now.knowledge) doing.now) }
+    {
+        match &self.mark {
+            Some(mark) => mark.is_enough(&self.knowledge, doing),
+            None => false,
+        }
+    }
+
     /// Replaces the mark, unless this may be done under it, and returns whether it did. It is called before the system
     /// is.
-    pub(crate) fn begin(&mut self, system: &S, doing: &Doing<'_>) -> io::Result<bool>
+    pub(crate) fn begin(&mut self, system: &mut S, doing: &Doing<'_>) -> io::Result<bool>
+        requires { IsTrue S.honest → self.old.is_kept ≡ true → (d : List ℕ)
+            → option_map S.locks self.old.lock ≡ Some (Some d)
+            → Knows (said self.old.knowledge) self.old.knowledge.has_kept_entries
+            (replay (S.changes system.old d) (S.start d)) }
+        ensures marked { IsTrue S.honest → self.old.is_kept ≡ true → (d : List ℕ) → IsMarked
+            (option_map S.locks self.old.lock) (option_map S.place self.old.lock) (S.was_so system.old d)
+            (S.claims system.old d) (replay (S.changes system.old d) (S.start d)) d self.old.boot.items
+            (string_bytes self.old.inode) self.old.mark
+            → IsMarked (option_map S.locks self.new.lock) (option_map S.place self.new.lock) (S.was_so system.new d)
+            (S.claims system.new d) (replay (S.changes system.new d) (S.start d)) d self.new.boot.items
+            (string_bytes self.new.inode) self.new.mark }
+        ensures covered { self.old.is_kept ≡ true
+            → OnOk result (IsSomeAnd self.new.mark (λ m. Covers m (said self.old.knowledge) doing.now)) }
         ensures knowledge { self.new.knowledge ≡ self.old.knowledge }
+        ensures kept { self.new.is_kept ≡ self.old.is_kept }
+        ensures held { OnOk result (IsTrue (is_some self.new.lock)) }
+        ensures same { is_some self.new.lock ≡ is_some self.old.lock }
         ensures lock { unwrap_or (option_map S.is_locked self.new.lock) false
             ≡ unwrap_or (option_map S.is_locked self.old.lock) false }
+        ensures changes { S.changes system.new ≡ S.changes system.old }
     {
         self.check_lock()?;
         if !self.is_kept {
             return Ok(false);
         }
         self.has_changed = true;
-        if let Some(mark) = &self.mark {
-            if mark.is_enough(&self.knowledge, doing) {
-                return Ok(false);
-            }
+        if self.is_enough(doing) {
+            return Ok(false);
         }
         if self.knowledge.others() == Standing::Failed {
             return Err(ErrorKind::OutOfMemory.into());
@@ -170,45 +217,49 @@ impl<S: SystemFiles> LockMark<S> {
 
     /// Replaces the mark by one of what is known now: a file that was synced is not named any more, or the next writer
     /// would refuse it if this one is killed.
-    pub(crate) fn renew(&mut self, system: &S) -> io::Result<()>
+    pub(crate) fn renew(&mut self, system: &mut S) -> io::Result<()>
+        requires { IsTrue S.honest → self.old.is_kept ≡ true → (d : List ℕ)
+            → option_map S.locks self.old.lock ≡ Some (Some d)
+            → Knows (said self.old.knowledge) self.old.knowledge.has_kept_entries
+            (replay (S.changes system.old d) (S.start d)) }
+        ensures marked { IsTrue S.honest → (d : List ℕ) → IsMarked
+            (option_map S.locks self.old.lock) (option_map S.place self.old.lock) (S.was_so system.old d)
+            (S.claims system.old d) (replay (S.changes system.old d) (S.start d)) d self.old.boot.items
+            (string_bytes self.old.inode) self.old.mark
+            → IsMarked (option_map S.locks self.new.lock) (option_map S.place self.new.lock) (S.was_so system.new d)
+            (S.claims system.new d) (replay (S.changes system.new d) (S.start d)) d self.new.boot.items
+            (string_bytes self.new.inode) self.new.mark }
         ensures knowledge { self.new.knowledge ≡ self.old.knowledge }
+        ensures kept { self.new.is_kept ≡ self.old.is_kept }
+        ensures held { is_some self.new.lock ≡ is_some self.old.lock }
         ensures lock { unwrap_or (option_map S.is_locked self.new.lock) false
             ≡ unwrap_or (option_map S.is_locked self.old.lock) false }
+        ensures changes { S.changes system.new ≡ S.changes system.old }
     {
-        if self.knowledge.others() == Standing::Failed {
+        if !self.is_kept || self.knowledge.others() == Standing::Failed {
             return Ok(());
         }
         let mark = mark_before(self.alloc, &self.knowledge, &Doing::FolderSynced)?;
         self.replace(system, mark)
     }
 
-    /// Keeps what was done.
-    pub(crate) fn note(&mut self, doing: &Doing<'_>)
-        ensures files { IsOf self.old.knowledge.others
-            (after doing.now self.old.knowledge.others (said self.old.knowledge)) self.new.knowledge.others
-            (said self.new.knowledge) }
-        ensures entries { self.new.knowledge.has_kept_entries
-            ≡ entries_after doing.now self.old.knowledge.has_kept_entries }
-    {
-        self.knowledge.note(self.alloc, doing);
-    }
-
-    /// Forgets that entries are on the disk, before the system changes some.
-    pub(crate) fn doubt_entries(&mut self)
-        ensures files { (n : List ℕ) → said self.new.knowledge n ≡ said self.old.knowledge n }
-        ensures others { self.new.knowledge.others ≡ self.old.knowledge.others }
-        ensures entries { self.new.knowledge.has_kept_entries ≡ false }
-    {
-        self.knowledge.doubt_entries();
-    }
-
     /// Whether the writer changed the folder, and knows of what it did.
-    pub(crate) fn has_end(&self) -> bool {
-        self.has_changed && self.knowledge.others() != Standing::Failed
+    pub(crate) fn has_end(&self) -> bool
+        ensures kept { IsTrue result → self.now.is_kept ≡ true }
+        ensures known { IsTrue result → self.now.knowledge.others ≢ Standing.Failed }
+    {
+        self.is_kept && self.has_changed && self.knowledge.others() != Standing::Failed
     }
 
     /// Leaves the mark for the next writer, in a folder of these files.
-    pub(crate) fn end(&mut self, system: &S, names: &[String]) -> io::Result<()> {
+    pub(crate) fn end(&mut self, system: &mut S, names: &[String]) -> io::Result<()>
+        requires kept { self.old.is_kept ≡ true }
+        requires known { self.old.knowledge.others ≢ Standing.Failed }
+        requires so { IsTrue S.honest → (d : List ℕ) → option_map S.locks self.old.lock ≡ Some (Some d)
+            → Knows (said self.old.knowledge) self.old.knowledge.has_kept_entries
+            (replay (S.changes system.old d) (S.start d))
+            × AreNames (seen (replay (S.changes system.old d) (S.start d))) (map string_bytes names.now) }
+    {
         let mark = end_mark(self.alloc, &self.knowledge, names)?;
         self.replace(system, mark)
     }
@@ -222,6 +273,7 @@ pub fn is_left_synced<S: SystemFiles>(
     folder: &str,
     name: &str,
 ) -> io::Result<bool>
+    requires unchanged { IsTrue S.honest → S.changes system.now folder.now ≡ [] }
     ensures trusted { IsTrue S.honest → IfOk result (λ is. IsTrue is
         → trusts (replay (S.changes system.now folder.now) (S.start folder.now)) name.now) }
     ensures durable { IsTrue S.honest → IfOk result (λ is. IsTrue is → (bytes : List ℕ)

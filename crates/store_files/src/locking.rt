@@ -1,6 +1,7 @@
 //! The lock by which a writer keeps others out.
 
-ghost use Rattle.std.specs.Prelude.{◌≡◌, IsTrue, IfOk, OnOk};
+ghost use Rattle.std.specs.Prelude.{◌≡◌, ℕ, List, Some, IsTrue, IfOk, OnOk};
+ghost use Rattle.store_files.specs.Paths.{lock_of};
 
 use crate::create_error::CreateError;
 use crate::system_files::{FileKind, SystemFiles};
@@ -71,7 +72,9 @@ pub(crate) fn locked<S: SystemFiles>(
     system: &S,
     path: &str,
 ) -> Result<S::File, CreateError>
-    ensures { IfOk result (λ file. IsTrue (S.is_locked file)) }
+    ensures locked { IfOk result (λ file. IsTrue (S.is_locked file)) }
+    ensures locks { IsTrue S.honest → (d : List ℕ) → path.now ≡ lock_of d
+        → IfOk result (λ file. S.locks file ≡ Some d) }
 {
     if system
         .find(path)?

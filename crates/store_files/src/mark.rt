@@ -2,7 +2,8 @@
 
 ghost use Rattle.std.specs.Prelude.{◌≡◌, ◌≢◌, ◌<◌, ◌≤◌, ◌⊎◌, ◌++◌, [], ◌∷◌, ℕ, List, length, All, IsTrue, IfOk, IfSome};
 ghost use Rattle.std.specs.Prelude.{OnOk, string_bytes};
-ghost use Rattle.store_files.specs.Knowledge.{said, rank};
+ghost use Rattle.std.specs.Prelude.{false};
+ghost use Rattle.store_files.specs.Knowledge.{is_part, said, rank};
 ghost use Rattle.store_files.specs.Mark.{others_of, claims_entries, named, claimed, Covers, ClaimsNoMore};
 ghost use Rattle.store_files.specs.Mark.{word, texts, fields, mark_bytes, IsMarkOf, IsBlank};
 
@@ -21,7 +22,7 @@ pub enum MarkKind {
 }
 
 /// A mark. Of the files that it names a sync may have failed.
-#[derive(Drop)]
+#[derive(Clone, Drop)]
 pub struct Mark {
     pub(crate) kind: MarkKind,
     pub(crate) names: Vec<Vec<u8>>,
@@ -143,12 +144,20 @@ pub fn mark_before(
     }
 }
 
-// Whether each of these files is on the disk.
+// Whether a file is on the disk, or lies beside another, so that no mark claims that it is.
+fn has_end(knowledge: &Knowledge, name: &str) -> bool
+    ensures { IsTrue result → is_part name.now ≡ false → said knowledge.now name.now ≡ Standing.Synced }
+{
+    is_beside(name.as_bytes()) || knowledge.is_synced(name)
+}
+
+// Whether each of these files is so.
 fn are_synced(knowledge: &Knowledge, names: &[String]) -> bool
-    ensures { IsTrue result → All (λ name. said knowledge.now (string_bytes name) ≡ Standing.Synced) names.now }
+    ensures { IsTrue result → All (λ name. is_part (string_bytes name) ≡ false
+        → said knowledge.now (string_bytes name) ≡ Standing.Synced) names.now }
 {
     for name in names {
-        let is_synced = knowledge.is_synced(name.as_str());
+        let is_synced = has_end(knowledge, name.as_str());
         if !is_synced {
             return false;
         }

@@ -1,15 +1,16 @@
 //! A file of a folder that is open, and the bytes that are written at its end.
 
-ghost use Rattle.std.specs.Prelude.{◌≡◌, ℕ, List, IsTrue, is_ok, string_bytes};
+ghost use Rattle.std.specs.Prelude.{◌≡◌, ℕ, List, Some, IsTrue, true, is_ok, option_map, string_bytes};
 ghost use Rattle.store_files.specs.Disk.{replay};
 ghost use Rattle.store_files.specs.Steps.{Appends};
-ghost use Rattle.store_files.specs.Opened.{IsTracked};
-ghost use Rattle.store_files.specs.Known.{Knows};
+ghost use Rattle.store_files.specs.Opened.{IsTracked, IsMarked};
+ghost use Rattle.store_files.specs.Known.{Knows, AreSo, KeepsMark};
 ghost use Rattle.store_files.specs.Knowledge.{said};
 
 use crate::knowledge::{Doing, Standing};
 use crate::lock_mark::LockMark;
 use crate::system_files::SystemFiles;
+use std::alloc::Global;
 use std::io;
 
 /// A file that is open.
@@ -36,6 +37,11 @@ pub(crate) fn append<S: SystemFiles>(
     ensures name { string_bytes open.new.name ≡ string_bytes open.old.name }
     ensures opened { S.opened_as open.new.file ≡ S.opened_as open.old.file }
     ensures number { S.number open.new.file ≡ S.number open.old.file }
+    ensures mark { IsTrue S.honest → (d n : List ℕ) → IsTracked (replay (S.changes system.old d) (S.start d)) d n
+        (S.opened_as open.old.file) (S.number open.old.file) → (S.claims system.old d).files n ≡ Standing.Failed
+        → AreSo (S.claims system.old d) (replay (S.changes system.old d) (S.start d))
+        → KeepsMark (S.claims system.old d) (S.claims system.new d) (S.was_so system.old d) (S.was_so system.new d)
+        (replay (S.changes system.new d) (S.start d)) }
 {
     let len = system.len(&open.file)?;
     match system.write(&mut open.file, bytes) {
@@ -49,26 +55,42 @@ pub(crate) fn append<S: SystemFiles>(
 
 /// Syncs a file of which what a failed write wrote was cut off, and that was not synced since.
 pub(crate) fn sync_cut<S: SystemFiles>(
+    alloc: Global,
     system: &mut S,
     mark: &mut LockMark<S>,
     open: &OpenFile<S::File>,
 )
-    ensures { IsTrue S.honest → (d : List ℕ) → IsTracked (replay (S.changes system.old d) (S.start d)) d
+    requires { IsTrue S.honest → mark.old.is_kept ≡ true → (d : List ℕ)
+        → option_map S.locks mark.old.lock ≡ Some (Some d)
+        → Knows (said mark.old.knowledge) mark.old.knowledge.has_kept_entries
+        (replay (S.changes system.old d) (S.start d)) }
+    ensures known { IsTrue S.honest → (d : List ℕ) → IsTracked (replay (S.changes system.old d) (S.start d)) d
         (string_bytes open.now.name) (S.opened_as open.now.file) (S.number open.now.file)
         → Knows (said mark.old.knowledge) mark.old.knowledge.has_kept_entries
         (replay (S.changes system.old d) (S.start d))
         → Knows (said mark.new.knowledge) mark.new.knowledge.has_kept_entries
         (replay (S.changes system.new d) (S.start d)) }
+    ensures marked { IsTrue S.honest → mark.old.is_kept ≡ true → (d : List ℕ) → IsTracked
+        (replay (S.changes system.old d) (S.start d)) d (string_bytes open.now.name) (S.opened_as open.now.file)
+        (S.number open.now.file) → Knows (said mark.old.knowledge) mark.old.knowledge.has_kept_entries
+        (replay (S.changes system.old d) (S.start d)) → IsMarked
+        (option_map S.locks mark.old.lock) (option_map S.place mark.old.lock) (S.was_so system.old d)
+        (S.claims system.old d) (replay (S.changes system.old d) (S.start d)) d mark.old.boot.items
+        (string_bytes mark.old.inode) mark.old.mark
+        → IsMarked (option_map S.locks mark.new.lock) (option_map S.place mark.new.lock) (S.was_so system.new d)
+        (S.claims system.new d) (replay (S.changes system.new d) (S.start d)) d mark.new.boot.items
+        (string_bytes mark.new.inode) mark.new.mark }
+    ensures kept { mark.new.is_kept ≡ mark.old.is_kept }
 {
     let name = open.name.as_str();
     if !open.is_cut || mark.knowledge.standing(name) != Standing::Unsynced {
         return;
     }
-    if mark.begin(&*system, &Doing::SyncFailed(name)).is_err() {
+    let Ok(_) = mark.begin(system, &Doing::SyncFailed(name)) else {
         return;
-    }
+    };
     match system.sync_file(&open.file) {
-        Ok(()) => mark.note(&Doing::FileSynced(name)),
-        Err(_) => mark.note(&Doing::SyncFailed(name)),
+        Ok(()) => mark.knowledge.note(alloc, &Doing::FileSynced(name)),
+        Err(_) => mark.knowledge.note(alloc, &Doing::SyncFailed(name)),
     }
 }

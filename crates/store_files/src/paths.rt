@@ -2,7 +2,7 @@
 
 ghost use Rattle.std.specs.Prelude.{◌≡◌, ◌≢◌, IfOk, IfErr, OnOk, string_bytes};
 ghost use Rattle.std.specs.IoError.{error_kind};
-ghost use Rattle.store_files.specs.Paths.{IsFileName, IsPath};
+ghost use Rattle.store_files.specs.Paths.{IsFileName, IsPath, lock_of};
 
 use std::alloc::Global;
 use std::io;
@@ -35,6 +35,8 @@ pub(crate) fn path_of(alloc: Global, folder: &str, name: &str) -> io::Result<Str
 }
 
 /// The path of the lock of a folder.
-pub(crate) fn lock_path_of(alloc: Global, folder: &str) -> io::Result<String> {
+pub(crate) fn lock_path_of(alloc: Global, folder: &str) -> io::Result<String>
+    ensures { IfOk result (λ path. string_bytes path ≡ lock_of folder.now) }
+{
     Ok(format!(in alloc; "{folder}/{LOCK}")?)
 }

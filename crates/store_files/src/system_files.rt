@@ -1,14 +1,14 @@
 //! The calls of a system by which files are kept, and what each of them promises.
 
-ghost use Rattle.std.specs.Prelude.{◌≡◌, ℕ, List, Bool, IsTrue, IfOk, IfErr, OnOk, is_ok, length, Some, None, map};
-ghost use Rattle.std.specs.Prelude.{string_bytes};
+ghost use Rattle.std.specs.Prelude.{◌≡◌, ◌≢◌, ℕ, List, [], Bool, IsTrue, IfOk, IfErr, OnOk, is_ok, length, Option};
+ghost use Rattle.std.specs.Prelude.{Some, None, map, string_bytes};
 ghost use Rattle.std.specs.IoError.{error_kind};
 ghost use Rattle.store_folder.specs.Folder.{AreNames};
-ghost use Rattle.store_files.specs.Paths.{IsPath, IsIn};
+ghost use Rattle.store_files.specs.Paths.{IsPath, IsIn, lock_of};
 ghost use Rattle.store_files.specs.Disk.{Change, Created, Moved, Removed, FolderSynced, Adds, Writes, Cuts, Syncs};
 ghost use Rattle.store_files.specs.Disk.{Disk, replay, seen, IsSound};
-ghost use Rattle.store_files.specs.Known.{Knows};
-ghost use Rattle.store_files.specs.Mark.{claimed, claims_entries};
+ghost use Rattle.store_files.specs.Known.{Claims, AreSo, Replaces, KeepsMarks};
+ghost use Rattle.store_files.specs.Mark.{claims_of};
 
 use crate::mark::Mark;
 use crate::read_at::ReadAt;
@@ -76,6 +76,18 @@ pub trait SystemFiles: Drop {
     /// the system.
     ghost is_locked: { Self.File → Bool };
 
+    /// The folder of which it is the file `lock`, if it is one.
+    ghost locks: { Self.File → Option (List ℕ) };
+
+    /// By which number of the machine's start, and of the file, a mark in it is believed.
+    ghost place: { Self.File → List ℕ × List ℕ };
+
+    /// What the mark claims that is in the file `lock` of a folder.
+    ghost claims: { Self → List ℕ → Claims };
+
+    /// That what the mark of a folder claims was so at each moment.
+    ghost was_so: { Self → List ℕ → Type 0 };
+
     /// Makes a folder: `mkdir`.
     fn make_folder(&self, path: &str) -> io::Result<()>;
 
@@ -112,14 +124,16 @@ pub trait SystemFiles: Drop {
 
     /// Makes an empty file, or empties the one that is there: `open` with `O_CREAT` and `O_TRUNC`.
     fn create(&mut self, path: &str) -> io::Result<()>
-        ensures { IsTrue honest → (d n : List ℕ) → IsPath d n path.now
-            → Adds (is_ok result) (Created n) (changes self.old d) (changes self.new d) };
+        ensures made { IsTrue honest → (d n : List ℕ) → IsPath d n path.now
+            → Adds (is_ok result) (Created n) (changes self.old d) (changes self.new d) }
+        ensures mark { IsTrue honest → KeepsMarks claims was_so changes start self.old self.new };
 
     /// Makes an empty file with these permissions, where nothing has the path, and opens it as `open_to_append` does:
     /// `open` with `O_CREAT` and `O_EXCL`.
     fn create_new(&mut self, path: &str, mode: u32) -> io::Result<Self::File>
-        ensures { IsTrue honest → (d n : List ℕ) → IsPath d n path.now
-            → Adds (is_ok result) (Created n) (changes self.old d) (changes self.new d) };
+        ensures made { IsTrue honest → (d n : List ℕ) → IsPath d n path.now
+            → Adds (is_ok result) (Created n) (changes self.old d) (changes self.new d) }
+        ensures mark { IsTrue honest → KeepsMarks claims was_so changes start self.old self.new };
 
     /// The length of a file: `fstat`.
     fn len(&self, file: &Self::File) -> io::Result<u64>
@@ -132,35 +146,44 @@ pub trait SystemFiles: Drop {
         ensures written { IsTrue honest → (d : List ℕ) → IsIn d (opened_as file.old)
             → Writes (is_ok result) (number file.old) bytes.now (changes self.old d) (changes self.new d) }
         ensures opened { opened_as file.new ≡ opened_as file.old }
-        ensures number { number file.new ≡ number file.old };
+        ensures number { number file.new ≡ number file.old }
+        ensures mark { IsTrue honest → KeepsMarks claims was_so changes start self.old self.new };
 
     /// Cuts a file to a length that it had before the last write: `ftruncate`.
     fn cut(&mut self, file: &Self::File, len: u64) -> io::Result<()>
-        ensures { IsTrue honest → (d : List ℕ) → IsIn d (opened_as file.now)
-            → Cuts (number file.now) len (start d) (changes self.old d) (changes self.new d) };
+        ensures cut { IsTrue honest → (d : List ℕ) → IsIn d (opened_as file.now)
+            → Cuts (number file.now) len (start d) (changes self.old d) (changes self.new d) }
+        ensures mark { IsTrue honest → KeepsMarks claims was_so changes start self.old self.new };
 
     /// Puts the bytes of a file on the disk: `fdatasync`.
     fn sync_file(&mut self, file: &Self::File) -> io::Result<()>
-        ensures { IsTrue honest → (d : List ℕ) → IsIn d (opened_as file.now)
-            → Syncs (is_ok result) (number file.now) (changes self.old d) (changes self.new d) };
+        ensures synced { IsTrue honest → (d : List ℕ) → IsIn d (opened_as file.now)
+            → Syncs (is_ok result) (number file.now) (changes self.old d) (changes self.new d) }
+        ensures mark { IsTrue honest → KeepsMarks claims was_so changes start self.old self.new };
 
     /// Renames a file within its folder, and replaces the one that has the new name: `rename`.
     fn rename(&mut self, from: &str, to: &str) -> io::Result<()>
-        ensures { IsTrue honest → (d n m : List ℕ) → IsPath d n from.now → IsPath d m to.now
-            → Adds (is_ok result) (Moved n m) (changes self.old d) (changes self.new d) };
+        ensures moved { IsTrue honest → (d n m : List ℕ) → IsPath d n from.now → IsPath d m to.now
+            → Adds (is_ok result) (Moved n m) (changes self.old d) (changes self.new d) }
+        ensures mark { IsTrue honest → KeepsMarks claims was_so changes start self.old self.new };
 
     /// Removes the name of a file: `unlink`.
     fn remove(&mut self, path: &str) -> io::Result<()>
-        ensures { IsTrue honest → (d n : List ℕ) → IsPath d n path.now
-            → Adds (is_ok result) (Removed n) (changes self.old d) (changes self.new d) };
+        ensures removed { IsTrue honest → (d n : List ℕ) → IsPath d n path.now
+            → Adds (is_ok result) (Removed n) (changes self.old d) (changes self.new d) }
+        ensures mark { IsTrue honest → KeepsMarks claims was_so changes start self.old self.new };
 
     /// Puts the entries of a folder on the disk: `fsync`.
     fn sync_folder(&mut self, folder: &Self::File) -> io::Result<()>
-        ensures { IsTrue honest → (d : List ℕ) → opened_as folder.now ≡ d
-            → Adds (is_ok result) FolderSynced (changes self.old d) (changes self.new d) };
+        ensures synced { IsTrue honest → (d : List ℕ) → opened_as folder.now ≡ d
+            → Adds (is_ok result) FolderSynced (changes self.old d) (changes self.new d) }
+        ensures others { IsTrue honest → (d : List ℕ) → opened_as folder.now ≢ d
+            → changes self.new d ≡ changes self.old d }
+        ensures mark { IsTrue honest → KeepsMarks claims was_so changes start self.old self.new };
 
     /// Opens a file `lock`, which is made unless it is there: `open` with `O_CREAT`.
-    fn open_lock(&self, path: &str) -> io::Result<Self::File>;
+    fn open_lock(&self, path: &str) -> io::Result<Self::File>
+        ensures { IsTrue honest → (d : List ℕ) → path.now ≡ lock_of d → IfOk result (λ file. locks file ≡ Some d) };
 
     /// Locks a file until it is closed, unless another open of it holds a lock: `flock`.
     fn try_lock(&self, file: &Self::File) -> Result<(), TryLockError>
@@ -170,8 +193,8 @@ pub trait SystemFiles: Drop {
     fn has_path(&self, file: &Self::File, path: &str) -> io::Result<bool>;
 
     /// The mark in the file `lock` of a folder, which is open and has that path: `fstat`, and `read` of it and of the
-    /// number of the machine's start. What it claims of the folder is so: no one else writes that file, and a mark is
-    /// of one start of the machine and of one file.
+    /// number of the machine's start. What it claims of the folder is so until this system changes the folder: no one
+    /// else writes that file, and a mark is of one start of the machine and of one file.
     fn find_mark(
         &self,
         alloc: Global,
@@ -179,12 +202,31 @@ pub trait SystemFiles: Drop {
         lock_path: &str,
         folder: &str,
     ) -> io::Result<FoundMark>
-        ensures { IsTrue honest → IfOk result (λ found. Knows (claimed found.mark) (claims_entries found.mark.kind)
-            (replay (changes self.now folder.now) (start folder.now))) };
+        ensures so { IsTrue honest → changes self.now folder.now ≡ [] → IfOk result (λ found.
+            AreSo (claims_of found.mark) (start folder.now) × was_so self.now folder.now) }
+        ensures claims { IsTrue honest → locks lock.now ≡ Some folder.now
+            → IfOk result (λ found. claims self.now folder.now ≡ claims_of found.mark) }
+        ensures place { IsTrue honest
+            → IfOk result (λ found. place lock.now ≡ (found.boot.items, string_bytes found.inode)) };
 
-    /// Replaces the mark in a file `lock`: `lseek`, `write` and `ftruncate`.
-    fn write_mark(&self, lock: &mut Self::File, bytes: &[u8]) -> io::Result<()>
-        ensures { is_locked lock.new ≡ is_locked lock.old };
+    /// Replaces the mark in a file `lock` by one of this start of the machine and this file, of which what it claims is
+    /// so: `lseek`, `write` and `ftruncate`. Where it fails the mark is that one, or the one before.
+    fn write_mark(
+        &mut self,
+        lock: &mut Self::File,
+        boot: &[u8],
+        inode: &str,
+        mark: &Mark,
+    ) -> io::Result<()>
+        requires { IsTrue honest → (d : List ℕ) → locks lock.old ≡ Some d
+            → AreSo (claims_of mark.now) (replay (changes self.old d) (start d)) }
+        ensures claims { IsTrue honest → (d : List ℕ) → locks lock.old ≡ Some d → place lock.old ≡ (boot.now, inode.now)
+            → Replaces (is_ok result) (claims_of mark.now) (claims self.old d) (claims self.new d) }
+        ensures so { IsTrue honest → (d : List ℕ) → was_so self.old d → was_so self.new d }
+        ensures changes { changes self.new ≡ changes self.old }
+        ensures locked { is_locked lock.new ≡ is_locked lock.old }
+        ensures locks { locks lock.new ≡ locks lock.old }
+        ensures place { place lock.new ≡ place lock.old };
 
     /// The names of the files in the folder of this path, but for `lock`: `readdir`.
     fn names(&self, alloc: Global, path: &str) -> io::Result<Vec<String>>

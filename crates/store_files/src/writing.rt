@@ -1,9 +1,11 @@
 //! The calls by which the files of a folder are changed.
 
-ghost use Rattle.std.specs.Prelude.{◌≡◌, ◌≢◌, ◌⊎◌, IsTrue, IsSomeAnd, IfSome, IfOk, is_ok, string_bytes};
+ghost use Rattle.std.specs.Prelude.{◌≡◌, ◌≢◌, ◌⊎◌, IsTrue, IsSomeAnd, IfSome, IfOk, OnOk, false, is_ok, string_bytes};
 ghost use Rattle.store_files.specs.Disk.{replay};
 ghost use Rattle.store_files.specs.Steps.{Creates, Appends, SyncsFile, Renames, Removes, SyncsEntries};
 ghost use Rattle.store_files.specs.Opened.{IsTracked};
+ghost use Rattle.store_files.specs.Known.{AreSo};
+ghost use Rattle.store_files.specs.Mark.{Permits};
 
 use crate::disk_folder::DiskFolder;
 use crate::knowledge::Doing;
@@ -78,9 +80,19 @@ impl<S: SystemFiles> DiskFolder<S> {
 
     // Lets the mark cover what is done next, and returns whether it was replaced.
     fn begin(&mut self, doing: &Doing<'_>) -> io::Result<bool>
-        ensures { self.new ≡ self.old }
+        ensures writable { OnOk result (self.new.is_read_only ≡ false) }
+        ensures permitted { IsTrue S.honest → IsTrue self.old.keeps_mark → OnOk result (AreSo
+            (S.claims self.new.system self.new.path) (replay (S.changes self.new.system self.new.path)
+            (S.start self.new.path)) × Permits (S.claims self.new.system self.new.path)
+            (replay (S.changes self.new.system self.new.path) (S.start self.new.path)) doing.now) }
+        ensures changes { S.changes self.new.system ≡ S.changes self.old.system }
+        ensures path { self.new.path ≡ self.old.path }
+        ensures locked { self.new.is_locked ≡ self.old.is_locked }
+        ensures read_only { self.new.is_read_only ≡ self.old.is_read_only }
+        ensures kept { self.new.keeps_mark ≡ self.old.keeps_mark }
+        ensures failures { self.new.failures ≡ self.old.failures }
     {
-        self.mark.begin(&self.system, doing)
+        self.mark.begin(&mut self.system, doing)
     }
 
     /// Makes an empty file of this name, or empties the one that is there.
@@ -94,10 +106,12 @@ impl<S: SystemFiles> DiskFolder<S> {
         let path = self.path_of(name)?;
         self.begin(&Doing::Created(name))?;
         self.open_file = None;
-        self.mark.doubt_entries();
-        self.mark.note(&Doing::SyncFailed(name));
+        self.mark.knowledge.doubt_entries();
+        self.mark
+            .knowledge
+            .note(self.alloc, &Doing::SyncFailed(name));
         self.system.create(path.as_str())?;
-        self.mark.note(&Doing::Created(name));
+        self.mark.knowledge.note(self.alloc, &Doing::Created(name));
         Ok(())
     }
 
@@ -111,7 +125,7 @@ impl<S: SystemFiles> DiskFolder<S> {
     {
         let mut open = self.take(name, true)?;
         self.begin(&Doing::Appended(name))?;
-        self.mark.note(&Doing::Appended(name));
+        self.mark.knowledge.note(self.alloc, &Doing::Appended(name));
         let outcome = append(&mut self.system, &mut open, bytes);
         self.open_file = Some(open);
         outcome
@@ -123,6 +137,11 @@ impl<S: SystemFiles> DiskFolder<S> {
             (replay (S.changes self.old.system self.old.path) (S.start self.old.path)) self.old.path name.now
             (S.opened_as open.file) (S.number open.file) }
         requires name { string_bytes open.name ≡ name.now }
+        requires writable { self.old.is_read_only ≡ false }
+        requires permitted { IsTrue S.honest → IsTrue self.old.keeps_mark → AreSo
+            (S.claims self.old.system self.old.path) (replay (S.changes self.old.system self.old.path)
+            (S.start self.old.path)) × Permits (S.claims self.old.system self.old.path)
+            (replay (S.changes self.old.system self.old.path) (S.start self.old.path)) (Doing.SyncFailed name) }
         ensures synced { IsTrue S.honest → SyncsFile name.now (is_ok result)
             (replay (S.changes self.old.system self.old.path) (S.start self.old.path))
             (replay (S.changes self.new.system self.old.path) (S.start self.old.path)) }
@@ -132,12 +151,16 @@ impl<S: SystemFiles> DiskFolder<S> {
         self.open_file = None;
         match self.system.sync_file(&open.file) {
             Ok(()) => {
-                self.mark.note(&Doing::FileSynced(name));
+                self.mark
+                    .knowledge
+                    .note(self.alloc, &Doing::FileSynced(name));
                 self.open_file = Some(open);
                 Ok(())
             }
             Err(error) => {
-                self.mark.note(&Doing::SyncFailed(name));
+                self.mark
+                    .knowledge
+                    .note(self.alloc, &Doing::SyncFailed(name));
                 Err(error)
             }
         }
@@ -145,9 +168,11 @@ impl<S: SystemFiles> DiskFolder<S> {
 
     // Replaces the mark by one of what is known now.
     fn renew(&mut self) -> io::Result<()>
-        ensures { self.new ≡ self.old }
+        ensures changes { S.changes self.new.system ≡ S.changes self.old.system }
+        ensures path { self.new.path ≡ self.old.path }
+        ensures failures { self.new.failures ≡ self.old.failures }
     {
-        self.mark.renew(&self.system)
+        self.mark.renew(&mut self.system)
     }
 
     /// Syncs a file.
@@ -191,16 +216,20 @@ impl<S: SystemFiles> DiskFolder<S> {
         self.check_free(new_path.as_str())?;
         self.begin(&Doing::Moved(from, to))?;
         let open_file = self.open_file.take();
-        self.mark.doubt_entries();
+        self.mark.knowledge.doubt_entries();
         match self.system.rename(old_path.as_str(), new_path.as_str()) {
             Ok(()) => {
-                self.mark.note(&Doing::Moved(from, to));
+                self.mark
+                    .knowledge
+                    .note(self.alloc, &Doing::Moved(from, to));
                 self.open_file = renamed(open_file, from, to, name);
                 Ok(())
             }
             Err(error) => {
-                self.mark.note(&Doing::SyncFailed(to));
-                self.mark.note(&Doing::SyncFailed(from));
+                self.mark.knowledge.note(self.alloc, &Doing::SyncFailed(to));
+                self.mark
+                    .knowledge
+                    .note(self.alloc, &Doing::SyncFailed(from));
                 Err(error)
             }
         }
@@ -217,14 +246,16 @@ impl<S: SystemFiles> DiskFolder<S> {
         let path = self.path_at(name)?;
         self.begin(&Doing::Removed(name))?;
         let _closed = self.open_file.take();
-        self.mark.doubt_entries();
+        self.mark.knowledge.doubt_entries();
         match self.system.remove(path.as_str()) {
             Ok(()) => {
-                self.mark.note(&Doing::Removed(name));
+                self.mark.knowledge.note(self.alloc, &Doing::Removed(name));
                 Ok(())
             }
             Err(error) => {
-                self.mark.note(&Doing::SyncFailed(name));
+                self.mark
+                    .knowledge
+                    .note(self.alloc, &Doing::SyncFailed(name));
                 Err(error)
             }
         }
@@ -241,7 +272,7 @@ impl<S: SystemFiles> DiskFolder<S> {
         self.mark.check_lock()?;
         match self.system.sync_folder(&self.folder) {
             Ok(()) => {
-                self.mark.note(&Doing::FolderSynced);
+                self.mark.knowledge.note(self.alloc, &Doing::FolderSynced);
                 Ok(())
             }
             Err(error) => Err(error),

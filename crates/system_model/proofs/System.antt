@@ -1,5 +1,5 @@
 -- What the content of a system in memory is after each change.
-use Rattle.std.proofs.Common.{◌≡◌, ◌≢◌, inl, inr, ℕ, ◌+◌, Bool, true, false, List, [], ◌∷◌, ◌++◌, Option, Some, None, refl, sym, ◌∙◌, ap, subst, nat_eq, arith, Vec, Global, Result, Ok, Err, OnOk}
+use Rattle.std.proofs.Common.{◌≡◌, ◌≢◌, inl, inr, ℕ, ◌+◌, Bool, true, false, List, [], ◌∷◌, ◌++◌, Option, Some, None, refl, sym, ◌∙◌, ap, subst, nat_eq, arith, Result, Ok, Err, OnOk}
 use Rattle.std.proofs.Common.{OnErr, is_ok}
 use Rattle.std.specs.Prelude.{if◌then◌else◌, IsSome, unwrap_or, string_bytes, map, reverse}
 use lib.Pointwise.{pointwise}
@@ -8,16 +8,20 @@ use Rattle.std.proofs.lemmas.List.Elements.{Contains-append_right}
 use Rattle.std.proofs.lemmas.List.{map-append, reverse-append}
 use Rattle.store_folder.specs.Folder.{Look, Elsewhere, ElsewhereOfBoth, AreNames}
 use Rattle.store_folder.specs.Changes.{look_of}
-use Rattle.store_files.specs.Disk.{Change, Created, Appended, Cut, FileSynced, SyncFailed, Moved, Removed, FolderSynced}
+use Rattle.store_files.specs.Disk.{Change, Created, Appended, FileSynced, Moved, Removed, FolderSynced}
 use Rattle.store_files.specs.Disk.{seen, made, put, replay, Adds, Writes, Syncs, IsPossible}
 use Rattle.store_files.specs.Paths.{IsPath, IsIn, slash}
-use Rattle.store_files.specs.Known.{Knows}
+use Rattle.store_files.specs.Known.{Knows, AreSo, KeepsMarks}
 use Rattle.store_files.specs.Knowledge.{is_part}
-use Rattle.store_files.specs.Mark.{claimed, claims_entries, named, others_of, IsBlank}
-use Rattle.store_files.specs.declared.mark.Mark.{Mark}
+use Rattle.store_files.specs.Mark.{claimed, claims_entries, claims_of, named, others_of}
 use Rattle.store_files.specs.declared.mark.MarkKind.{MarkKind}
-use Rattle.store_files.specs.declared.knowledge.Standing.TheVariants.{Failed, Unsynced, Synced}
-use Rattle.store_files.proofs.KnowledgeLemmas.{equal, decided}
+use Rattle.store_files.specs.declared.knowledge.Standing.TheVariants.{Failed}
+use Rattle.std.specs.Prelude.{◌||◌, vec_len}
+use Rattle.std.specs.List.{AllZip}
+use Rattle.std.proofs.Common.{Vec, Global}
+use Rattle.store_files.specs.declared.mark.Mark.{Mark}
+use Rattle.store_files.specs.declared.knowledge.Standing.{Standing}
+use Rattle.store_files.proofs.KnowledgeLemmas.{equal, unequal, decided}
 use Rattle.store_files.proofs.DiskLemmas.{read_at, creates, appends}
 use Rattle.store_files.proofs.StepLemmas.{renames, removes}
 use Rattle.system_model.specs.Made.{empty}
@@ -221,37 +225,55 @@ pub writes_one : {T E : Type 0} (r : Result T E) (old new : MemDisk) (f : ℕ) (
 writes_one (Ok x) old new f bytes d same at more none made = ok_more old new (Appended f bytes) d same at more made
 writes_one (Err e) old new f bytes d same at more none made = inl (none_more old new d same none)
 
--- ---- no sync fails
+-- ---- what is claimed of a folder in which nothing is
 
-pub all_trusted : (changes : List Change) → are_made changes ≡ true → (f : ℕ) → (replay changes empty).trusted f
-all_trusted [] e f = tt
-all_trusted (Created name ∷ earlier) e f = λ ne. all_trusted earlier e f
-all_trusted (Appended g more ∷ earlier) e f = all_trusted earlier e f
-all_trusted (Cut g len ∷ earlier) e f = let no : ⊥ = cc in absurd no
-all_trusted (FileSynced g ∷ earlier) e f = all_trusted earlier e f
-all_trusted (SyncFailed g bytes ∷ earlier) e f = let no : ⊥ = cc in absurd no
-all_trusted (Moved from to ∷ earlier) e f = all_trusted earlier (both (can_be_made (Moved from to) (replay earlier empty)) (are_made earlier) e).1 f
-all_trusted (Removed name ∷ earlier) e f = all_trusted earlier e f
-all_trusted (FolderSynced ∷ earlier) e f = all_trusted earlier e f
-
-pub trusted_there : (s : MemDisk) (d : List ℕ) (f : ℕ) → (replay (changes_in s d) empty).trusted f
-trusted_there s d f = told (pointwise nat_eq s.folder d) (are_made s.changes) refl
-  where
-    told : (here made : Bool) → made ≡ are_made s.changes → (replay (if here then (if made then s.changes else []) else []) empty).trusted f
-    told true true e = all_trusted s.changes (sym e) f
-    told true false e = tt
-    told false made e = tt
-
-none_synced : (b : Bool) (mark : Mark) (n : List ℕ) → IsBlank mark → (if b then Failed else (if named mark.names.items n then Failed else others_of mark.kind)) ≡ Synced → ⊥
-none_synced true mark n blank e = cc
-none_synced false mark n blank e =
-    let is : (if named mark.names.items n then Failed else others_of mark.kind) ≡ Unsynced =
-    ap (λ (names : List (Vec ℕ Global)). if named names n then Failed else others_of mark.kind) blank.1 ∙ ap (λ (k : MarkKind). others_of k) blank.0 in
-    let no : Unsynced ≡ Synced = sym is ∙ e in cc
-
-pub knows_blank : (s : MemDisk) (d : List ℕ) (mark : Mark) → IsBlank mark → Knows (claimed mark) (claims_entries mark.kind) (replay (changes_in s d) empty)
-knows_blank s d mark blank = record {
-  trusted = λ n ne f at. trusted_there s d f;
-  synced = λ n bytes is holds. absurd (none_synced (is_part n) mark n blank is);
-  all_entries = λ is. let no : claims_entries mark.kind ≡ false = ap (λ (k : MarkKind). claims_entries k) blank.0 in let wrong : ⊥ = cc in absurd wrong;
+pub knows_empty : (known : List ℕ → Standing) (entries : Bool) → Knows known entries empty
+knows_empty known entries = record {
+  trusted = λ n ne f at. tt;
+  synced = λ n bytes is holds. let no : ⊥ = holds.2 in absurd no;
+  all_entries = λ all n. tt;
 }
+
+pub keeps : (old new : MemDisk) → new.mark ≡ old.mark
+    → KeepsMarks (λ (s : MemDisk) (d : List ℕ). claims_of s.mark) (λ (s : MemDisk) (d : List ℕ). AreSo (claims_of s.mark) (replay (changes_in s d) empty)) changes_in (λ _. empty) old new
+keeps old new same d = record {
+  same = ap claims_of same;
+  so = λ was now. subst (λ (m : Mark). AreSo (claims_of m) (replay (changes_in new d) empty)) (sym same) now;
+}
+
+-- ---- a mark that was copied
+
+same_bytes : (xs ys : List ℕ) → AllZip (λ (x y : ℕ). y ≡ x) xs ys → ys ≡ xs
+same_bytes [] [] all = refl
+same_bytes [] (y ∷ ys) all = absurd all
+same_bytes (x ∷ xs) [] all = absurd all
+same_bytes (x ∷ xs) (y ∷ ys) all = let rest = same_bytes xs ys all.1 in let first = all.0 in cc
+
+abbrev pub IsCopy : Vec ℕ Global → Vec ℕ Global → Type 0
+IsCopy v w = AllZip (λ (x y : ℕ). y ≡ x) v.items w.items × (vec_len w ≡ vec_len v)
+
+same_named : (names copies : List (Vec ℕ Global)) (n : List ℕ) → AllZip IsCopy names copies → named names n ≡ named copies n
+same_named [] [] n all = refl
+same_named [] (w ∷ ws) n all = absurd all
+same_named (v ∷ vs) [] n all = absurd all
+same_named (v ∷ vs) (w ∷ ws) n all =
+    ap (λ (bytes : List ℕ). pointwise nat_eq bytes n || named vs n) (sym (same_bytes v.items w.items all.0.0)) ∙ ap (λ (b : Bool). pointwise nat_eq w.items n || b) (same_named vs ws n all.1)
+
+same_claimed : (mark copy : Mark) → copy.kind ≡ mark.kind → AllZip IsCopy mark.names.items copy.names.items → (n : List ℕ) → claimed mark n ≡ claimed copy n
+same_claimed mark copy kind names n = ap (λ (b : Bool). if is_part n then Failed else (if b then Failed else others_of mark.kind)) (same_named mark.names.items copy.names.items n names)
+    ∙ ap (λ (k : MarkKind). if is_part n then Failed else (if named copy.names.items n then Failed else others_of k)) (sym kind)
+
+pub copy_claims : (mark copy : Mark) → copy.kind ≡ mark.kind → AllZip IsCopy mark.names.items copy.names.items → claims_of mark ≡ claims_of copy
+copy_claims mark copy kind names = λ i. record {
+  files = λ n. same_claimed mark copy kind names n i;
+  entries = ap claims_entries (sym kind) i;
+}
+
+-- a mark of which what it claims is so of the folder, also of each other, which is empty
+pub so_of_each : (s : MemDisk) (mark : Mark) (d : List ℕ) → AreSo (claims_of mark) (replay (changes_in s s.folder) empty) → AreSo (claims_of mark) (replay (changes_in s d) empty)
+so_of_each s mark d so = elim (decided s.folder d) [
+  | inl e ↦ subst (λ (p : List ℕ). AreSo (claims_of mark) (replay (changes_in s p) empty)) e so
+  | inr ne ↦
+      let none : changes_in s d ≡ [] = ap (λ (b : Bool). if b then (if are_made s.changes then s.changes else []) else []) (unequal s.folder d ne) in
+      subst (λ (made : List Change). AreSo (claims_of mark) (replay made empty)) (sym none) (knows_empty (claimed mark) (claims_entries mark.kind))
+]

@@ -3,16 +3,18 @@ use Rattle.std.specs.Prelude.{◌≡◌, ℕ, ◌&&◌, not, Bool, true, false, 
 use lib.Pointwise.{pointwise}
 use Rattle.store_files.specs.Disk.{Change, Created, Appended, Cut, FileSynced, SyncFailed, Moved, Removed, FolderSynced, Disk, replay, seen}
 use Rattle.store_folder.specs.Changes.{look_of}
+use Rattle.store_files.specs.declared.mark.Mark.{Mark}
 use Rattle.system_model.specs.Made.{empty}
 use Rattle.system_model.specs.declared.content.NamedFile.{NamedFile}
 use Rattle.system_model.specs.declared.content.Content.{Content}
 use Rattle.system_model.specs.declared.content.Step.{Step}
 use Rattle.system_model.specs.declared.content.Step.TheVariants as step
 
--- the path of its folder, and the changes that were made in it, the last of them first
+-- the path of its folder, the changes that were made in it, the last of them first, and its mark
 pub record MemDisk : Type 0 where
   pub folder : List ℕ
   pub changes : List Change
+  pub mark : Mark
 
 -- whether this change can be made next
 abbrev pub can_be_made : Change → Disk → Bool

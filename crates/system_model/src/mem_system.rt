@@ -30,9 +30,10 @@ pub struct MemSystem {
     steps: Vec<Step>,
     is_broken: bool,
     is_locked: Cell<bool>,
+    mark: Mark,
 }
 
-/// Clauses see the folder, and the changes that were made in it.
+/// Clauses see the folder, the changes that were made in it, and its mark.
 impl Model for MemSystem {
     ghost use Rattle.std.specs.Prelude.{◌≡◌, true, false, string_bytes};
     ghost use Rattle.store_files.specs.Disk.{replay};
@@ -44,6 +45,7 @@ impl Model for MemSystem {
     ghost view = { λ s. record {
       folder = string_bytes s.folder;
       changes = made_by s.steps.items;
+      mark = s.mark;
     } };
 
     ghost invariant = { λ s. (are_made (made_by s.steps.items) ≡ true)
@@ -55,6 +57,8 @@ impl Model for MemSystem {
 pub struct MemSystemFile {
     path: String,
     number: u64,
+    /// The folder of which it is the file `lock`, if it is one.
+    locks: Option<String>,
 }
 
 // The name of the file of a path in a folder.
@@ -93,6 +97,7 @@ impl MemSystem {
     pub fn new(alloc: Global, folder: &str) -> Result<MemSystem, AllocError>
         ensures folder { IfOk result (λ s. s.folder ≡ folder.now) }
         ensures changes { IfOk result (λ s. s.changes ≡ []) }
+        ensures unchanged { IfOk result (λ s. (d : List ℕ) → changes_in s d ≡ []) }
     {
         Ok(MemSystem {
             alloc,
@@ -101,6 +106,7 @@ impl MemSystem {
             steps: Vec::new(alloc),
             is_broken: false,
             is_locked: Cell::new(false),
+            mark: Mark::blank(alloc),
         })
     }
 
@@ -119,6 +125,7 @@ impl MemSystem {
         ensures possible { OnOk result (are_made self.new.changes ≡ true) }
         ensures kept { OnErr result (self.new.changes ≡ self.old.changes) }
         ensures folder { self.new.folder ≡ self.old.folder }
+        ensures mark { self.new.mark ≡ self.old.mark }
     {
         check(self.is_broken)?;
         self.is_broken = true;
@@ -149,7 +156,11 @@ impl MemSystem {
             return Err(ErrorKind::NotFound.into());
         };
         let path = String::from_str(self.alloc, path)?;
-        Ok(MemSystemFile { path, number })
+        Ok(MemSystemFile {
+            path,
+            number,
+            locks: None,
+        })
     }
 
     // The bytes of the file of a path, if there is one.
@@ -184,7 +195,10 @@ impl MemSystem {
 }
 
 impl SystemFiles for MemSystem {
-    ghost use Rattle.std.specs.Prelude.{true, string_bytes};
+    ghost use Rattle.std.specs.Prelude.{[], true, option_map, string_bytes};
+    ghost use Rattle.store_files.specs.Disk.{replay};
+    ghost use Rattle.store_files.specs.Known.{AreSo};
+    ghost use Rattle.store_files.specs.Mark.{claims_of};
     ghost use Rattle.system_model.specs.Made.{empty};
     ghost use Rattle.system_model.specs.System.{changes_in};
     ghost use Rattle.system_model.specs.Sound.{changes_are_sound};
@@ -204,6 +218,14 @@ impl SystemFiles for MemSystem {
     ghost number = { λ f. f.number };
 
     ghost is_locked = { λ _. true };
+
+    ghost locks = { λ f. option_map string_bytes f.locks };
+
+    ghost place = { λ _. ([], []) };
+
+    ghost claims = { λ s _. claims_of s.mark };
+
+    ghost was_so = { λ s d. AreSo (claims_of s.mark) (replay (changes_in s d) empty) };
 
     ghost sound = { changes_are_sound };
 
@@ -245,7 +267,11 @@ impl SystemFiles for MemSystem {
 
     fn open_folder(&self, path: &str) -> io::Result<MemSystemFile> {
         let path = String::from_str(self.alloc, path)?;
-        Ok(MemSystemFile { path, number: 0 })
+        Ok(MemSystemFile {
+            path,
+            number: 0,
+            locks: None,
+        })
     }
 
     fn open(&self, path: &str) -> io::Result<MemSystemFile> {
@@ -309,8 +335,14 @@ impl SystemFiles for MemSystem {
     }
 
     fn open_lock(&self, path: &str) -> io::Result<MemSystemFile> {
-        let path = String::from_str(self.alloc, path)?;
-        Ok(MemSystemFile { path, number: 0 })
+        let Some(folder) = path.strip_suffix("/lock") else {
+            return Err(ErrorKind::InvalidInput.into());
+        };
+        Ok(MemSystemFile {
+            path: String::from_str(self.alloc, path)?,
+            number: 0,
+            locks: Some(String::from_str(self.alloc, folder)?),
+        })
     }
 
     fn try_lock(&self, _file: &MemSystemFile) -> Result<(), TryLockError> {
@@ -335,14 +367,26 @@ impl SystemFiles for MemSystem {
         _folder: &str,
     ) -> io::Result<FoundMark> {
         Ok(FoundMark {
-            mark: Mark::blank(alloc),
+            mark: self.mark.clone()?,
             boot: Vec::new(alloc),
             inode: String::new(alloc),
         })
     }
 
-    fn write_mark(&self, _lock: &mut MemSystemFile, _bytes: &[u8]) -> io::Result<()> {
-        Ok(())
+    fn write_mark(
+        &mut self,
+        lock: &mut MemSystemFile,
+        _boot: &[u8],
+        _inode: &str,
+        mark: &Mark,
+    ) -> io::Result<()> {
+        match &lock.locks {
+            Some(folder) if folder.as_str() == self.folder.as_str() => {
+                self.mark = mark.clone()?;
+                Ok(())
+            }
+            _ => Err(ErrorKind::InvalidInput.into()),
+        }
     }
 
     fn names(&self, alloc: Global, path: &str) -> io::Result<Vec<String>> {

@@ -5,6 +5,7 @@ use std::cell::Cell;
 use std::fs::{File, TryLockError};
 use std::io;
 use std::test::Fail;
+use store_files::mark::Mark;
 use store_files::{FoundFile, FoundMark, HostFiles, PooledFile, SystemFiles};
 
 /// The system. Of the calls that open, make, lock, write, cut, sync or rename, or that give permissions, the one of
@@ -41,8 +42,9 @@ impl<'a> FailingSystem<'a> {
 }
 
 impl<'a> SystemFiles for FailingSystem<'a> {
-    ghost use Rattle.std.specs.Prelude.{[], true, false};
+    ghost use Rattle.std.specs.Prelude.{[], None, true, false};
     ghost use Rattle.store_files.specs.Disk.{unknown, unknown_is_sound};
+    ghost use Rattle.store_files.specs.declared.knowledge.Standing.TheVariants.{Failed};
 
     type File = File;
 
@@ -59,6 +61,14 @@ impl<'a> SystemFiles for FailingSystem<'a> {
     ghost number = { λ _. 0 };
 
     ghost is_locked = { λ _. true };
+
+    ghost locks = { λ _. None };
+
+    ghost place = { λ _. ([], []) };
+
+    ghost claims = { λ _ _. record { files = λ _. Failed; entries = false } };
+
+    ghost was_so = { λ _ _. Unit {0} };
 
     ghost sound = { λ _ _. unknown_is_sound };
 
@@ -172,9 +182,15 @@ impl<'a> SystemFiles for FailingSystem<'a> {
         self.files.find_mark(alloc, lock, lock_path, folder)
     }
 
-    fn write_mark(&self, lock: &mut File, bytes: &[u8]) -> io::Result<()> {
+    fn write_mark(
+        &mut self,
+        lock: &mut File,
+        boot: &[u8],
+        inode: &str,
+        mark: &Mark,
+    ) -> io::Result<()> {
         self.count()?;
-        self.files.write_mark(lock, bytes)
+        self.files.write_mark(lock, boot, inode, mark)
     }
 
     fn names(&self, alloc: Global, path: &str) -> io::Result<Vec<String>> {

@@ -6,7 +6,7 @@ use std::io;
 use std::io::ErrorKind;
 use std::test::Fail;
 use store_files::{DiskFolder, SystemFiles};
-use store_folder::ReadableFolder;
+use store_folder::{Folder, ReadableFolder};
 use store_published::{DocumentList, publish_store};
 use system_model::MemSystem;
 
@@ -62,10 +62,9 @@ fn each_call_of_a_system_in_memory_succeeds(rt: HostRuntime) -> Result<(), Fail>
 #[test]
 fn a_lock_of_a_system_in_memory_is_given_once(rt: HostRuntime) -> Result<(), Fail> {
     let system = system(rt.alloc())?;
-    let mut lock = system.open_lock("f/lock")?;
+    let lock = system.open_lock("f/lock")?;
     assert!(rt; system.try_lock(&lock).is_ok());
     assert!(rt; matches!(system.try_lock(&lock), Err(TryLockError::WouldBlock)));
-    system.write_mark(&mut lock, b"mark")?;
     assert!(rt; system.find_mark(rt.alloc(), &lock, "f/lock", "f").is_ok());
     Ok(())
 }
@@ -94,6 +93,24 @@ fn is_published(alloc: Global) -> Result<bool, Fail> {
 #[test]
 fn a_store_is_published_in_a_folder_of_a_system_in_memory(rt: HostRuntime) -> Result<(), Fail> {
     assert!(rt; is_published(rt.alloc())?);
+    Ok(())
+}
+
+// Whether a folder is changed by its writer, and not by one that only reads it.
+fn is_changed_by_its_writer(alloc: Global) -> Result<bool, Fail> {
+    let written = DiskFolder::open(alloc, MemSystem::new(alloc, "f")?, "f")?;
+    let mut written = Box::new(alloc, written)?;
+    written.create("a")?;
+    let read = DiskFolder::open_to_read(alloc, MemSystem::new(alloc, "f")?, "f")?;
+    let mut read = Box::new(alloc, read)?;
+    let is_refused = read.create("a").is_err() && read.is_read_only() && !read.keeps_mark();
+    let is_written = written.read(alloc, "a")?.is_some() && written.keeps_mark();
+    Ok(is_refused && is_written && !written.is_read_only() && read.read(alloc, "a")?.is_none())
+}
+
+#[test]
+fn a_folder_in_memory_is_changed_by_its_writer_alone(rt: HostRuntime) -> Result<(), Fail> {
+    assert!(rt; is_changed_by_its_writer(rt.alloc())?);
     Ok(())
 }
 

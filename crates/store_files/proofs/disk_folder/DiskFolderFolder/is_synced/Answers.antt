@@ -4,8 +4,8 @@ use Rattle.store_files.specs.Knowledge.{said}
 use Rattle.store_files.specs.Known.{Knows}
 use Rattle.store_files.proofs.disk_folder.DiskFolderFolder.is_synced.Goals as goal
 
-pub returns-in-Some-clause-durable : goal.returns-in-Some-clause-durable
-returns-in-Some-clause-durable g c = λ h is bytes holds.
+pub returns-clause-durable : goal.returns-clause-durable
+returns-clause-durable g c = λ h is bytes holds.
     let d = c.args.self.now.path in
     let before = (c.self.invariant h).0 in
     let known : Knows (said c.self.inside.mark.knowledge) c.self.inside.mark.knowledge.has_kept_entries

@@ -3,7 +3,7 @@ use Rattle.std.specs.Prelude.{is_ok, string_bytes}
 use Rattle.store_files.specs.Disk.{Writes}
 use Rattle.store_files.specs.Paths.{IsPath}
 use Rattle.system_model.specs.System.{changes_in}
-use Rattle.system_model.proofs.System.{one_path, writes_one}
+use Rattle.system_model.proofs.System.{one_path, writes_one, keeps}
 use Rattle.system_model.proofs.mem_system.MemSystemSystemFiles.write.Goals as goal
 
 pub returns-clause-written : goal.returns-clause-written
@@ -19,3 +19,6 @@ returns-clause-written c = λ h d inside.
     let bytes : c.in_ok-bytes.bytes.items ≡ c.args.bytes.now = search rules in
     subst (λ (bs : List ℕ). Writes (is_ok c.make.result) number bs (changes_in old d) (changes_in new d)) bytes
     (writes_one c.make.result old new number c.in_ok-bytes.bytes.items d made.folder same.0 made.made made.kept made.possible)
+
+pub returns-clause-mark : goal.returns-clause-mark
+returns-clause-mark c = λ h. keeps c.args.self.now c.make.new.self c.make.ensures.mark
