@@ -25,9 +25,10 @@ fn add_segment(
     let Some(number) = segment_number(entry.file_name()) else {
         return Ok(());
     };
-    match entry.file_type()?.is_file() {
-        true => Ok(numbers.push(number)?),
-        false => Err(reported(rt, entry.path().path_text())),
+    match entry.file_type() {
+        Ok(kind) if !kind.is_file() => Err(reported(rt, entry.path().path_text())),
+        // A writer may have removed it meanwhile.
+        _ => Ok(numbers.push(number)?),
     }
 }
 
